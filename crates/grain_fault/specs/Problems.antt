@@ -1,0 +1,24 @@
+-- Faults as trees: what a fault is, without the places of its parts in memory.
+use Rattle.std.specs.Prelude.{ℕ, List}
+use Rattle.grain_fault.specs.declared.places.Position.{Position}
+use Rattle.grain_fault.specs.declared.faults.MalformedKind.{MalformedKind}
+use Rattle.grain_fault.specs.declared.faults.EvalAltResult.{EvalAltResult}
+use Rattle.grain_fault.specs.declared.faults.EvalAltResult.TheVariants as fault
+
+pub data Problem : Type 0 where
+  FunctionNotFound : List ℕ → Position → Problem
+  MismatchDataType : (requested actual : List ℕ) → Position → Problem
+  Arithmetic : List ℕ → Position → Problem
+  TooManyOperations : Position → Problem
+  TooManyVariables : Position → Problem
+  Malformed : MalformedKind → Position → Problem
+  NoMemory : Problem
+
+abbrev pub problem_of : EvalAltResult → Problem
+problem_of (fault.ErrorFunctionNotFound s p) = FunctionNotFound s p
+problem_of (fault.ErrorMismatchDataType r a p) = MismatchDataType r a p
+problem_of (fault.ErrorArithmetic s p) = Arithmetic s p
+problem_of (fault.ErrorTooManyOperations p) = TooManyOperations p
+problem_of (fault.ErrorTooManyVariables p) = TooManyVariables p
+problem_of (fault.Malformed k p) = Malformed k p
+problem_of fault.Memory = NoMemory

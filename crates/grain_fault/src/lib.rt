@@ -1,0 +1,10 @@
+//! Faults: what ends a run without a value, where it was raised, and how it is told.
+#![tactic(auto)]
+
+mod faults;
+mod places;
+mod traces;
+
+pub use faults::{EvalAltResult, MalformedKind, RhaiResult, RhaiResultOf};
+pub use places::Position;
+pub use traces::{Fault, Faults};

@@ -1,0 +1,48 @@
+-- A program, without where it lies in memory.
+use Rattle.std.specs.Prelude.{ℕ, List, [], ◌∷◌, slice_index_or, ◌==◌, if◌then◌else◌}
+use Rattle.grain_value.specs.declared.values.Dynamic.{Dynamic}
+use Rattle.grain_value.specs.declared.values.Dynamic.TheVariants as dynamic
+use Rattle.grain_value.specs.declared.operators.Token.{Token}
+use Rattle.grain_value.specs.declared.operators.Token.TheVariants as token
+use Rattle.grain_fault.specs.declared.places.Position.{Position}
+use Rattle.grain_fault.specs.Places.{nowhere}
+use Rattle.grain_program.specs.declared.input.Chunk.{Chunk}
+use Rattle.grain_program.specs.declared.input.AssignOp.{AssignOp}
+use Rattle.grain_program.specs.declared.input.PositionEntry.{PositionEntry}
+use Rattle.grain_program.specs.declared.input.Parts.{Parts}
+
+pub record View : Type 0 where
+  pub code : List ℕ
+  pub main : Chunk
+  pub consts : List Dynamic
+  pub names : List (List ℕ)
+  pub tokens : List Token
+  pub assign_ops : List AssignOp
+  pub positions : List PositionEntry
+
+abbrev pub view_of : Parts → View
+view_of p = record { code = p.code; main = p.main; consts = p.consts; names = p.names; tokens = p.tokens; assign_ops = p.assign_ops; positions = p.positions }
+
+-- the entries of the pools; past a pool's end, where no valid program looks, there is a neutral one
+abbrev pub const_of : View → ℕ → Dynamic
+const_of v i = slice_index_or v.consts i dynamic.Unit
+
+abbrev pub name_of : View → ℕ → List ℕ
+name_of v i = slice_index_or v.names i []
+
+abbrev pub token_of : View → ℕ → Token
+token_of v i = slice_index_or v.tokens i token.Other
+
+abbrev pub no_op : AssignOp
+no_op = record { op_assign = token.Other; op_assign_name = 0; op = token.Other; op_name = 0 }
+
+abbrev pub assign_op_of : View → ℕ → AssignOp
+assign_op_of v i = slice_index_or v.assign_ops i no_op
+
+-- the position that is recorded for the address, or none
+abbrev pub position_in : List PositionEntry → ℕ → Position
+position_in [] a = nowhere
+position_in (e ∷ es) a = if e.address == a then e.position else position_in es a
+
+abbrev pub position_of : View → ℕ → Position
+position_of v a = position_in v.positions a

@@ -1,0 +1,75 @@
+//! Byte strings.
+
+ghost use Rattle.std.specs.Prelude.{◌≡◌, ◌==◌, ◌++◌, ◌∷◌, [], length, is_ok, if◌then◌else◌, IfOk, slice_get};
+
+use crate::memory::OutOfMemory;
+use std::alloc::Global;
+use std::marker::Model;
+
+/// A byte string. Clauses see the list of its bytes.
+#[derive(Drop)]
+pub struct Blob {
+    bytes: Vec<u8>,
+}
+
+impl Model for Blob {
+    ghost use Rattle.std.specs.Prelude.{ℕ, List};
+
+    ghost Value = { List ℕ };
+
+    ghost view = { λ b. b.bytes.items };
+}
+
+impl Blob {
+    /// No bytes. It takes no memory.
+    pub fn new(alloc: Global) -> Blob
+        ensures { result ≡ [] }
+    {
+        Blob {
+            bytes: Vec::new(alloc),
+        }
+    }
+
+    /// The bytes of a vector, taken as they are.
+    pub fn from_vec(bytes: Vec<u8>) -> Blob
+        ensures { result ≡ bytes.items }
+    {
+        Blob { bytes }
+    }
+
+    /// How many bytes there are.
+    pub fn len(&self) -> usize
+        ensures { result ≡ length self.now }
+    {
+        self.bytes.len()
+    }
+
+    /// Whether there are no bytes.
+    pub fn is_empty(&self) -> bool
+        ensures { result ≡ (length self.now == 0) }
+    {
+        self.bytes.is_empty()
+    }
+
+    /// The byte at the index, where there is one.
+    pub fn get(&self, index: usize) -> Option<u8>
+        ensures { result ≡ slice_get self.now index }
+    {
+        self.bytes.get(index).copied()
+    }
+
+    /// The bytes as a slice.
+    pub fn as_slice(&self) -> &[u8]
+        ensures { result.now ≡ self.now }
+    {
+        &self.bytes
+    }
+
+    /// Puts a byte at the end. Where memory is out, the bytes are as they were.
+    pub fn push(&mut self, byte: u8) -> Result<(), OutOfMemory>
+        ensures { self.new ≡ (if is_ok result then self.old ++ byte ∷ [] else self.old) }
+    {
+        self.bytes.push(byte)?;
+        Ok(())
+    }
+}

@@ -1,0 +1,18 @@
+//! The values of the script machine: texts, lists, held values, scopes and limits.
+#![tactic(auto)]
+
+mod arrays;
+mod blobs;
+mod memory;
+mod operators;
+mod scopes;
+mod texts;
+mod values;
+
+pub use arrays::Array;
+pub use blobs::Blob;
+pub use memory::OutOfMemory;
+pub use operators::Token;
+pub use scopes::{Entry, Scope};
+pub use texts::Text;
+pub use values::{Dynamic, Held, Limits};

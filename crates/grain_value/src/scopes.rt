@@ -1,0 +1,102 @@
+//! Scopes: the variables of a run, the newest last.
+
+ghost use Rattle.std.specs.Prelude.{◌≡◌, ◌==◌, ◌<◌, ◌++◌, ◌∷◌, [], length, is_ok, if◌then◌else◌, slice_get, take, option_map};
+ghost use Rattle.std.specs.Option.{option_copied};
+ghost use Rattle.grain_value.specs.Scopes.{held_of, set_held};
+ghost use Rattle.grain_value.specs.declared.scopes.Entry.{Entry};
+
+use crate::memory::OutOfMemory;
+use crate::texts::Text;
+use crate::values::Held;
+use std::alloc::Global;
+use std::marker::Model;
+
+/// A variable: its name, and what it holds.
+#[derive(Drop)]
+pub struct Entry {
+    pub name: Text,
+    pub held: Held,
+}
+
+/// The variables of a run. Clauses see the list of its entries.
+#[derive(Drop)]
+pub struct Scope {
+    entries: Vec<Entry>,
+}
+
+impl Model for Scope {
+    ghost use Rattle.std.specs.Prelude.{List};
+    ghost use Rattle.grain_value.specs.declared.scopes.Entry.{Entry};
+
+    ghost Value = { List Entry };
+
+    ghost view = { λ s. s.entries.items };
+}
+
+impl Scope {
+    /// No variables. It takes no memory.
+    pub fn new(alloc: Global) -> Scope
+        ensures { result ≡ [] }
+    {
+        Scope {
+            entries: Vec::new(alloc),
+        }
+    }
+
+    /// How many entries there are.
+    pub fn len(&self) -> usize
+        ensures { result ≡ length self.now }
+    {
+        self.entries.len()
+    }
+
+    /// Whether there are no entries.
+    pub fn is_empty(&self) -> bool
+        ensures { result ≡ (length self.now == 0) }
+    {
+        self.entries.is_empty()
+    }
+
+    /// What the entry at the index holds, where there is one.
+    pub fn get(&self, index: usize) -> Option<&Held>
+        ensures { option_copied result ≡ option_map held_of (slice_get self.now index) }
+    {
+        match self.entries.get(index) {
+            Some(entry) => Some(&entry.held),
+            None => None,
+        }
+    }
+
+    /// The name of the entry at the index, where there is one.
+    pub fn name(&self, index: usize) -> Option<&Text>
+        ensures { option_copied result ≡ option_map (λ e. e.name) (slice_get self.now index) }
+    {
+        match self.entries.get(index) {
+            Some(entry) => Some(&entry.name),
+            None => None,
+        }
+    }
+
+    /// Puts an entry at the end. Where memory is out, the scope is as it was.
+    pub fn push(&mut self, name: Text, held: Held) -> Result<(), OutOfMemory>
+        ensures { self.new ≡ (if is_ok result then self.old ++ record { name = name; held = held } ∷ [] else self.old) }
+    {
+        self.entries.push(Entry { name, held })?;
+        Ok(())
+    }
+
+    /// Keeps the first `n` entries.
+    pub fn rewind(&mut self, n: usize)
+        ensures { self.new ≡ take n self.old }
+    {
+        self.entries.truncate(n);
+    }
+
+    /// Writes what the entry at the index holds.
+    pub fn set(&mut self, index: usize, held: Held)
+        requires { index < length self.old }
+        ensures { self.new ≡ set_held self.old index held }
+    {
+        self.entries[index].held = held;
+    }
+}

@@ -1,0 +1,101 @@
+//! Texts: names, the fields of faults, and what is written.
+
+ghost use Rattle.std.specs.Prelude.{◌≡◌, ◌==◌, ◌++◌, [], length, IfOk, is_ok, if◌then◌else◌, slice_get};
+ghost use Rattle.std.specs.Fmt.{decimal, signed_decimal};
+
+use crate::memory::OutOfMemory;
+use std::alloc::Global;
+use std::fmt::Write;
+use std::marker::Model;
+
+/// A text. Clauses see its bytes, which are UTF-8.
+#[derive(Drop)]
+pub struct Text {
+    text: String,
+}
+
+impl Model for Text {
+    ghost use Rattle.std.specs.Prelude.{ℕ, List, string_bytes};
+
+    ghost Value = { List ℕ };
+
+    ghost view = { λ t. string_bytes t.text };
+}
+
+impl Text {
+    /// The empty text. It takes no memory.
+    pub fn new(alloc: Global) -> Text
+        ensures { result ≡ [] }
+    {
+        Text {
+            text: String::new(alloc),
+        }
+    }
+
+    /// A text of these characters.
+    pub fn copy_of(alloc: Global, s: &str) -> Result<Text, OutOfMemory>
+        ensures { IfOk result (λ t. t ≡ s.now) }
+    {
+        let text = String::from_str(alloc, s)?;
+        Ok(Text { text })
+    }
+
+    /// An equal text.
+    pub fn copy(&self, alloc: Global) -> Result<Text, OutOfMemory>
+        ensures { IfOk result (λ t. t ≡ self.now) }
+    {
+        Text::copy_of(alloc, self.as_str())
+    }
+
+    /// How many bytes the text has.
+    pub fn len(&self) -> usize
+        ensures { result ≡ length self.now }
+    {
+        self.text.len()
+    }
+
+    /// Whether the text has no bytes.
+    pub fn is_empty(&self) -> bool
+        ensures { result ≡ (length self.now == 0) }
+    {
+        self.text.is_empty()
+    }
+
+    /// The byte at the index, where there is one.
+    pub fn get(&self, index: usize) -> Option<u8>
+        ensures { result ≡ slice_get self.now index }
+    {
+        self.text.as_bytes().get(index).copied()
+    }
+
+    /// The text as it is.
+    pub fn as_str(&self) -> &str
+        ensures { result.now ≡ self.now }
+    {
+        self.text.as_str()
+    }
+
+    /// Puts these characters at the end. Where memory is out, the text is as it was.
+    pub fn push_str(&mut self, s: &str) -> Result<(), OutOfMemory>
+        ensures { self.new ≡ (if is_ok result then self.old ++ s.now else self.old) }
+    {
+        self.text.push_str(s)?;
+        Ok(())
+    }
+
+    /// Puts a number's decimal digits at the end.
+    pub fn push_number(&mut self, number: u64) -> Result<(), OutOfMemory>
+        ensures { IfOk result (λ _. self.new ≡ self.old ++ decimal number) }
+    {
+        write!(self.text, "{number}")?;
+        Ok(())
+    }
+
+    /// Puts an integer's decimal digits at the end, behind a minus where it is below zero.
+    pub fn push_integer(&mut self, integer: i64) -> Result<(), OutOfMemory>
+        ensures { IfOk result (λ _. self.new ≡ self.old ++ signed_decimal integer) }
+    {
+        write!(self.text, "{integer}")?;
+        Ok(())
+    }
+}
