@@ -1,6 +1,6 @@
 //! Scopes: the variables of a run, the newest last.
 
-ghost use Rattle.std.specs.Prelude.{◌≡◌, ◌==◌, ◌<◌, ◌++◌, ◌∷◌, [], length, is_ok, if◌then◌else◌, slice_get, take, option_map};
+ghost use Rattle.std.specs.Prelude.{◌≡◌, ◌==◌, ◌<◌, ◌^◌, ◌++◌, ◌∷◌, [], length, is_ok, if◌then◌else◌, slice_get, take, option_map};
 ghost use Rattle.std.specs.Option.{option_copied};
 ghost use Rattle.grain_value.specs.Scopes.{held_of, set_held};
 ghost use Rattle.grain_value.specs.declared.scopes.Entry.{Entry};
@@ -45,7 +45,8 @@ impl Scope {
 
     /// How many entries there are.
     pub fn len(&self) -> usize
-        ensures { result ≡ length self.now }
+        ensures value { result ≡ length self.now }
+        ensures small { result < 2 ^ 63 }
     {
         self.entries.len()
     }

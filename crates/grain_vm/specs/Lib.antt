@@ -1,0 +1,2 @@
+pub mod means
+pub mod frame

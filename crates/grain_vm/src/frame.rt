@@ -1,0 +1,6 @@
+//! Frames: how one runs, instruction by instruction.
+
+pub mod activations;
+pub mod instructions;
+pub mod states;
+pub mod steps;
