@@ -2,11 +2,17 @@
 #![tactic(auto)]
 
 mod bytes;
+mod effects;
 mod input;
 mod instructions;
 mod pools;
+mod refusals;
+mod shapes;
 
 pub use bytes::{assemble, assembled_reads_back, decode};
+pub use effects::{Effect, Flow};
 pub use input::{AssignOp, Chunk, Parts, PositionEntry};
 pub use instructions::Op;
 pub use pools::{AssignOps, Names, Positions, Tokens};
+pub use refusals::Refusal;
+pub use shapes::Shape;
