@@ -6,6 +6,7 @@ pub mod Effects
 pub mod Indices
 pub mod Layout
 pub mod Starts
+pub mod Begins
 pub mod Rules
 pub mod Shapes
 pub mod Typing
