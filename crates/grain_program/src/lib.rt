@@ -1,10 +1,18 @@
 //! Programs: instructions and their bytes, the parts of a program, and the verifier.
 #![tactic(auto)]
 
+mod bytes;
+mod effects;
 mod input;
 mod instructions;
 mod pools;
+mod refusals;
+mod shapes;
 
+pub use bytes::{assemble, assembled_reads_back, decode};
+pub use effects::{Effect, Flow};
 pub use input::{AssignOp, Chunk, Parts, PositionEntry};
 pub use instructions::Op;
 pub use pools::{AssignOps, Names, Positions, Tokens};
+pub use refusals::Refusal;
+pub use shapes::Shape;
