@@ -1,10 +1,11 @@
 //! Texts: names, the fields of faults, and what is written.
 
-ghost use Rattle.std.specs.Prelude.{◌≡◌, ◌==◌, ◌++◌, [], length, IfOk, is_ok, if◌then◌else◌, slice_get};
+ghost use Rattle.std.specs.Prelude.{◌≡◌, ◌==◌, ◌++◌, [], length, Some, IfOk, IfSome, is_ok, if◌then◌else◌, slice_get};
 ghost use Rattle.std.specs.Fmt.{decimal, signed_decimal};
 
 use crate::memory::OutOfMemory;
 use std::alloc::Global;
+use std::fmt;
 use std::fmt::Write;
 use std::marker::Model;
 
@@ -97,5 +98,22 @@ impl Text {
     {
         write!(self.text, "{integer}")?;
         Ok(())
+    }
+
+    /// Puts at the end what `{}` prints of a value.
+    pub fn push_display<D: fmt::Display>(&mut self, value: &D) -> Result<(), OutOfMemory>
+        ensures { IfOk result (λ _. IfSome (D.output value.now) (λ text. self.new ≡ self.old ++ text)) }
+    {
+        write!(self.text, "{value}")?;
+        Ok(())
+    }
+}
+
+impl fmt::Display for Text {
+    ghost output = { λ t. Some t };
+
+    fn fmt<W: fmt::Write>(&self, f: &mut fmt::Formatter<W>) -> fmt::Result {
+        let text = self.as_str();
+        write!(f, "{text}")
     }
 }
