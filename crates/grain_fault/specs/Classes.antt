@@ -1,5 +1,5 @@
 -- The three classes of faults: each fault is in exactly one.
-use Rattle.std.specs.Prelude.{Bool, true, false}
+use Rattle.std.specs.Prelude.{Bool, true, false, not, ◌&&◌}
 use Rattle.grain_fault.specs.Problems.{Problem, FunctionNotFound, MismatchDataType, Arithmetic, TooManyOperations, TooManyVariables, Malformed, NoMemory}
 
 pub data Class : Type 0 where
@@ -46,3 +46,9 @@ catchable f = catchable_class (class_of f)
 -- whether the fault ends the run, whatever the script does
 abbrev pub system_exception : Problem → Bool
 system_exception f = system_class (class_of f)
+
+-- one of the three holds, and the two others do not
+abbrev pub exactly_one : Bool → Bool → Bool → Bool
+exactly_one true b c = not b && not c
+exactly_one false true c = not c
+exactly_one false false c = c

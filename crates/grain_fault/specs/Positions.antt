@@ -1,5 +1,5 @@
 -- Where a fault was raised, and the same fault raised elsewhere.
-use Rattle.std.specs.Prelude.{if◌then◌else◌}
+use Rattle.std.specs.Prelude.{Bool, true, false, if◌then◌else◌}
 use Rattle.grain_fault.specs.Places.{nowhere, is_nowhere}
 use Rattle.grain_fault.specs.Problems.{Problem, FunctionNotFound, MismatchDataType, Arithmetic, TooManyOperations, TooManyVariables, Malformed, NoMemory}
 use Rattle.grain_fault.specs.declared.places.Position.{Position}
@@ -23,6 +23,16 @@ at_position p (TooManyOperations q) = TooManyOperations p
 at_position p (TooManyVariables q) = TooManyVariables p
 at_position p (Malformed k q) = Malformed k p
 at_position p NoMemory = NoMemory
+
+-- whether the fault has no position ever, which is want of memory alone
+abbrev pub is_placeless : Problem → Bool
+is_placeless (FunctionNotFound s p) = false
+is_placeless (MismatchDataType r a p) = false
+is_placeless (Arithmetic s p) = false
+is_placeless (TooManyOperations p) = false
+is_placeless (TooManyVariables p) = false
+is_placeless (Malformed k p) = false
+is_placeless NoMemory = true
 
 -- the fault at this position where it has none, and else as it is
 abbrev pub filled : Position → Problem → Problem

@@ -1,8 +1,8 @@
 //! The classes of faults.
 
-ghost use Rattle.std.specs.Prelude.{◌≡◌, Bool, true, false};
+ghost use Rattle.std.specs.Prelude.{◌≡◌, IsTrue};
 ghost use Rattle.grain_fault.specs.Problems.{problem_of};
-ghost use Rattle.grain_fault.specs.Classes.{pseudo_error, catchable, system_exception};
+ghost use Rattle.grain_fault.specs.Classes.{pseudo_error, catchable, system_exception, exactly_one};
 
 use crate::faults::EvalAltResult;
 
@@ -37,9 +37,14 @@ impl EvalAltResult {
         }
     }
 
-    /// Whether the fault ends the run, whatever the script does: each that is neither of the other two.
+    /// Whether the fault ends the run, whatever the script does: each that is neither of the other
+    /// two, so that a fault is of one class exactly.
     pub fn is_system_exception(&self) -> bool
         ensures value { result ≡ system_exception (problem_of self.now) }
+        ensures exactly_one {
+            let f = problem_of self.now in
+            IsTrue (exactly_one (pseudo_error f) (catchable f) (system_exception f))
+        }
     {
         !self.is_pseudo_error() && !self.is_catchable()
     }

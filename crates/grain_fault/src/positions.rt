@@ -3,7 +3,7 @@
 ghost use Rattle.std.specs.Prelude.{◌≡◌, if◌then◌else◌};
 ghost use Rattle.grain_fault.specs.Problems.{problem_of};
 ghost use Rattle.grain_fault.specs.Places.{nowhere};
-ghost use Rattle.grain_fault.specs.Positions.{position_of_problem, at_position, filled};
+ghost use Rattle.grain_fault.specs.Positions.{position_of_problem, at_position, is_placeless, filled};
 
 use crate::faults::EvalAltResult;
 use crate::places::Position;
@@ -26,7 +26,11 @@ impl EvalAltResult {
 
     /// Puts the fault at this position. Want of memory stays without one.
     pub fn set_position(&mut self, new_position: Position)
-        ensures { problem_of self.new ≡ at_position new_position (problem_of self.old) }
+        ensures whole { problem_of self.new ≡ at_position new_position (problem_of self.old) }
+        ensures position {
+            position_of_problem (problem_of self.new)
+            ≡ (if is_placeless (problem_of self.old) then nowhere else new_position)
+        }
     {
         match self {
             EvalAltResult::ErrorFunctionNotFound(_, position) => *position = new_position,
