@@ -1,6 +1,7 @@
 //! Texts: names, the fields of faults, and what is written.
 
 ghost use Rattle.std.specs.Prelude.{◌≡◌, ◌==◌, ◌++◌, [], length, Some, IfOk, IfSome, is_ok, if◌then◌else◌, slice_get};
+ghost use Rattle.std.specs.Str.{chars};
 ghost use Rattle.std.specs.Fmt.{decimal, signed_decimal};
 
 use crate::memory::OutOfMemory;
@@ -53,6 +54,13 @@ impl Text {
         ensures { result ≡ length self.now }
     {
         self.text.len()
+    }
+
+    /// How many characters the text has.
+    pub fn char_count(&self) -> usize
+        ensures { result ≡ length (chars self.now) }
+    {
+        self.as_str().chars().count()
     }
 
     /// Whether the text has no bytes.
