@@ -1,2 +1,7 @@
 mod Above
 mod Arguments
+mod Landing
+mod Roots
+mod Stretches
+mod Turns
+mod Mains

@@ -2,5 +2,6 @@
 
 pub mod activations;
 pub mod instructions;
+pub mod runs;
 pub mod states;
 pub mod steps;

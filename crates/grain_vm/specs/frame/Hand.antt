@@ -1,12 +1,16 @@
 -- What the code has in its hands, and where a stretch of it led.
-use Rattle.std.specs.Prelude.{◌≡◌, ◌⊎◌, ◌<◌, ◌≤◌, ℕ, List, Bool, true, false, Option, Some, None, Result, Ok, Err, drop, take, length}
+use Rattle.std.specs.Prelude.{◌≡◌, ◌⊎◌, ◌<◌, ◌≤◌, ◌+◌, ℕ, List, Bool, true, false, Option, Some, None, Result, Ok, Err, drop, take, length}
 use Rattle.std.specs.Vec.{vec_capacity}
+use Rattle.grain_value.specs.declared.values.Dynamic.{Dynamic}
 use Rattle.grain_value.specs.declared.values.Held.{Held}
 use Rattle.grain_value.specs.declared.memory.OutOfMemory.{OutOfMemory}
 use Rattle.grain_fault.specs.Problems.{NoMemory, problem_of}
+use Rattle.grain_fault.specs.declared.faults.EvalAltResult.{EvalAltResult}
+use Rattle.grain_program.specs.Reading.{op_at}
+use Rattle.grain_program.specs.Fits.{Fits}
 use Rattle.grain_program.specs.View.{View}
 use Rattle.grain_vm.specs.means.Operators.{Outcome, NotBuiltIn, Gave, Overflowed}
-use Rattle.grain_vm.specs.means.Acts.{Act, Go, End, Came, Frame, InFrame, left, raised}
+use Rattle.grain_vm.specs.means.Acts.{Act, Go, End, Answer, Came, Failed, Frame, InFrame, left, raised, instr, or_return}
 use Rattle.grain_vm.specs.means.Goes.{InHand, Start, Same, Goes}
 use Rattle.grain_vm.specs.means.Means.{setup}
 use Rattle.grain_vm.specs.frame.Counts.{Counts}
@@ -65,11 +69,34 @@ Kept f s f' s' =
     (take f.bottom s'.stacks.operands.items ≡ take f.bottom s.stacks.operands.items) × (f.bottom ≤ length s'.stacks.operands.items) ×
     (s'.stacks.trace ≡ s.stacks.trace) × (vec_capacity s.stacks.operands ≤ vec_capacity s'.stacks.operands) × (length s.scope ≤ length s'.scope)
 
+-- an operation was taken, or the frame stands further on in the code
+abbrev pub Moves : Engine → State → Activation → State → Activation → Type 0
+Moves engine s f s' f' = ((s.count < s'.count) × (s.count < engine.limits.operations)) ⊎ ((s.count ≤ s'.count) × (f.address < f'.address))
+
 -- the frame goes on at one of these addresses with so many operands; it takes an operation or lies further on
 abbrev pub Lands : Engine → State → Activation → State → Activation → (ℕ → Type 0) → ℕ → Result Flow OutOfMemory → Type 0
 Lands engine s f s' f' At height (Ok On) =
-    At f'.address × (length (own s'.stacks f'.bottom) ≡ height) ×
-    (((s.count < s'.count) × (s.count < engine.limits.operations)) ⊎ ((s.count ≤ s'.count) × (f.address < f'.address)))
+    At f'.address × (length (own s'.stacks f'.bottom) ≡ height) × Moves engine s f s' f'
 Lands engine s f s' f' At height (Ok (Give v)) = Unit {0}
 Lands engine s f s' f' At height (Ok (Raise x)) = Unit {0}
 Lands engine s f s' f' At height (Err e) = Unit {0}
+
+-- the instruction at which a frame stands
+abbrev pub performed : Frame → Start
+performed f m this w = let r = or_return (op_at m.program.code f.address) in instr m r.0 (f.address + r.1) f this w
+
+-- a run that is over
+abbrev pub answer_of : Result (Result Dynamic EvalAltResult) OutOfMemory → Answer
+answer_of (Ok (Ok v)) = Came v
+answer_of (Ok (Err x)) = Failed (problem_of x)
+answer_of (Err e) = Failed NoMemory
+
+abbrev pub over : Result (Result Dynamic EvalAltResult) OutOfMemory → Start
+over r m this w = End (answer_of r) w
+
+-- where the frame goes on, it stands where the typing knows it
+abbrev pub GoesOn : View → Engine → State → Activation → State → Activation → Result Flow OutOfMemory → Type 0
+GoesOn p engine s f s' f' (Ok On) = Fits p f'.chunk f'.address (length (own s'.stacks f'.bottom)) × Moves engine s f s' f' × (f.address < 16777216)
+GoesOn p engine s f s' f' (Ok (Give v)) = Unit {0}
+GoesOn p engine s f s' f' (Ok (Raise x)) = Unit {0}
+GoesOn p engine s f s' f' (Err e) = Unit {0}

@@ -217,6 +217,10 @@ module _ (m : Setup) where
   abbrev pub main_frame : List Entry → Frame
   main_frame scope = record { address = m.program.main.entry; operands = []; base = length scope; floor = length scope }
 
-  -- a call begins, main is entered, and then the call is over
+  -- a call begins, main's frame is entered under a `this`, and then the call is over
+  abbrev pub called : Option Place → World → Act
+  called this w = passing w (λ w1. passing w1 (λ w2. Then (Go (InFrame (main_frame w2.scope) this) w2) closed))
+
+  -- main is run without a `this`
   abbrev pub main : World → Act
-  main w = passing w (λ w1. passing w1 (λ w2. Then (Go (InFrame (main_frame w2.scope) None) w2) closed))
+  main w = called None w

@@ -1,10 +1,14 @@
 -- What a program means: the end of its main run, the run that is stopped at a mark, and a slow evaluator.
-use Rattle.std.specs.Prelude.{◌≡◌, ℕ, zero, suc, List, [], Option, Some, None}
+use Rattle.std.specs.Prelude.{◌≡◌, ℕ, zero, suc, List, [], Option, Some, None, Result, Ok, Err}
+use Rattle.grain_value.specs.declared.values.Dynamic.{Dynamic}
 use Rattle.grain_value.specs.declared.scopes.Entry.{Entry}
 use Rattle.grain_fault.specs.declared.traces.Fault.{Fault}
+use Rattle.grain_fault.specs.declared.faults.EvalAltResult.{EvalAltResult}
+use Rattle.grain_fault.specs.declared.faults.EvalAltResult.TheVariants as fault
+use Rattle.grain_fault.specs.Problems.{NoMemory, problem_of}
 use Rattle.grain_program.specs.View.{View}
 use Rattle.grain_vm.specs.declared.global.Engine.{Engine}
-use Rattle.grain_vm.specs.means.Acts.{Act, Go, End, Then, Answer, World, Setup, next, main}
+use Rattle.grain_vm.specs.means.Acts.{Act, Go, End, Then, Answer, Came, Failed, World, Setup, next, main}
 use Rattle.grain_vm.specs.means.Ends.{Ends}
 use Rattle.grain_vm.specs.means.Length.{run_length}
 
@@ -44,6 +48,13 @@ Means program engine b e ran = Runs (setup program engine) b e ran
 -- the run at whose mark k memory is out ends so
 abbrev pub Stopped : ℕ → View → Engine → Begin → Finish → ℕ → Type 0
 Stopped k program engine b e ran = Runs (record (setup program engine) { stop = Some k }) b e ran
+
+-- What a call answered: with a value or a fault the end that the program means, and where memory is out the end of the
+-- run that is stopped at some mark.
+abbrev pub Evaluates : View → Engine → Begin → Result Dynamic EvalAltResult → (Answer → Finish) → ℕ → Type 0
+Evaluates program engine b (Ok v) finish ran = Means program engine b (finish (Came v)) ran
+Evaluates program engine b (Err fault.Memory) finish ran = (k : ℕ) × Stopped k program engine b (finish (Failed NoMemory)) ran
+Evaluates program engine b (Err x) finish ran = Means program engine b (finish (Failed (problem_of x))) ran
 
 -- a slow evaluator: at most as many nested steps as the number says
 pub record Over : Type 0 where

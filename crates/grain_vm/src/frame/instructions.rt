@@ -7,7 +7,7 @@ ghost use Rattle.grain_program.specs.declared.instructions.Op.TheVariants as op;
 ghost use Rattle.grain_value.specs.Writing.{type_name_of};
 ghost use Rattle.grain_fault.specs.declared.faults.EvalAltResult.TheVariants as fault;
 ghost use Rattle.grain_fault.specs.declared.faults.MalformedKind.TheVariants as kind;
-ghost use Rattle.grain_vm.specs.means.Acts.{jumped, stepped, pushed, instr};
+ghost use Rattle.grain_vm.specs.means.Acts.{End, Came, jumped, stepped, pushed, instr, marked, top};
 ghost use Rattle.grain_vm.specs.frame.Hand.{own, frame_in, Does, Kept, Stands, Lands};
 
 use crate::frame::activations::Activation;
@@ -23,8 +23,8 @@ use std::alloc::Global;
 use std::sync::ledger::Ledger;
 
 impl State {
-    // Goes on at an address. A transfer to one that does not lie ahead costs an operation.
-    fn jump_to<L: Ledger>(
+    // `jump`: goes on at an address. A transfer to one that does not lie ahead costs an operation.
+    pub(crate) fn jump_to<L: Ledger>(
         &mut self,
         engine: &Engine,
         program: &Program,
@@ -85,7 +85,7 @@ impl State {
     }
 
     // `load_const`: a copy of the constant.
-    fn load_const<L: Ledger>(
+    pub(crate) fn load_const<L: Ledger>(
         &mut self,
         alloc: Global,
         engine: &Engine,
@@ -111,7 +111,7 @@ impl State {
     }
 
     // `load_local`: a copy of what the entry holds.
-    fn load_local<L: Ledger>(
+    pub(crate) fn load_local<L: Ledger>(
         &mut self,
         alloc: Global,
         engine: &Engine,
@@ -142,7 +142,7 @@ impl State {
     }
 
     // `declare_local`: one entry more, with the frame's last operand.
-    fn declare_local<L: Ledger>(
+    pub(crate) fn declare_local<L: Ledger>(
         &mut self,
         alloc: Global,
         engine: &Engine,
@@ -177,28 +177,8 @@ impl State {
         Ok(Flow::On)
     }
 
-    // `jump`.
-    fn jump<L: Ledger>(
-        &mut self,
-        engine: &Engine,
-        program: &Program,
-        steps: &mut Steps<L>,
-        frame: &mut Activation,
-        target: u32,
-    ) -> Flow
-        requires stands { Stands frame.old self.old }
-        ensures same { (next : ℕ) → Does program.now engine.now self.old steps.old
-            (λ m place w. instr m (op.Jump target) next (frame_in frame.old self.old) place w)
-            (Ok result) self.new steps.new frame.new }
-        ensures kept { Kept frame.old self.old frame.new self.new }
-        ensures lands { Lands engine.now self.old frame.old self.new frame.new (λ a. a ≡ target) (length (own self.old.stacks frame.old.bottom)) (Ok result) }
-        ensures before { steps.new.before ≡ steps.old.before }
-    {
-        self.jump_to(engine, program, steps, frame, target as usize)
-    }
-
     // `jump_if_false`: a transfer where the frame's last operand is false.
-    fn jump_if_false<L: Ledger>(
+    pub(crate) fn jump_if_false<L: Ledger>(
         &mut self,
         alloc: Global,
         engine: &Engine,
@@ -237,7 +217,7 @@ impl State {
 
     // `assign_local_op`: an op-assignment to an entry.
     #[tactic(auto, using(crate::proofs::Above::length_set_held))]
-    fn assign_local_op<L: Ledger>(
+    pub(crate) fn assign_local_op<L: Ledger>(
         &mut self,
         alloc: Global,
         engine: &Engine,
@@ -303,7 +283,7 @@ impl State {
     }
 
     // `call_op`: an operator on the frame's last operands.
-    fn call_op<L: Ledger>(
+    pub(crate) fn call_op<L: Ledger>(
         &mut self,
         alloc: Global,
         engine: &Engine,
@@ -352,7 +332,7 @@ impl State {
     }
 
     // `return`: the frame's last operand, or unit.
-    fn give_back<L: Ledger>(
+    pub(crate) fn give_back<L: Ledger>(
         &mut self,
         engine: &Engine,
         program: &Program,
@@ -360,8 +340,8 @@ impl State {
         frame: &mut Activation,
     ) -> Flow
         requires stands { Stands frame.old self.old }
-        ensures same { (next : ℕ) → Does program.now engine.now self.old steps.old
-            (λ m place w. instr m op.Return next (frame_in frame.old self.old) place w)
+        ensures same { Does program.now engine.now self.old steps.old
+            (λ m place w. marked m (frame_in frame.old self.old) w (End (Came (top (own self.old.stacks frame.old.bottom)))))
             (Ok result) self.new steps.new frame.new }
         ensures kept { Kept frame.old self.old frame.new self.new }
         ensures ends { Lands engine.now self.old frame.old self.new frame.new (λ a. ⊥) 0 (Ok result) }
