@@ -5,3 +5,6 @@ mod Roots
 mod Stretches
 mod Turns
 mod Mains
+mod Determined
+mod Tally
+mod Evaluated

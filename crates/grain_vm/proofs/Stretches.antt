@@ -23,19 +23,6 @@ earlier k b h = grind (arith, nat_tests)
 here : (b : ℕ) → is_stop (Some b) b ≡ true
 here b = grind (arith, nat_tests)
 
--- the stop at which the code is: none, unless memory is out
-abbrev pub stop_at : Bool → ℕ → Option ℕ
-stop_at false p = None
-stop_at true p = Some p
-
-stop_clear : (out : Bool) (a b : ℕ) → Clear (stop_at out b) a b
-stop_clear false a b k from to = refl
-stop_clear true a b k from to = earlier k b to
-
-stop_halts : (out : Bool) (b : ℕ) → Halts out (stop_at out b) b
-stop_halts false b = tt
-stop_halts true b = here b
-
 -- two runs that are one, where `this` stays
 one_leads : (m : Setup) (old : InHand) (start : Start) (new : InHand) (now : Start) → new.this ≡ old.this →
     ((u : Unseen) (place : Option Place) → start m place (world old u) ≡ now m place (world new u)) → Leads m old start new now
@@ -87,9 +74,20 @@ module _ {m : Setup} where
     leads = λ stop clear halts u place bound. let k = h.leads stop clear halts u place bound in (k.0, λ a w run. joined (k.1 b _ ended) run);
   }
 
-  -- a whole run, stopped where memory was out
-  pub whole : {old : InHand} {first : Start} {out : Bool} {new : InHand} {b : Answer} → Goes m old first out new (λ n place w. End b w) → (u : Unseen) → old.this ≡ None →
-      Ends (stopped m (stop_at out new.passed)) (first (stopped m (stop_at out new.passed)) None (world old u)) b (world new u)
-  whole {old} {out = out} {new = new} {b = b} h u none =
-      let k = h.leads (stop_at out new.passed) (stop_clear out old.passed new.passed) (stop_halts out new.passed) u None (rw none tt) in
+  -- a whole run, at any stop that the code did not pass
+  pub whole : {old : InHand} {first : Start} {out : Bool} {new : InHand} {b : Answer} → Goes m old first out new (λ n place w. End b w) → old.this ≡ None →
+      (stop : Option ℕ) → Clear stop old.passed new.passed → Halts out stop new.passed → (u : Unseen) → Ends (stopped m stop) (first (stopped m stop) None (world old u)) b (world new u)
+  whole {old} {out = out} {new = new} {b = b} h none stop clear halts u =
+      let k = h.leads stop clear halts u None (rw none tt) in
       k.1 b (world new u) (rw (puts-nowhere u.roots new.this) ended)
+
+-- the stop at a mark that comes later was not passed, and it is where memory is out
+pub clear_before : (a b : ℕ) → Clear (Some b) a b
+clear_before a b k from to = earlier k b to
+
+pub halts_there : (out : Bool) (b : ℕ) → Halts out (Some b) b
+halts_there false b = tt
+halts_there true b = here b
+
+pub never_clear : (a b : ℕ) → Clear None a b
+never_clear a b k from to = refl
