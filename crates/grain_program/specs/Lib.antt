@@ -8,6 +8,7 @@ pub mod Layout
 pub mod Starts
 pub mod Begins
 pub mod Rules
+pub mod Owners
 pub mod Shapes
 pub mod Typing
 pub mod Fits

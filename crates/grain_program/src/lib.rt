@@ -2,9 +2,11 @@
 #![tactic(auto)]
 
 mod bytes;
+mod early;
 mod effects;
 mod input;
 mod instructions;
+mod owners;
 mod pools;
 mod refusals;
 mod shapes;
