@@ -16,7 +16,7 @@ use Rattle.grain_program.specs.Effects.{effect_of, leads}
 use Rattle.grain_program.specs.Layout.{chunks_in, layout_fault}
 use Rattle.grain_program.specs.Starts.{Start}
 use Rattle.grain_program.specs.Rules.{Splits, RefusedEarly}
-use Rattle.grain_program.specs.Shapes.{bare, height_after, after, trouble, clash}
+use Rattle.grain_program.specs.Shapes.{bare, height_after, after, stepped, clash, shape_at}
 
 -- the number is in the list
 abbrev pub In : ℕ → List ℕ → Type 0
@@ -53,9 +53,6 @@ IsProgram p = Valid p (chunks_in p)
 pub record Seen : Type 0 where
   pub shapes : List (Option Shape)
   pub waiting : List ℕ
-
-abbrev pub shape_at : List (Option Shape) → ℕ → Option Shape
-shape_at shapes a = slice_index_or shapes a None
 
 -- a result, and then what is done with it
 infixl 10 ◌>>=◌
@@ -96,7 +93,7 @@ abbrev pub take_op : ℕ → ℕ → Seen → Option (Op × ℕ) → Option Shap
 take_op max a f None s = Ok f
 take_op max a f (Some r) None = Ok f
 take_op max a f (Some r) (Some s) =
-    unless (trouble max a (effect_of r.0) s) (arrive_all (after (effect_of r.0) s) (leads (effect_of r.0).flow (a + r.1)) f)
+    stepped max a (effect_of r.0) s >>= λ t. arrive_all t (leads (effect_of r.0).flow (a + r.1)) f
 
 abbrev pub take_at : List ℕ → ℕ → ℕ → Seen → Result Seen Refusal
 take_at code max a f = take_op max a f (op_at code a) (shape_at f.shapes a)
@@ -134,3 +131,10 @@ IsRefusal p r = Refused p (chunks_in p) r
 abbrev pub Gives : {A : Type 0} → Seen → Result A Refusal → Result Seen Refusal → Type 0
 Gives f (Ok x) found = found ≡ Ok f
 Gives f (Err e) found = (e ≡ refusal.Memory) ⊎ (found ≡ Err e)
+
+-- what the code needs where it takes an address: the table has a place there, and wherever the instruction leads
+pub record Ready (code : List ℕ) (shapes : List (Option Shape)) (a : ℕ) : Type 0 where
+  pub small : length code ≤ 16777216
+  pub room : length shapes ≡ length code
+  pub within : a < length code
+  pub targets : (r : Op × ℕ) → op_at code a ≡ Some r → AllByRecursion (λ b. b < length code) (leads (effect_of r.0).flow (a + r.1))

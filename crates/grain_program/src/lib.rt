@@ -6,10 +6,12 @@ mod early;
 mod effects;
 mod input;
 mod instructions;
+mod late;
 mod owners;
 mod pools;
 mod refusals;
 mod shapes;
+mod surveys;
 
 pub use bytes::{assemble, assembled_reads_back, decode};
 pub use effects::{Effect, Flow};
