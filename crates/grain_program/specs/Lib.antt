@@ -12,3 +12,4 @@ pub mod Owners
 pub mod Shapes
 pub mod Typing
 pub mod Fits
+pub mod Recorded
