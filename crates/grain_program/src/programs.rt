@@ -1,22 +1,23 @@
 //! Programs: parts that break no rule.
 
 ghost use Rattle.std.specs.Prelude.{◌≡◌, ◌<◌, ◌^◌, ◌⊎◌, ℕ, List, length, IfOk, IfErr, Some};
-ghost use Rattle.grain_program.specs.View.{View, view_of, const_of, name_of, token_of, assign_op_of, position_of};
+ghost use Rattle.grain_program.specs.View.{View, view_of, position_in, const_of, name_of, token_of, assign_op_of, position_of};
 ghost use Rattle.grain_program.specs.Reading.{op_at};
 ghost use Rattle.grain_program.specs.Layout.{chunks_in};
 ghost use Rattle.grain_program.specs.Typing.{Valid, Refused, IsProgram, IsRefusal};
 ghost use Rattle.grain_program.specs.Fits.{Fits, Foreseen};
-ghost use Rattle.grain_program.specs.Recorded.{HasOrder};
+ghost use Rattle.grain_program.specs.Recorded.{Ascends, HasOrder};
 ghost use Rattle.grain_program.specs.declared.input.Chunk.{Chunk};
 ghost use Rattle.grain_program.specs.declared.refusals.Refusal.{Refusal};
 ghost use Rattle.grain_program.specs.declared.refusals.Refusal.TheVariants.{Memory};
 
 use crate::bytes::decode;
 use crate::early::early;
-use crate::input::{AssignOp, Chunk, Parts};
+use crate::input::{AssignOp, Chunk, Parts, PositionEntry};
 use crate::instructions::Op;
 use crate::late::late;
 use crate::refusals::Refusal;
+use grain_fault::Position;
 use grain_value::{Blob, Dynamic, OutOfMemory, Text, Token};
 use std::alloc::Global;
 use std::marker::Model;
@@ -102,6 +103,29 @@ fn bounded(max_stack: u16) -> u16
     max_stack
 }
 
+/// The position of the address among entries in ascending order of their addresses, or none.
+fn position_among(entries: &[PositionEntry], address: usize) -> Position
+    requires { (end : ℕ) × Ascends 0 end entries.now }
+    ensures { result ≡ position_in entries.now address }
+{
+    let mut low = 0;
+    let mut high = entries.len();
+    while low < high {
+        let middle = low + (high - low) / 2;
+        let entry = entries[middle];
+        let at = entry.address as usize;
+        if at == address {
+            return entry.position;
+        }
+        if at < address {
+            low = middle + 1;
+        } else {
+            high = middle;
+        }
+    }
+    Position::NONE
+}
+
 impl Program {
     /// The code.
     pub fn code(&self) -> &Blob
@@ -180,5 +204,12 @@ impl Program {
             Some(read) => read,
             None => unreachable!(),
         }
+    }
+
+    /// The position of the instruction at the address, or none where none is recorded.
+    pub fn position(&self, address: usize) -> Position
+        ensures { result ≡ position_of self.now address }
+    {
+        position_among(self.parts.positions.as_slice(), address)
     }
 }
