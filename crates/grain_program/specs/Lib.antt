@@ -8,6 +8,8 @@ pub mod Layout
 pub mod Starts
 pub mod Begins
 pub mod Rules
+pub mod Owners
 pub mod Shapes
 pub mod Typing
 pub mod Fits
+pub mod Recorded

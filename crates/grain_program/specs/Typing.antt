@@ -16,7 +16,7 @@ use Rattle.grain_program.specs.Effects.{effect_of, leads}
 use Rattle.grain_program.specs.Layout.{chunks_in, layout_fault}
 use Rattle.grain_program.specs.Starts.{Start}
 use Rattle.grain_program.specs.Rules.{Splits, RefusedEarly}
-use Rattle.grain_program.specs.Shapes.{bare, height_after, after, trouble, clash}
+use Rattle.grain_program.specs.Shapes.{bare, height_after, after, stepped, clash, shape_at}
 
 -- the number is in the list
 abbrev pub In : ℕ → List ℕ → Type 0
@@ -54,9 +54,6 @@ pub record Seen : Type 0 where
   pub shapes : List (Option Shape)
   pub waiting : List ℕ
 
-abbrev pub shape_at : List (Option Shape) → ℕ → Option Shape
-shape_at shapes a = slice_index_or shapes a None
-
 -- a result, and then what is done with it
 infixl 10 ◌>>=◌
 abbrev pub ◌>>=◌ : {A B : Type 0} → Result A Refusal → (A → Result B Refusal) → Result B Refusal
@@ -91,12 +88,13 @@ abbrev pub limit_at : List Chunk → ℕ → ℕ
 limit_at [] a = 0
 limit_at (c ∷ cs) a = if nat_lt a c.end then c.max_stack else limit_at cs a
 
--- the instruction at the address is taken, from the shape that is known there
+-- the instruction at the address is taken, from the shape that is known there; without either, which a walk never
+-- comes to, nothing is done
 abbrev pub take_op : ℕ → ℕ → Seen → Option (Op × ℕ) → Option Shape → Result Seen Refusal
 take_op max a f None s = Ok f
 take_op max a f (Some r) None = Ok f
 take_op max a f (Some r) (Some s) =
-    unless (trouble max a (effect_of r.0) s) (arrive_all (after (effect_of r.0) s) (leads (effect_of r.0).flow (a + r.1)) f)
+    stepped max a (effect_of r.0) s >>= λ t. arrive_all t (leads (effect_of r.0).flow (a + r.1)) f
 
 abbrev pub take_at : List ℕ → ℕ → ℕ → Seen → Result Seen Refusal
 take_at code max a f = take_op max a f (op_at code a) (shape_at f.shapes a)
@@ -134,3 +132,13 @@ IsRefusal p r = Refused p (chunks_in p) r
 abbrev pub Gives : {A : Type 0} → Seen → Result A Refusal → Result Seen Refusal → Type 0
 Gives f (Ok x) found = found ≡ Ok f
 Gives f (Err e) found = (e ≡ refusal.Memory) ⊎ (found ≡ Err e)
+
+-- what the code needs where it takes an address: an instruction and a known shape are there, and the table has a place
+-- there and wherever the instruction leads
+pub record Ready (code : List ℕ) (shapes : List (Option Shape)) (a : ℕ) : Type 0 where
+  pub small : length code ≤ 16777216
+  pub room : length shapes ≡ length code
+  pub within : a < length code
+  pub read : op_at code a ≡ None → ⊥
+  pub known : shape_at shapes a ≡ None → ⊥
+  pub targets : (r : Op × ℕ) → op_at code a ≡ Some r → AllByRecursion (λ b. b < length code) (leads (effect_of r.0).flow (a + r.1))
