@@ -13,7 +13,7 @@ use crate::frame::states::{Flow, State};
 use crate::frame::steps::Steps;
 use crate::global::Engine;
 use grain_fault::EvalAltResult;
-use grain_program::{Op, Program, fetch};
+use grain_program::{Op, Program};
 use grain_value::{Dynamic, OutOfMemory};
 use std::alloc::Global;
 use std::sync::ledger::Ledger;
@@ -38,7 +38,7 @@ impl State {
     {
         let address = frame.address;
         let depth = self.stacks.height() - frame.bottom;
-        match fetch(program, frame.chunk, address, depth) {
+        match program.fetch(frame.chunk, address, depth) {
             (Op::LoadConst(constant), width) => self.load_const(
                 alloc,
                 engine,

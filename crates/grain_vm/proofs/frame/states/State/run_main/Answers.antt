@@ -6,7 +6,7 @@ use Rattle.grain_vm.proofs.frame.states.State.run_main.Goals as goal
 
 pub run_frame-back-requires-clause-fits : goal.run_frame-back-requires-clause-fits
 run_frame-back-requires-clause-fits g c =
-    fresh_fits c.args.program.now c.main-chunk.ensures.program c.enter.new.self c.main-chunk.result c.height-bottom.result c.len.result c.new-frame.result c.main-chunk.ensures.value c.height-bottom.ensures c.new-frame.ensures
+    fresh_fits c.args.program.now c.main-chunk.ensures.valid c.enter.new.self c.main-chunk.result c.height-bottom.result c.len.result c.new-frame.result c.main-chunk.ensures.value c.height-bottom.ensures c.new-frame.ensures
 
 pub returns-in-Ok-clause-goes : goal.returns-in-Ok-clause-goes
 returns-in-Ok-clause-goes g c =
