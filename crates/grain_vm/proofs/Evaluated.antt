@@ -13,6 +13,7 @@ use Rattle.grain_vm.specs.means.Acts.{Answer, World, called}
 use Rattle.grain_vm.specs.means.Ends.{Ends}
 use Rattle.grain_vm.specs.means.Goes.{InHand, Goes, Clear, Halts, world, nothing}
 use Rattle.grain_vm.specs.means.Length.{run_length}
+use Rattle.grain_vm.specs.means.Causes.{Caused, HasCause}
 use Rattle.grain_vm.specs.means.Means.{Begin, Finish, setup, Runs, Evaluates}
 use Rattle.grain_vm.specs.frame.Hand.{is_out, over, answer_of}
 use Rattle.grain_vm.specs.Machines.{answered}
@@ -48,3 +49,21 @@ module _ (p : View) (e : Engine) (b : Begin) (trace : List Fault) (scope : List 
   evaluated (Ok (Err (fault.ErrorTooManyVariables q))) h = runs (Ok (Err (fault.ErrorTooManyVariables q))) h None (never_clear 0 passed) tt
   evaluated (Ok (Err (fault.Malformed k q))) h = runs (Ok (Err (fault.Malformed k q))) h None (never_clear 0 passed) tt
   evaluated (Err m) h = (passed, runs (Err m) h (Some passed) (clear_before 0 passed) (halts_there true passed))
+
+  -- why a run that is not stopped ends in this fault
+  caused : (x : EvalAltResult) → Goes (setup p e) at_first (λ m place w. called m place w) false at_last (over (Ok (Err x))) → Caused (setup p e) (answer_of (Ok (Err x))) (world at_last nothing)
+  caused x h =
+      let run = whole h refl None (never_clear 0 passed) tt nothing in
+      (called_counts (setup p e) None (world at_first nothing) (world at_last nothing) (answer_of (Ok (Err x))) run).2
+
+  pub has_cause : (back : Result (Result Dynamic EvalAltResult) OutOfMemory) → Goes (setup p e) at_first (λ m place w. called m place w) (is_out back) at_last (over back) →
+      HasCause p e count (answered back)
+  has_cause (Ok (Ok v)) h = tt
+  has_cause (Ok (Err fault.Memory)) h = tt
+  has_cause (Ok (Err (fault.ErrorFunctionNotFound s q))) h = caused (fault.ErrorFunctionNotFound s q) h
+  has_cause (Ok (Err (fault.ErrorMismatchDataType s t q))) h = caused (fault.ErrorMismatchDataType s t q) h
+  has_cause (Ok (Err (fault.ErrorArithmetic s q))) h = caused (fault.ErrorArithmetic s q) h
+  has_cause (Ok (Err (fault.ErrorTooManyOperations q))) h = caused (fault.ErrorTooManyOperations q) h
+  has_cause (Ok (Err (fault.ErrorTooManyVariables q))) h = caused (fault.ErrorTooManyVariables q) h
+  has_cause (Ok (Err (fault.Malformed k q))) h = caused (fault.Malformed k q) h
+  has_cause (Err m) h = tt

@@ -6,5 +6,6 @@ mod Stretches
 mod Turns
 mod Mains
 mod Determined
+mod Reasons
 mod Tally
 mod Evaluated

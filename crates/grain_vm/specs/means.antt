@@ -4,3 +4,4 @@ pub mod Ends
 pub mod Length
 pub mod Goes
 pub mod Means
+pub mod Causes
