@@ -1,10 +1,10 @@
 -- Operands above a frame's bottom.
-use Rattle.std.proofs.Common.{◌≡◌, ◌≤◌, ◌<◌, ℕ, zero, suc, ◌+◌, ◌-◌, List, [], ◌∷◌, ◌++◌, take, drop, length, refl, sym, ap, arith, length-drop}
+use Rattle.std.proofs.Common.{◌≡◌, ◌≤◌, ℕ, zero, suc, ◌+◌, ◌-◌, List, [], ◌∷◌, ◌++◌, take, drop, length, refl, sym, ap, arith, length-drop}
 use Rattle.std.proofs.lemmas.List.{drop-append-le, drop-take}
 use Rattle.grain_value.specs.declared.values.Held.{Held}
 use Rattle.grain_value.specs.declared.scopes.Entry.{Entry}
 use Rattle.grain_value.specs.Scopes.{set_held}
-use Rattle.grain_vm.specs.means.Acts.{top, below, under}
+use Rattle.grain_vm.specs.means.Acts.{top, under}
 
 -- the last operand
 pub top-snoc : (xs : List Held) (h : Held) → top (xs ++ h ∷ []) ≡ h.value

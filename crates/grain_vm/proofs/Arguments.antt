@@ -1,5 +1,5 @@
 -- The last operands as an operator's arguments.
-use Rattle.std.proofs.Common.{◌≡◌, ◌≤◌, ◌≢◌, ℕ, ◌-◌, List, [], ◌∷◌, drop, length, map, Bool, true, false, refl, sym, ◌∙◌, arith, length-drop}
+use Rattle.std.proofs.Common.{◌≡◌, ◌≤◌, ◌≢◌, ℕ, ◌-◌, List, [], ◌∷◌, drop, length, Bool, true, false, refl, sym, ◌∙◌, arith, length-drop}
 use Rattle.std.proofs.lemmas.List.{length-map}
 use Rattle.grain_value.specs.declared.values.Dynamic.{Dynamic}
 use Rattle.grain_value.specs.declared.values.Held.{Held}
@@ -24,4 +24,3 @@ where_not false = refl
 pub no_operation : (fast : Bool) (t : Token) (n : ℕ) (xs : List Held) → n ≤ length xs → n ≢ 2 → NotBuiltIn ≡ where_fast fast (operation t (arguments n xs))
 no_operation fast t n xs le ne =
     rw (not_two t (arguments n xs) (λ e. ne (sym (length_arguments n xs le) ∙ e)), where_not fast) refl
-

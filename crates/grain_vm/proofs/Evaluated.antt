@@ -1,18 +1,15 @@
 -- What a whole call answers is what the program means.
-use Rattle.std.proofs.Common.{◌≡◌, ℕ, ◌+◌, List, [], Option, Some, None, Bool, true, false, Result, Ok, Err, refl, sym, subst, ◌∙◌, arith}
+use Rattle.std.proofs.Common.{ℕ, List, [], Option, Some, None, true, false, Result, Ok, Err, refl, arith}
 use Rattle.grain_value.specs.declared.memory.OutOfMemory.{OutOfMemory}
 use Rattle.grain_value.specs.declared.values.Dynamic.{Dynamic}
 use Rattle.grain_value.specs.declared.scopes.Entry.{Entry}
-use Rattle.grain_fault.specs.Problems.{problem_of}
 use Rattle.grain_fault.specs.declared.traces.Fault.{Fault}
 use Rattle.grain_fault.specs.declared.faults.EvalAltResult.{EvalAltResult}
 use Rattle.grain_fault.specs.declared.faults.EvalAltResult.TheVariants as fault
 use Rattle.grain_program.specs.View.{View}
 use Rattle.grain_vm.specs.declared.global.Engine.{Engine}
-use Rattle.grain_vm.specs.means.Acts.{Answer, World, called}
-use Rattle.grain_vm.specs.means.Ends.{Ends}
+use Rattle.grain_vm.specs.means.Acts.{Answer, called}
 use Rattle.grain_vm.specs.means.Goes.{InHand, Goes, Clear, Halts, world, nothing}
-use Rattle.grain_vm.specs.means.Length.{run_length}
 use Rattle.grain_vm.specs.means.Causes.{Caused, HasCause}
 use Rattle.grain_vm.specs.means.Means.{Begin, Finish, setup, Runs, Evaluates}
 use Rattle.grain_vm.specs.frame.Hand.{is_out, over, answer_of}

@@ -1,5 +1,5 @@
 -- Where an instruction goes on, the typing knows the frame.
-use Rattle.std.proofs.Common.{◌≡◌, ◌<◌, ◌≤◌, ℕ, ◌+◌, ◌-◌, List, [], ◌∷◌, Bool, true, false, Result, Ok, Err, length, drop, refl, sym, subst, ap, inl, inr, ◌⊎◌, ◌∙◌, arith, length-drop, cond, nat_lt}
+use Rattle.std.proofs.Common.{◌≡◌, ℕ, ◌+◌, ◌-◌, List, [], ◌∷◌, Bool, true, false, Result, Ok, Err, length, drop, refl, sym, subst, ap, inl, inr, ◌⊎◌, ◌∙◌, arith, length-drop, cond, nat_lt}
 use Rattle.grain_value.specs.declared.values.Held.{Held}
 use Rattle.grain_value.specs.declared.memory.OutOfMemory.{OutOfMemory}
 use Rattle.grain_program.specs.View.{View}

@@ -1,8 +1,6 @@
 -- How main is entered and left.
-use Rattle.std.proofs.Common.{◌≡◌, ◌<◌, ◌≤◌, ℕ, ◌+◌, List, [], Option, Some, None, Bool, true, false, Result, Ok, Err, length, refl, sym, subst, ap, arith}
-use Rattle.grain_value.specs.declared.values.Dynamic.{Dynamic}
-use Rattle.grain_value.specs.declared.scopes.Entry.{Entry}
-use Rattle.grain_vm.specs.means.Acts.{Act, Go, End, Then, Answer, World, Setup, Frame, InFrame, Place, called, closed, passing, main_frame}
+use Rattle.std.proofs.Common.{◌≡◌, ◌+◌, Bool, false, refl, subst, arith}
+use Rattle.grain_vm.specs.means.Acts.{Go, End, Then, Answer, Setup, Frame, InFrame, called, closed, main_frame}
 use Rattle.grain_vm.specs.means.Goes.{InHand, Start, Goes, Same, Carries}
 use Rattle.grain_vm.specs.frame.Counts.{Counts}
 use Rattle.grain_vm.specs.frame.Hand.{hand}

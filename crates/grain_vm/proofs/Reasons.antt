@@ -1,13 +1,12 @@
 -- Where the built-ins and the slots have no result.
-use Rattle.std.proofs.Common.{◌≡◌, ◌≤◌, ◌<◌, ℕ, zero, suc, ◌+◌, List, [], ◌∷◌, Option, Some, None, Bool, true, false, refl, sym, ◌∙◌, arith, length, if◌then◌else◌}
-use Rattle.std.specs.Prelude.{ℤ, ◌+ℤ◌, slice_get, option_map}
+use Rattle.std.proofs.Common.{◌≡◌, ◌≤◌, ℕ, zero, suc, List, [], ◌∷◌, Some, None, Bool, true, false, refl, sym, arith, length, if◌then◌else◌}
+use Rattle.std.specs.Prelude.{ℤ, ◌+ℤ◌}
 use Rattle.grain_value.specs.declared.values.Dynamic.{Dynamic}
 use Rattle.grain_value.specs.declared.values.Dynamic.TheVariants as dynamic
-use Rattle.grain_value.specs.declared.values.Held.{Held}
 use Rattle.grain_value.specs.declared.scopes.Entry.{Entry}
 use Rattle.grain_value.specs.declared.operators.Token.{Token}
 use Rattle.grain_value.specs.declared.operators.Token.TheVariants as token
-use Rattle.grain_vm.specs.means.Operators.{Outcome, NotBuiltIn, Gave, Overflowed, fits64, overflow_text, sum_of, integers, binary, operation, assigned_integers, assignment, where_fast}
+use Rattle.grain_vm.specs.means.Operators.{NotBuiltIn, Gave, Overflowed, fits64, overflow_text, sum_of, binary, operation, assignment, where_fast}
 use Rattle.grain_vm.specs.means.Acts.{held_at}
 use Rattle.grain_vm.specs.means.Causes.{Overflows}
 

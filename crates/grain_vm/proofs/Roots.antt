@@ -1,9 +1,9 @@
 -- Values in their places: what is put is there, putting twice is putting once, and putting what is there changes nothing.
-use Rattle.std.proofs.Common.{◌≡◌, ℕ, zero, suc, List, [], ◌∷◌, Option, Some, None, refl, ap, sym, ◌∙◌}
+use Rattle.std.proofs.Common.{◌≡◌, ℕ, zero, suc, List, [], ◌∷◌, Option, Some, None, refl, ap, sym}
 use Rattle.std.specs.Prelude.{slice_get, slice_set}
 use Rattle.grain_value.specs.declared.values.Held.{Held}
 use Rattle.grain_vm.specs.means.Acts.{Place}
-use Rattle.grain_vm.specs.means.Goes.{Binds, put, puts}
+use Rattle.grain_vm.specs.means.Goes.{Binds, puts}
 
 same-some : {A : Type 0} {a b : A} → Some a ≡ Some b → a ≡ b
 same-some e = cc

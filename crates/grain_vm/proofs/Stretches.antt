@@ -1,10 +1,10 @@
 -- How stretches of code are put together: all that is known of `Goes`. No other file looks into it.
-use Rattle.std.proofs.Common.{◌≡◌, ◌<◌, ◌≤◌, ℕ, ◌+◌, List, Option, Some, None, Bool, true, false, refl, sym, subst, ap, arith}
+use Rattle.std.proofs.Common.{◌≡◌, ◌<◌, ◌≤◌, ℕ, List, Option, Some, None, Bool, true, false, refl, sym, subst, arith}
 use Rattle.std.proofs.lemmas.Bool.Decides.{nat_tests}
 use Rattle.grain_value.specs.declared.values.Held.{Held}
 use Rattle.grain_vm.specs.means.Acts.{Act, End, Then, Answer, World, Setup, Place, is_stop}
 use Rattle.grain_vm.specs.means.Ends.{Ends, ended, joined}
-use Rattle.grain_vm.specs.means.Goes.{InHand, Unseen, Start, world, Binds, puts, after, nothing, stopped, Leads, Clear, Halts, Goes, Same, Carries}
+use Rattle.grain_vm.specs.means.Goes.{InHand, Unseen, Start, world, Binds, puts, after, stopped, Leads, Clear, Halts, Goes, Same, Carries}
 use Rattle.grain_vm.proofs.Roots.{puts-bound, puts-twice, puts-nowhere}
 
 clear_front : (stop : Option ℕ) (a b c : ℕ) → b ≤ c → Clear stop a c → Clear stop a b

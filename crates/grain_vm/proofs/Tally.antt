@@ -1,5 +1,5 @@
 -- One walk over the rules for all that holds of every run: `ran` counts the instructions that are begun, the tokens that are out are those that were, and each fault has its cause.
-use Rattle.std.proofs.Common.{◌≡◌, ◌≤◌, ℕ, ◌+◌, List, [], ◌∷◌, ◌++◌, Option, Some, None, Bool, true, false, refl, sym, subst, ◌∙◌, arith, length, take, if◌then◌else◌, nat_lt, nat_le}
+use Rattle.std.proofs.Common.{◌≡◌, ◌≤◌, ℕ, ◌+◌, List, [], ◌∷◌, ◌++◌, Option, Some, None, Bool, true, false, refl, ◌∙◌, arith, take, if◌then◌else◌, nat_lt, nat_le}
 use Rattle.std.proofs.lemmas.Bool.{ltb-false, leb-true}
 use Rattle.grain_value.specs.declared.values.Dynamic.{Dynamic}
 use Rattle.grain_value.specs.declared.values.Dynamic.TheVariants as dynamic
@@ -12,9 +12,9 @@ use Rattle.grain_program.specs.declared.input.AssignOp.{AssignOp}
 use Rattle.grain_program.specs.declared.instructions.Op.{Op}
 use Rattle.grain_program.specs.declared.instructions.Op.TheVariants as op
 use Rattle.grain_program.specs.Reading.{op_at}
-use Rattle.grain_program.specs.View.{const_of, name_of, token_of, assign_op_of}
+use Rattle.grain_program.specs.View.{name_of, token_of, assign_op_of}
 use Rattle.grain_vm.specs.means.Operators.{Outcome, NotBuiltIn, Gave, Overflowed, operation, assignment, where_fast}
-use Rattle.grain_vm.specs.means.Acts.{Act, Go, End, Then, Answer, Came, Failed, World, Setup, Frame, Todo, InFrame, Place, top, below, under, arguments, held_at, read_write, noted, stepped, is_full, is_stop, or_return, left, marked, raised, charged, onward, jumped, pushed, misplaced, loaded, declared, answered, stored, assigned, tested, instr, begun, next, passing, closed, called, main_frame, position}
+use Rattle.grain_vm.specs.means.Acts.{Act, Go, End, Then, Answer, Came, Failed, World, Setup, Frame, Todo, InFrame, Place, top, below, under, arguments, held_at, read_write, noted, stepped, is_full, is_stop, or_return, left, marked, raised, charged, onward, jumped, loaded, declared, answered, stored, assigned, tested, instr, begun, next, passing, closed, called, main_frame, position}
 use Rattle.grain_vm.specs.means.Ends.{Ends, ended, went, joined}
 use Rattle.grain_vm.specs.means.Length.{cost, run_length}
 use Rattle.grain_vm.specs.means.Causes.{RaisedAt, Operates, Tests, GoesBack, Declares, UsesSlot, Overflows, Caused}

@@ -1,10 +1,9 @@
 -- One turn of a frame's loop, and how a frame is left.
-use Rattle.std.proofs.Common.{◌≡◌, ◌<◌, ◌≤◌, ℕ, ◌+◌, List, [], ◌∷◌, ◌++◌, Option, Some, None, Bool, true, false, Result, Ok, Err, take, refl, sym, subst, ap, arith}
+use Rattle.std.proofs.Common.{◌≡◌, ◌+◌, [], ◌∷◌, ◌++◌, Bool, true, false, Ok, take, refl, subst, ap, arith}
 use Rattle.grain_fault.specs.Problems.{Problem, NoMemory}
-use Rattle.grain_value.specs.declared.memory.OutOfMemory.{OutOfMemory}
 use Rattle.grain_program.specs.Reading.{op_at}
-use Rattle.grain_vm.specs.means.Acts.{Act, Go, End, Then, Answer, Failed, World, Setup, Frame, InFrame, Place, or_return, begun, left, raised, noted}
-use Rattle.grain_vm.specs.means.Ends.{Ends, went}
+use Rattle.grain_vm.specs.means.Acts.{Go, End, Failed, Setup, Frame, InFrame, or_return, begun, left, raised, noted}
+use Rattle.grain_vm.specs.means.Ends.{went}
 use Rattle.grain_vm.specs.means.Goes.{InHand, Start, Goes, Same}
 use Rattle.grain_vm.specs.frame.Hand.{performed, led}
 use Rattle.grain_vm.specs.declared.frame.states.Flow.{Flow}
@@ -38,10 +37,10 @@ module _ {m : Setup} where
       Goes m old start false mid (λ n place w. raised n f x w) → Goes m old start false new (λ n place w. End (Failed x) w)
   raised_out mid new f {x} e h =
       compose h (same (raises mid new f x e)) tt where
-    raises : (mid new : InHand) (f : Frame) (x : Problem) → new ≡ record mid { scope = take f.floor mid.scope; trace = mid.trace ++ noted f.address ∷ []; passed = mid.passed + 1 } →
-        Same m mid (λ n place w. raised n f x w) false new (λ n place w. End (Failed x) w)
-    raises mid new f x e = record {
-      this = ap (λ (k : InHand). k.this) e;
-      order = omega (arith, ap (λ (k : InHand). k.passed) e);
-      equal = λ stop clear halts u place. rw (clear mid.passed (omega arith) (omega (arith, ap (λ (k : InHand). k.passed) e)), e) refl;
-    }
+        raises : (mid new : InHand) (f : Frame) (x : Problem) → new ≡ record mid { scope = take f.floor mid.scope; trace = mid.trace ++ noted f.address ∷ []; passed = mid.passed + 1 } →
+            Same m mid (λ n place w. raised n f x w) false new (λ n place w. End (Failed x) w)
+        raises mid new f x e = record {
+          this = ap (λ (k : InHand). k.this) e;
+          order = omega (arith, ap (λ (k : InHand). k.passed) e);
+          equal = λ stop clear halts u place. rw (clear mid.passed (omega arith) (omega (arith, ap (λ (k : InHand). k.passed) e)), e) refl;
+        }

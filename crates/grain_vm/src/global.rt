@@ -37,10 +37,7 @@ pub struct GlobalRuntimeState {
 
 impl Engine {
     /// A state in which nothing was run.
-    pub fn new_global_runtime_state(
-        &self,
-        alloc: Global,
-    ) -> Result<GlobalRuntimeState, OutOfMemory>
+    pub fn new_global_runtime_state(&self, alloc: Global) -> Result<GlobalRuntimeState, OutOfMemory>
         ensures { IfOk result (λ g. (g.num_operations ≡ 0) × (g.level ≡ 0)) }
     {
         let _alloc = alloc;

@@ -1,5 +1,5 @@
 -- What the code has in its hands, and where a stretch of it led.
-use Rattle.std.specs.Prelude.{◌≡◌, ◌⊎◌, ◌<◌, ◌≤◌, ◌+◌, ℕ, List, Bool, true, false, Option, Some, None, Result, Ok, Err, drop, take, length}
+use Rattle.std.specs.Prelude.{◌≡◌, ◌⊎◌, ◌<◌, ◌≤◌, ◌+◌, ℕ, List, Bool, true, false, None, Result, Ok, Err, drop, take, length}
 use Rattle.std.specs.Vec.{vec_capacity}
 use Rattle.grain_value.specs.declared.values.Dynamic.{Dynamic}
 use Rattle.grain_value.specs.declared.values.Held.{Held}
@@ -10,8 +10,8 @@ use Rattle.grain_program.specs.Reading.{op_at}
 use Rattle.grain_program.specs.Fits.{Fits}
 use Rattle.grain_program.specs.View.{View}
 use Rattle.grain_vm.specs.means.Operators.{Outcome, NotBuiltIn, Gave, Overflowed}
-use Rattle.grain_vm.specs.means.Acts.{Act, Go, End, Answer, Came, Failed, Frame, InFrame, left, raised, instr, or_return}
-use Rattle.grain_vm.specs.means.Goes.{InHand, Start, Same, Goes}
+use Rattle.grain_vm.specs.means.Acts.{Go, End, Answer, Came, Failed, Frame, InFrame, left, raised, instr, or_return}
+use Rattle.grain_vm.specs.means.Goes.{InHand, Start, Same}
 use Rattle.grain_vm.specs.means.Means.{setup}
 use Rattle.grain_vm.specs.frame.Counts.{Counts}
 use Rattle.grain_vm.specs.declared.operators.OpAnswer.{OpAnswer}

@@ -50,9 +50,7 @@ impl State {
             steps.mark();
             Flow::On
         } else {
-            Flow::Raise(EvalAltResult::ErrorTooManyOperations(
-                program.position(frame.address),
-            ))
+            Flow::Raise(EvalAltResult::ErrorTooManyOperations(program.position(frame.address)))
         }
     }
 
@@ -164,9 +162,9 @@ impl State {
         ensures before { steps.new.before ≡ steps.old.before }
     {
         if self.scope.len() >= engine.limits.variables {
-            return Ok(Flow::Raise(EvalAltResult::ErrorTooManyVariables(
-                program.position(frame.address),
-            )));
+            return Ok(Flow::Raise(EvalAltResult::ErrorTooManyVariables(program.position(
+                frame.address,
+            ))));
         }
         let name = program.name(u32::from(name)).copy(alloc)?;
         let value = self.stacks.pop(frame.bottom);
@@ -371,10 +369,7 @@ impl State {
             index,
             length: self.scope.len(),
         };
-        Flow::Raise(EvalAltResult::Malformed(
-            kind,
-            program.position(frame.address),
-        ))
+        Flow::Raise(EvalAltResult::Malformed(kind, program.position(frame.address)))
     }
 
     // The fault of a value that is no truth value.

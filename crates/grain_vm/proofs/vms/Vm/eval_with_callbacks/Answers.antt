@@ -26,12 +26,11 @@ returns-clause-evaluates g c =
     let first = begins c.args.scope.now global c.replace.result c.clear_trace.new.self c.replace-2.result c.args.steps.now c.start.new.self c.replace.ensures.value c.clear_trace.ensures.trace c.replace-2.ensures.value c.start.ensures in
     let goes = subst (λ (q : InHand). Goes (setup c.args.program.now engine) q (λ m place w. called m place w) (is_out back) (hand after steps) (over back)) first c.run_main-back.ensures.goes in
     let counted : steps.before + steps.begun ≡ c.args.steps.now.before + c.args.steps.now.begun + steps.begun =
-    ap (λ n. n + steps.begun) (c.run_main-back.ensures.before ∙ ap (λ (k : Counts). k.before) c.start.ensures) in
-    (
+    ap (λ n. n + steps.begun) (c.run_main-back.ensures.before ∙ ap (λ (k : Counts). k.before) c.start.ensures) in (
       steps.begun,
       (
         rw (← c.self.view_is, c.answered.ensures)
-        (evaluated c.args.program.now engine (begin c.args.scope.now global) after.stacks.trace.items after.scope after.count after.level steps.begun steps.passed back goes),
+            (evaluated c.args.program.now engine (begin c.args.scope.now global) after.stacks.trace.items after.scope after.count after.level steps.begun steps.passed back goes),
         counted,
       ),
     )

@@ -1,4 +1,4 @@
-use Rattle.std.proofs.Common.{◌∙◌, ◌<◌, ◌≡◌, ℕ, Ok, refl, ap, sym, subst, arith, length, take}
+use Rattle.std.proofs.Common.{◌∙◌, ◌≡◌, ℕ, Ok, refl, ap, subst, arith, take}
 use Rattle.grain_program.specs.declared.input.Chunk.{Chunk}
 use Rattle.grain_vm.specs.frame.Counts.{Counts}
 use Rattle.grain_vm.specs.frame.Hand.{hand, frame_in, GoesOn}

@@ -4,7 +4,7 @@ use Rattle.grain_program.specs.Fits.{Fits}
 use Rattle.grain_vm.specs.means.Acts.{Go, InFrame}
 use Rattle.grain_vm.specs.means.Goes.{Goes}
 use Rattle.grain_vm.specs.means.Means.{setup}
-use Rattle.grain_vm.specs.frame.Hand.{hand, own, frame_in, Kept, Stands}
+use Rattle.grain_vm.specs.frame.Hand.{hand, own, frame_in, Stands}
 use Rattle.grain_vm.proofs.frame.states.State.run_frame.Given as goal
 
 abbrev pub invariant-turn : goal.invariant-turn

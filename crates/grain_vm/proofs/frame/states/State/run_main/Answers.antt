@@ -1,5 +1,5 @@
-use Rattle.std.proofs.Common.{◌∙◌, refl, ap, sym}
-use Rattle.grain_vm.specs.frame.Hand.{hand, frame_in}
+use Rattle.std.proofs.Common.{refl}
+use Rattle.grain_vm.specs.frame.Hand.{hand}
 use Rattle.grain_vm.proofs.Landing.{fresh_fits, fresh_frame}
 use Rattle.grain_vm.proofs.Mains.{main_ran, other_stack}
 use Rattle.grain_vm.proofs.frame.states.State.run_main.Goals as goal
