@@ -1,5 +1,5 @@
 -- Rules 1 to 4, which look at each instruction by itself: what obeys them, what breaks them, and which breach is the first.
-use Rattle.std.specs.Prelude.{ℕ, ◌≡◌, ◌<◌, ◌≤◌, ◌+◌, ◌⊎◌, List, length, slice_get, Option, Some, None}
+use Rattle.std.specs.Prelude.{ℕ, ◌≡◌, ◌<◌, ◌≤◌, ◌+◌, ◌⊎◌, List, length, slice_get, Some, None}
 use Rattle.grain_program.specs.declared.instructions.Op.{Op}
 use Rattle.grain_program.specs.declared.input.Chunk.{Chunk}
 use Rattle.grain_program.specs.declared.refusals.Refusal.{Refusal}

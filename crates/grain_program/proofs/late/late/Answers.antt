@@ -1,4 +1,3 @@
-use Rattle.std.proofs.Common.{length}
 use Rattle.grain_program.specs.View.{view_of}
 use Rattle.grain_program.proofs.Loops.{entries_below, entered, not_entered, is_ready, walked_on, refused_on, ended}
 use Rattle.grain_program.proofs.late.late.Goals as goal
