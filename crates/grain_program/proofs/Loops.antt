@@ -15,7 +15,7 @@ use Rattle.grain_program.specs.Layout.{layout_fault}
 use Rattle.grain_program.specs.Rules.{Splits}
 use Rattle.grain_program.specs.Owners.{owner_at, Owned}
 use Rattle.grain_program.specs.Shapes.{bare, shape_at}
-use Rattle.grain_program.specs.Typing.{In, Typing, Seen, ◌>>=◌, arrive_all, limit_at, take_at, take_lowest, nothing_seen, walk, survey, Ready}
+use Rattle.grain_program.specs.Typing.{In, Typing, Seen, ◌>>=◌, arrive_all, limit_at, take_at, take_lowest, nothing_seen, with_lowest, walk, survey, Ready}
 use Rattle.grain_program.proofs.Tiles.{is_tiled}
 use Rattle.grain_program.proofs.Cells.{free}
 use Rattle.grain_program.proofs.Walks.{Sound, Taken, taken, spot_within, spot_limit, leads_spots, step_ok, begun, is_typing, one_more}
@@ -62,7 +62,7 @@ module _ (p : View) (chunks : List Chunk) (laid : layout_fault (length p.code) c
 
 -- the address is the lowest that waits, and the others wait still
 abbrev pub Lowers : Seen → ℕ → Seen → Type 0
-Lowers f a g = f ≡ record { shapes = g.shapes; waiting = a ∷ g.waiting }
+Lowers f a g = f ≡ with_lowest a g
 
 module _ (p : View) (chunks : List Chunk) (owners : List Owner) (o : Owned p.code chunks (length chunks) owners) (f g : Seen) (a : ℕ) (walked : Walked p chunks f) (e : Lowers f a g) where
   waits : f.waiting ≡ a ∷ g.waiting
