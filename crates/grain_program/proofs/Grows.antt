@@ -1,5 +1,5 @@
 -- What an arrival does to what is seen.
-use Rattle.std.proofs.Common.{◌≡◌, ℕ, ◌+◌, ◌-◌, ◌<◌, ◌≤◌, ◌≢◌, ◌⊎◌, Bool, true, false, cond, List, [], ◌∷◌, length, Option, Some, None, Result, Ok, Err, refl, sym, ap, subst, ◌∙◌, inl, inr, arith}
+use Rattle.std.proofs.Common.{◌≡◌, ℕ, ◌+◌, ◌<◌, ◌≤◌, ◌⊎◌, Bool, true, false, cond, List, [], ◌∷◌, length, Option, Some, None, Result, Ok, Err, refl, sym, ap, subst, ◌∙◌, inl, inr, arith}
 use Rattle.std.specs.Prelude.{◌==◌, nat_lt, slice_get}
 use Rattle.std.specs.Ordering.{nat_cmp}
 use Rattle.std.specs.BTreeSet.{insert_key}
@@ -27,7 +27,7 @@ pub then_ok : {A B : Type 0} (r : Result A Refusal) (f : A → Result B Refusal)
 then_ok (Ok x) f y e = (x, refl, e)
 then_ok (Err d) f y e = absurd cc
 
--- what an instruction that breaks neither rule 7 nor rule 6 leaves
+-- what an instruction leaves that has enough operands and does not leave too many
 pub record Stepped (max : ℕ) (e : Effect) (s t : Shape) : Type 0 where
   pub enough : e.takes ≤ s.height
   pub room : height_after e s ≤ max

@@ -1,23 +1,21 @@
 -- The loop of the search, as the code has it.
-use Rattle.std.proofs.Common.{◌≡◌, ℕ, suc, ◌+◌, ◌<◌, ◌⊎◌, List, [], ◌∷◌, length, map, replicate, Option, Some, None, Result, Ok, Err, refl, sym, ap, subst, ◌∙◌, inl, inr, arith}
+use Rattle.std.proofs.Common.{◌≡◌, ℕ, suc, ◌+◌, ◌<◌, ◌⊎◌, List, [], ◌∷◌, length, map, Option, Some, None, Result, Ok, Err, refl, sym, ap, subst, ◌∙◌, inl, inr, arith}
 use Rattle.std.specs.Prelude.{slice_get}
 use Rattle.std.specs.List.{AllByRecursion}
 use Rattle.std.proofs.lemmas.List.{length-replicate}
 use Rattle.std.proofs.lemmas.Option.{slice_get_within}
-use Rattle.grain_program.specs.declared.instructions.Op.{Op}
 use Rattle.grain_program.specs.declared.input.Chunk.{Chunk}
 use Rattle.grain_program.specs.declared.owners.Owner.{Owner}
 use Rattle.grain_program.specs.declared.shapes.Shape.{Shape}
 use Rattle.grain_program.specs.declared.refusals.Refusal.{Refusal}
 use Rattle.grain_program.specs.declared.refusals.Refusal.TheVariants.{Memory}
 use Rattle.grain_program.specs.View.{View}
-use Rattle.grain_program.specs.Reading.{op_at}
 use Rattle.grain_program.specs.Effects.{effect_of, leads}
 use Rattle.grain_program.specs.Layout.{layout_fault}
-use Rattle.grain_program.specs.Rules.{Splits, Spot}
+use Rattle.grain_program.specs.Rules.{Splits}
 use Rattle.grain_program.specs.Owners.{owner_at, Owned}
 use Rattle.grain_program.specs.Shapes.{bare, shape_at}
-use Rattle.grain_program.specs.Typing.{In, Typing, Seen, ◌>>=◌, arrive_all, limit_at, take_at, take_lowest, nothing_seen, walk, survey, Ready}
+use Rattle.grain_program.specs.Typing.{In, Typing, Seen, ◌>>=◌, arrive_all, limit_at, take_at, take_lowest, nothing_seen, with_lowest, walk, survey, Ready}
 use Rattle.grain_program.proofs.Tiles.{is_tiled}
 use Rattle.grain_program.proofs.Cells.{free}
 use Rattle.grain_program.proofs.Walks.{Sound, Taken, taken, spot_within, spot_limit, leads_spots, step_ok, begun, is_typing, one_more}
@@ -64,7 +62,7 @@ module _ (p : View) (chunks : List Chunk) (laid : layout_fault (length p.code) c
 
 -- the address is the lowest that waits, and the others wait still
 abbrev pub Lowers : Seen → ℕ → Seen → Type 0
-Lowers f a g = f ≡ record { shapes = g.shapes; waiting = a ∷ g.waiting }
+Lowers f a g = f ≡ with_lowest a g
 
 module _ (p : View) (chunks : List Chunk) (owners : List Owner) (o : Owned p.code chunks (length chunks) owners) (f g : Seen) (a : ℕ) (walked : Walked p chunks f) (e : Lowers f a g) where
   waits : f.waiting ≡ a ∷ g.waiting

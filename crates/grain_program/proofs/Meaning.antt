@@ -1,7 +1,7 @@
--- What the tests of the rules 1 to 4 mean.
-use Rattle.std.proofs.Common.{◌≡◌, ℕ, zero, suc, ◌+◌, ◌<◌, ◌≤◌, ◌⊎◌, ◌==◌, Bool, true, false, cond, List, length, Option, Some, None, refl, sym, ap, subst, ◌∙◌, inl, inr, arith}
+-- What the tests of the rules of single instructions mean.
+use Rattle.std.proofs.Common.{◌≡◌, ℕ, ◌+◌, ◌<◌, ◌≤◌, ◌⊎◌, ◌==◌, Bool, true, false, cond, List, length, Option, Some, None, refl, sym, ap, subst, ◌∙◌, inl, inr, arith}
 use Rattle.std.specs.Prelude.{slice_get, nat_lt}
-use Rattle.std.proofs.lemmas.Bool.{cases_lt, eqb-true, eqb-false, eq-eqb}
+use Rattle.std.proofs.lemmas.Bool.{cases_lt, eqb-true, eqb-false}
 use Rattle.std.proofs.lemmas.Option.{slice_get_within}
 use Rattle.grain_program.specs.declared.instructions.Op.{Op}
 use Rattle.grain_program.specs.declared.input.Chunk.{Chunk}
@@ -18,7 +18,7 @@ use Rattle.grain_program.specs.Layout.{Tiled}
 use Rattle.grain_program.specs.Starts.{Start}
 use Rattle.grain_program.specs.Begins.{start_within}
 use Rattle.grain_program.specs.Rules.{Lands, Whole, IndexRule, TargetRule, EndRule, Obeys, Splits, Spot, Unread, Disobeys, IsHollow, Breach, address_of, rule_of, Precedes, IsFirst}
-use Rattle.grain_program.specs.Owners.{no_owner, owner_of, owner_at, Owned, lands, stays_in, rule_in, rule_at}
+use Rattle.grain_program.specs.Owners.{owner_at, Owned, lands, stays_in, rule_in, rule_at}
 use Rattle.grain_program.proofs.Tells.{Tells, tells, lt_tells, pools_tell, stays_tell}
 use Rattle.grain_program.proofs.Tiles.{NoneEmpty, Lowest}
 

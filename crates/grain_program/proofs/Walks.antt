@@ -1,12 +1,11 @@
 -- The search for a typing: where it ends it has found one, and where there is one it does not stop.
-use Rattle.std.proofs.Common.{◌≡◌, ℕ, zero, suc, ◌+◌, ◌<◌, ◌≤◌, ◌⊎◌, Bool, true, false, cond, List, [], ◌∷◌, length, map, replicate, Option, Some, None, Result, Ok, Err, refl, sym, ap, subst, ◌∙◌, inl, inr, arith}
-use Rattle.std.specs.Prelude.{slice_get, nat_lt}
+use Rattle.std.proofs.Common.{◌≡◌, ℕ, zero, suc, ◌+◌, ◌<◌, ◌≤◌, ◌⊎◌, Bool, cond, List, [], ◌∷◌, length, map, replicate, Option, Some, None, Result, Ok, Err, refl, sym, ap, subst, ◌∙◌, inl, inr, arith}
+use Rattle.std.specs.Prelude.{slice_get}
 use Rattle.std.proofs.lemmas.Bool.{cases_lt, lt-ltb, le-ltb}
 use Rattle.std.proofs.lemmas.List.{get_or-replicate, length-replicate, get_or_past}
 use Rattle.grain_program.specs.declared.instructions.Op.{Op}
 use Rattle.grain_program.specs.declared.input.Chunk.{Chunk}
 use Rattle.grain_program.specs.declared.shapes.Shape.{Shape}
-use Rattle.grain_program.specs.declared.effects.Effect.{Effect}
 use Rattle.grain_program.specs.declared.refusals.Refusal.{Refusal}
 use Rattle.grain_program.specs.View.{View}
 use Rattle.grain_program.specs.Reading.{op_at}
@@ -20,7 +19,7 @@ use Rattle.grain_program.specs.Typing.{In, Agrees, Typing, Seen, ◌>>=◌, arri
 use Rattle.grain_program.specs.Fits.{leads_to_start}
 use Rattle.grain_program.proofs.Tiles.{is_tiled}
 use Rattle.grain_program.proofs.Cells.{free}
-use Rattle.grain_program.proofs.Grows.{then_ok, stepped_is, stepped_ok, SoundBut, Done, done_stays, Grown, arrive_all_grown, Below, arrive_all_fits}
+use Rattle.grain_program.proofs.Grows.{then_ok, stepped_is, stepped_ok, SoundBut, Done, Grown, arrive_all_grown, Below, arrive_all_fits}
 
 -- ---- the chunk of an address
 

@@ -15,10 +15,9 @@ use Rattle.grain_program.specs.Indices.{InPools}
 use Rattle.grain_program.specs.Layout.{chunks_in, gap_from, layout_fault}
 use Rattle.grain_program.specs.Starts.{Start}
 use Rattle.grain_program.specs.Begins.{start_first, start_next}
-use Rattle.grain_program.specs.Rules.{Lands, StaysIn, Obeys}
-use Rattle.grain_program.specs.Shapes.{height_after}
+use Rattle.grain_program.specs.Rules.{Lands, StaysIn}
 pub use Rattle.grain_program.specs.Typing.{In, IsProgram}
-use Rattle.grain_program.specs.Typing.{Agrees, Typing}
+use Rattle.grain_program.specs.Typing.{Typing}
 
 -- a frame of the chunk stands at an instruction, with as many operands as a typing says
 pub record Fits (p : View) (c : Chunk) (at depth : ℕ) : Type 0 where

@@ -1,5 +1,5 @@
--- The table of instruction starts, and the tests of the rules 1 to 4 by it.
-use Rattle.std.specs.Prelude.{ℕ, ◌≡◌, ◌<◌, ◌+◌, ◌⊎◌, ◌==◌, nat_lt, Bool, true, false, List, length, slice_get, slice_index_or, Option, Some, None, if◌then◌else◌}
+-- The table of instruction starts, and the tests of the rules of single instructions by it.
+use Rattle.std.specs.Prelude.{ℕ, ◌≡◌, ◌<◌, ◌+◌, ◌⊎◌, ◌==◌, nat_lt, Bool, true, List, length, slice_get, slice_index_or, Option, Some, None, if◌then◌else◌}
 use Rattle.grain_program.specs.declared.instructions.Op.{Op}
 use Rattle.grain_program.specs.declared.input.Chunk.{Chunk}
 use Rattle.grain_program.specs.declared.owners.Owner.{Owner}
@@ -11,7 +11,9 @@ use Rattle.grain_program.specs.View.{View}
 use Rattle.grain_program.specs.Reading.{op_at}
 use Rattle.grain_program.specs.Effects.{effect_of}
 use Rattle.grain_program.specs.Indices.{in_pools}
+use Rattle.grain_program.specs.Layout.{layout_fault}
 use Rattle.grain_program.specs.Starts.{Start}
+use Rattle.grain_program.specs.Rules.{Splits}
 
 -- what stands where no instruction begins
 abbrev pub no_owner : Owner
@@ -34,6 +36,12 @@ pub record Owned (code : List ℕ) (chunks : List Chunk) (upto : ℕ) (owners : 
   pub owned : (i : ℕ) (c : Chunk) (a : ℕ) → i < upto → slice_get chunks i ≡ Some c → Start code c a → owner_at owners a ≡ owner_of c
   pub only : (a : ℕ) → (owner_at owners a ≡ no_owner) ⊎ IsOwned code chunks owners a
 
+-- the layout is without a fault, each instruction obeys its rules, and this is the table of their starts
+pub record IsSplit (p : View) (chunks : List Chunk) (owners : List Owner) : Type 0 where
+  pub laid : layout_fault (length p.code) chunks ≡ None
+  pub splits : Splits p chunks
+  pub owned : Owned p.code chunks (length chunks) owners
+
 -- the starts of the chunk have got this owner, and every other address has kept its own
 abbrev pub IsMarked : List ℕ → Chunk → List Owner → List Owner → Type 0
 IsMarked code c before now =
@@ -53,7 +61,7 @@ stays_in end next (flow.Jump t) = true
 stays_in end next (flow.Branch t) = nat_lt next end
 stays_in end next flow.End = true
 
--- the first of the rules 1 to 4 that the instruction read at the address breaks, in a chunk of this end
+-- the first rule that the instruction read at the address breaks, in a chunk of this end
 abbrev pub rule_in : View → List Owner → ℕ → ℕ → Option (Op × ℕ) → Option Refusal
 rule_in p owners end a None = Some (refusal.Undecodable a)
 rule_in p owners end a (Some r) =
@@ -64,7 +72,7 @@ rule_in p owners end a (Some r) =
     else Some (refusal.JumpTarget a))
     else Some (refusal.PoolIndex a)
 
--- the first of the rules 1 to 4 that an instruction at the address breaks
+-- the first rule that an instruction at the address breaks
 abbrev pub rule_at : View → List Owner → ℕ → Option Refusal
 rule_at p owners a = if (owner_at owners a).end == 0 then None else rule_in p owners (owner_at owners a).end a (op_at p.code a)
 

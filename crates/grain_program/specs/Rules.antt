@@ -1,5 +1,5 @@
--- Rules 1 to 4, which look at each instruction by itself: what obeys them, what breaks them, and which breach is the first.
-use Rattle.std.specs.Prelude.{ℕ, ◌≡◌, ◌<◌, ◌≤◌, ◌+◌, ◌⊎◌, List, length, slice_get, Option, Some, None}
+-- The rules of single instructions: what obeys them, what breaks them, and which breach is the first.
+use Rattle.std.specs.Prelude.{ℕ, ◌≡◌, ◌<◌, ◌≤◌, ◌+◌, ◌⊎◌, List, length, slice_get, Some, None}
 use Rattle.grain_program.specs.declared.instructions.Op.{Op}
 use Rattle.grain_program.specs.declared.input.Chunk.{Chunk}
 use Rattle.grain_program.specs.declared.refusals.Refusal.{Refusal}
@@ -32,19 +32,19 @@ pub record Whole (code : List ℕ) (c : Chunk) (a : ℕ) (r : Op × ℕ) : Type 
   pub is : op_at code a ≡ Some r
   pub inside : a + r.1 ≤ c.end
 
--- rule 2 of an instruction
+-- the indices of an instruction name entries of their pools
 abbrev pub IndexRule : View → Chunk → ℕ → Op × ℕ → Type 0
 IndexRule p c a r = InPools p r.0
 
--- rule 3 of an instruction
+-- the target of an instruction is an instruction of its chunk
 abbrev pub TargetRule : View → Chunk → ℕ → Op × ℕ → Type 0
 TargetRule p c a r = Lands p.code c (effect_of r.0).flow
 
--- rule 4 of an instruction
+-- an instruction does not go on behind its chunk
 abbrev pub EndRule : View → Chunk → ℕ → Op × ℕ → Type 0
 EndRule p c a r = StaysIn c (a + r.1) (effect_of r.0).flow
 
--- the instruction at the address obeys the rules 1 to 4
+-- the instruction at the address obeys the rules of single instructions
 pub record Obeys (p : View) (c : Chunk) (a : ℕ) : Type 0 where
   pub read : Op × ℕ
   pub whole : Whole p.code c a read
@@ -52,7 +52,7 @@ pub record Obeys (p : View) (c : Chunk) (a : ℕ) : Type 0 where
   pub target : TargetRule p c a read
   pub end : EndRule p c a read
 
--- every chunk has an instruction, and every instruction obeys the rules 1 to 4
+-- every chunk has an instruction, and every instruction obeys the rules of single instructions
 pub record Splits (p : View) (chunks : List Chunk) : Type 0 where
   pub full : (i : ℕ) (c : Chunk) → slice_get chunks i ≡ Some c → c.entry < c.end
   pub obeys : (i : ℕ) (c : Chunk) (a : ℕ) → slice_get chunks i ≡ Some c → Start p.code c a → Obeys p c a
@@ -95,7 +95,7 @@ address_of (refusal.TooDeep a) = a
 address_of (refusal.Underflow a) = a
 address_of refusal.Memory = 0
 
--- the number of a refusal's rule
+-- the place of a refusal's rule in the order in which the rules are tested at one address
 abbrev pub rule_of : Refusal → ℕ
 rule_of (refusal.Undecodable a) = 1
 rule_of (refusal.PoolIndex a) = 2
@@ -104,7 +104,7 @@ rule_of (refusal.FallsOff a) = 4
 rule_of (refusal.HeightDisagrees a) = 5
 rule_of (refusal.TooDeep a) = 6
 rule_of (refusal.Underflow a) = 7
-rule_of refusal.Memory = 13
+rule_of refusal.Memory = 8
 
 -- at a lower address, or at the same one by a lower rule or the same
 abbrev pub Precedes : Refusal → Refusal → Type 0
@@ -115,7 +115,8 @@ pub record IsFirst (p : View) (chunks : List Chunk) (r : Refusal) : Type 0 where
   pub breach : Breach p chunks r
   pub first : (s : Refusal) → Breach p chunks s → Precedes r s
 
--- what is refused before heights are looked at: the layout, and else the first breach of the rules 1 to 4
+-- what is refused before heights are looked at: the layout, and else the first breach of a rule of single
+-- instructions
 abbrev pub RefusedEarly : View → List Chunk → Refusal → Type 0
 RefusedEarly p chunks r =
     ((a : ℕ) × (layout_fault (length p.code) chunks ≡ Some a) × (r ≡ refusal.Undecodable a))

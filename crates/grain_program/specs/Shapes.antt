@@ -17,14 +17,15 @@ height_after e s = s.height - e.takes + e.gives
 abbrev pub after : Effect → Shape → Shape
 after e s = record { height = height_after e s }
 
--- the shape after the instruction at the address, unless rule 7 or else rule 6 is broken
+-- the shape after the instruction at the address, unless there are too few operands for it or else too
+-- many after it
 abbrev pub stepped : ℕ → ℕ → Effect → Shape → Result Shape Refusal
 stepped max a e s =
     if nat_lt s.height e.takes then Err (refusal.Underflow a)
     else if nat_lt max (height_after e s) then Err (refusal.TooDeep a)
     else Ok (after e s)
 
--- rule 5 where a second shape comes to an address
+-- what is wrong where a second shape comes to an address
 abbrev pub clash : ℕ → Shape → Shape → Option Refusal
 clash a s t = if s.height == t.height then None else Some (refusal.HeightDisagrees a)
 

@@ -1,6 +1,6 @@
 -- Typings: at each address that is reached, the one shape with which it is reached. The search for one goes from the
 -- entries on, always at the lowest waiting address.
-use Rattle.std.specs.Prelude.{ℕ, zero, suc, ◌≡◌, ◌<◌, ◌≤◌, ◌+◌, ◌-◌, nat_lt, List, [], ◌∷◌, length, map, replicate, slice_get, slice_index_or, slice_set, Option, Some, None, Result, Ok, Err, if◌then◌else◌, ◌⊎◌}
+use Rattle.std.specs.Prelude.{ℕ, zero, suc, ◌≡◌, ◌<◌, ◌≤◌, ◌+◌, nat_lt, List, [], ◌∷◌, length, map, replicate, slice_get, slice_set, Option, Some, None, Result, Ok, Err, if◌then◌else◌, ◌⊎◌}
 use Rattle.std.specs.List.{AllByRecursion}
 use Rattle.std.specs.Ordering.{nat_cmp}
 use Rattle.std.specs.BTreeSet.{insert_key}
@@ -35,6 +35,10 @@ pub record Typing (code : List ℕ) (chunks : List Chunk) (typing : ℕ → Opti
   pub entries : (i : ℕ) (c : Chunk) → slice_get chunks i ≡ Some c → typing c.entry ≡ Some bare
   pub steps : (i : ℕ) (c : Chunk) (a : ℕ) (r : Op × ℕ) (s : Shape) → slice_get chunks i ≡ Some c → Start code c a → op_at code a ≡ Some r → typing a ≡ Some s
       → Agrees typing c.max_stack a r.1 (effect_of r.0) s
+
+-- there is a typing
+abbrev pub HasTyping : List ℕ → List Chunk → Type 0
+HasTyping code chunks = (typing : ℕ → Option Shape) × Typing code chunks typing
 
 -- no rule is broken
 pub record Valid (p : View) (chunks : List Chunk) : Type 0 where
@@ -112,15 +116,23 @@ walk code chunks (suc n) f = walk code chunks n f >>= λ g. take_lowest code chu
 abbrev pub nothing_seen : ℕ → Seen
 nothing_seen len = record { shapes = replicate len None; waiting = [] }
 
+-- the same, but the address waits too, as the lowest one
+abbrev pub with_lowest : ℕ → Seen → Seen
+with_lowest a f = record { shapes = f.shapes; waiting = a ∷ f.waiting }
+
 -- a bare frame comes to each entry, and then that many addresses are taken
 unfoldable pub survey : List ℕ → List Chunk → ℕ → Result Seen Refusal
 survey code chunks n = arrive_all bare (map (λ c. c.entry) chunks) (nothing_seen (length code)) >>= λ f. walk code chunks n f
 
--- what is refused: by the layout and the rules 1 to 4, or else where the search for a typing stops
+-- after some steps the search stops with this refusal
+abbrev pub StopsWith : List ℕ → List Chunk → Refusal → Type 0
+StopsWith code chunks r = (n : ℕ) × (survey code chunks n ≡ Err r)
+
+-- what is refused: by the layout and the rules of single instructions, or else where the search for a typing stops
 abbrev pub Refused : View → List Chunk → Refusal → Type 0
 Refused p chunks r =
     RefusedEarly p chunks r
-    ⊎ ((layout_fault (length p.code) chunks ≡ None) × Splits p chunks × ((n : ℕ) × (survey p.code chunks n ≡ Err r)))
+    ⊎ ((layout_fault (length p.code) chunks ≡ None) × Splits p chunks × StopsWith p.code chunks r)
 
 -- the first rule that the program's chunks break
 abbrev pub IsRefusal : View → Refusal → Type 0

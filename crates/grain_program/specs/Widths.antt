@@ -1,5 +1,5 @@
 -- An instruction that is read is at least a byte wide, and lies within the code.
-use Rattle.std.specs.Prelude.{ℕ, suc, ◌+◌, ◌-◌, ◌≡◌, ◌≤◌, Bool, true, false, cond, List, [], ◌∷◌, length, drop, Option, Some, None, ◌==◌, IfSome}
+use Rattle.std.specs.Prelude.{ℕ, suc, ◌+◌, ◌≡◌, ◌≤◌, Bool, true, false, cond, List, [], ◌∷◌, length, drop, Option, Some, None, ◌==◌, IfSome}
 use Rattle.std.proofs.Common.{arith, length-drop, refl}
 use Rattle.grain_program.specs.declared.instructions.Op.{Op}
 use Rattle.grain_program.specs.Reading.{Operand, one, two, four, bytes_of, number_at, joined, numbers_at, span, Row, rows, made, by_rows, by_tag, op_in, op_at}

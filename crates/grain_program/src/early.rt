@@ -1,12 +1,13 @@
-//! The rules 1 to 4, which look at each instruction by itself.
+//! The layout, and the rules of single instructions: each is read and whole, its indices name entries of their pools, its
+//! target is an instruction, and it does not go on behind its chunk.
 
 ghost use Rattle.std.specs.Prelude.{◌≡◌, ◌==◌, ◌⊎◌, ◌≤◌, ℕ, List, length, slice_get, IfOk, IfErr, Some, None};
 ghost use Rattle.grain_program.specs.View.{view_of};
 ghost use Rattle.grain_program.specs.Indices.{in_pools, record_named};
 ghost use Rattle.grain_program.specs.Reading.{op_at};
 ghost use Rattle.grain_program.specs.Layout.{layout_fault};
-ghost use Rattle.grain_program.specs.Rules.{Splits, RefusedEarly};
-ghost use Rattle.grain_program.specs.Owners.{owner_at, lands, stays_in, rule_in, rule_at, IsFirstFound, Owned};
+ghost use Rattle.grain_program.specs.Rules.{RefusedEarly};
+ghost use Rattle.grain_program.specs.Owners.{owner_at, lands, stays_in, rule_in, rule_at, IsFirstFound, IsSplit};
 ghost use Rattle.grain_program.specs.declared.refusals.Refusal.TheVariants.{Memory};
 
 use crate::bytes::decode;
@@ -138,10 +139,11 @@ fn first_rule(parts: &Parts, owners: &[Owner], upto: usize) -> Option<Refusal>
     None
 }
 
-/// The table of instruction starts, or the first of the rules 1 to 4 that is broken, where the layout has no fault.
+/// The table of instruction starts, or the first rule of single instructions that is broken, where the layout has no
+/// fault.
 fn instruction_rules(alloc: Global, parts: &Parts, chunks: &[Chunk]) -> Result<Vec<Owner>, Refusal>
     requires { layout_fault (length parts.now.code) chunks.now ≡ None }
-    ensures ok { IfOk result (λ owners. Owned parts.now.code chunks.now (length chunks.now) owners.items × Splits (view_of parts.now) chunks.now) }
+    ensures ok { IfOk result (λ owners. IsSplit (view_of parts.now) chunks.now owners.items) }
     ensures err { IfErr result (λ r. (r ≡ Memory) ⊎ RefusedEarly (view_of parts.now) chunks.now r) }
 {
     let Ok(owners) = owners_of(alloc, &parts.code, chunks) else {
@@ -159,9 +161,9 @@ fn instruction_rules(alloc: Global, parts: &Parts, chunks: &[Chunk]) -> Result<V
     }
 }
 
-/// The table of instruction starts, or the layout's fault or the first of the rules 1 to 4 that is broken.
+/// The table of instruction starts, or the layout's fault or the first rule of single instructions that is broken.
 pub fn early(alloc: Global, parts: &Parts, chunks: &[Chunk]) -> Result<Vec<Owner>, Refusal>
-    ensures ok { IfOk result (λ owners. (layout_fault (length parts.now.code) chunks.now ≡ None) × Owned parts.now.code chunks.now (length chunks.now) owners.items × Splits (view_of parts.now) chunks.now) }
+    ensures ok { IfOk result (λ owners. IsSplit (view_of parts.now) chunks.now owners.items) }
     ensures err { IfErr result (λ r. (r ≡ Memory) ⊎ RefusedEarly (view_of parts.now) chunks.now r) }
 {
     match misplaced(parts.code.len(), chunks) {

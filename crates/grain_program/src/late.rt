@@ -1,12 +1,9 @@
-//! The rules 5 to 7, which look at the operands on all ways through the code.
+//! The rules of heights, which look at the operands on all ways through the code.
 
-ghost use Rattle.std.specs.Prelude.{◌≡◌, ◌⊎◌, ℕ, List, length, slice_get, IfOk, IfErr, Some, None, Err, Option};
+ghost use Rattle.std.specs.Prelude.{◌≡◌, ◌⊎◌, IfOk, IfErr};
 ghost use Rattle.grain_program.specs.View.{view_of};
-ghost use Rattle.grain_program.specs.Layout.{layout_fault};
-ghost use Rattle.grain_program.specs.Rules.{Splits};
-ghost use Rattle.grain_program.specs.Owners.{Owned, owner_at};
-ghost use Rattle.grain_program.specs.Typing.{Typing, survey};
-ghost use Rattle.grain_program.specs.declared.shapes.Shape.{Shape};
+ghost use Rattle.grain_program.specs.Owners.{IsSplit, owner_at};
+ghost use Rattle.grain_program.specs.Typing.{HasTyping, StopsWith};
 ghost use Rattle.grain_program.specs.declared.refusals.Refusal.TheVariants.{Memory};
 
 use crate::input::{Chunk, Parts};
@@ -27,11 +24,9 @@ fn max_at(owners: &[Owner], address: usize) -> u16
 
 /// Whether there is a typing, or where the search for one stops.
 pub fn late(alloc: Global, parts: &Parts, chunks: &[Chunk], owners: &[Owner]) -> Result<(), Refusal>
-    requires laid { layout_fault (length parts.now.code) chunks.now ≡ None }
-    requires owned { Owned parts.now.code chunks.now (length chunks.now) owners.now }
-    requires split { Splits (view_of parts.now) chunks.now }
-    ensures ok { IfOk result (λ _. (typing : ℕ → Option Shape) × Typing parts.now.code chunks.now typing) }
-    ensures err { IfErr result (λ r. (r ≡ Memory) ⊎ ((n : ℕ) × (survey parts.now.code chunks.now n ≡ Err r))) }
+    requires { IsSplit (view_of parts.now) chunks.now owners.now }
+    ensures ok { IfOk result (λ _. HasTyping parts.now.code chunks.now) }
+    ensures err { IfErr result (λ r. (r ≡ Memory) ⊎ StopsWith parts.now.code chunks.now r) }
 {
     let Ok(mut survey) = Survey::new(alloc, parts.code.len()) else {
         return Err(Refusal::Memory);

@@ -5,7 +5,7 @@ ghost use Rattle.std.specs.List.{AllByRecursion};
 ghost use Rattle.grain_program.specs.declared.input.Chunk.{Chunk};
 ghost use Rattle.grain_program.specs.Effects.{leads};
 ghost use Rattle.grain_program.specs.Shapes.{bare};
-ghost use Rattle.grain_program.specs.Typing.{Seen, nothing_seen, arrive, arrive_all, take_at, Gives, Ready};
+ghost use Rattle.grain_program.specs.Typing.{Seen, nothing_seen, with_lowest, arrive, arrive_all, take_at, Gives, Ready};
 
 use crate::bytes::decode;
 use crate::effects::{Effect, Flow};
@@ -99,7 +99,7 @@ impl Survey {
 
     /// The lowest address that waits, which waits no longer.
     pub fn lowest(&mut self) -> Option<usize>
-        ensures { MatchOption result (self.old.waiting ≡ []) (λ a. self.old ≡ record { shapes = self.new.shapes; waiting = a ∷ self.new.waiting }) }
+        ensures { MatchOption result (self.old.waiting ≡ []) (λ a. self.old ≡ with_lowest a self.new) }
     {
         self.waiting.pop_first()
     }

@@ -29,8 +29,10 @@ returns-in-Some-first_rule-2-clause-err c =
     c.len.result c.first_rule-in-None.result c.in-Some-first_rule-2.refusal (sym c.first_empty_chunk.ensures ∙ c.in-None.is) c.first_rule-in-None.ensures c.in-Some-first_rule-2.is)
 
 pub returns-clause-ok : goal.returns-clause-ok
-returns-clause-ok c = (
-  c.in-Ok.ensures,
-  splits (view_of c.args.parts.now) c.args.chunks.now c.requires c.in-Ok.owners.items c.in-Ok.ensures c.deref-in-None.result.now c.deref-in-None.ensures.value
-      c.len.result c.first_rule-in-None.result (omega (arith, c.in-Ok.ensures.long)) (sym c.first_empty_chunk.ensures ∙ c.in-None.is) c.first_rule-in-None.ensures c.in-None-first_rule-2.is,
-)
+returns-clause-ok c = record {
+  laid = c.requires;
+  owned = c.in-Ok.ensures;
+  splits =
+      splits (view_of c.args.parts.now) c.args.chunks.now c.requires c.in-Ok.owners.items c.in-Ok.ensures c.deref-in-None.result.now c.deref-in-None.ensures.value
+      c.len.result c.first_rule-in-None.result (omega (arith, c.in-Ok.ensures.long)) (sym c.first_empty_chunk.ensures ∙ c.in-None.is) c.first_rule-in-None.ensures c.in-None-first_rule-2.is;
+}

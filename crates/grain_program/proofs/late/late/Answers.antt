@@ -1,18 +1,17 @@
-use Rattle.std.proofs.Common.{length}
 use Rattle.grain_program.specs.View.{view_of}
 use Rattle.grain_program.proofs.Loops.{entries_below, entered, not_entered, is_ready, walked_on, refused_on, ended}
 use Rattle.grain_program.proofs.late.late.Goals as goal
 
 pub enter-requires : goal.enter-requires
-enter-requires c = entries_below (view_of c.args.parts.now) c.args.chunks.now c.requires.laid c.requires.split c.len.result c.in-Ok.survey c.len.ensures c.in-Ok.ensures
+enter-requires c = entries_below (view_of c.args.parts.now) c.args.chunks.now c.requires.laid c.requires.splits c.len.result c.in-Ok.survey c.len.ensures c.in-Ok.ensures
 
 pub returns-in-Err-clause-err : goal.returns-in-Err-clause-err
 returns-in-Err-clause-err c =
-    not_entered (view_of c.args.parts.now) c.args.chunks.now c.requires.laid c.requires.split c.len.result c.in-Ok.survey c.in-Err.refusal c.len.ensures c.in-Ok.ensures c.in-Err.ensures
+    not_entered (view_of c.args.parts.now) c.args.chunks.now c.requires.laid c.requires.splits c.len.result c.in-Ok.survey c.in-Err.refusal c.len.ensures c.in-Ok.ensures c.in-Err.ensures
 
 pub loop-address-init : goal.loop-address-init
 loop-address-init c =
-    entered (view_of c.args.parts.now) c.args.chunks.now c.requires.laid c.requires.split c.len.result c.in-Ok.survey c.enter.new.self c.len.ensures c.in-Ok.ensures c.in_default-enter.ensures
+    entered (view_of c.args.parts.now) c.args.chunks.now c.requires.laid c.requires.splits c.len.result c.in-Ok.survey c.enter.new.self c.len.ensures c.in-Ok.ensures c.in_default-enter.ensures
 
 pub take-requires : goal.take-requires
 take-requires c = is_ready (view_of c.args.parts.now) c.args.chunks.now c.args.owners.now c.requires.owned c.loop-address.survey c.lowest.new.self c.in-Some.address c.loop-address.invariant c.in-Some.ensures

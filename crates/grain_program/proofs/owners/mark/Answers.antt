@@ -1,4 +1,4 @@
-use Rattle.std.proofs.Common.{◌≡◌, ◌≤◌, ◌+◌, Some, sym, ◌∙◌, arith, length}
+use Rattle.std.proofs.Common.{◌≡◌, Some, sym, ◌∙◌, arith}
 use Rattle.grain_program.specs.Reading.{op_at}
 use Rattle.grain_program.specs.Widths.{op_at_within}
 use Rattle.grain_program.proofs.Marks.{marking_none, marking_more, marking_ends, marking_all}
