@@ -1,8 +1,12 @@
 -- Two ends of one run are one, and what the slow evaluator says is an end.
-use Rattle.std.proofs.Common.{◌≡◌, ℕ, zero, suc, Option, Some, None, refl, sym, subst}
+use Rattle.std.proofs.Common.{◌≡◌, ℕ, zero, suc, List, Option, Some, None, refl, sym, subst, ap}
+use Rattle.grain_value.specs.declared.scopes.Entry.{Entry}
+use Rattle.grain_fault.specs.declared.traces.Fault.{Fault}
+use Rattle.grain_program.specs.View.{View}
+use Rattle.grain_vm.specs.declared.global.Engine.{Engine}
 use Rattle.grain_vm.specs.means.Acts.{Act, Go, End, Then, Answer, World, Setup, Todo, next}
 use Rattle.grain_vm.specs.means.Ends.{Ends, ended, went, joined}
-use Rattle.grain_vm.specs.means.Means.{Over, and_then, slowly}
+use Rattle.grain_vm.specs.means.Means.{Begin, Finish, Means, Over, and_then, slowly}
 
 at_end : {m : Setup} {a b : Answer} {w v : World} → Ends m (End a w) b v → (a ≡ b) × (w ≡ v)
 at_end ended = (refl, refl)
@@ -39,3 +43,17 @@ module _ (m : Setup) where
   slowly_ends (suc n) (End a w) e h = subst (λ (q : Over). Ends m (End a w) q.answer q.world) (same-some h) ended
   slowly_ends (suc n) (Go t w) e h = went (slowly_ends n (next m t w) e h)
   slowly_ends (suc n) (Then first rest) e h = after_first n (slowly_ends n) first rest (slowly m n first) refl e h
+
+same-finish : (a b : Answer) (t u : List Fault) (s r : List Entry) (c d l k : ℕ) → a ≡ b → t ≡ u → s ≡ r → c ≡ d → l ≡ k →
+    ◌≡◌ {A = Finish} (record { answer = a; trace = t; scope = s; count = c; level = l }) (record { answer = b; trace = u; scope = r; count = d; level = k })
+same-finish a b t u s r c d l k e1 e2 e3 e4 e5 = rw (e1, e2, e3, e4, e5) refl
+
+-- a program means one end
+pub one_meaning : (program : View) (engine : Engine) (b : Begin) (e f : Finish) (n k : ℕ) → Means program engine b e n → Means program engine b f k → (e ≡ f) × (n ≡ k)
+one_meaning program engine b e f n k one two =
+    let both = one_end one.1.0 two.1.0 in
+    let world = both.1 in (
+      same-finish e.answer f.answer e.trace f.trace e.scope f.scope e.count f.count e.level f.level both.0
+          (ap (λ (w : World). w.trace) world) (ap (λ (w : World). w.scope) world) (ap (λ (w : World). w.count) world) (ap (λ (w : World). w.level) world),
+      ap (λ (w : World). w.ran) world,
+    )

@@ -6,6 +6,8 @@ pub mod global;
 pub mod means;
 mod operators;
 pub mod stack;
+#[cfg(test)]
+mod tests;
 mod vms;
 
 pub use frame::steps::Steps;

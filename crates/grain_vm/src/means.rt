@@ -5,7 +5,9 @@ ghost use Rattle.grain_vm.specs.means.Acts.{Act, Answer, World, Setup, Place, ca
 ghost use Rattle.grain_vm.specs.means.Causes.{Caused};
 ghost use Rattle.grain_vm.specs.means.Ends.{Ends};
 ghost use Rattle.grain_vm.specs.means.Length.{run_length};
-ghost use Rattle.grain_vm.specs.means.Means.{Over, slowly};
+ghost use Rattle.grain_vm.specs.means.Means.{Begin, Finish, Means, Over, slowly};
+ghost use Rattle.grain_vm.specs.declared.global.Engine.{Engine};
+ghost use Rattle.grain_program.specs.View.{View};
 
 /// A run has at most one end.
 pub fn one_end()
@@ -20,4 +22,9 @@ pub fn slow_end()
 /// A call counts exactly the instructions that it begins, leaves the tokens that were out, and ends with a cause.
 pub fn counted()
     ensures { (m : Setup) (this : Option Place) (w v : World) (a : Answer) (run : Ends m (called m this w) a v) → (v.ran ≡ w.ran + run_length run) × (v.tokens ≡ w.tokens) × Caused m a v }
+{}
+
+/// A program has at most one meaning at a beginning: one end, after one number of instructions.
+pub fn one_meaning()
+    ensures { (program : View) (engine : Engine) (b : Begin) (e f : Finish) (n k : ℕ) → Means program engine b e n → Means program engine b f k → (e ≡ f) × (n ≡ k) }
 {}

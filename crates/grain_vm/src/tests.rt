@@ -1,0 +1,108 @@
+//! Each call that takes memory, once where there is enough of it.
+
+ghost use Rattle.std.specs.Prelude.{◌≡◌, ◌<◌, IfOk};
+ghost use Rattle.grain_program.specs.View.{view_of};
+ghost use Rattle.grain_program.specs.Recorded.{HasOrder};
+
+use crate::frame::steps::Steps;
+use crate::global::Engine;
+use crate::vms::Vm;
+use grain_fault::{EvalAltResult, Position};
+use grain_program::{
+    AssignOps, Chunk, Names, Op, Parts, Positions, Program, Tokens, assemble, verify,
+};
+use grain_value::{Array, Dynamic, Limits, OutOfMemory, Scope};
+use std::alloc::Global;
+use std::marker::Brand;
+use std::process::Abort;
+use std::sync::ledger::{Blank, Ledger};
+use std::test::Fail;
+
+const LIMITS: Limits = Limits {
+    operations: 3,
+    levels: 64,
+    variables: 2,
+    modules: 0,
+    text: 0,
+    array: 0,
+    map: 0,
+};
+
+// Parts of these instructions, with the constant 7.
+fn parts_of(alloc: Global, ops: &[Op], end: u32) -> Result<Parts, OutOfMemory>
+    ensures { IfOk result (λ parts. HasOrder (view_of parts)) }
+{
+    let code = assemble(alloc, ops)?;
+    let mut consts = Array::new(alloc);
+    consts.push(Dynamic::Int(7))?;
+    Ok(Parts {
+        code,
+        main: Chunk {
+            entry: 0,
+            end,
+            max_stack: 1,
+        },
+        consts,
+        names: Names::new(alloc),
+        tokens: Tokens::new(alloc),
+        assign_ops: AssignOps::new(alloc),
+        positions: Positions::new(alloc),
+    })
+}
+
+fn program_of(alloc: Global, ops: &[Op], end: u32) -> Option<Program> {
+    match parts_of(alloc, ops, end) {
+        Ok(parts) => verify(alloc, parts).ok(),
+        Err(_) => None,
+    }
+}
+
+fn gives_a_value<L: Ledger>(rt: &impl Abort, alloc: Global, blank: Blank) -> Result<(), Fail>
+    requires name { blank.name ≡ L.name }
+    requires parts { blank.parts ≡ L.parts }
+    requires enough { 5 < blank.parts }
+{
+    let program = program_of(alloc, &[Op::LoadConst(0), Op::Return], 4).ok_or("refused")?;
+    let engine = Engine::new(alloc, LIMITS);
+    let mut vm = Vm::new(alloc, &engine)?;
+    let mut scope = Scope::new(alloc);
+    let mut steps = Steps::<L>::new(blank);
+    let answer = vm.eval_with_callbacks(alloc, &mut scope, &program, &mut steps);
+    assert!(rt; matches!(answer, Ok(Dynamic::Int(7))));
+    assert!(rt; vm.fault_pc().is_none());
+    assert_eq!(rt; vm.into_global_state().num_operations(), 0);
+    Ok(())
+}
+
+fn stops_at_the_limit<L: Ledger>(rt: &impl Abort, alloc: Global, blank: Blank) -> Result<(), Fail>
+    requires name { blank.name ≡ L.name }
+    requires parts { blank.parts ≡ L.parts }
+    requires enough { 5 < blank.parts }
+{
+    let program = program_of(alloc, &[Op::Jump(0)], 5).ok_or("refused")?;
+    let engine = Engine::new(alloc, LIMITS);
+    let mut vm = Vm::new(alloc, &engine)?;
+    let mut scope = Scope::new(alloc);
+    let mut steps = Steps::<L>::new(blank);
+    let answer = vm.eval_with_callbacks(alloc, &mut scope, &program, &mut steps);
+    assert!(rt;
+        matches!(
+            answer,
+            Err(EvalAltResult::ErrorTooManyOperations(Position::NONE))
+        )
+    );
+    assert_eq!(rt; vm.fault_trace().len(), 1);
+    assert_eq!(rt; vm.fault_pc(), Some(0));
+    assert_eq!(rt; vm.into_global_state().num_operations(), 3);
+    Ok(())
+}
+
+#[test]
+fn a_constant_is_given(rt: HostRuntime) -> Result<(), Fail> {
+    gives_a_value::<Brand>(&rt, rt.alloc(), Blank::new(6))
+}
+
+#[test]
+fn a_jump_to_itself_stops_at_the_limit(rt: HostRuntime) -> Result<(), Fail> {
+    stops_at_the_limit::<Brand>(&rt, rt.alloc(), Blank::new(6))
+}
