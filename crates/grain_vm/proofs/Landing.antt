@@ -15,7 +15,7 @@ use Rattle.grain_vm.specs.declared.stack.Stacks.{Stacks}
 use Rattle.grain_vm.specs.declared.frame.activations.Activation.{Activation}
 use Rattle.grain_vm.specs.declared.frame.states.State.{State}
 use Rattle.grain_vm.specs.declared.frame.states.Flow.{Flow}
-use Rattle.grain_vm.specs.declared.frame.states.Flow.TheVariants.{On, Give, Raise}
+use Rattle.grain_vm.specs.declared.frame.states.Flow.TheVariants.{On, Over}
 
 -- how many operands a frame has
 pub depth_own : (n depth height : ℕ) (xs : List Held) → height ≡ length xs → depth ≡ height - n → depth ≡ length (drop n xs)
@@ -30,8 +30,7 @@ goes_on p engine s s' f f' At height depth o width (Ok On) foreseen kept lands l
     let inside = foreseen.inside in
     let wide = foreseen.wide in
     (subst (λ (c : Chunk). Fits p c f'.address (length (own s'.stacks f'.bottom))) (sym kept.0) (subst (λ (n : ℕ). Fits p f.chunk f'.address n) same fits), lands.2, omega (arith, inside, wide))
-goes_on p engine s s' f f' At height depth o width (Ok (Give v)) foreseen kept lands leads e = tt
-goes_on p engine s s' f f' At height depth o width (Ok (Raise x)) foreseen kept lands leads e = tt
+goes_on p engine s s' f f' At height depth o width (Ok Over) foreseen kept lands leads e = tt
 goes_on p engine s s' f f' At height depth o width (Err m) foreseen kept lands leads e = tt
 
 -- the two addresses that a branch leads to

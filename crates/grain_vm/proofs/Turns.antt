@@ -1,11 +1,13 @@
 -- One turn of a frame's loop, and how a frame is left.
-use Rattle.std.proofs.Common.{◌≡◌, ◌+◌, [], ◌∷◌, ◌++◌, Bool, true, false, Ok, take, refl, subst, ap, arith}
+use Rattle.std.proofs.Common.{◌≡◌, ◌+◌, [], ◌∷◌, ◌++◌, Bool, true, false, Result, Ok, Err, take, refl, subst, ap, arith}
+use Rattle.grain_value.specs.declared.values.Dynamic.{Dynamic}
+use Rattle.grain_fault.specs.declared.faults.EvalAltResult.{EvalAltResult}
 use Rattle.grain_fault.specs.Problems.{Problem, NoMemory}
 use Rattle.grain_program.specs.Reading.{op_at}
 use Rattle.grain_vm.specs.means.Acts.{Go, End, Failed, Setup, Frame, InFrame, or_return, begun, left, raised, noted}
 use Rattle.grain_vm.specs.means.Ends.{went}
 use Rattle.grain_vm.specs.means.Goes.{InHand, Start, Goes, Same}
-use Rattle.grain_vm.specs.frame.Hand.{performed, led}
+use Rattle.grain_vm.specs.frame.Hand.{performed, led, came_out}
 use Rattle.grain_vm.specs.declared.frame.states.Flow.{Flow}
 use Rattle.grain_vm.proofs.Stretches.{same, compose, before}
 
@@ -22,9 +24,12 @@ module _ {m : Setup} where
   turn now {f = f} {out} {new} {last} e h s =
       compose h (compose (begins now f) (same (subst (λ (q : InHand). Same m q (performed f) out new last) e s)) tt) tt
 
-  -- where it led, told by its flow
-  pub flowed : {old : InHand} {start : Start} {new : InHand} (f : Frame) {flow other : Flow} → flow ≡ other → Goes m old start false new (led (Ok flow) f) → Goes m old start false new (led (Ok other) f)
-  flowed {old} {start} {new} f e h = subst (λ (q : Flow). Goes m old start false new (led (Ok q) f)) e h
+  -- where it led, told by its flow and by what came out
+  pub flowed : {old : InHand} {start : Start} {new : InHand} (f : Frame) (o : Result Dynamic EvalAltResult) {flow other : Flow} → flow ≡ other → Goes m old start false new (led (Ok flow) o f) → Goes m old start false new (led (Ok other) o f)
+  flowed {old} {start} {new} f o e h = subst (λ (q : Flow). Goes m old start false new (led (Ok q) o f)) e h
+
+  pub came : {old : InHand} {start : Start} {new : InHand} (f : Frame) {o p : Result Dynamic EvalAltResult} → o ≡ p → Goes m old start false new (came_out o f) → Goes m old start false new (came_out p f)
+  came {old} {start} {new} f e h = subst (λ (q : Result Dynamic EvalAltResult). Goes m old start false new (came_out q f)) e h
 
   -- a frame is left where memory is out
   pub left_out : {old : InHand} {start : Start} (mid new : InHand) (f : Frame) → new ≡ record mid { scope = take f.floor mid.scope; trace = mid.trace ++ noted f.address ∷ [] } →

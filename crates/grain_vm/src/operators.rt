@@ -15,55 +15,43 @@ pub enum OpAnswer {
     NotBuiltIn,
     /// The value.
     Done(Dynamic),
-    /// There is no result: the text of the arithmetic fault.
-    Failed(Text),
+    /// The sum of these two integers does not fit.
+    Overflow(i64, i64),
 }
 
 // An operator on two values. Integers have `+`, which is exact, and `<=`.
-fn binary(
-    alloc: Global,
-    token: Token,
-    lhs: &Dynamic,
-    rhs: &Dynamic,
-) -> Result<OpAnswer, OutOfMemory>
-    ensures { IfOk result (λ answer. outcome_of answer ≡ binary token lhs.now rhs.now) }
+fn binary(token: Token, lhs: &Dynamic, rhs: &Dynamic) -> OpAnswer
+    ensures { outcome_of result ≡ binary token lhs.now rhs.now }
 {
     match lhs {
         Dynamic::Int(x) => match rhs {
             Dynamic::Int(y) => match token {
-                Token::Plus => sum(alloc, *x, *y),
-                Token::LessThanEqualsTo => Ok(OpAnswer::Done(Dynamic::Bool(*x <= *y))),
-                Token::PlusAssign => Ok(OpAnswer::NotBuiltIn),
-                Token::Other => Ok(OpAnswer::NotBuiltIn),
+                Token::Plus => sum(*x, *y),
+                Token::LessThanEqualsTo => OpAnswer::Done(Dynamic::Bool(*x <= *y)),
+                Token::PlusAssign => OpAnswer::NotBuiltIn,
+                Token::Other => OpAnswer::NotBuiltIn,
             },
-            Dynamic::Bool(_) => Ok(OpAnswer::NotBuiltIn),
-            Dynamic::Unit => Ok(OpAnswer::NotBuiltIn),
+            Dynamic::Bool(_) => OpAnswer::NotBuiltIn,
+            Dynamic::Unit => OpAnswer::NotBuiltIn,
         },
-        Dynamic::Bool(_) => Ok(OpAnswer::NotBuiltIn),
-        Dynamic::Unit => Ok(OpAnswer::NotBuiltIn),
+        Dynamic::Bool(_) => OpAnswer::NotBuiltIn,
+        Dynamic::Unit => OpAnswer::NotBuiltIn,
     }
 }
 
 /// What an operator makes of the last operands, so many, where operators are `fast`.
-pub fn operate(
-    alloc: Global,
-    fast: bool,
-    token: Token,
-    operands: &[Held],
-    count: usize,
-) -> Result<OpAnswer, OutOfMemory>
+pub fn operate(fast: bool, token: Token, operands: &[Held], count: usize) -> OpAnswer
     requires { count ≤ length operands.now }
-    ensures { IfOk result (λ answer. outcome_of answer ≡ where_fast fast (operation token (arguments count operands.now))) }
+    ensures { outcome_of result ≡ where_fast fast (operation token (arguments count operands.now)) }
 {
     if !fast {
-        return Ok(OpAnswer::NotBuiltIn);
+        return OpAnswer::NotBuiltIn;
     }
     if count != 2 {
-        return Ok(OpAnswer::NotBuiltIn);
+        return OpAnswer::NotBuiltIn;
     }
     let height = operands.len();
     binary(
-        alloc,
         token,
         &operands[height - 2].value,
         &operands[height - 1].value,
@@ -71,58 +59,48 @@ pub fn operate(
 }
 
 /// What an op-assignment makes of its target, where operators are `fast`.
-pub fn assign(
-    alloc: Global,
-    fast: bool,
-    token: Token,
-    target: &Dynamic,
-    value: &Dynamic,
-) -> Result<OpAnswer, OutOfMemory>
-    ensures { IfOk result (λ answer. outcome_of answer ≡ where_fast fast (assignment token target.now value.now)) }
+pub fn assign(fast: bool, token: Token, target: &Dynamic, value: &Dynamic) -> OpAnswer
+    ensures { outcome_of result ≡ where_fast fast (assignment token target.now value.now) }
 {
     if fast {
-        built_in_assignment(alloc, token, target, value)
+        built_in_assignment(token, target, value)
     } else {
-        Ok(OpAnswer::NotBuiltIn)
+        OpAnswer::NotBuiltIn
     }
 }
 
 // An op-assignment's built-in. Integers have `+=`.
-fn built_in_assignment(
-    alloc: Global,
-    token: Token,
-    target: &Dynamic,
-    value: &Dynamic,
-) -> Result<OpAnswer, OutOfMemory>
-    ensures { IfOk result (λ answer. outcome_of answer ≡ assignment token target.now value.now) }
+fn built_in_assignment(token: Token, target: &Dynamic, value: &Dynamic) -> OpAnswer
+    ensures { outcome_of result ≡ assignment token target.now value.now }
 {
     match target {
         Dynamic::Int(x) => match value {
             Dynamic::Int(y) => match token {
-                Token::PlusAssign => sum(alloc, *x, *y),
-                Token::Plus => Ok(OpAnswer::NotBuiltIn),
-                Token::LessThanEqualsTo => Ok(OpAnswer::NotBuiltIn),
-                Token::Other => Ok(OpAnswer::NotBuiltIn),
+                Token::PlusAssign => sum(*x, *y),
+                Token::Plus => OpAnswer::NotBuiltIn,
+                Token::LessThanEqualsTo => OpAnswer::NotBuiltIn,
+                Token::Other => OpAnswer::NotBuiltIn,
             },
-            Dynamic::Bool(_) => Ok(OpAnswer::NotBuiltIn),
-            Dynamic::Unit => Ok(OpAnswer::NotBuiltIn),
+            Dynamic::Bool(_) => OpAnswer::NotBuiltIn,
+            Dynamic::Unit => OpAnswer::NotBuiltIn,
         },
-        Dynamic::Bool(_) => Ok(OpAnswer::NotBuiltIn),
-        Dynamic::Unit => Ok(OpAnswer::NotBuiltIn),
+        Dynamic::Bool(_) => OpAnswer::NotBuiltIn,
+        Dynamic::Unit => OpAnswer::NotBuiltIn,
     }
 }
 
-// The exact sum, or the text that says that it does not fit.
-fn sum(alloc: Global, x: i64, y: i64) -> Result<OpAnswer, OutOfMemory>
-    ensures { IfOk result (λ answer. outcome_of answer ≡ sum_of x y) }
+// The exact sum, or that it does not fit.
+fn sum(x: i64, y: i64) -> OpAnswer
+    ensures { outcome_of result ≡ sum_of x y }
 {
     match x.checked_add(y) {
-        Some(total) => Ok(OpAnswer::Done(Dynamic::Int(total))),
-        None => Ok(OpAnswer::Failed(overflow(alloc, x, y)?)),
+        Some(total) => OpAnswer::Done(Dynamic::Int(total)),
+        None => OpAnswer::Overflow(x, y),
     }
 }
 
-fn overflow(alloc: Global, x: i64, y: i64) -> Result<Text, OutOfMemory>
+/// How it is told that a sum does not fit.
+pub fn overflow(alloc: Global, x: i64, y: i64) -> Result<Text, OutOfMemory>
     ensures { IfOk result (λ text. text ≡ overflow_text x y) }
 {
     let mut text = Text::copy_of(alloc, "Addition overflow: ")?;

@@ -13,7 +13,7 @@ use crate::global::{Engine, GlobalRuntimeState};
 use crate::stack::Stacks;
 use grain_fault::{EvalAltResult, Fault, RhaiResult};
 use grain_program::Program;
-use grain_value::{OutOfMemory, Scope};
+use grain_value::{Dynamic, OutOfMemory, Scope};
 use std::alloc::Global;
 use std::marker::Model;
 use std::mem;
@@ -110,6 +110,7 @@ impl<'e> Vm<'e> {
             scope: mem::replace(scope, Scope::new(alloc)),
             count: self.global.num_operations,
             level: self.global.level,
+            outcome: Ok(Dynamic::Unit),
         };
         let back = state.run_main(alloc, self.engine, program, steps);
         let State {
@@ -117,6 +118,7 @@ impl<'e> Vm<'e> {
             scope: after,
             count,
             level,
+            outcome: _,
         } = state;
         self.stacks = stacks;
         *scope = after;

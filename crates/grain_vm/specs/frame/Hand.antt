@@ -9,7 +9,7 @@ use Rattle.grain_fault.specs.declared.faults.EvalAltResult.{EvalAltResult}
 use Rattle.grain_program.specs.Reading.{op_at}
 use Rattle.grain_program.specs.Fits.{Fits}
 use Rattle.grain_program.specs.View.{View}
-use Rattle.grain_vm.specs.means.Operators.{Outcome, NotBuiltIn, Gave, Overflowed}
+use Rattle.grain_vm.specs.means.Operators.{Outcome, NotBuiltIn, Gave, Overflowed, overflow_text}
 use Rattle.grain_vm.specs.means.Acts.{Go, End, Answer, Came, Failed, Frame, InFrame, left, raised, instr, or_return}
 use Rattle.grain_vm.specs.means.Goes.{InHand, Start, Same}
 use Rattle.grain_vm.specs.means.Means.{setup}
@@ -21,12 +21,12 @@ use Rattle.grain_vm.specs.declared.global.Engine.{Engine}
 use Rattle.grain_vm.specs.declared.frame.activations.Activation.{Activation}
 use Rattle.grain_vm.specs.declared.frame.states.State.{State}
 use Rattle.grain_vm.specs.declared.frame.states.Flow.{Flow}
-use Rattle.grain_vm.specs.declared.frame.states.Flow.TheVariants.{On, Give, Raise}
+use Rattle.grain_vm.specs.declared.frame.states.Flow.TheVariants.{On, Over}
 
 abbrev pub outcome_of : OpAnswer → Outcome
 outcome_of answer.NotBuiltIn = NotBuiltIn
 outcome_of (answer.Done v) = Gave v
-outcome_of (answer.Failed t) = Overflowed t
+outcome_of (answer.Overflow x y) = Overflowed (overflow_text x y)
 
 -- a frame's operands, which begin at its bottom
 abbrev pub own : Stacks → ℕ → List Held
@@ -47,16 +47,20 @@ abbrev pub is_out : {A : Type 0} → Result A OutOfMemory → Bool
 is_out (Ok x) = false
 is_out (Err e) = true
 
--- where an instruction led
-abbrev pub led : Result Flow OutOfMemory → Frame → Start
-led (Ok On) f m this w = Go (InFrame f this) w
-led (Ok (Give v)) f m this w = End (Came v) w
-led (Ok (Raise x)) f m this w = raised m f (problem_of x) w
-led (Err e) f m this w = left m f NoMemory w
+-- a frame that is over: it gave a value, or raised a fault
+abbrev pub came_out : Result Dynamic EvalAltResult → Frame → Start
+came_out (Ok v) f m this w = End (Came v) w
+came_out (Err x) f m this w = raised m f (problem_of x) w
+
+-- where an instruction led; what came out of a frame that is over lies in the state
+abbrev pub led : Result Flow OutOfMemory → Result Dynamic EvalAltResult → Frame → Start
+led (Ok On) outcome f m this w = Go (InFrame f this) w
+led (Ok Over) outcome f m this w = came_out outcome f m this w
+led (Err e) outcome f m this w = left m f NoMemory w
 
 -- the code did what the run does, and what it led to is left
 abbrev pub Does : View → Engine → State → Counts → Start → Result Flow OutOfMemory → State → Counts → Activation → Type 0
-Does program engine s n start result s' n' f' = Same (setup program engine) (hand s n) start (is_out result) (hand s' n') (led result (frame_in f' s'))
+Does program engine s n start result s' n' f' = Same (setup program engine) (hand s n) start (is_out result) (hand s' n') (led result s'.outcome (frame_in f' s'))
 
 -- a frame's operands and slots are in their lists
 abbrev pub Stands : Activation → State → Type 0
@@ -77,8 +81,7 @@ Moves engine s f s' f' = ((s.count < s'.count) × (s.count < engine.limits.opera
 abbrev pub Lands : Engine → State → Activation → State → Activation → (ℕ → Type 0) → ℕ → Result Flow OutOfMemory → Type 0
 Lands engine s f s' f' At height (Ok On) =
     At f'.address × (length (own s'.stacks f'.bottom) ≡ height) × Moves engine s f s' f'
-Lands engine s f s' f' At height (Ok (Give v)) = Unit {0}
-Lands engine s f s' f' At height (Ok (Raise x)) = Unit {0}
+Lands engine s f s' f' At height (Ok Over) = Unit {0}
 Lands engine s f s' f' At height (Err e) = Unit {0}
 
 -- the instruction at which a frame stands
@@ -97,6 +100,5 @@ over r m this w = End (answer_of r) w
 -- where the frame goes on, it stands where the typing knows it
 abbrev pub GoesOn : View → Engine → State → Activation → State → Activation → Result Flow OutOfMemory → Type 0
 GoesOn p engine s f s' f' (Ok On) = Fits p f'.chunk f'.address (length (own s'.stacks f'.bottom)) × Moves engine s f s' f' × (f.address < 16777216)
-GoesOn p engine s f s' f' (Ok (Give v)) = Unit {0}
-GoesOn p engine s f s' f' (Ok (Raise x)) = Unit {0}
+GoesOn p engine s f s' f' (Ok Over) = Unit {0}
 GoesOn p engine s f s' f' (Err e) = Unit {0}

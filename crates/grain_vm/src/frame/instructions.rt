@@ -2,13 +2,14 @@
 
 ghost use Rattle.std.specs.Prelude.{◌≡◌, ◌<◌, ◌≤◌, ◌+◌, ◌-◌, ◌∷◌, ◌++◌, ◌⊎◌, ℕ, length, Ok, IfOk, codes};
 ghost use Rattle.std.specs.Vec.{vec_capacity};
-ghost use Rattle.grain_program.specs.View.{position_of, assign_op_of};
+ghost use Rattle.grain_program.specs.View.{position_of, name_of, token_of, assign_op_of};
 ghost use Rattle.grain_program.specs.declared.instructions.Op.TheVariants as op;
 ghost use Rattle.grain_value.specs.Writing.{type_name_of};
 ghost use Rattle.grain_fault.specs.declared.faults.EvalAltResult.TheVariants as fault;
 ghost use Rattle.grain_fault.specs.declared.faults.MalformedKind.TheVariants as kind;
-ghost use Rattle.grain_vm.specs.means.Acts.{End, Came, jumped, stepped, pushed, instr, marked, top};
-ghost use Rattle.grain_vm.specs.frame.Hand.{own, frame_in, Does, Kept, Stands, Lands};
+ghost use Rattle.grain_vm.specs.means.Operators.{overflow_text, where_fast, operation, signature_text};
+ghost use Rattle.grain_vm.specs.means.Acts.{End, Came, jumped, stepped, pushed, instr, marked, top, arguments};
+ghost use Rattle.grain_vm.specs.frame.Hand.{own, frame_in, outcome_of, Does, Kept, Stands, Lands};
 
 use crate::frame::activations::Activation;
 use crate::frame::states::{Flow, State};
@@ -50,7 +51,7 @@ impl State {
             steps.mark();
             Flow::On
         } else {
-            Flow::Raise(EvalAltResult::ErrorTooManyOperations(program.position(frame.address)))
+            self.raise(EvalAltResult::ErrorTooManyOperations(program.position(frame.address)))
         }
     }
 
@@ -135,7 +136,10 @@ impl State {
                 let value = held.value.copy(alloc)?;
                 Ok(self.push_on(engine, program, steps, frame, value, next))
             }
-            None => Ok(self.misplaced(program, frame, index)),
+            None => {
+                let fault = self.misplaced(program, frame, index);
+                Ok(self.raise(fault))
+            }
         }
     }
 
@@ -162,7 +166,7 @@ impl State {
         ensures before { steps.new.before ≡ steps.old.before }
     {
         if self.scope.len() >= engine.limits.variables {
-            return Ok(Flow::Raise(EvalAltResult::ErrorTooManyVariables(program.position(
+            return Ok(self.raise(EvalAltResult::ErrorTooManyVariables(program.position(
                 frame.address,
             ))));
         }
@@ -207,9 +211,13 @@ impl State {
                 }
             }
             Dynamic::Int(integer) => {
-                self.mistyped(alloc, program, frame, &Dynamic::Int(integer))
+                let fault = mistyped(alloc, program, frame, &Dynamic::Int(integer))?;
+                Ok(self.raise(fault))
             }
-            Dynamic::Unit => self.mistyped(alloc, program, frame, &Dynamic::Unit),
+            Dynamic::Unit => {
+                let fault = mistyped(alloc, program, frame, &Dynamic::Unit)?;
+                Ok(self.raise(fault))
+            }
         }
     }
 
@@ -247,12 +255,11 @@ impl State {
             Some(held) => {
                 let read_only = held.read_only;
                 match operators::assign(
-                    alloc,
                     engine.fast_operators,
                     assign_op.op_assign,
                     &held.value,
                     &value,
-                )? {
+                ) {
                     OpAnswer::Done(value) => {
                         self.scope.set(index, Held { value, read_only });
                         steps.mark();
@@ -260,23 +267,24 @@ impl State {
                         steps.mark();
                         Ok(Flow::On)
                     }
-                    OpAnswer::Failed(text) => {
-                        Ok(Flow::Raise(EvalAltResult::ErrorArithmetic(
-                            text,
-                            program.position(frame.address),
-                        )))
+                    OpAnswer::Overflow(x, y) => {
+                        let fault = overflowed(alloc, program, frame, x, y)?;
+                        Ok(self.raise(fault))
                     }
                     OpAnswer::NotBuiltIn => {
                         let name = program.name(assign_op.op_name);
                         let text = operators::pair_signature(alloc, name, &held.value, &value)?;
-                        Ok(Flow::Raise(EvalAltResult::ErrorFunctionNotFound(
+                        Ok(self.raise(EvalAltResult::ErrorFunctionNotFound(
                             text,
                             program.position(frame.address),
                         )))
                     }
                 }
             }
-            None => Ok(self.misplaced(program, frame, index)),
+            None => {
+                let fault = self.misplaced(program, frame, index);
+                Ok(self.raise(fault))
+            }
         }
     }
 
@@ -307,26 +315,58 @@ impl State {
         ensures before { steps.new.before ≡ steps.old.before }
     {
         let count = usize::from(count);
-        let token = program.token(u32::from(token));
-        let operands = &self.stacks.operands[frame.bottom..];
-        match operators::operate(alloc, engine.fast_operators, token, operands, count)? {
+        match self.operate(engine, program, frame, token, count) {
             OpAnswer::Done(value) => {
                 self.stacks.drop_last(frame.bottom, count);
                 Ok(self.push_on(engine, program, steps, frame, value, next))
             }
-            OpAnswer::Failed(text) => Ok(Flow::Raise(EvalAltResult::ErrorArithmetic(
-                text,
-                program.position(frame.address),
-            ))),
+            OpAnswer::Overflow(x, y) => {
+                let fault = overflowed(alloc, program, frame, x, y)?;
+                Ok(self.raise(fault))
+            }
             OpAnswer::NotBuiltIn => {
-                let name = program.name(u32::from(name));
-                let text = operators::signature(alloc, name, operands, count)?;
-                Ok(Flow::Raise(EvalAltResult::ErrorFunctionNotFound(
-                    text,
-                    program.position(frame.address),
-                )))
+                let fault = self.unknown(alloc, program, frame, name, count)?;
+                Ok(self.raise(fault))
             }
         }
+    }
+
+    // What an operator says to the frame's last operands, so many.
+    fn operate(
+        &self,
+        engine: &Engine,
+        program: &Program,
+        frame: &Activation,
+        token: u16,
+        count: usize,
+    ) -> OpAnswer
+        requires operands { frame.now.bottom + count ≤ length self.now.stacks.operands.items }
+        requires pool { token < length program.now.tokens }
+        ensures { outcome_of result ≡ where_fast engine.now.fast_operators (operation (token_of program.now token) (arguments count (own self.now.stacks frame.now.bottom))) }
+    {
+        let token = program.token(u32::from(token));
+        let operands = &self.stacks.operands[frame.bottom..];
+        operators::operate(engine.fast_operators, token, operands, count)
+    }
+
+    // The fault of an operator that is not found for the frame's last operands, so many.
+    #[cold]
+    fn unknown(
+        &self,
+        alloc: Global,
+        program: &Program,
+        frame: &Activation,
+        name: u16,
+        count: usize,
+    ) -> Result<EvalAltResult, OutOfMemory>
+        requires operands { frame.now.bottom + count ≤ length self.now.stacks.operands.items }
+        requires pool { name < length program.now.names }
+        ensures { IfOk result (λ f. f ≡ fault.ErrorFunctionNotFound (signature_text (name_of program.now name) (arguments count (own self.now.stacks frame.now.bottom))) (position_of program.now frame.now.address)) }
+    {
+        let name = program.name(u32::from(name));
+        let operands = &self.stacks.operands[frame.bottom..];
+        let text = operators::signature(alloc, name, operands, count)?;
+        Ok(EvalAltResult::ErrorFunctionNotFound(text, program.position(frame.address)))
     }
 
     // `return`: the frame's last operand, or unit.
@@ -349,7 +389,7 @@ impl State {
         let _program = program;
         let value = self.stacks.pop_or_unit(frame.bottom);
         steps.mark();
-        Flow::Give(value)
+        self.give(value)
     }
 
     // The place of a slot in the scope.
@@ -362,32 +402,44 @@ impl State {
     }
 
     // The fault of a slot past the scope.
-    fn misplaced(&self, program: &Program, frame: &Activation, index: usize) -> Flow
-        ensures { result ≡ Flow.Raise (fault.Malformed (kind.SlotPastScope index (length self.now.scope)) (position_of program.now frame.now.address)) }
+    #[cold]
+    fn misplaced(&self, program: &Program, frame: &Activation, index: usize) -> EvalAltResult
+        ensures { result ≡ fault.Malformed (kind.SlotPastScope index (length self.now.scope)) (position_of program.now frame.now.address) }
     {
         let kind = MalformedKind::SlotPastScope {
             index,
             length: self.scope.len(),
         };
-        Flow::Raise(EvalAltResult::Malformed(kind, program.position(frame.address)))
+        EvalAltResult::Malformed(kind, program.position(frame.address))
     }
+}
 
-    // The fault of a value that is no truth value.
-    fn mistyped(
-        &self,
-        alloc: Global,
-        program: &Program,
-        frame: &Activation,
-        value: &Dynamic,
-    ) -> Result<Flow, OutOfMemory>
-        ensures { IfOk result (λ flow. flow ≡ Flow.Raise (fault.ErrorMismatchDataType (codes "bool") (type_name_of value.now) (position_of program.now frame.now.address))) }
-    {
-        let requested = Text::copy_of(alloc, "bool")?;
-        let actual = value.type_name(alloc)?;
-        Ok(Flow::Raise(EvalAltResult::ErrorMismatchDataType(
-            requested,
-            actual,
-            program.position(frame.address),
-        )))
-    }
+// The fault of a value that is no truth value.
+#[cold]
+fn mistyped(
+    alloc: Global,
+    program: &Program,
+    frame: &Activation,
+    value: &Dynamic,
+) -> Result<EvalAltResult, OutOfMemory>
+    ensures { IfOk result (λ f. f ≡ fault.ErrorMismatchDataType (codes "bool") (type_name_of value.now) (position_of program.now frame.now.address)) }
+{
+    let requested = Text::copy_of(alloc, "bool")?;
+    let actual = value.type_name(alloc)?;
+    Ok(EvalAltResult::ErrorMismatchDataType(requested, actual, program.position(frame.address)))
+}
+
+// The fault of a sum that does not fit.
+#[cold]
+fn overflowed(
+    alloc: Global,
+    program: &Program,
+    frame: &Activation,
+    x: i64,
+    y: i64,
+) -> Result<EvalAltResult, OutOfMemory>
+    ensures { IfOk result (λ f. f ≡ fault.ErrorArithmetic (overflow_text x y) (position_of program.now frame.now.address)) }
+{
+    let text = operators::overflow(alloc, x, y)?;
+    Ok(EvalAltResult::ErrorArithmetic(text, program.position(frame.address)))
 }

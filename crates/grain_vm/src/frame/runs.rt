@@ -132,12 +132,14 @@ impl State {
                 }
                 Ok(flow) => match flow {
                     Flow::On => {}
-                    Flow::Give(value) => return Ok(Ok(value)),
-                    Flow::Raise(fault) => {
-                        steps.mark();
-                        self.leave(frame);
-                        return Ok(Err(fault));
-                    }
+                    Flow::Over => match self.take_outcome() {
+                        Ok(value) => return Ok(Ok(value)),
+                        Err(fault) => {
+                            steps.mark();
+                            self.leave(frame);
+                            return Ok(Err(fault));
+                        }
+                    },
                 },
             }
         }

@@ -1,28 +1,30 @@
 //! What a run changes, but for its frame.
 
-ghost use Rattle.std.specs.Prelude.{◌≡◌, ◌<◌, ◌+◌, nat_lt, true, if◌then◌else◌};
+ghost use Rattle.std.specs.Prelude.{◌≡◌, ◌<◌, ◌+◌, nat_lt, true, if◌then◌else◌, Ok, Err};
 
 use crate::global::Engine;
 use crate::stack::Stacks;
-use grain_fault::EvalAltResult;
+use grain_fault::{EvalAltResult, RhaiResult};
 use grain_value::{Dynamic, Scope};
+use std::mem;
 
 /// What a run changes, but for its frame: the operands of all frames and the trace, the scope of the running frame,
-/// the operations and the level.
+/// the operations and the level, and what came out of a frame that is over, until it is taken up.
 #[derive(Drop)]
 pub struct State {
     pub stacks: Stacks,
     pub scope: Scope,
     pub count: u64,
     pub level: usize,
+    pub outcome: RhaiResult,
 }
 
-/// Where an instruction leads: on in its frame, out of it with a value, or to a fault.
-#[derive(Drop)]
+/// Where an instruction leads: on in its frame, or out of it. The value or the fault lies in the state, so that
+/// nothing large is moved from one instruction to the next.
+#[derive(Clone, Copy, Debug, PartialEq, Eq)]
 pub enum Flow {
     On,
-    Give(Dynamic),
-    Raise(EvalAltResult),
+    Over,
 }
 
 impl State {
@@ -38,5 +40,32 @@ impl State {
         } else {
             false
         }
+    }
+
+    /// The frame gives a value.
+    pub fn give(&mut self, value: Dynamic) -> Flow
+        ensures flow { result ≡ Flow.Over }
+        ensures after { self.new ≡ record self.old { outcome = Ok value } }
+    {
+        self.outcome = Ok(value);
+        Flow::Over
+    }
+
+    /// A fault is raised in the frame.
+    #[cold]
+    pub fn raise(&mut self, fault: EvalAltResult) -> Flow
+        ensures flow { result ≡ Flow.Over }
+        ensures after { self.new ≡ record self.old { outcome = Err fault } }
+    {
+        self.outcome = Err(fault);
+        Flow::Over
+    }
+
+    /// What came out of the frame that is over.
+    pub fn take_outcome(&mut self) -> RhaiResult
+        ensures value { result ≡ self.old.outcome }
+        ensures after { self.new ≡ record self.old { outcome = Ok Dynamic.Unit } }
+    {
+        mem::replace(&mut self.outcome, Ok(Dynamic::Unit))
     }
 }

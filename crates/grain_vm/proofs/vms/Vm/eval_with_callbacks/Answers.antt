@@ -1,5 +1,6 @@
-use Rattle.std.proofs.Common.{◌≡◌, ◌∙◌, ◌+◌, List, [], None, refl, ap, subst}
+use Rattle.std.proofs.Common.{◌≡◌, ◌∙◌, ◌+◌, List, [], None, Ok, refl, ap, subst}
 use Rattle.grain_value.specs.declared.scopes.Entry.{Entry}
+use Rattle.grain_value.specs.declared.values.Dynamic.TheVariants as dynamic
 use Rattle.grain_vm.specs.means.Acts.{called}
 use Rattle.grain_vm.specs.means.Goes.{InHand, Goes}
 use Rattle.grain_vm.specs.means.Means.{setup}
@@ -13,7 +14,7 @@ use Rattle.grain_vm.proofs.vms.Vm.eval_with_callbacks.Goals as goal
 
 -- what the code has in its hands at first
 begins : (scope : List Entry) (global : GlobalRuntimeState) (stacks kept : Stacks) (held : List Entry) (old new : Counts) → stacks ≡ kept → kept.trace.items ≡ [] → held ≡ scope →
-    new ≡ record { before = instructions old; begun = 0; passed = 0 } → hand (record { stacks = stacks; scope = held; count = global.num_operations; level = global.level }) new ≡ record { scope = scope; this = None; count = global.num_operations; level = global.level; trace = []; ran = 0; passed = 0 }
+    new ≡ record { before = instructions old; begun = 0; passed = 0 } → hand (record { stacks = stacks; scope = held; count = global.num_operations; level = global.level; outcome = Ok dynamic.Unit }) new ≡ record { scope = scope; this = None; count = global.num_operations; level = global.level; trace = []; ran = 0; passed = 0 }
 begins scope global stacks kept held old new e empty alike started = rw (e, empty, alike, started) refl
 
 pub returns-clause-evaluates : goal.returns-clause-evaluates
