@@ -1,5 +1,5 @@
 -- A write of an entry that keeps its name.
-use Rattle.std.proofs.Common.{◌≡◌, ◌<◌, ℕ, zero, suc, List, [], ◌∷◌, length, get_or, refl, ap, arith}
+use Rattle.std.proofs.Common.{◌≡◌, ◌<◌, ℕ, zero, suc, List, [], ◌∷◌, length, get_or, ap, arith}
 use Rattle.std.specs.Prelude.{slice_set}
 use Rattle.grain_value.specs.Scopes.{set_held}
 use Rattle.grain_value.specs.declared.scopes.Entry.{Entry}
