@@ -1,2 +1,5 @@
 pub mod Streams
 pub mod Memory
+pub mod Lines
+pub mod Words
+pub mod Numerals
