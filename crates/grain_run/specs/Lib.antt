@@ -3,3 +3,10 @@ pub mod Memory
 pub mod Lines
 pub mod Words
 pub mod Numerals
+pub mod Table
+pub mod Labels
+pub mod LabelView
+pub mod Operands
+pub mod Seen
+pub mod Outline
+pub mod OutlineView

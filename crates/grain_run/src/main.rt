@@ -1,12 +1,17 @@
 //! The program: it reads a listing, verifies it, runs it and writes how the run ended.
 #![tactic(auto)]
 
+mod draft;
+mod labels;
 mod lines;
 mod memory;
 mod numerals;
+mod operands;
+mod reasons;
 mod sinks;
 mod sources;
 mod standard;
+mod table;
 mod words;
 
 fn main() {}
