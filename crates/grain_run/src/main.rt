@@ -12,6 +12,7 @@ mod sinks;
 mod sources;
 mod standard;
 mod table;
+mod taking;
 mod words;
 
 fn main() {}
