@@ -10,3 +10,5 @@ pub mod Operands
 pub mod Seen
 pub mod Outline
 pub mod OutlineView
+pub mod Reading
+pub mod SetUpView

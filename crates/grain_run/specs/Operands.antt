@@ -6,7 +6,7 @@ use Rattle.grain_value.specs.declared.operators.Token.{Token}
 use Rattle.grain_value.specs.Operators.{token_in}
 use Rattle.grain_run.specs.Numerals.{number, integer}
 use Rattle.grain_run.specs.declared.words.Word.{Word}
-use Rattle.grain_run.specs.declared.words.Word.TheVariants.{Bare, Quoted, Broken}
+use Rattle.grain_run.specs.declared.words.Word.TheVariants.{Bare, Quoted}
 use Rattle.grain_run.specs.declared.operands.Assign.{Assign}
 use Rattle.grain_run.specs.declared.reasons.Reason.{Reason}
 use Rattle.grain_run.specs.declared.reasons.Reason.TheVariants.{NotBuilt}

@@ -1,5 +1,5 @@
 -- What the lines so far have given, and what one more line gives.
-use Rattle.std.specs.Prelude.{ℕ, ◌+◌, ◌-◌, ◌^◌, Bool, true, false, ◌&&◌, List, [], ◌∷◌, ◌++◌, length, Option, Some, None, option_map, is_some, Result, Ok, Err, codes, bytes_eq, ◌==◌, nat_lt, if◌then◌else◌}
+use Rattle.std.specs.Prelude.{ℕ, ◌-◌, ◌^◌, Bool, true, false, ◌&&◌, List, [], ◌∷◌, ◌++◌, length, Option, Some, None, option_map, is_some, Result, Ok, Err, codes, bytes_eq, ◌==◌, nat_lt, if◌then◌else◌}
 use Rattle.std.specs.Int.{w16, w32, to_le_bytes}
 use Rattle.grain_value.specs.declared.values.Dynamic.{Dynamic}
 use Rattle.grain_value.specs.declared.operators.Token.{Token}
@@ -8,7 +8,7 @@ use Rattle.grain_run.specs.Operands.{and_then, present, alone, limit_of, constan
 use Rattle.grain_run.specs.Labels.{Addresses, address_of, with_label}
 use Rattle.grain_run.specs.Table.{line_of, stands, is_block}
 use Rattle.grain_run.specs.declared.words.Word.{Word}
-use Rattle.grain_run.specs.declared.words.Word.TheVariants.{Bare, Quoted, Broken}
+use Rattle.grain_run.specs.declared.words.Word.TheVariants.{Bare}
 use Rattle.grain_run.specs.declared.table.Place.{Place}
 use Rattle.grain_run.specs.declared.table.Place.TheVariants as places
 use Rattle.grain_run.specs.declared.table.Kind.{Kind}

@@ -7,6 +7,7 @@ mod lines;
 mod memory;
 mod numerals;
 mod operands;
+mod reading;
 mod reasons;
 mod sinks;
 mod sources;
