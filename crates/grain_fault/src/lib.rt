@@ -1,8 +1,11 @@
 //! Faults: what ends a run without a value, where it was raised, and how it is told.
 #![tactic(auto)]
 
+mod classes;
 mod faults;
 mod places;
+mod positions;
+mod texts;
 mod traces;
 
 pub use faults::{EvalAltResult, MalformedKind, RhaiResult, RhaiResultOf};

@@ -74,4 +74,11 @@ impl Faults {
         self.faults.push(fault)?;
         Ok(())
     }
+
+    /// Takes all entries away.
+    pub fn clear(&mut self)
+        ensures { self.new ≡ [] }
+    {
+        self.faults.clear();
+    }
 }

@@ -1,3 +1,4 @@
 pub mod Writing
 pub mod Operators
 pub mod Scopes
+pub mod Lending

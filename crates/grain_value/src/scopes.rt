@@ -1,8 +1,9 @@
 //! Scopes: the variables of a run, the newest last.
 
-ghost use Rattle.std.specs.Prelude.{◌≡◌, ◌==◌, ◌<◌, ◌++◌, ◌∷◌, [], length, is_ok, if◌then◌else◌, slice_get, take, option_map};
+ghost use Rattle.std.specs.Prelude.{◌≡◌, ◌==◌, ◌<◌, ◌+◌, ◌++◌, ◌∷◌, [], length, is_ok, is_some, if◌then◌else◌, slice_get, take, drop, option_map};
 ghost use Rattle.std.specs.Option.{option_copied};
-ghost use Rattle.grain_value.specs.Scopes.{held_of, set_held};
+ghost use Rattle.std.specs.Borrow.{sem};
+ghost use Rattle.grain_value.specs.Scopes.{held_of, set_held, last_of};
 ghost use Rattle.grain_value.specs.declared.scopes.Entry.{Entry};
 
 use crate::memory::OutOfMemory;
@@ -77,6 +78,25 @@ impl Scope {
         }
     }
 
+    /// The index of the newest entry of the name, where there is one.
+    pub fn search(&self, name: &str) -> Option<usize>
+        ensures { result ≡ last_of name.now self.now }
+    {
+        for index in (0..self.entries.len()).rev() {
+            if self.entries[index].name.as_str() == name {
+                return Some(index);
+            }
+        }
+        None
+    }
+
+    /// Whether there is an entry of the name.
+    pub fn contains(&self, name: &str) -> bool
+        ensures { result ≡ is_some (last_of name.now self.now) }
+    {
+        self.search(name).is_some()
+    }
+
     /// Puts an entry at the end. Where memory is out, the scope is as it was.
     pub fn push(&mut self, name: Text, held: Held) -> Result<(), OutOfMemory>
         ensures { self.new ≡ (if is_ok result then self.old ++ record { name = name; held = held } ∷ [] else self.old) }
@@ -92,11 +112,34 @@ impl Scope {
         self.entries.truncate(n);
     }
 
+    /// Takes `count` entries away from `start` on, as far as they are there.
+    pub fn remove_range(&mut self, start: usize, count: usize)
+        ensures { self.new ≡ take start self.old ++ drop (start + count) self.old }
+    {
+        let length = self.entries.len();
+        let start = start.min(length);
+        let end = start + count.min(length - start);
+        self.entries.drain(start..end);
+    }
+
     /// Writes what the entry at the index holds.
     pub fn set(&mut self, index: usize, held: Held)
         requires { index < length self.old }
         ensures { self.new ≡ set_held self.old index held }
     {
         self.entries[index].held = held;
+    }
+
+    ghost use Rattle.grain_value.specs.Lending.{LendsHeld};
+
+    /// What the entry at the index holds, to be written, where there is one.
+    pub fn get_mut(&mut self, index: usize) -> Option<&mut Held>
+        ensures* writes_back { sem 𝓛 (LendsHeld self.entry index result) }
+        ensures value { option_map (λ h. h.now) result ≡ option_map held_of (slice_get self.old index) }
+    {
+        match self.entries.get_mut(index) {
+            Some(entry) => Some(&mut entry.held),
+            None => None,
+        }
     }
 }

@@ -1,11 +1,13 @@
 //! Texts: names, the fields of faults, and what is written.
 
-ghost use Rattle.std.specs.Prelude.{◌≡◌, ◌==◌, ◌++◌, [], length, IfOk, is_ok, if◌then◌else◌, slice_get};
+ghost use Rattle.std.specs.Prelude.{◌≡◌, ◌==◌, ◌++◌, [], length, Some, IfOk, IfSome, is_ok, if◌then◌else◌, slice_get};
 ghost use Rattle.std.specs.Char.{encode_utf8};
+ghost use Rattle.std.specs.Str.{chars};
 ghost use Rattle.std.specs.Fmt.{decimal, signed_decimal};
 
 use crate::memory::OutOfMemory;
 use std::alloc::Global;
+use std::fmt;
 use std::fmt::Write;
 use std::marker::Model;
 
@@ -53,6 +55,13 @@ impl Text {
         ensures { result ≡ length self.now }
     {
         self.text.len()
+    }
+
+    /// How many characters the text has.
+    pub fn char_count(&self) -> usize
+        ensures { result ≡ length (chars self.now) }
+    {
+        self.as_str().chars().count()
     }
 
     /// Whether the text has no bytes.
@@ -106,5 +115,22 @@ impl Text {
     {
         write!(self.text, "{integer}")?;
         Ok(())
+    }
+
+    /// Puts at the end what `{}` prints of a value.
+    pub fn push_display<D: fmt::Display>(&mut self, value: &D) -> Result<(), OutOfMemory>
+        ensures { IfOk result (λ _. IfSome (D.output value.now) (λ text. self.new ≡ self.old ++ text)) }
+    {
+        write!(self.text, "{value}")?;
+        Ok(())
+    }
+}
+
+impl fmt::Display for Text {
+    ghost output = { λ t. Some t };
+
+    fn fmt<W: fmt::Write>(&self, f: &mut fmt::Formatter<W>) -> fmt::Result {
+        let text = self.as_str();
+        write!(f, "{text}")
     }
 }

@@ -1,0 +1,16 @@
+-- The first entry of the name from the end is the newest.
+use Rattle.std.proofs.Common.{◌≡◌, ◌∙◌, ◌-◌, suc, true, drop, None, bytes_eq, ap, arith}
+use Rattle.grain_value.specs.Scopes.{last_of}
+use Rattle.grain_value.proofs.Names.{last_at}
+use Rattle.grain_value.proofs.scopes.Scope.search.Goals as goal
+
+pub returns-then-eq : goal.returns-then-eq
+returns-then-eq c =
+    let i = c.loop-index.index - 1 in
+    let es = c.self.inside.entries.items in
+    let name = c.args.name.now in
+    let entry = c.index.result.now in
+    let next : suc i ≡ c.loop-index.index = omega arith in
+    let named : bytes_eq entry.name name ≡ true = cc in
+    let none : last_of name (drop (suc i) es) ≡ None = rw (next, c.self.view_is) c.loop-index.invariant in
+    last_at name es i entry (omega arith) c.index.ensures named none ∙ ap (last_of name) c.self.view_is

@@ -1,0 +1,12 @@
+-- What a scope becomes once the entry that it lent is given back.
+use Rattle.std.specs.Prelude.{ℕ, Option, List}
+use Rattle.std.specs.Borrow.{LendsIf, MutBor, Fml}
+use Rattle.grain_value.specs.Scopes.{set_held}
+use Rattle.grain_value.specs.declared.scopes.Entry.{Entry}
+use Rattle.grain_value.specs.declared.values.Held.{Held}
+use Rattle.grain_value.specs.contracts.values.Held as held
+use Rattle.grain_value.specs.contracts.scopes.Scope as scope
+
+-- the scope ends with the last value behind the reference in the entry at the index, or as it was where there is none
+abbrev pub LendsHeld : MutBor (List Entry) → ℕ → Option (MutBor Held) → Fml
+LendsHeld s i r = LendsIf scope.the_row held.the_row s r (set_held s.now i) s.now
