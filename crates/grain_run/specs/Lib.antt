@@ -12,3 +12,4 @@ pub mod Outline
 pub mod OutlineView
 pub mod Reading
 pub mod SetUpView
+pub mod Reports

@@ -23,9 +23,9 @@ WasRead (Got n) before now slice = (n ≤ length slice) × Moved n before now sl
 WasRead End before now slice = (now ≡ before) × IsSpent now
 WasRead Failed before now slice = now ≡ before
 
--- a read fails only where the count of faults rises, and the count never falls
+-- the count of faults never falls, and a read fails only where it rises
 abbrev pub CountsRead : Read → ℕ → ℕ → Type 0
-CountsRead Failed before now = Rose before now
+CountsRead Failed before now = (before ≤ now) × Rose before now
 CountsRead answer before now = before ≤ now
 
 -- what a put may answer, by what was written before and is written now: the first n bytes of the piece were added, at least one of a piece that has any, or none
@@ -33,7 +33,17 @@ abbrev pub WasPut : Put → Option (List ℕ) → Option (List ℕ) → List ℕ
 WasPut (put.Took n) before now piece = (n ≤ length piece) × (n ≡ 0 → length piece ≡ 0) × (now ≡ option_map (λ bytes. bytes ++ take n piece) before)
 WasPut put.Failed before now piece = now ≡ before
 
--- a put fails only where the count of faults rises, and the count never falls
+-- the count of faults never falls, and a put fails only where it rises
 abbrev pub CountsPut : Put → ℕ → ℕ → Type 0
-CountsPut put.Failed before now = Rose before now
+CountsPut put.Failed before now = (before ≤ now) × Rose before now
 CountsPut answer before now = before ≤ now
+
+-- what is written with the text behind it, where the sink tells it
+abbrev pub added : List ℕ → Option (List ℕ) → Option (List ℕ)
+added text before = option_map (λ bytes. bytes ++ text) before
+
+-- only a part of the text was written: its first bytes, not all of them
+pub record PartAdded (text : List ℕ) (before now : Option (List ℕ)) : Type 0 where
+  pub count : ℕ
+  pub part : count < length text
+  pub written : now ≡ added (take count text) before

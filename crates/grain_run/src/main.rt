@@ -9,11 +9,13 @@ mod numerals;
 mod operands;
 mod reading;
 mod reasons;
+mod reports;
 mod sinks;
 mod sources;
 mod standard;
 mod table;
 mod taking;
+mod transfers;
 mod words;
 
 fn main() {}
