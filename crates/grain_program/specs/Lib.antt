@@ -1,1 +1,15 @@
 pub mod View
+pub mod Reading
+pub mod Spelling
+pub mod Widths
+pub mod Effects
+pub mod Indices
+pub mod Layout
+pub mod Starts
+pub mod Begins
+pub mod Rules
+pub mod Owners
+pub mod Shapes
+pub mod Typing
+pub mod Fits
+pub mod Recorded

@@ -1,10 +1,24 @@
 //! Programs: instructions and their bytes, the parts of a program, and the verifier.
 #![tactic(auto)]
 
+mod bytes;
+mod early;
+mod effects;
 mod input;
 mod instructions;
+mod late;
+mod owners;
 mod pools;
+mod programs;
+mod refusals;
+mod shapes;
+mod surveys;
 
+pub use bytes::{assemble, assembled_reads_back, decode};
+pub use effects::{Effect, Flow};
 pub use input::{AssignOp, Chunk, Parts, PositionEntry};
 pub use instructions::Op;
 pub use pools::{AssignOps, Names, Positions, Tokens};
+pub use programs::{Program, one_refusal, verify};
+pub use refusals::Refusal;
+pub use shapes::Shape;

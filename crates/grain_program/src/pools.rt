@@ -218,6 +218,13 @@ impl Positions {
         self.entries.get(index)
     }
 
+    /// The entries as a slice.
+    pub fn as_slice(&self) -> &[PositionEntry]
+        ensures { result.now ≡ self.now }
+    {
+        &self.entries
+    }
+
     /// Puts an entry at the end. Where memory is out, the list is as it was.
     pub fn push(&mut self, entry: PositionEntry) -> Result<(), OutOfMemory>
         ensures { self.new ≡ (if is_ok result then self.old ++ entry ∷ [] else self.old) }

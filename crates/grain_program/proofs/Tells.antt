@@ -1,0 +1,87 @@
+-- Tests that tell whether a fact holds.
+use Rattle.std.proofs.Common.{◌≡◌, ℕ, zero, suc, ◌<◌, ◌≤◌, ◌&&◌, Bool, true, false, List, [], ◌∷◌, length, get_or, Option, Some, None, refl, sym, ap, subst, arith}
+use Rattle.std.specs.Prelude.{nat_lt, slice_get}
+use Rattle.std.proofs.lemmas.Bool.{ltb-true, ltb-false}
+use Rattle.grain_program.specs.declared.instructions.Op.{Op}
+use Rattle.grain_program.specs.declared.instructions.Op.TheVariants as op
+use Rattle.grain_program.specs.declared.input.AssignOp.{AssignOp}
+use Rattle.grain_program.specs.declared.input.Chunk.{Chunk}
+use Rattle.grain_program.specs.declared.effects.Flow.{Flow}
+use Rattle.grain_program.specs.declared.effects.Flow.TheVariants as flow
+use Rattle.grain_program.specs.View.{View, no_op, assign_op_of}
+use Rattle.grain_program.specs.Indices.{InPools, record_named, in_pools}
+use Rattle.grain_program.specs.Rules.{StaysIn}
+use Rattle.grain_program.specs.Owners.{stays_in}
+
+-- the fact holds where the test is true, and not where it is false
+abbrev pub Tells : Bool → Type 0 → Type 0
+Tells true P = P
+Tells false P = P → ⊥
+
+pub tells : (P : Type 0) (b : Bool) → (b ≡ true → P) → (b ≡ false → P → ⊥) → Tells b P
+tells P true f g = f refl
+tells P false f g = g refl
+
+pub lt_tells : (a b : ℕ) → Tells (nat_lt a b) (a < b)
+lt_tells a b = tells (a < b) (nat_lt a b) (λ e. ltb-true a b e) (λ e lt. let le = ltb-false a b e in omega arith)
+
+both_tell : (P Q : Type 0) (a b : Bool) → Tells a P → Tells b Q → Tells (a && b) (P × Q)
+both_tell P Q true true p q = (p, q)
+both_tell P Q true false p q = λ h. q h.1
+both_tell P Q false b p q = λ h. p h.0
+
+-- the record at the index is there, and both its names
+abbrev Named : View → ℕ → Type 0
+Named p a = (a < length p.assign_ops) × ((assign_op_of p a).op_assign_name < length p.names) × ((assign_op_of p a).op_name < length p.names)
+
+-- what a list has at an index, by the same default
+record Entry (xs : List AssignOp) (i : ℕ) (r : AssignOp) : Type 0 where
+  inside : i < length xs
+  is : get_or xs i no_op ≡ r
+
+entry_of : (xs : List AssignOp) (i : ℕ) (r : AssignOp) → slice_get xs i ≡ Some r → Entry xs i r
+entry_of [] i r e = absurd cc
+entry_of (x ∷ xs) zero r e = record { inside = omega arith; is = cc }
+entry_of (x ∷ xs) (suc i) r e = let n = entry_of xs i r e in record { inside = omega (arith, n.inside); is = n.is }
+
+no_entry : (xs : List AssignOp) (i : ℕ) → slice_get xs i ≡ None → i < length xs → ⊥
+no_entry [] i e lt = omega arith
+no_entry (x ∷ xs) zero e lt = cc
+no_entry (x ∷ xs) (suc i) e lt = no_entry xs i e (omega arith)
+
+named_tells : (p : View) (a : ℕ) → Tells (record_named (length p.names) (slice_get p.assign_ops a)) (Named p a)
+named_tells p a = at (slice_get p.assign_ops a) refl where
+  some : (r : AssignOp) → Entry p.assign_ops a r → (b : Bool) → Tells b ((r.op_assign_name < length p.names) × (r.op_name < length p.names)) → Tells b (Named p a)
+  some r e true h = (e.inside, subst (λ (x : AssignOp). x.op_assign_name < length p.names) (sym e.is) h.0, subst (λ (x : AssignOp). x.op_name < length p.names) (sym e.is) h.1)
+  some r e false h = λ n. h (subst (λ (x : AssignOp). x.op_assign_name < length p.names) e.is n.1, subst (λ (x : AssignOp). x.op_name < length p.names) e.is n.2)
+
+  at : (o : Option AssignOp) → slice_get p.assign_ops a ≡ o → Tells (record_named (length p.names) o) (Named p a)
+  at None e = λ n. no_entry p.assign_ops a e n.0
+  at (Some r) e =
+      some r (entry_of p.assign_ops a r e) (nat_lt r.op_assign_name (length p.names) && nat_lt r.op_name (length p.names))
+      (both_tell (r.op_assign_name < length p.names) (r.op_name < length p.names) (nat_lt r.op_assign_name (length p.names)) (nat_lt r.op_name (length p.names)) (lt_tells r.op_assign_name (length p.names)) (lt_tells r.op_name (length p.names)))
+
+pools_assign : (p : View) (s n a : ℕ) (b : Bool) → Tells b ((n < length p.names) × Named p a) → Tells b (InPools p (op.AssignLocalOp s n a))
+pools_assign p s n a true h = (h.0, h.1.0, h.1.1, h.1.2)
+pools_assign p s n a false h = λ i. h (i.0, (i.1, i.2, i.3))
+
+-- the test of the indices tells whether they are in their pools
+pub pools_tell : (p : View) (o : Op) → Tells (in_pools p o) (InPools p o)
+pools_tell p (op.LoadConst c) = lt_tells c (length p.consts)
+pools_tell p (op.LoadLocal s) = tt
+pools_tell p (op.DeclareLocal n) = lt_tells n (length p.names)
+pools_tell p (op.AssignLocalOp s n a) =
+    pools_assign p s n a (nat_lt n (length p.names) && record_named (length p.names) (slice_get p.assign_ops a))
+    (both_tell (n < length p.names) (Named p a) (nat_lt n (length p.names)) (record_named (length p.names) (slice_get p.assign_ops a)) (lt_tells n (length p.names)) (named_tells p a))
+pools_tell p (op.Jump t) = tt
+pools_tell p (op.JumpIfFalse t) = tt
+pools_tell p (op.CallOp n k o) =
+    both_tell (n < length p.names) (o < length p.tokens) (nat_lt n (length p.names)) (nat_lt o (length p.tokens)) (lt_tells n (length p.names)) (lt_tells o (length p.tokens))
+pools_tell p op.Return = tt
+
+-- the test of the end tells whether the flow stays in the chunk
+pub stays_tell : (c : Chunk) (next : ℕ) (w : Flow) → Tells (stays_in c.end next w) (StaysIn c next w)
+stays_tell c next flow.Next = lt_tells next c.end
+stays_tell c next (flow.Jump t) = tt
+stays_tell c next (flow.Branch t) = lt_tells next c.end
+stays_tell c next flow.End = tt

@@ -1,0 +1,115 @@
+-- A frame that stands at an instruction with as many operands as the typing says, and what that tells of the instruction.
+use Rattle.std.specs.Prelude.{ℕ, ◌≡◌, ◌<◌, ◌≤◌, ◌+◌, ◌-◌, nat_lt, Bool, true, false, cond, List, [], ◌∷◌, length, slice_get, Option, Some, None, refl}
+use Rattle.std.proofs.Common.{sym, subst, ◌∙◌, inl, inr, arith}
+use Rattle.std.proofs.lemmas.Bool.{ltb-false}
+use Rattle.grain_program.specs.declared.instructions.Op.{Op}
+use Rattle.grain_program.specs.declared.input.Chunk.{Chunk}
+use Rattle.grain_program.specs.declared.shapes.Shape.{Shape}
+use Rattle.grain_program.specs.View.{View}
+use Rattle.grain_program.specs.Reading.{op_at}
+use Rattle.grain_program.specs.Widths.{op_at_within}
+use Rattle.grain_program.specs.declared.effects.Flow.{Flow}
+use Rattle.grain_program.specs.declared.effects.Flow.TheVariants as flow
+use Rattle.grain_program.specs.Effects.{effect_of, leads, takes_of, gives_of, leads_of}
+use Rattle.grain_program.specs.Indices.{InPools}
+use Rattle.grain_program.specs.Layout.{chunks_in, gap_from, layout_fault}
+use Rattle.grain_program.specs.Starts.{Start}
+use Rattle.grain_program.specs.Begins.{start_first, start_next}
+use Rattle.grain_program.specs.Rules.{Lands, StaysIn, Obeys}
+use Rattle.grain_program.specs.Shapes.{height_after}
+pub use Rattle.grain_program.specs.Typing.{In, IsProgram}
+use Rattle.grain_program.specs.Typing.{Agrees, Typing}
+
+-- a frame of the chunk stands at an instruction, with as many operands as a typing says
+pub record Fits (p : View) (c : Chunk) (at depth : ℕ) : Type 0 where
+  pub number : ℕ
+  pub is : slice_get (chunks_in p) number ≡ Some c
+  pub start : Start p.code c at
+  pub typing : ℕ → Option Shape
+  pub typed : Typing p.code (chunks_in p) typing
+  pub known : typing at ≡ Some (record { height = depth })
+  pub low : depth ≤ c.max_stack
+
+-- what validity says of the instruction at which a frame stands
+pub record Foreseen (p : View) (c : Chunk) (at depth : ℕ) (op : Op) (width : ℕ) : Type 0 where
+  pub enough : takes_of op ≤ depth
+  pub room : depth - takes_of op + gives_of op ≤ c.max_stack
+  pub pools : InPools p op
+  pub inside : at + width ≤ 16777216
+  pub wide : 1 ≤ width
+  pub goes : (b : ℕ) → In b (leads_of op (at + width)) → Fits p c b (depth - takes_of op + gives_of op)
+
+-- where an instruction leads, an instruction of its chunk begins
+pub leads_to_start : (code : List ℕ) (c : Chunk) (next : ℕ) (w : Flow) → Lands code c w → StaysIn c next w → (next < c.end → Start code c next) → (b : ℕ) → In b (leads w next) → Start code c b
+leads_to_start code c next flow.Next lands stays go b (inl e) = subst (Start code c) (sym e) (go stays)
+leads_to_start code c next flow.Next lands stays go b (inr i) = absurd i
+leads_to_start code c next (flow.Jump t) lands stays go b (inl e) = subst (Start code c) (sym e) lands
+leads_to_start code c next (flow.Jump t) lands stays go b (inr i) = absurd i
+leads_to_start code c next (flow.Branch t) lands stays go b i = at (nat_lt t next) i where
+  two : (x y : ℕ) → Start code c x → Start code c y → In b (x ∷ y ∷ []) → Start code c b
+  two x y s t (inl e) = subst (Start code c) (sym e) s
+  two x y s t (inr (inl e)) = subst (Start code c) (sym e) t
+  two x y s t (inr (inr i)) = absurd i
+
+  at : (q : Bool) → In b (cond q (t ∷ next ∷ []) (next ∷ t ∷ [])) → Start code c b
+  at true i = two t next lands (go stays) i
+  at false i = two next t (go stays) lands i
+leads_to_start code c next flow.End lands stays go b i = absurd i
+
+-- the code is no longer than the layout allows
+short : (len : ℕ) (chunks : List Chunk) → layout_fault len chunks ≡ None → len ≤ 16777216
+unfolding layout_fault
+short len chunks e = at (nat_lt 16777216 len) refl e where
+  at : (q : Bool) → nat_lt 16777216 len ≡ q → cond q (Some 16777216) (gap_from len 0 chunks) ≡ None → len ≤ 16777216
+  at true h e = absurd cc
+  at false h e = ltb-false 16777216 len h
+
+-- an instruction is there
+pub is_there : (p : View) → IsProgram p → (c : Chunk) (at depth : ℕ) → Fits p c at depth → op_at p.code at ≡ None → ⊥
+is_there p v c at depth f e =
+    let o = v.splits.obeys f.number c at f.is f.start in
+    let bad : None ≡ Some o.read = sym e ∙ o.whole.is in
+    cc
+
+-- what validity says of the instruction
+pub foreseen : (p : View) → IsProgram p → (c : Chunk) (at depth : ℕ) → Fits p c at depth → (r : Op × ℕ) → op_at p.code at ≡ Some r → Foreseen p c at depth r.0 r.1
+foreseen p v c at depth f r e =
+    let o = v.splits.obeys f.number c at f.is f.start in
+    let both : Some o.read ≡ Some r = sym o.whole.is ∙ e in
+    let same : o.read ≡ r = cc in
+    let lands = subst (λ (x : Op × ℕ). Lands p.code c (effect_of x.0).flow) same o.target in
+    let stays = subst (λ (x : Op × ℕ). StaysIn c (at + x.1) (effect_of x.0).flow) same o.end in
+    let agrees = f.typed.steps f.number c at r (record { height = depth }) f.is f.start e f.known in
+    let wide = op_at_within p.code at r e in
+    record {
+      enough = agrees.enough;
+      room = agrees.room;
+      pools = subst (λ (x : Op × ℕ). InPools p x.0) same o.index;
+      inside = let l = short (length p.code) (chunks_in p) v.layout in omega (arith, wide.1);
+      wide = wide.0;
+      goes = λ b i. record {
+        number = f.number;
+        is = f.is;
+        start = leads_to_start p.code c (at + r.1) (effect_of r.0).flow lands stays (λ lt. start_next p.code c at r f.start e lt) b i;
+        typing = f.typing;
+        typed = f.typed;
+        known = agrees.arrives b i;
+        low = agrees.room;
+      };
+    }
+
+-- a frame of the main chunk begins at its entry, without operands
+pub begins : (p : View) → IsProgram p → Fits p p.main p.main.entry 0
+begins p v = record {
+  number = 0;
+  is = refl;
+  start = start_first p.code p.main (v.splits.full 0 p.main refl);
+  typing = v.typing;
+  typed = v.typed;
+  known = v.typed.entries 0 p.main refl;
+  low = omega arith;
+}
+
+-- a frame has no more operands than its chunk may have
+pub shallow : (p : View) (c : Chunk) (at depth : ℕ) → Fits p c at depth → depth ≤ c.max_stack
+shallow p c at depth f = f.low

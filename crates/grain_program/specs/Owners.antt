@@ -1,0 +1,74 @@
+-- The table of instruction starts, and the tests of the rules 1 to 4 by it.
+use Rattle.std.specs.Prelude.{ℕ, ◌≡◌, ◌<◌, ◌+◌, ◌⊎◌, ◌==◌, nat_lt, Bool, true, false, List, length, slice_get, slice_index_or, Option, Some, None, if◌then◌else◌}
+use Rattle.grain_program.specs.declared.instructions.Op.{Op}
+use Rattle.grain_program.specs.declared.input.Chunk.{Chunk}
+use Rattle.grain_program.specs.declared.owners.Owner.{Owner}
+use Rattle.grain_program.specs.declared.refusals.Refusal.{Refusal}
+use Rattle.grain_program.specs.declared.refusals.Refusal.TheVariants as refusal
+use Rattle.grain_program.specs.declared.effects.Flow.{Flow}
+use Rattle.grain_program.specs.declared.effects.Flow.TheVariants as flow
+use Rattle.grain_program.specs.View.{View}
+use Rattle.grain_program.specs.Reading.{op_at}
+use Rattle.grain_program.specs.Effects.{effect_of}
+use Rattle.grain_program.specs.Indices.{in_pools}
+use Rattle.grain_program.specs.Starts.{Start}
+
+-- what stands where no instruction begins
+abbrev pub no_owner : Owner
+no_owner = record { end = 0; max_stack = 0 }
+
+-- what stands where an instruction of the chunk begins
+abbrev pub owner_of : Chunk → Owner
+owner_of c = record { end = c.end; max_stack = c.max_stack }
+
+abbrev pub owner_at : List Owner → ℕ → Owner
+owner_at owners a = slice_index_or owners a no_owner
+
+-- an instruction of a chunk begins at the address, and the chunk owns it
+abbrev pub IsOwned : List ℕ → List Chunk → List Owner → ℕ → Type 0
+IsOwned code chunks owners a = (i : ℕ) × ((c : Chunk) × (slice_get chunks i ≡ Some c) × Start code c a × (owner_at owners a ≡ owner_of c))
+
+-- each start of the first so many chunks is owned by its chunk, and no other address has an owner
+pub record Owned (code : List ℕ) (chunks : List Chunk) (upto : ℕ) (owners : List Owner) : Type 0 where
+  pub long : length owners ≡ length code
+  pub owned : (i : ℕ) (c : Chunk) (a : ℕ) → i < upto → slice_get chunks i ≡ Some c → Start code c a → owner_at owners a ≡ owner_of c
+  pub only : (a : ℕ) → (owner_at owners a ≡ no_owner) ⊎ IsOwned code chunks owners a
+
+-- the starts of the chunk have got this owner, and every other address has kept its own
+abbrev pub IsMarked : List ℕ → Chunk → List Owner → List Owner → Type 0
+IsMarked code c before now =
+    (a : ℕ) → (Start code c a × (owner_at now a ≡ owner_of c)) ⊎ ((Start code c a → ⊥) × (owner_at now a ≡ owner_at before a))
+
+-- the target is owned by the chunk of this end
+abbrev pub lands : List Owner → ℕ → Flow → Bool
+lands owners end flow.Next = true
+lands owners end (flow.Jump t) = (owner_at owners t).end == end
+lands owners end (flow.Branch t) = (owner_at owners t).end == end
+lands owners end flow.End = true
+
+-- what goes on to the address behind stays before the end
+abbrev pub stays_in : ℕ → ℕ → Flow → Bool
+stays_in end next flow.Next = nat_lt next end
+stays_in end next (flow.Jump t) = true
+stays_in end next (flow.Branch t) = nat_lt next end
+stays_in end next flow.End = true
+
+-- the first of the rules 1 to 4 that the instruction read at the address breaks, in a chunk of this end
+abbrev pub rule_in : View → List Owner → ℕ → ℕ → Option (Op × ℕ) → Option Refusal
+rule_in p owners end a None = Some (refusal.Undecodable a)
+rule_in p owners end a (Some r) =
+    if nat_lt end (a + r.1) then Some (refusal.Undecodable a)
+    else if in_pools p r.0 then
+      (if lands owners end (effect_of r.0).flow then
+        (if stays_in end (a + r.1) (effect_of r.0).flow then None else Some (refusal.FallsOff a))
+      else Some (refusal.JumpTarget a))
+    else Some (refusal.PoolIndex a)
+
+-- the first of the rules 1 to 4 that an instruction at the address breaks
+abbrev pub rule_at : View → List Owner → ℕ → Option Refusal
+rule_at p owners a = if (owner_at owners a).end == 0 then None else rule_in p owners (owner_at owners a).end a (op_at p.code a)
+
+-- what the search finds at the lowest number below n where it finds something
+abbrev pub IsFirstFound : (ℕ → Option Refusal) → ℕ → Option Refusal → Type 0
+IsFirstFound f n None = (a : ℕ) → a < n → f a ≡ None
+IsFirstFound f n (Some r) = (a : ℕ) × ((a < n) × (f a ≡ Some r) × ((b : ℕ) → b < a → f b ≡ None))

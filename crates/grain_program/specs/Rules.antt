@@ -1,0 +1,122 @@
+-- Rules 1 to 4, which look at each instruction by itself: what obeys them, what breaks them, and which breach is the first.
+use Rattle.std.specs.Prelude.{ℕ, ◌≡◌, ◌<◌, ◌≤◌, ◌+◌, ◌⊎◌, List, length, slice_get, Option, Some, None}
+use Rattle.grain_program.specs.declared.instructions.Op.{Op}
+use Rattle.grain_program.specs.declared.input.Chunk.{Chunk}
+use Rattle.grain_program.specs.declared.refusals.Refusal.{Refusal}
+use Rattle.grain_program.specs.declared.refusals.Refusal.TheVariants as refusal
+use Rattle.grain_program.specs.declared.effects.Flow.{Flow}
+use Rattle.grain_program.specs.declared.effects.Flow.TheVariants as flow
+use Rattle.grain_program.specs.View.{View}
+use Rattle.grain_program.specs.Reading.{op_at}
+use Rattle.grain_program.specs.Effects.{effect_of}
+use Rattle.grain_program.specs.Indices.{InPools}
+use Rattle.grain_program.specs.Layout.{layout_fault}
+use Rattle.grain_program.specs.Starts.{Start}
+
+-- the target is an instruction of the same chunk
+abbrev pub Lands : List ℕ → Chunk → Flow → Type 0
+Lands code c flow.Next = Unit {0}
+Lands code c (flow.Jump t) = Start code c t
+Lands code c (flow.Branch t) = Start code c t
+Lands code c flow.End = Unit {0}
+
+-- what goes on to the address behind does not leave the chunk
+abbrev pub StaysIn : Chunk → ℕ → Flow → Type 0
+StaysIn c next flow.Next = next < c.end
+StaysIn c next (flow.Jump t) = Unit {0}
+StaysIn c next (flow.Branch t) = next < c.end
+StaysIn c next flow.End = Unit {0}
+
+-- the instruction at the address, which does not pass its chunk's end
+pub record Whole (code : List ℕ) (c : Chunk) (a : ℕ) (r : Op × ℕ) : Type 0 where
+  pub is : op_at code a ≡ Some r
+  pub inside : a + r.1 ≤ c.end
+
+-- rule 2 of an instruction
+abbrev pub IndexRule : View → Chunk → ℕ → Op × ℕ → Type 0
+IndexRule p c a r = InPools p r.0
+
+-- rule 3 of an instruction
+abbrev pub TargetRule : View → Chunk → ℕ → Op × ℕ → Type 0
+TargetRule p c a r = Lands p.code c (effect_of r.0).flow
+
+-- rule 4 of an instruction
+abbrev pub EndRule : View → Chunk → ℕ → Op × ℕ → Type 0
+EndRule p c a r = StaysIn c (a + r.1) (effect_of r.0).flow
+
+-- the instruction at the address obeys the rules 1 to 4
+pub record Obeys (p : View) (c : Chunk) (a : ℕ) : Type 0 where
+  pub read : Op × ℕ
+  pub whole : Whole p.code c a read
+  pub index : IndexRule p c a read
+  pub target : TargetRule p c a read
+  pub end : EndRule p c a read
+
+-- every chunk has an instruction, and every instruction obeys the rules 1 to 4
+pub record Splits (p : View) (chunks : List Chunk) : Type 0 where
+  pub full : (i : ℕ) (c : Chunk) → slice_get chunks i ≡ Some c → c.entry < c.end
+  pub obeys : (i : ℕ) (c : Chunk) (a : ℕ) → slice_get chunks i ≡ Some c → Start p.code c a → Obeys p c a
+
+-- an instruction of some chunk begins at the address
+pub record Spot (code : List ℕ) (chunks : List Chunk) (a : ℕ) : Type 0 where
+  pub number : ℕ
+  pub chunk : Chunk
+  pub is : slice_get chunks number ≡ Some chunk
+  pub start : Start code chunk a
+
+-- no whole instruction is at the address, where one should begin
+abbrev pub Unread : List ℕ → List Chunk → ℕ → Type 0
+Unread code chunks a = (s : Spot code chunks a) × ((r : Op × ℕ) → Whole code s.chunk a r → ⊥)
+
+-- the whole instruction at the address does not obey the rule
+abbrev pub Disobeys : List ℕ → List Chunk → (Chunk → ℕ → Op × ℕ → Type 0) → ℕ → Type 0
+Disobeys code chunks rule a = (s : Spot code chunks a) × ((r : Op × ℕ) × Whole code s.chunk a r × (rule s.chunk a r → ⊥))
+
+-- an empty chunk lies at the address
+abbrev pub IsHollow : List Chunk → ℕ → Type 0
+IsHollow chunks a = (i : ℕ) × ((c : Chunk) × (slice_get chunks i ≡ Some c) × (c.entry ≡ a) × (c.end ≡ a))
+
+-- the rule is broken at the address
+abbrev pub Breach : View → List Chunk → Refusal → Type 0
+Breach p chunks (refusal.Undecodable a) = Unread p.code chunks a
+Breach p chunks (refusal.PoolIndex a) = Disobeys p.code chunks (IndexRule p) a
+Breach p chunks (refusal.JumpTarget a) = Disobeys p.code chunks (TargetRule p) a
+Breach p chunks (refusal.FallsOff a) = Disobeys p.code chunks (EndRule p) a ⊎ IsHollow chunks a
+Breach p chunks _ = ⊥
+
+-- the address of a refusal
+abbrev pub address_of : Refusal → ℕ
+address_of (refusal.Undecodable a) = a
+address_of (refusal.PoolIndex a) = a
+address_of (refusal.JumpTarget a) = a
+address_of (refusal.FallsOff a) = a
+address_of (refusal.HeightDisagrees a) = a
+address_of (refusal.TooDeep a) = a
+address_of (refusal.Underflow a) = a
+address_of refusal.Memory = 0
+
+-- the number of a refusal's rule
+abbrev pub rule_of : Refusal → ℕ
+rule_of (refusal.Undecodable a) = 1
+rule_of (refusal.PoolIndex a) = 2
+rule_of (refusal.JumpTarget a) = 3
+rule_of (refusal.FallsOff a) = 4
+rule_of (refusal.HeightDisagrees a) = 5
+rule_of (refusal.TooDeep a) = 6
+rule_of (refusal.Underflow a) = 7
+rule_of refusal.Memory = 13
+
+-- at a lower address, or at the same one by a lower rule or the same
+abbrev pub Precedes : Refusal → Refusal → Type 0
+Precedes r s = (address_of r < address_of s) ⊎ ((address_of r ≡ address_of s) × (rule_of r ≤ rule_of s))
+
+-- the breach that precedes every other
+pub record IsFirst (p : View) (chunks : List Chunk) (r : Refusal) : Type 0 where
+  pub breach : Breach p chunks r
+  pub first : (s : Refusal) → Breach p chunks s → Precedes r s
+
+-- what is refused before heights are looked at: the layout, and else the first breach of the rules 1 to 4
+abbrev pub RefusedEarly : View → List Chunk → Refusal → Type 0
+RefusedEarly p chunks r =
+    ((a : ℕ) × (layout_fault (length p.code) chunks ≡ Some a) × (r ≡ refusal.Undecodable a))
+    ⊎ ((layout_fault (length p.code) chunks ≡ None) × IsFirst p chunks r)

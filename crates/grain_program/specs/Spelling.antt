@@ -1,0 +1,68 @@
+-- How an instruction is spelled: its tag, and its operands, the lowest byte first.
+use Rattle.std.specs.Prelude.{ℕ, ◌<◌, ◌^◌, List, [], ◌∷◌, ◌++◌}
+use Rattle.std.specs.Int.{w16, w32, to_le_bytes}
+use Rattle.grain_program.specs.declared.instructions.Op.{Op}
+use Rattle.grain_program.specs.declared.instructions.Op.TheVariants as op
+use Rattle.grain_program.specs.Reading.{Operand, one, two, four}
+
+-- an operand, and its number
+pub record Field : Type 0 where
+  pub operand : Operand
+  pub number : ℕ
+
+abbrev pub byte : ℕ → Field
+byte n = record { operand = one; number = n }
+
+abbrev pub half : ℕ → Field
+half n = record { operand = two; number = n }
+
+abbrev pub word : ℕ → Field
+word n = record { operand = four; number = n }
+
+abbrev pub tag_of : Op → ℕ
+tag_of (op.LoadConst c) = 0x01
+tag_of (op.LoadLocal s) = 0x05
+tag_of (op.DeclareLocal n) = 0x0d
+tag_of (op.AssignLocalOp s n a) = 0x11
+tag_of (op.Jump t) = 0x1d
+tag_of (op.JumpIfFalse t) = 0x1e
+tag_of (op.CallOp n k o) = 0x23
+tag_of op.Return = 0x4a
+
+abbrev pub fields_of : Op → List Field
+fields_of (op.LoadConst c) = half c ∷ []
+fields_of (op.LoadLocal s) = half s ∷ []
+fields_of (op.DeclareLocal n) = half n ∷ []
+fields_of (op.AssignLocalOp s n a) = half s ∷ half n ∷ half a ∷ []
+fields_of (op.Jump t) = word t ∷ []
+fields_of (op.JumpIfFalse t) = word t ∷ []
+fields_of (op.CallOp n k o) = half n ∷ byte k ∷ half o ∷ []
+fields_of op.Return = []
+
+-- the bytes of a number in an operand
+abbrev pub spelled : Operand → ℕ → List ℕ
+spelled one n = n ∷ []
+spelled two n = to_le_bytes w16 n
+spelled four n = to_le_bytes w32 n
+
+abbrev pub fields_spelled : List Field → List ℕ
+fields_spelled [] = []
+fields_spelled (f ∷ fs) = spelled f.operand f.number ++ fields_spelled fs
+
+-- the bytes of the instruction
+abbrev pub spelling : Op → List ℕ
+spelling o = tag_of o ∷ fields_spelled (fields_of o)
+
+-- the number fits its operand
+abbrev pub NumberFits : Operand → ℕ → Type 0
+NumberFits one n = n < 256
+NumberFits two n = n < 2 ^ 16
+NumberFits four n = n < 2 ^ 32
+
+abbrev pub FieldsFit : List Field → Type 0
+FieldsFit [] = Unit {0}
+FieldsFit (f ∷ fs) = NumberFits f.operand f.number × FieldsFit fs
+
+-- each number fits its operand
+abbrev pub OpFits : Op → Type 0
+OpFits o = FieldsFit (fields_of o)

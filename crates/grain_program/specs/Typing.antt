@@ -1,0 +1,140 @@
+-- Typings: at each address that is reached, the one shape with which it is reached. The search for one goes from the
+-- entries on, always at the lowest waiting address.
+use Rattle.std.specs.Prelude.{ℕ, zero, suc, ◌≡◌, ◌<◌, ◌≤◌, ◌+◌, ◌-◌, nat_lt, List, [], ◌∷◌, length, map, replicate, slice_get, slice_index_or, slice_set, Option, Some, None, Result, Ok, Err, if◌then◌else◌, ◌⊎◌}
+use Rattle.std.specs.List.{AllByRecursion}
+use Rattle.std.specs.Ordering.{nat_cmp}
+use Rattle.std.specs.BTreeSet.{insert_key}
+use Rattle.grain_program.specs.declared.instructions.Op.{Op}
+use Rattle.grain_program.specs.declared.input.Chunk.{Chunk}
+use Rattle.grain_program.specs.declared.shapes.Shape.{Shape}
+use Rattle.grain_program.specs.declared.effects.Effect.{Effect}
+use Rattle.grain_program.specs.declared.refusals.Refusal.{Refusal}
+use Rattle.grain_program.specs.declared.refusals.Refusal.TheVariants as refusal
+use Rattle.grain_program.specs.View.{View}
+use Rattle.grain_program.specs.Reading.{op_at}
+use Rattle.grain_program.specs.Effects.{effect_of, leads}
+use Rattle.grain_program.specs.Layout.{chunks_in, layout_fault}
+use Rattle.grain_program.specs.Starts.{Start}
+use Rattle.grain_program.specs.Rules.{Splits, RefusedEarly}
+use Rattle.grain_program.specs.Shapes.{bare, height_after, after, stepped, clash, shape_at}
+
+-- the number is in the list
+abbrev pub In : ℕ → List ℕ → Type 0
+In a [] = ⊥
+In a (x ∷ xs) = (a ≡ x) ⊎ In a xs
+
+-- an instruction of this effect and width has enough operands in this shape and leaves no more than so many, and
+-- wherever it leads the typing has the shape that it leaves
+pub record Agrees (typing : ℕ → Option Shape) (max a width : ℕ) (e : Effect) (s : Shape) : Type 0 where
+  pub enough : e.takes ≤ s.height
+  pub room : height_after e s ≤ max
+  pub arrives : (b : ℕ) → In b (leads e.flow (a + width)) → typing b ≡ Some (after e s)
+
+-- each chunk is entered without operands, and each instruction that is reached agrees with the typing
+pub record Typing (code : List ℕ) (chunks : List Chunk) (typing : ℕ → Option Shape) : Type 0 where
+  pub entries : (i : ℕ) (c : Chunk) → slice_get chunks i ≡ Some c → typing c.entry ≡ Some bare
+  pub steps : (i : ℕ) (c : Chunk) (a : ℕ) (r : Op × ℕ) (s : Shape) → slice_get chunks i ≡ Some c → Start code c a → op_at code a ≡ Some r → typing a ≡ Some s
+      → Agrees typing c.max_stack a r.1 (effect_of r.0) s
+
+-- no rule is broken
+pub record Valid (p : View) (chunks : List Chunk) : Type 0 where
+  pub layout : layout_fault (length p.code) chunks ≡ None
+  pub splits : Splits p chunks
+  pub typing : ℕ → Option Shape
+  pub typed : Typing p.code chunks typing
+
+-- the program's chunks break no rule
+abbrev pub IsProgram : View → Type 0
+IsProgram p = Valid p (chunks_in p)
+
+-- ---- the search for a typing
+
+-- the shapes that are known, by address, and the addresses that wait, in ascending order
+pub record Seen : Type 0 where
+  pub shapes : List (Option Shape)
+  pub waiting : List ℕ
+
+-- a result, and then what is done with it
+infixl 10 ◌>>=◌
+abbrev pub ◌>>=◌ : {A B : Type 0} → Result A Refusal → (A → Result B Refusal) → Result B Refusal
+(Ok x) >>= f = f x
+(Err e) >>= f = Err e
+
+-- the refusal if there is one, and else the result
+abbrev pub unless : {A : Type 0} → Option Refusal → Result A Refusal → Result A Refusal
+unless None next = next
+unless (Some r) next = Err r
+
+-- the address has the shape, and waits
+abbrev pub noted : ℕ → Shape → Seen → Seen
+noted b s f = record { shapes = slice_set f.shapes b (Some s); waiting = insert_key nat_cmp f.waiting b }
+
+-- the shape comes to an address of which this is known
+abbrev pub meets : ℕ → Shape → Seen → Option Shape → Result Seen Refusal
+meets b s f None = Ok (noted b s f)
+meets b s f (Some t) = unless (clash b t s) (Ok f)
+
+-- the shape comes to the address
+abbrev pub arrive : Shape → Seen → ℕ → Result Seen Refusal
+arrive s f b = meets b s f (shape_at f.shapes b)
+
+-- the shape comes to each of the addresses
+abbrev pub arrive_all : Shape → List ℕ → Seen → Result Seen Refusal
+arrive_all s [] f = Ok f
+arrive_all s (b ∷ bs) f = arrive s f b >>= λ g. arrive_all s bs g
+
+-- how many operands the chunk of the address may have
+abbrev pub limit_at : List Chunk → ℕ → ℕ
+limit_at [] a = 0
+limit_at (c ∷ cs) a = if nat_lt a c.end then c.max_stack else limit_at cs a
+
+-- the instruction at the address is taken, from the shape that is known there
+abbrev pub take_op : ℕ → ℕ → Seen → Option (Op × ℕ) → Option Shape → Result Seen Refusal
+take_op max a f None s = Ok f
+take_op max a f (Some r) None = Ok f
+take_op max a f (Some r) (Some s) =
+    stepped max a (effect_of r.0) s >>= λ t. arrive_all t (leads (effect_of r.0).flow (a + r.1)) f
+
+abbrev pub take_at : List ℕ → ℕ → ℕ → Seen → Result Seen Refusal
+take_at code max a f = take_op max a f (op_at code a) (shape_at f.shapes a)
+
+-- the lowest waiting address is taken
+abbrev pub take_lowest : List ℕ → List Chunk → Seen → List ℕ → Result Seen Refusal
+take_lowest code chunks f [] = Ok f
+take_lowest code chunks f (a ∷ rest) = take_at code (limit_at chunks a) a (record { shapes = f.shapes; waiting = rest })
+
+-- that many addresses are taken, or fewer where no more wait
+unfoldable pub walk : List ℕ → List Chunk → ℕ → Seen → Result Seen Refusal
+walk code chunks zero f = Ok f
+walk code chunks (suc n) f = walk code chunks n f >>= λ g. take_lowest code chunks g g.waiting
+
+abbrev pub nothing_seen : ℕ → Seen
+nothing_seen len = record { shapes = replicate len None; waiting = [] }
+
+-- a bare frame comes to each entry, and then that many addresses are taken
+unfoldable pub survey : List ℕ → List Chunk → ℕ → Result Seen Refusal
+survey code chunks n = arrive_all bare (map (λ c. c.entry) chunks) (nothing_seen (length code)) >>= λ f. walk code chunks n f
+
+-- what is refused: by the layout and the rules 1 to 4, or else where the search for a typing stops
+abbrev pub Refused : View → List Chunk → Refusal → Type 0
+Refused p chunks r =
+    RefusedEarly p chunks r
+    ⊎ ((layout_fault (length p.code) chunks ≡ None) × Splits p chunks × ((n : ℕ) × (survey p.code chunks n ≡ Err r)))
+
+-- the first rule that the program's chunks break
+abbrev pub IsRefusal : View → Refusal → Type 0
+IsRefusal p r = Refused p (chunks_in p) r
+
+-- ---- what the code returns, against what the search gives
+
+-- the code has this before it and returned this, where the search gives that
+abbrev pub Gives : {A : Type 0} → Seen → Result A Refusal → Result Seen Refusal → Type 0
+Gives f (Ok x) found = found ≡ Ok f
+Gives f (Err e) found = (e ≡ refusal.Memory) ⊎ (found ≡ Err e)
+
+-- what the code needs where it takes an address: the table has a place there, and wherever the instruction leads
+pub record Ready (code : List ℕ) (shapes : List (Option Shape)) (a : ℕ) : Type 0 where
+  pub small : length code ≤ 16777216
+  pub room : length shapes ≡ length code
+  pub within : a < length code
+  pub targets : (r : Op × ℕ) → op_at code a ≡ Some r → AllByRecursion (λ b. b < length code) (leads (effect_of r.0).flow (a + r.1))

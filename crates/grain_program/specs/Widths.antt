@@ -1,0 +1,59 @@
+-- An instruction that is read is at least a byte wide, and lies within the code.
+use Rattle.std.specs.Prelude.{ℕ, suc, ◌+◌, ◌-◌, ◌≡◌, ◌≤◌, Bool, true, false, cond, List, [], ◌∷◌, length, drop, Option, Some, None, ◌==◌, IfSome}
+use Rattle.std.proofs.Common.{arith, length-drop, refl}
+use Rattle.grain_program.specs.declared.instructions.Op.{Op}
+use Rattle.grain_program.specs.Reading.{Operand, one, two, four, bytes_of, number_at, joined, numbers_at, span, Row, rows, made, by_rows, by_tag, op_in, op_at}
+
+number_within : (o : Operand) (bytes : List ℕ) (n : ℕ) → number_at o bytes ≡ Some n → bytes_of o ≤ length bytes
+number_within one [] n e = absurd cc
+number_within one (a ∷ rest) n e = omega arith
+number_within two [] n e = absurd cc
+number_within two (a ∷ []) n e = absurd cc
+number_within two (a ∷ b ∷ rest) n e = omega arith
+number_within four [] n e = absurd cc
+number_within four (a ∷ []) n e = absurd cc
+number_within four (a ∷ b ∷ []) n e = absurd cc
+number_within four (a ∷ b ∷ c ∷ []) n e = absurd cc
+number_within four (a ∷ b ∷ c ∷ d ∷ rest) n e = omega arith
+
+both_joined : (x : Option ℕ) (y : Option (List ℕ)) (ns : List ℕ) → joined x y ≡ Some ns → (n : ℕ) × (ms : List ℕ) × (x ≡ Some n) × (y ≡ Some ms)
+both_joined None y ns e = absurd cc
+both_joined (Some n) None ns e = absurd cc
+both_joined (Some n) (Some ms) ns e = (n, ms, refl, refl)
+
+numbers_within : (os : List Operand) (bytes ns : List ℕ) → numbers_at os bytes ≡ Some ns → span os ≤ length bytes
+numbers_within [] bytes ns e = omega arith
+numbers_within (o ∷ os) bytes ns e =
+    let j = both_joined (number_at o bytes) (numbers_at os (drop (bytes_of o) bytes)) ns e in
+    let first = number_within o bytes j.0 j.2 in
+    let rest = numbers_within os (drop (bytes_of o) bytes) j.1 j.3 in
+    omega (arith, first, rest, length-drop (bytes_of o) bytes)
+
+made_within : (r : Row) (bytes : List ℕ) (o : Option (List ℕ)) (x : Op × ℕ) → numbers_at r.operands bytes ≡ o → made r o ≡ Some x → (1 ≤ x.1) × (x.1 ≤ suc (length bytes))
+made_within r bytes None x p e = absurd cc
+made_within r bytes (Some ns) x p e =
+    let w : 1 + span r.operands ≡ x.1 = cc in
+    let l = numbers_within r.operands bytes ns p in
+    (omega arith, omega arith)
+
+by_rows_within : (rs : List Row) (tag : ℕ) (rest : List ℕ) (x : Op × ℕ) → by_rows rs tag rest ≡ Some x → (1 ≤ x.1) × (x.1 ≤ suc (length rest))
+by_rows_within [] tag rest x e = absurd cc
+by_rows_within (r ∷ rs) tag rest x e = at (tag == r.tag) (λ f. by_rows_within rs tag rest x f) e where
+  at : (b : Bool) → (by_rows rs tag rest ≡ Some x → (1 ≤ x.1) × (x.1 ≤ suc (length rest))) → cond b (made r (numbers_at r.operands rest)) (by_rows rs tag rest) ≡ Some x → (1 ≤ x.1) × (x.1 ≤ suc (length rest))
+  at true more e = made_within r rest (numbers_at r.operands rest) x refl e
+  at false more e = more e
+
+op_in_within : (bytes : List ℕ) (x : Op × ℕ) → op_in bytes ≡ Some x → (1 ≤ x.1) × (x.1 ≤ length bytes)
+unfolding op_in by_tag
+op_in_within [] x e = absurd cc
+op_in_within (tag ∷ rest) x e = by_rows_within rows tag rest x e
+
+pub op_at_within : (code : List ℕ) (address : ℕ) (x : Op × ℕ) → op_at code address ≡ Some x → (1 ≤ x.1) × (address + x.1 ≤ length code)
+unfolding op_at
+op_at_within code address x e =
+    let w = op_in_within (drop address code) x e in
+    (w.0, omega (arith, w.0, w.1, length-drop address code))
+
+pub op_at_inside : (code : List ℕ) (address : ℕ) (o : Option (Op × ℕ)) → op_at code address ≡ o → IfSome o (λ x. (1 ≤ x.1) × (address + x.1 ≤ length code))
+op_at_inside code address None e = tt
+op_at_inside code address (Some x) e = op_at_within code address x e

@@ -1,0 +1,215 @@
+//! Programs: parts that break no rule.
+
+ghost use Rattle.std.specs.Prelude.{◌≡◌, ◌<◌, ◌^◌, ◌⊎◌, ℕ, List, length, IfOk, IfErr, Some};
+ghost use Rattle.grain_program.specs.View.{View, view_of, position_in, const_of, name_of, token_of, assign_op_of, position_of};
+ghost use Rattle.grain_program.specs.Reading.{op_at};
+ghost use Rattle.grain_program.specs.Layout.{chunks_in};
+ghost use Rattle.grain_program.specs.Typing.{Valid, Refused, IsProgram, IsRefusal};
+ghost use Rattle.grain_program.specs.Fits.{Fits, Foreseen};
+ghost use Rattle.grain_program.specs.Recorded.{Ascends, HasOrder};
+ghost use Rattle.grain_program.specs.declared.input.Chunk.{Chunk};
+ghost use Rattle.grain_program.specs.declared.refusals.Refusal.{Refusal};
+ghost use Rattle.grain_program.specs.declared.refusals.Refusal.TheVariants.{Memory};
+
+use crate::bytes::decode;
+use crate::early::early;
+use crate::input::{AssignOp, Chunk, Parts, PositionEntry};
+use crate::instructions::Op;
+use crate::late::late;
+use crate::refusals::Refusal;
+use grain_fault::Position;
+use grain_value::{Blob, Dynamic, OutOfMemory, Text, Token};
+use std::alloc::Global;
+use std::marker::Model;
+
+/// Code that is verified, with its pools: no run of it finds a missing operand, a bad index or a bad address.
+#[derive(Drop)]
+pub struct Program {
+    parts: Parts,
+}
+
+impl Model for Program {
+    ghost use Rattle.grain_program.specs.View.{View, view_of};
+    ghost use Rattle.grain_program.specs.Typing.{IsProgram};
+    ghost use Rattle.grain_program.specs.Recorded.{HasOrder};
+
+    ghost Value = { View };
+
+    ghost view = { λ p. view_of p.parts };
+
+    ghost invariant = { λ p. IsProgram (view_of p.parts) × HasOrder (view_of p.parts) };
+}
+
+fn chunks_of(alloc: Global, parts: &Parts) -> Result<Vec<Chunk>, OutOfMemory>
+    ensures { IfOk result (λ chunks. chunks.items ≡ chunks_in (view_of parts.now)) }
+{
+    let mut chunks = Vec::new(alloc);
+    chunks.push(parts.main)?;
+    Ok(chunks)
+}
+
+/// Whether these chunks of the parts break no rule, or the first that they break.
+fn check_chunks(alloc: Global, parts: &Parts, chunks: &[Chunk]) -> Result<(), Refusal>
+    ensures sound { IfOk result (λ _. Valid (view_of parts.now) chunks.now) }
+    ensures complete { Valid (view_of parts.now) chunks.now → IfErr result (λ r. r ≡ Memory) }
+    ensures first { IfErr result (λ r. (r ≡ Memory) ⊎ Refused (view_of parts.now) chunks.now r) }
+{
+    match early(alloc, parts, chunks) {
+        Ok(owners) => late(alloc, parts, chunks, &owners),
+        Err(refusal) => Err(refusal),
+    }
+}
+
+fn check(alloc: Global, parts: &Parts) -> Result<(), Refusal>
+    ensures sound { IfOk result (λ _. IsProgram (view_of parts.now)) }
+    ensures complete { IsProgram (view_of parts.now) → IfErr result (λ r. r ≡ Memory) }
+    ensures first { IfErr result (λ r. (r ≡ Memory) ⊎ IsRefusal (view_of parts.now) r) }
+{
+    match chunks_of(alloc, parts) {
+        Ok(chunks) => check_chunks(alloc, parts, &chunks),
+        Err(_) => Err(Refusal::Memory),
+    }
+}
+
+/// The program that the parts are, or the first rule that they break. Their positions have to be in ascending order of
+/// their addresses, which are below the code's length.
+pub fn verify(alloc: Global, parts: Parts) -> Result<Program, Refusal>
+    requires { HasOrder (view_of parts) }
+    // The program is the parts.
+    ensures same { IfOk result (λ p. p ≡ view_of parts) }
+    // What is accepted breaks no rule.
+    ensures sound { IfOk result (λ _. IsProgram (view_of parts)) }
+    // What breaks no rule is accepted, unless memory is out.
+    ensures complete { IsProgram (view_of parts) → IfErr result (λ r. r ≡ Memory) }
+    // What is refused is the first rule that is broken, at its address, or want of memory.
+    ensures first { IfErr result (λ r. (r ≡ Memory) ⊎ IsRefusal (view_of parts) r) }
+{
+    match check(alloc, &parts) {
+        Ok(()) => Ok(Program { parts }),
+        Err(refusal) => Err(refusal),
+    }
+}
+
+/// Parts have one refusal at most.
+pub fn one_refusal()
+    ensures { (p : View) (r s : Refusal) → IsRefusal p r → IsRefusal p s → r ≡ s }
+{}
+
+/// A number by value is known to be in its range, which a field behind a reference is not.
+fn bounded(max_stack: u16) -> u16
+    ensures same { result ≡ max_stack }
+    ensures small { result < 2 ^ 16 }
+{
+    max_stack
+}
+
+/// The position of the address among entries in ascending order of their addresses, or none.
+fn position_among(entries: &[PositionEntry], address: usize) -> Position
+    requires { (end : ℕ) × Ascends 0 end entries.now }
+    ensures { result ≡ position_in entries.now address }
+{
+    let mut low = 0;
+    let mut high = entries.len();
+    while low < high {
+        let middle = low + (high - low) / 2;
+        let entry = entries[middle];
+        let at = entry.address as usize;
+        if at == address {
+            return entry.position;
+        }
+        if at < address {
+            low = middle + 1;
+        } else {
+            high = middle;
+        }
+    }
+    Position::NONE
+}
+
+impl Program {
+    /// The code.
+    pub fn code(&self) -> &Blob
+        ensures value { result.now ≡ self.now.code }
+        ensures valid { IsProgram self.now }
+    {
+        &self.parts.code
+    }
+
+    /// The main chunk.
+    pub fn main(&self) -> Chunk
+        ensures value { result ≡ self.now.main }
+        ensures small { result.max_stack < 2 ^ 16 }
+    {
+        let main = &self.parts.main;
+        Chunk {
+            entry: main.entry,
+            end: main.end,
+            max_stack: bounded(main.max_stack),
+        }
+    }
+
+    /// The constant at the index.
+    pub fn constant(&self, index: u32) -> &Dynamic
+        requires { index < length self.now.consts }
+        ensures { result.now ≡ const_of self.now index }
+    {
+        match self.parts.consts.get(index as usize) {
+            Some(constant) => constant,
+            None => unreachable!(),
+        }
+    }
+
+    /// The name at the index.
+    pub fn name(&self, index: u32) -> &Text
+        requires { index < length self.now.names }
+        ensures { result.now ≡ name_of self.now index }
+    {
+        match self.parts.names.get(index as usize) {
+            Some(name) => name,
+            None => unreachable!(),
+        }
+    }
+
+    /// The operator token at the index.
+    pub fn token(&self, index: u32) -> Token
+        requires { index < length self.now.tokens }
+        ensures { result ≡ token_of self.now index }
+    {
+        match self.parts.tokens.get(index as usize) {
+            Some(token) => *token,
+            None => unreachable!(),
+        }
+    }
+
+    /// The op-assignment at the index.
+    pub fn assign_op(&self, index: u32) -> &AssignOp
+        requires { index < length self.now.assign_ops }
+        ensures { result.now ≡ assign_op_of self.now index }
+    {
+        match self.parts.assign_ops.get(index as usize) {
+            Some(assign_op) => assign_op,
+            None => unreachable!(),
+        }
+    }
+
+    /// The instruction at which a frame of the chunk stands with so many operands, and its width in bytes.
+    pub fn fetch(&self, chunk: Chunk, address: usize, depth: usize) -> (Op, usize)
+        requires { Fits self.now chunk address depth }
+        ensures read { op_at self.now.code address ≡ Some (result.0, result.1) }
+        ensures foreseen { Foreseen self.now chunk address depth result.0 result.1 }
+    {
+        let _ = chunk;
+        let _ = depth;
+        match decode(&self.parts.code, address) {
+            Some(read) => read,
+            None => unreachable!(),
+        }
+    }
+
+    /// The position of the instruction at the address, or none where none is recorded.
+    pub fn position(&self, address: usize) -> Position
+        ensures { result ≡ position_of self.now address }
+    {
+        position_among(self.parts.positions.as_slice(), address)
+    }
+}

@@ -1,0 +1,124 @@
+//! The search for a typing.
+
+ghost use Rattle.std.specs.Prelude.{◌≡◌, ◌<◌, ◌≤◌, ◌^◌, ℕ, List, ◌∷◌, [], length, map, slice_get, IfOk, Some, MatchOption};
+ghost use Rattle.std.specs.List.{AllByRecursion};
+ghost use Rattle.grain_program.specs.declared.input.Chunk.{Chunk};
+ghost use Rattle.grain_program.specs.Effects.{leads};
+ghost use Rattle.grain_program.specs.Shapes.{bare};
+ghost use Rattle.grain_program.specs.Typing.{Seen, nothing_seen, arrive, arrive_all, take_at, Gives, Ready};
+
+use crate::bytes::decode;
+use crate::effects::{Effect, Flow};
+use crate::input::Chunk;
+use crate::refusals::Refusal;
+use crate::shapes::{Shape, Shapes};
+use grain_value::{Blob, OutOfMemory};
+use std::alloc::Global;
+use std::collections::BTreeSet;
+use std::marker::Model;
+
+/// The shapes that are known, and the addresses that wait to be taken.
+#[derive(Drop)]
+pub struct Survey {
+    shapes: Shapes,
+    waiting: BTreeSet<usize>,
+}
+
+impl Model for Survey {
+    ghost use Rattle.grain_program.specs.Typing.{Seen};
+
+    ghost Value = { Seen };
+
+    ghost view = { λ s. record { shapes = s.shapes; waiting = s.waiting.keys } };
+}
+
+impl Survey {
+    /// Nothing is known at that many addresses, and none waits.
+    pub fn new(alloc: Global, len: usize) -> Result<Survey, OutOfMemory>
+        ensures { IfOk result (λ survey. survey ≡ nothing_seen len) }
+    {
+        let shapes = Shapes::new(alloc, len)?;
+        Ok(Survey {
+            shapes,
+            waiting: BTreeSet::new(alloc),
+        })
+    }
+
+    /// The shape comes to the address, which waits unless it was known.
+    fn arrive(&mut self, shape: Shape, address: usize) -> Result<(), Refusal>
+        requires within { address < length self.old.shapes }
+        requires small { shape.height < 2 ^ 16 }
+        ensures length_same { length self.new.shapes ≡ length self.old.shapes }
+        ensures exact { Gives self.new result (arrive shape self.old address) }
+    {
+        if let Some(known) = self.shapes.get(address) {
+            return match known.clash(shape, address) {
+                Some(refusal) => Err(refusal),
+                None => Ok(()),
+            };
+        }
+        self.waiting.insert(address)?;
+        self.shapes.put(address, shape);
+        Ok(())
+    }
+
+    /// The shape comes wherever the flow leads, to the lower address first.
+    fn arrive_by(&mut self, shape: Shape, flow: Flow, next: usize) -> Result<(), Refusal>
+        requires within { AllByRecursion (λ b. b < length self.old.shapes) (leads flow next) }
+        requires small { shape.height < 2 ^ 16 }
+        ensures length_same { length self.new.shapes ≡ length self.old.shapes }
+        ensures exact { Gives self.new result (arrive_all shape (leads flow next) self.old) }
+    {
+        match flow {
+            Flow::Next => self.arrive(shape, next),
+            Flow::Jump(target) => self.arrive(shape, target as usize),
+            Flow::Branch(target) => {
+                let target = target as usize;
+                if target < next {
+                    self.arrive(shape, target)?;
+                    self.arrive(shape, next)
+                } else {
+                    self.arrive(shape, next)?;
+                    self.arrive(shape, target)
+                }
+            }
+            Flow::End => Ok(()),
+        }
+    }
+
+    /// A bare frame comes to each entry.
+    pub fn enter(&mut self, chunks: &[Chunk]) -> Result<(), Refusal>
+        requires { (i : ℕ) (c : Chunk) → slice_get chunks.now i ≡ Some c → c.entry < length self.old.shapes }
+        ensures { Gives self.new result (arrive_all bare (map (λ c. c.entry) chunks.now) self.old) }
+    {
+        for chunk in chunks {
+            self.arrive(Shape { height: 0 }, chunk.entry as usize)?;
+        }
+        Ok(())
+    }
+
+    /// The lowest address that waits, which waits no longer.
+    pub fn lowest(&mut self) -> Option<usize>
+        ensures { MatchOption result (self.old.waiting ≡ []) (λ a. self.old ≡ record { shapes = self.new.shapes; waiting = a ∷ self.new.waiting }) }
+    {
+        self.waiting.pop_first()
+    }
+
+    /// Takes the instruction at the address, in a chunk whose frame may have so many operands.
+    pub fn take(&mut self, code: &Blob, max: u16, address: usize) -> Result<(), Refusal>
+        requires { Ready code.now self.old.shapes address }
+        ensures { Gives self.new result (take_at code.now max address self.old) }
+    {
+        let Some((op, width)) = decode(code, address) else {
+            return Ok(());
+        };
+        let Some(shape) = self.shapes.get(address) else {
+            return Ok(());
+        };
+        let effect = Effect::of(op);
+        match shape.stepped(max, address, effect) {
+            Ok(after) => self.arrive_by(after, effect.flow, address + width),
+            Err(refusal) => Err(refusal),
+        }
+    }
+}
