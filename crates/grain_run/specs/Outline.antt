@@ -20,10 +20,11 @@ use Rattle.grain_run.specs.declared.draft.Hole.{Hole}
 use Rattle.grain_run.specs.declared.reasons.Reason.{Reason}
 use Rattle.grain_run.specs.declared.reasons.Reason.TheVariants.{NotBuilt}
 
--- what the lines so far have given
+-- what the lines so far have given; without a line of its own the limit of operations is a million
 pub record Outline : Type 0 where
   pub place : Place
-  pub operations : Option ℕ
+  pub operations : ℕ
+  pub limited : Bool
   pub consts : List Dynamic
   pub names : List (List ℕ)
   pub tokens : List Token
@@ -34,7 +35,7 @@ pub record Outline : Type 0 where
   pub holes : List Hole
 
 abbrev pub empty : Outline
-empty = record { place = places.Start; operations = None; consts = []; names = []; tokens = []; assigns = []; stack = 0; code = []; labels = []; holes = [] }
+empty = record { place = places.Start; operations = 1000000; limited = false; consts = []; names = []; tokens = []; assigns = []; stack = 0; code = []; labels = []; holes = [] }
 
 -- bytes at the end of the code
 abbrev pub with_code : List ℕ → Outline → Outline
@@ -67,7 +68,7 @@ in_pool entries more = if nat_lt (length entries) 65536 then more else Err NotBu
 
 -- a line that begins with a word of the table
 abbrev pub put_line : Line → List Word → Outline → Result Outline Reason
-put_line lines.Limit ws o = and_then (limit_of (is_some o.operations) ws) (λ n. Ok (record o { operations = Some n }))
+put_line lines.Limit ws o = and_then (limit_of o.limited ws) (λ n. Ok (record o { operations = n; limited = true }))
 put_line lines.Constant ws o = in_pool o.consts (and_then (constant_of ws) (λ v. Ok (record o { consts = o.consts ++ v ∷ [] })))
 put_line lines.Name ws o = in_pool o.names (and_then (text_of ws) (λ t. Ok (record o { names = o.names ++ t ∷ [] })))
 put_line lines.Operator ws o = in_pool o.tokens (and_then (token_of ws) (λ t. Ok (record o { tokens = o.tokens ++ t ∷ [] })))

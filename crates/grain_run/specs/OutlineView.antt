@@ -5,7 +5,7 @@ use Rattle.grain_run.specs.declared.draft.Draft.{Draft}
 use Rattle.grain_run.specs.declared.reasons.Reason.{Reason}
 
 abbrev pub outline : Draft → Outline
-outline d = record { place = d.place; operations = d.operations; consts = d.consts; names = d.names; tokens = d.tokens; assigns = d.assigns.items; stack = d.stack; code = d.code.items; labels = d.labels; holes = d.holes.items }
+outline d = record { place = d.place; operations = d.operations; limited = d.limited; consts = d.consts; names = d.names; tokens = d.tokens; assigns = d.assigns.items; stack = d.stack; code = d.code.items; labels = d.labels; holes = d.holes.items }
 
 -- what a step answered, with what it left where it was not refused
 abbrev pub told : {A : Type 0} → Result A Reason → Outline → Result Outline Reason

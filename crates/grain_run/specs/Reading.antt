@@ -54,16 +54,12 @@ abbrev pub fill : Addresses → List Hole → List ℕ → Result (List ℕ) Rea
 fill labels [] code = Ok code
 fill labels (h ∷ hs) code = and_then (present (address_of h.label labels)) (λ a. fill labels hs (write_at h.at (to_le_bytes w32 a) code))
 
-abbrev pub or_default : Option ℕ → ℕ
-or_default None = 1000000
-or_default (Some n) = n
-
 -- the code is the one block's
 abbrev pub set_up : Outline → List AssignOp → List ℕ → Result SetUp Reason
 set_up o assign_ops code =
     if nat_lt (length code) (2 ^ 32) then Ok (record {
       parts = record { code = code; main = record { entry = 0; end = length code; max_stack = o.stack }; consts = o.consts; names = o.names; tokens = o.tokens; assign_ops = assign_ops; positions = [] };
-      operations = or_default o.operations;
+      operations = o.operations;
     })
     else Err NotBuilt
 

@@ -1,8 +1,6 @@
 //! What the lines of a listing so far have given.
 
-ghost use Rattle.std.specs.Prelude.{◌≡◌, IfOk};
-ghost use Rattle.grain_run.specs.Outline.{empty, with_code, with_hole, put_bare, put_operand, put_operands, put_line};
-ghost use Rattle.grain_run.specs.OutlineView.{outline, told};
+ghost use Rattle.std.specs.Prelude.{◌≡◌, ◌<◌, IfOk};
 
 use crate::labels::Labels;
 use crate::numerals::{begins_letter, number};
@@ -30,7 +28,8 @@ pub struct Hole {
 #[derive(Drop)]
 pub struct Draft {
     pub place: Place,
-    pub operations: Option<u64>,
+    pub operations: u64,
+    pub limited: bool,
     pub consts: Array,
     pub names: Names,
     pub tokens: Tokens,
@@ -39,16 +38,21 @@ pub struct Draft {
     pub code: Vec<u8>,
     pub labels: Labels,
     pub holes: Vec<Hole>,
+    ghost allowed: { 0 < operations },
 }
 
 impl Draft {
+    ghost use Rattle.grain_run.specs.Outline.{empty, with_code, with_hole, put_bare, put_operand, put_operands, put_line};
+    ghost use Rattle.grain_run.specs.OutlineView.{outline, told};
+
     /// Nothing so far. It takes no memory.
     pub fn new(alloc: Global) -> Draft
         ensures { outline result ≡ empty }
     {
         Draft {
             place: Place::Start,
-            operations: None,
+            operations: 1_000_000,
+            limited: false,
             consts: Array::new(alloc),
             names: Names::new(alloc),
             tokens: Tokens::new(alloc),
@@ -160,8 +164,8 @@ impl Draft {
     fn put_limit(&mut self, words: &[Word]) -> Result<(), Reason>
         ensures { told result (outline self.new) ≡ put_line Line.Limit words.now (outline self.old) }
     {
-        let number = limit_of(self.operations.is_some(), words)?;
-        self.operations = Some(number);
+        self.operations = limit_of(self.limited, words)?;
+        self.limited = true;
         Ok(())
     }
 

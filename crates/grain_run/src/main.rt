@@ -10,6 +10,7 @@ mod operands;
 mod reading;
 mod reasons;
 mod reports;
+mod setups;
 mod sinks;
 mod sources;
 mod standard;

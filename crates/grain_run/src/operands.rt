@@ -1,6 +1,6 @@
 //! What the words behind a line's first word say.
 
-ghost use Rattle.std.specs.Prelude.{◌≡◌, ◌≤◌, IfOk, Ok};
+ghost use Rattle.std.specs.Prelude.{◌≡◌, ◌<◌, IfOk, ◌≤◌, IfOk, Ok};
 ghost use Rattle.grain_run.specs.Operands.{first, alone, number_word, value_word, text_word, limit_word, at_least_one, limit_of, constant_of, text_of, token_of, stack_of, index, assign_of};
 ghost use Rattle.grain_run.specs.Seen.{first_seen, index_seen, text_seen};
 
@@ -88,7 +88,8 @@ fn limit_word(is_set: bool, word: &Word) -> Result<(), Reason>
 
 /// The number behind `limit operations`; the limit may be set once.
 pub fn limit_of(is_set: bool, words: &[Word]) -> Result<u64, Reason>
-    ensures { result ≡ limit_of is_set words.now }
+    ensures number { result ≡ limit_of is_set words.now }
+    ensures least { IfOk result (λ n. 0 < n) }
 {
     let (word, rest) = first(words)?;
     limit_word(is_set, word)?;

@@ -4,14 +4,15 @@ ghost use Rattle.std.specs.Prelude.{◌≡◌, ◌+◌, [], IfOk, slice_set};
 ghost use Rattle.grain_run.specs.Lines.{lines_of};
 ghost use Rattle.grain_run.specs.Outline.{empty};
 ghost use Rattle.grain_run.specs.OutlineView.{outline};
-ghost use Rattle.grain_run.specs.Reading.{reads, read_lines, ending, finish, fill, write_at, or_default, limits_at, assign_op_of, assign_ops_of, limits_of};
-ghost use Rattle.grain_run.specs.SetUpView.{outcome, left, set_up_of};
+ghost use Rattle.grain_run.specs.Reading.{reads, read_lines, ending, finish, fill, write_at, limits_at, assign_op_of, assign_ops_of};
+ghost use Rattle.grain_run.specs.SetUpView.{outcome, left, IsReady};
 
 use crate::draft::{Draft, Hole};
 use crate::labels::Labels;
 use crate::lines::next_line;
 use crate::operands::Assign;
 use crate::reasons::Reason;
+use crate::setups::Setup;
 use crate::table::Place;
 use crate::words::words_of;
 use grain_program::{AssignOp, AssignOps, Chunk, Parts, Positions, Tokens};
@@ -20,13 +21,6 @@ use std::alloc::Global;
 
 /// How many bytes a listing may have.
 pub const MOST_BYTES: usize = 16_777_216;
-
-/// What a listing says: what may become a program, and the limits of its run.
-#[derive(Drop)]
-pub struct Setup {
-    pub parts: Parts,
-    pub limits: Limits,
-}
 
 fn assign_op_of(tokens: &Tokens, assign: Assign) -> Result<AssignOp, Reason>
     ensures { result ≡ assign_op_of tokens.now assign }
@@ -92,11 +86,11 @@ fn fill(labels: &Labels, holes: &[Hole], code: &mut Vec<u8>) -> Result<(), Reaso
     Ok(())
 }
 
-fn limits(operations: Option<u64>) -> Limits
-    ensures { result ≡ limits_at (or_default operations) }
+fn limits(operations: u64) -> Limits
+    ensures { result ≡ limits_at operations }
 {
     Limits {
-        operations: operations.unwrap_or(1_000_000),
+        operations,
         levels: 64,
         variables: 10_000,
         modules: 1_000,
@@ -110,11 +104,12 @@ fn limits(operations: Option<u64>) -> Limits
 fn finish(draft: Draft, assign_ops: AssignOps, positions: Positions) -> Result<Setup, Reason>
     requires { positions ≡ [] }
     ensures setup { outcome result ≡ finish draft.place (outline draft) assign_ops }
-    ensures limits { IfOk result (λ s. s.limits ≡ limits_of (set_up_of s)) }
+    ensures ready { IfOk result IsReady }
 {
     let Draft {
         place,
         operations,
+        limited: _,
         consts,
         names,
         tokens,
@@ -153,7 +148,7 @@ fn finish(draft: Draft, assign_ops: AssignOps, positions: Positions) -> Result<S
 
 fn ending(alloc: Global, draft: Draft) -> Result<Result<Setup, Reason>, OutOfMemory>
     ensures setup { IfOk result (λ r. outcome r ≡ ending (outline draft)) }
-    ensures limits { IfOk result (λ r. IfOk r (λ s. s.limits ≡ limits_of (set_up_of s))) }
+    ensures ready { IfOk result (λ r. IfOk r IsReady) }
 {
     match assign_ops_of(alloc, &draft.tokens, draft.assigns.as_slice())? {
         Err(reason) => Ok(Err(reason)),
@@ -163,7 +158,7 @@ fn ending(alloc: Global, draft: Draft) -> Result<Result<Setup, Reason>, OutOfMem
 
 fn read_lines(alloc: Global, text: &[char]) -> Result<Result<Setup, Reason>, OutOfMemory>
     ensures setup { IfOk result (λ r. outcome r ≡ read_lines (lines_of text.now) empty) }
-    ensures limits { IfOk result (λ r. IfOk r (λ s. s.limits ≡ limits_of (set_up_of s))) }
+    ensures ready { IfOk result (λ r. IfOk r IsReady) }
 {
     let mut draft = Draft::new(alloc);
     let mut rest = text;
@@ -181,7 +176,7 @@ fn read_lines(alloc: Global, text: &[char]) -> Result<Result<Setup, Reason>, Out
 /// What the bytes say as a listing, or why they are none.
 pub fn read(alloc: Global, bytes: &[u8]) -> Result<Result<Setup, Reason>, OutOfMemory>
     ensures setup { IfOk result (λ r. outcome r ≡ reads bytes.now) }
-    ensures limits { IfOk result (λ r. IfOk r (λ s. s.limits ≡ limits_of (set_up_of s))) }
+    ensures ready { IfOk result (λ r. IfOk r IsReady) }
 {
     if bytes.len() > MOST_BYTES {
         return Ok(Err(Reason::NotBuilt));
