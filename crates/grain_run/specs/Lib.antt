@@ -13,3 +13,5 @@ pub mod OutlineView
 pub mod Reading
 pub mod SetUpView
 pub mod Reports
+pub mod Replies
+pub mod Runs
