@@ -1,5 +1,5 @@
 -- What is answered, by what the steps on the way say.
-use Rattle.std.proofs.Common.{◌≡◌, ◌≢◌, ◌⊎◌, inl, inr, ℕ, Bool, true, false, List, Option, Some, None, Result, Ok, Err, IfOk, IfSome, refl, sym, ap, ◌∙◌, subst}
+use Rattle.std.proofs.Common.{◌≡◌, ◌≢◌, ◌⊎◌, ◌<◌, ◌≤◌, ◌++◌, inl, inr, ℕ, Bool, true, false, List, [], length, Option, Some, None, option_map, nat_lt, lt-ltb, append-nil, length-append, arith, Result, Ok, Err, IfOk, IfSome, refl, sym, ap, ◌∙◌, subst}
 use Rattle.grain_value.specs.declared.memory.OutOfMemory.{OutOfMemory}
 use Rattle.grain_value.specs.declared.values.Dynamic.{Dynamic}
 use Rattle.grain_value.specs.declared.values.Limits.{Limits}
@@ -9,10 +9,13 @@ use Rattle.grain_program.specs.View.{View}
 use Rattle.grain_program.specs.Typing.{IsProgram, IsRefusal}
 use Rattle.grain_program.specs.declared.refusals.Refusal.{Refusal}
 use Rattle.grain_program.specs.declared.refusals.Refusal.TheVariants as refusals
-use Rattle.grain_run.specs.Reading.{SetUp, reads, limits_of}
+use Rattle.std.proofs.lemmas.Bool.{cases_lt}
+use Rattle.grain_run.specs.Streams.{IsSpent}
+use Rattle.grain_run.specs.Reading.{SetUp, reads, limits_of, most_bytes}
 use Rattle.grain_run.specs.Replies.{Replies, no_listing, refused, value, fault, reason_text, refusal_text}
 use Rattle.grain_run.specs.Runs.{Reported}
 use Rattle.grain_run.specs.declared.reasons.Reason.{Reason}
+use Rattle.grain_run.specs.declared.reasons.Reason.TheVariants.{NotBuilt}
 use Rattle.grain_run.specs.declared.replies.Reply.{Reply}
 
 pub answers_reason : (Ends : View → Limits → Result Dynamic Problem → List Fault → Type 0) (said : Result SetUp Reason) (e : Reason) (r : Result Reply OutOfMemory) →
@@ -39,3 +42,22 @@ pub answers_end : (Ends : View → Limits → Result Dynamic Problem → List Fa
     IfOk r (λ x. Reported a trace x.status x.text) → IsProgram s.parts → Ends s.parts (limits_of s) a trace → IfOk r (λ x. Replies Ends (Ok s) x.status x.text)
 answers_end Ends s a trace (Err m) told valid ends = tt
 answers_end Ends s a trace (Ok x) told valid ends = reports Ends s a trace x.status x.text told valid ends
+
+too_long : (bytes : List ℕ) → 16777216 < length bytes → reads bytes ≡ Err NotBuilt
+too_long bytes h =
+    let long : nat_lt most_bytes (length bytes) ≡ true = lt-ltb _ _ h in
+    rw long refl
+
+split_reading : (v others : List ℕ) → (length v ≤ 16777216 → others ≡ []) → ((16777216 < length v) ⊎ (length v ≤ 16777216)) → reads (v ++ others) ≡ reads v
+split_reading v others spent (inl long) =
+    let all : 16777216 < length (v ++ others) = omega (arith, length-append v others) in
+    too_long (v ++ others) all ∙ sym (too_long v long)
+split_reading v others spent (inr short) = ap (λ x. reads (v ++ x)) (spent short) ∙ ap reads (append-nil v)
+
+told_reading : (v : List ℕ) (now : Option (List ℕ)) → (length v ≤ 16777216 → IsSpent now) → IfSome (option_map (λ others. v ++ others) now) (λ bytes. reads bytes ≡ reads v)
+told_reading v None spent = tt
+told_reading v (Some others) spent = split_reading v others spent (cases_lt 16777216 (length v))
+
+-- what was read says what all that was left says
+pub same_reading : (v : List ℕ) (now before : Option (List ℕ)) → option_map (λ others. v ++ others) now ≡ before → (length v ≤ 16777216 → IsSpent now) → IfSome before (λ bytes. reads bytes ≡ reads v)
+same_reading v now before all spent = subst (λ (o : Option (List ℕ)). IfSome o (λ bytes. reads bytes ≡ reads v)) all (told_reading v now spent)

@@ -16,8 +16,10 @@ mod setups;
 mod sinks;
 mod sources;
 mod standard;
+mod status;
 mod table;
 mod taking;
+mod top;
 mod transfers;
 mod words;
 

@@ -155,7 +155,11 @@ fn run_set_up<R: Runner>(alloc: Global, setup: Setup, runner: &mut R) -> Result<
 }
 
 /// Reads a listing, verifies what it says and runs it.
-fn run_listing<R: Runner>(alloc: Global, bytes: &[u8], runner: &mut R) -> Result<Reply, OutOfMemory>
+pub fn run_listing<R: Runner>(
+    alloc: Global,
+    bytes: &[u8],
+    runner: &mut R,
+) -> Result<Reply, OutOfMemory>
     ensures { IfOk result (λ r. Replies R.ends (reads bytes.now) r.status r.text) }
 {
     match read(alloc, bytes)? {
