@@ -41,10 +41,8 @@ impl EvalAltResult {
     /// two, so that a fault is of one class exactly.
     pub fn is_system_exception(&self) -> bool
         ensures value { result ≡ system_exception (problem_of self.now) }
-        ensures exactly_one {
-            let f = problem_of self.now in
-            IsTrue (exactly_one (pseudo_error f) (catchable f) (system_exception f))
-        }
+        ensures exactly_one { let f = problem_of self.now in
+            IsTrue (exactly_one (pseudo_error f) (catchable f) (system_exception f)) }
     {
         !self.is_pseudo_error() && !self.is_catchable()
     }

@@ -5,6 +5,8 @@ mod classes;
 mod faults;
 mod places;
 mod positions;
+#[cfg(test)]
+mod tests;
 mod texts;
 mod traces;
 

@@ -27,10 +27,8 @@ impl EvalAltResult {
     /// Puts the fault at this position. Want of memory stays without one.
     pub fn set_position(&mut self, new_position: Position)
         ensures whole { problem_of self.new ≡ at_position new_position (problem_of self.old) }
-        ensures position {
-            position_of_problem (problem_of self.new)
-            ≡ (if is_placeless (problem_of self.old) then nowhere else new_position)
-        }
+        ensures position { position_of_problem (problem_of self.new)
+            ≡ (if is_placeless (problem_of self.old) then nowhere else new_position) }
     {
         match self {
             EvalAltResult::ErrorFunctionNotFound(_, position) => *position = new_position,

@@ -81,6 +81,8 @@ module _ (p : View) (chunks : List Chunk) (owners : List Owner) (o : Owned p.cod
     small = (is_tiled (length p.code) chunks walked.laid).small;
     room = ap length (sym same_shapes) ∙ walked.sound.all.long;
     within = spot_within p chunks walked.laid walked.splits a at.spot;
+    read = λ k. let bad : None ≡ Some at.read = sym k ∙ at.is in cc;
+    known = λ k. let bad : None ≡ Some at.shape = sym k ∙ ap (λ l. shape_at l a) (sym same_shapes) ∙ at.known in cc;
     targets = λ r k. all_in (λ b. b < length p.code) (leads (effect_of r.0).flow (a + r.1)) (λ b i. spot_within p chunks walked.laid walked.splits b (leads_spots p chunks walked.laid walked.splits a at.spot r k b i));
   }
 

@@ -187,9 +187,12 @@ module _ (p : View) (chunks : List Chunk) (laid : layout_fault (length p.code) c
         let fine = stepped_ok (limit_at chunks a) a (effect_of t.read.0) t.shape x.enough (omega (arith, x.room, limit)) in
         let all = arrive_all_fits typing next (leads (effect_of t.read.0).flow (a + t.read.1)) (record { shapes = f.shapes; waiting = rest }) x.arrives below in
         let moved : take_op (limit_at chunks a) a (record { shapes = f.shapes; waiting = rest }) (Some t.read) (Some t.shape) ≡ Ok all.0 =
-        ap (λ (o : Result Shape Refusal). o >>= λ s. arrive_all s (leads (effect_of t.read.0).flow (a + t.read.1)) (record { shapes = f.shapes; waiting = rest })) fine ∙ all.1 in
-        (all.0, subst (λ o. take_op (limit_at chunks a) a (record { shapes = f.shapes; waiting = rest }) o (shape_at f.shapes a) ≡ Ok all.0) (sym t.is)
-            (subst (λ o. take_op (limit_at chunks a) a (record { shapes = f.shapes; waiting = rest }) (Some t.read) o ≡ Ok all.0) (sym t.known) moved), all.2)
+        ap (λ (o : Result Shape Refusal). o >>= λ s. arrive_all s (leads (effect_of t.read.0).flow (a + t.read.1)) (record { shapes = f.shapes; waiting = rest })) fine ∙ all.1 in (
+          all.0,
+          subst (λ o. take_op (limit_at chunks a) a (record { shapes = f.shapes; waiting = rest }) o (shape_at f.shapes a) ≡ Ok all.0) (sym t.is)
+              (subst (λ o. take_op (limit_at chunks a) a (record { shapes = f.shapes; waiting = rest }) (Some t.read) o ≡ Ok all.0) (sym t.known) moved),
+          all.2,
+        )
 
   -- ---- the beginning
 

@@ -59,9 +59,9 @@ rule_in p owners end a None = Some (refusal.Undecodable a)
 rule_in p owners end a (Some r) =
     if nat_lt end (a + r.1) then Some (refusal.Undecodable a)
     else if in_pools p r.0 then
-      (if lands owners end (effect_of r.0).flow then
-        (if stays_in end (a + r.1) (effect_of r.0).flow then None else Some (refusal.FallsOff a))
-      else Some (refusal.JumpTarget a))
+    (if lands owners end (effect_of r.0).flow then
+    (if stays_in end (a + r.1) (effect_of r.0).flow then None else Some (refusal.FallsOff a))
+    else Some (refusal.JumpTarget a))
     else Some (refusal.PoolIndex a)
 
 -- the first of the rules 1 to 4 that an instruction at the address breaks

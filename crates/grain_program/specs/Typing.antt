@@ -88,7 +88,8 @@ abbrev pub limit_at : List Chunk → ℕ → ℕ
 limit_at [] a = 0
 limit_at (c ∷ cs) a = if nat_lt a c.end then c.max_stack else limit_at cs a
 
--- the instruction at the address is taken, from the shape that is known there
+-- the instruction at the address is taken, from the shape that is known there; without either, which a walk never
+-- comes to, nothing is done
 abbrev pub take_op : ℕ → ℕ → Seen → Option (Op × ℕ) → Option Shape → Result Seen Refusal
 take_op max a f None s = Ok f
 take_op max a f (Some r) None = Ok f
@@ -132,9 +133,12 @@ abbrev pub Gives : {A : Type 0} → Seen → Result A Refusal → Result Seen Re
 Gives f (Ok x) found = found ≡ Ok f
 Gives f (Err e) found = (e ≡ refusal.Memory) ⊎ (found ≡ Err e)
 
--- what the code needs where it takes an address: the table has a place there, and wherever the instruction leads
+-- what the code needs where it takes an address: an instruction and a known shape are there, and the table has a place
+-- there and wherever the instruction leads
 pub record Ready (code : List ℕ) (shapes : List (Option Shape)) (a : ℕ) : Type 0 where
   pub small : length code ≤ 16777216
   pub room : length shapes ≡ length code
   pub within : a < length code
+  pub read : op_at code a ≡ None → ⊥
+  pub known : shape_at shapes a ≡ None → ⊥
   pub targets : (r : Op × ℕ) → op_at code a ≡ Some r → AllByRecursion (λ b. b < length code) (leads (effect_of r.0).flow (a + r.1))

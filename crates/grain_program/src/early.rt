@@ -139,11 +139,7 @@ fn first_rule(parts: &Parts, owners: &[Owner], upto: usize) -> Option<Refusal>
 }
 
 /// The table of instruction starts, or the first of the rules 1 to 4 that is broken, where the layout has no fault.
-fn instruction_rules(
-    alloc: Global,
-    parts: &Parts,
-    chunks: &[Chunk],
-) -> Result<Vec<Owner>, Refusal>
+fn instruction_rules(alloc: Global, parts: &Parts, chunks: &[Chunk]) -> Result<Vec<Owner>, Refusal>
     requires { layout_fault (length parts.now.code) chunks.now ≡ None }
     ensures ok { IfOk result (λ owners. Owned parts.now.code chunks.now (length chunks.now) owners.items × Splits (view_of parts.now) chunks.now) }
     ensures err { IfErr result (λ r. (r ≡ Memory) ⊎ RefusedEarly (view_of parts.now) chunks.now r) }

@@ -26,12 +26,7 @@ fn max_at(owners: &[Owner], address: usize) -> u16
 }
 
 /// Whether there is a typing, or where the search for one stops.
-pub fn late(
-    alloc: Global,
-    parts: &Parts,
-    chunks: &[Chunk],
-    owners: &[Owner],
-) -> Result<(), Refusal>
+pub fn late(alloc: Global, parts: &Parts, chunks: &[Chunk], owners: &[Owner]) -> Result<(), Refusal>
     requires laid { layout_fault (length parts.now.code) chunks.now ≡ None }
     requires owned { Owned parts.now.code chunks.now (length chunks.now) owners.now }
     requires split { Splits (view_of parts.now) chunks.now }

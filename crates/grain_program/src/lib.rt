@@ -13,6 +13,8 @@ mod programs;
 mod refusals;
 mod shapes;
 mod surveys;
+#[cfg(test)]
+mod tests;
 
 pub use bytes::{assemble, assembled_reads_back, decode};
 pub use effects::{Effect, Flow};

@@ -138,6 +138,7 @@ impl Program {
     /// The main chunk.
     pub fn main(&self) -> Chunk
         ensures value { result ≡ self.now.main }
+        ensures valid { IsProgram self.now }
         ensures small { result.max_stack < 2 ^ 16 }
     {
         let main = &self.parts.main;

@@ -110,10 +110,10 @@ impl Survey {
         ensures { Gives self.new result (take_at code.now max address self.old) }
     {
         let Some((op, width)) = decode(code, address) else {
-            return Ok(());
+            unreachable!()
         };
         let Some(shape) = self.shapes.get(address) else {
-            return Ok(());
+            unreachable!()
         };
         let effect = Effect::of(op);
         match shape.stepped(max, address, effect) {

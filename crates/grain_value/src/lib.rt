@@ -6,6 +6,8 @@ mod blobs;
 mod memory;
 mod operators;
 mod scopes;
+#[cfg(test)]
+mod tests;
 mod texts;
 mod values;
 

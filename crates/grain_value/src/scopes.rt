@@ -1,6 +1,6 @@
 //! Scopes: the variables of a run, the newest last.
 
-ghost use Rattle.std.specs.Prelude.{◌≡◌, ◌==◌, ◌<◌, ◌+◌, ◌++◌, ◌∷◌, [], length, is_ok, is_some, if◌then◌else◌, slice_get, take, drop, option_map};
+ghost use Rattle.std.specs.Prelude.{◌≡◌, ◌==◌, ◌<◌, ◌^◌, ◌+◌, ◌++◌, ◌∷◌, [], length, is_ok, is_some, if◌then◌else◌, slice_get, take, drop, option_map};
 ghost use Rattle.std.specs.Option.{option_copied};
 ghost use Rattle.std.specs.Borrow.{sem};
 ghost use Rattle.grain_value.specs.Scopes.{held_of, set_held, last_of};
@@ -46,7 +46,8 @@ impl Scope {
 
     /// How many entries there are.
     pub fn len(&self) -> usize
-        ensures { result ≡ length self.now }
+        ensures value { result ≡ length self.now }
+        ensures small { result < 2 ^ 63 }
     {
         self.entries.len()
     }

@@ -25,12 +25,12 @@ returns-in-Err-take-clause-err c =
 pub loop-address-preserved : goal.loop-address-preserved
 loop-address-preserved c =
     (walked_on (view_of c.args.parts.now) c.args.chunks.now c.args.owners.now c.requires.owned c.loop-address.survey c.lowest.new.self c.in-Some.address c.loop-address.invariant c.in-Some.ensures
-        c.max_at-max.result c.take.new.self c.max_at-max.ensures c.in_default-take.ensures).0
+    c.max_at-max.result c.take.new.self c.max_at-max.ensures c.in_default-take.ensures).0
 
 pub loop-address-smaller : goal.loop-address-smaller
 loop-address-smaller c =
     (walked_on (view_of c.args.parts.now) c.args.chunks.now c.args.owners.now c.requires.owned c.loop-address.survey c.lowest.new.self c.in-Some.address c.loop-address.invariant c.in-Some.ensures
-        c.max_at-max.result c.take.new.self c.max_at-max.ensures c.in_default-take.ensures).1
+    c.max_at-max.result c.take.new.self c.max_at-max.ensures c.in_default-take.ensures).1
 
 pub returns-clause-ok : goal.returns-clause-ok
 returns-clause-ok c = ended (view_of c.args.parts.now) c.args.chunks.now c.loop-address.survey c.loop-address.invariant c.in_default-lowest.ensures

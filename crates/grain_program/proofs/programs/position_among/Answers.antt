@@ -8,7 +8,7 @@ returns-then-at-address c =
     let b = c.loop-low.invariant in
     let m = middle_of c.loop-low.low c.loop-low.high c.loop-low-test.true in
     sym (present 0 c.requires.0 c.args.entries.now c.requires.1 (c.loop-low.low + (c.loop-low.high - c.loop-low.low) / 2) _ c.args.address
-        (slice_get-get_or c.args.entries.now (c.loop-low.low + (c.loop-low.high - c.loop-low.low) / 2) _ (omega (arith, b.inside))) c.if-at-address.true)
+    (slice_get-get_or c.args.entries.now (c.loop-low.low + (c.loop-low.high - c.loop-low.low) / 2) _ (omega (arith, b.inside))) c.if-at-address.true)
 
 pub loop-low-preserved-then-at-address-2 : goal.loop-low-preserved-then-at-address-2
 loop-low-preserved-then-at-address-2 c =

@@ -7,5 +7,5 @@ use Rattle.grain_program.proofs.surveys.Survey.enter.Given as goal
 abbrev pub invariant-loop-chunk : goal.invariant-loop-chunk
 invariant-loop-chunk l = record {
   long : length l.self.shapes ≡ length l.initial.self.shapes;
-  rest : arrive_all bare (map (λ c. c.entry) (drop l.chunk-index l.chunks)) l.self ≡ arrive_all bare (map (λ c. c.entry) l.chunks) l.initial.self
+  rest : arrive_all bare (map (λ c. c.entry) (drop l.chunk-index l.chunks)) l.self ≡ arrive_all bare (map (λ c. c.entry) l.chunks) l.initial.self;
 }

@@ -1,0 +1,92 @@
+//! Each call that takes memory, once where there is enough of it.
+
+use crate::{Array, Blob, Dynamic, Held, OutOfMemory, Scope, Text};
+
+#[test]
+fn texts_grow(rt: HostRuntime) -> Result<(), OutOfMemory> {
+    let mut text = Text::copy_of(rt.alloc(), "é = ")?;
+    text.push_integer(-7)?;
+    text.push_str(", ")?;
+    text.push_number(18446744073709551615)?;
+    text.push_display(&'!')?;
+    assert_eq!(rt; text.as_str(), "é = -7, 18446744073709551615!");
+    assert_eq!(rt; text.len(), 30);
+    assert_eq!(rt; text.char_count(), 29);
+    assert_eq!(rt; text.get(2), Some(b' '));
+    let copy = text.copy(rt.alloc())?;
+    assert_eq!(rt; copy.as_str(), text.as_str());
+    assert!(rt; Text::new(rt.alloc()).is_empty());
+    Ok(())
+}
+
+#[test]
+fn values_are_told(rt: HostRuntime) -> Result<(), OutOfMemory> {
+    let values = [
+        (Dynamic::Unit, "()", "", "()"),
+        (Dynamic::Bool(true), "bool", "true", "true"),
+        (Dynamic::Bool(false), "bool", "false", "false"),
+        (
+            Dynamic::Int(-9223372036854775808),
+            "i64",
+            "-9223372036854775808",
+            "-9223372036854775808",
+        ),
+    ];
+    for (value, name, plain, quoted) in &values {
+        assert_eq!(rt; value.type_name(rt.alloc())?.as_str(), *name);
+        let mut text = Text::new(rt.alloc());
+        value.copy(rt.alloc())?.write_plain(&mut text)?;
+        assert_eq!(rt; text.as_str(), *plain);
+        let mut text = Text::new(rt.alloc());
+        value.write_quoted(&mut text)?;
+        assert_eq!(rt; text.as_str(), *quoted);
+    }
+    Ok(())
+}
+
+#[test]
+fn lists_grow(rt: HostRuntime) -> Result<(), OutOfMemory> {
+    let mut blob = Blob::new(rt.alloc());
+    blob.push(3)?;
+    blob.push(255)?;
+    assert_eq!(rt; blob.as_slice(), [3, 255].as_slice());
+    let mut array = Array::new(rt.alloc());
+    array.push(Dynamic::Int(5))?;
+    array.push(Dynamic::Unit)?;
+    assert_eq!(rt; array.len(), 2);
+    assert!(rt; matches!(array.get(0), Some(Dynamic::Int(5))));
+    Ok(())
+}
+
+#[test]
+fn scopes_hold_variables(rt: HostRuntime) -> Result<(), OutOfMemory> {
+    let mut scope = Scope::new(rt.alloc());
+    for (name, integer) in [("a", 1), ("b", 2), ("a", 3), ("c", 4)] {
+        let name = Text::copy_of(rt.alloc(), name)?;
+        scope.push(name, Held::read_write(Dynamic::Int(integer)))?;
+    }
+    assert_eq!(rt; scope.len(), 4);
+    scope.set(3, Held::read_write(Dynamic::Unit));
+    assert_eq!(rt; scope.search("a"), Some(2));
+    assert!(rt; !scope.contains("d"));
+    if let Some(held) = scope.get_mut(2) {
+        held.value = Dynamic::Bool(true);
+    }
+    assert!(rt; matches!(value_at(&scope, 2), Some(Dynamic::Bool(true))));
+    assert!(rt; matches!(value_at(&scope, 3), Some(Dynamic::Unit)));
+    scope.remove_range(0, 2);
+    assert_eq!(rt; scope.len(), 2);
+    assert_eq!(rt; scope.search("a"), Some(0));
+    scope.remove_range(1, usize::MAX);
+    assert_eq!(rt; scope.len(), 1);
+    scope.rewind(0);
+    assert!(rt; scope.is_empty());
+    Ok(())
+}
+
+fn value_at(scope: &Scope, index: usize) -> Option<&Dynamic> {
+    match scope.get(index) {
+        Some(held) => Some(&held.value),
+        None => None,
+    }
+}

@@ -1,0 +1,69 @@
+-- What a whole call answers is what the program means.
+use Rattle.std.proofs.Common.{◌≡◌, ℕ, ◌+◌, List, [], Option, Some, None, Bool, true, false, Result, Ok, Err, refl, sym, subst, ◌∙◌, arith}
+use Rattle.grain_value.specs.declared.memory.OutOfMemory.{OutOfMemory}
+use Rattle.grain_value.specs.declared.values.Dynamic.{Dynamic}
+use Rattle.grain_value.specs.declared.scopes.Entry.{Entry}
+use Rattle.grain_fault.specs.Problems.{problem_of}
+use Rattle.grain_fault.specs.declared.traces.Fault.{Fault}
+use Rattle.grain_fault.specs.declared.faults.EvalAltResult.{EvalAltResult}
+use Rattle.grain_fault.specs.declared.faults.EvalAltResult.TheVariants as fault
+use Rattle.grain_program.specs.View.{View}
+use Rattle.grain_vm.specs.declared.global.Engine.{Engine}
+use Rattle.grain_vm.specs.means.Acts.{Answer, World, called}
+use Rattle.grain_vm.specs.means.Ends.{Ends}
+use Rattle.grain_vm.specs.means.Goes.{InHand, Goes, Clear, Halts, world, nothing}
+use Rattle.grain_vm.specs.means.Length.{run_length}
+use Rattle.grain_vm.specs.means.Causes.{Caused, HasCause}
+use Rattle.grain_vm.specs.means.Means.{Begin, Finish, setup, Runs, Evaluates}
+use Rattle.grain_vm.specs.frame.Hand.{is_out, over, answer_of}
+use Rattle.grain_vm.specs.Machines.{answered}
+use Rattle.grain_vm.proofs.Stretches.{whole, clear_before, halts_there, never_clear}
+use Rattle.grain_vm.proofs.Tally.{called_counts}
+
+module _ (p : View) (e : Engine) (b : Begin) (trace : List Fault) (scope : List Entry) (count level ran passed : ℕ) where
+  -- what the code has in its hands at a call's beginning, and at its end
+  abbrev pub at_first : InHand
+  at_first = record { scope = b.scope; this = None; count = b.count; level = b.level; trace = []; ran = 0; passed = 0 }
+
+  abbrev pub at_last : InHand
+  at_last = record { scope = scope; this = None; count = count; level = level; trace = trace; ran = ran; passed = passed }
+
+  abbrev pub ending : Answer → Finish
+  ending a = record { answer = a; trace = trace; scope = scope; count = count; level = level }
+
+  runs : (back : Result (Result Dynamic EvalAltResult) OutOfMemory) → Goes (setup p e) at_first (λ m place w. called m place w) (is_out back) at_last (over back) →
+      (stop : Option ℕ) → Clear stop 0 passed → Halts (is_out back) stop passed → Runs (record (setup p e) { stop = stop }) b (ending (answer_of back)) ran
+  runs back h stop clear halts =
+      let run = whole h refl stop clear halts nothing in
+      let counts = called_counts (record (setup p e) { stop = stop }) None (world at_first nothing) (world at_last nothing) (answer_of back) run in
+      (passed, (run, omega (arith, counts.0)))
+
+  pub evaluated : (back : Result (Result Dynamic EvalAltResult) OutOfMemory) → Goes (setup p e) at_first (λ m place w. called m place w) (is_out back) at_last (over back) →
+      Evaluates p e b (answered back) ending ran
+  evaluated (Ok (Ok v)) h = runs (Ok (Ok v)) h None (never_clear 0 passed) tt
+  evaluated (Ok (Err fault.Memory)) h = (passed, runs (Ok (Err fault.Memory)) h (Some passed) (clear_before 0 passed) tt)
+  evaluated (Ok (Err (fault.ErrorFunctionNotFound s q))) h = runs (Ok (Err (fault.ErrorFunctionNotFound s q))) h None (never_clear 0 passed) tt
+  evaluated (Ok (Err (fault.ErrorMismatchDataType s t q))) h = runs (Ok (Err (fault.ErrorMismatchDataType s t q))) h None (never_clear 0 passed) tt
+  evaluated (Ok (Err (fault.ErrorArithmetic s q))) h = runs (Ok (Err (fault.ErrorArithmetic s q))) h None (never_clear 0 passed) tt
+  evaluated (Ok (Err (fault.ErrorTooManyOperations q))) h = runs (Ok (Err (fault.ErrorTooManyOperations q))) h None (never_clear 0 passed) tt
+  evaluated (Ok (Err (fault.ErrorTooManyVariables q))) h = runs (Ok (Err (fault.ErrorTooManyVariables q))) h None (never_clear 0 passed) tt
+  evaluated (Ok (Err (fault.Malformed k q))) h = runs (Ok (Err (fault.Malformed k q))) h None (never_clear 0 passed) tt
+  evaluated (Err m) h = (passed, runs (Err m) h (Some passed) (clear_before 0 passed) (halts_there true passed))
+
+  -- why a run that is not stopped ends in this fault
+  caused : (x : EvalAltResult) → Goes (setup p e) at_first (λ m place w. called m place w) false at_last (over (Ok (Err x))) → Caused (setup p e) (answer_of (Ok (Err x))) (world at_last nothing)
+  caused x h =
+      let run = whole h refl None (never_clear 0 passed) tt nothing in
+      (called_counts (setup p e) None (world at_first nothing) (world at_last nothing) (answer_of (Ok (Err x))) run).2
+
+  pub has_cause : (back : Result (Result Dynamic EvalAltResult) OutOfMemory) → Goes (setup p e) at_first (λ m place w. called m place w) (is_out back) at_last (over back) →
+      HasCause p e count (answered back)
+  has_cause (Ok (Ok v)) h = tt
+  has_cause (Ok (Err fault.Memory)) h = tt
+  has_cause (Ok (Err (fault.ErrorFunctionNotFound s q))) h = caused (fault.ErrorFunctionNotFound s q) h
+  has_cause (Ok (Err (fault.ErrorMismatchDataType s t q))) h = caused (fault.ErrorMismatchDataType s t q) h
+  has_cause (Ok (Err (fault.ErrorArithmetic s q))) h = caused (fault.ErrorArithmetic s q) h
+  has_cause (Ok (Err (fault.ErrorTooManyOperations q))) h = caused (fault.ErrorTooManyOperations q) h
+  has_cause (Ok (Err (fault.ErrorTooManyVariables q))) h = caused (fault.ErrorTooManyVariables q) h
+  has_cause (Ok (Err (fault.Malformed k q))) h = caused (fault.Malformed k q) h
+  has_cause (Err m) h = tt

@@ -1,0 +1,11 @@
+mod Above
+mod Arguments
+mod Landing
+mod Roots
+mod Stretches
+mod Turns
+mod Mains
+mod Determined
+mod Reasons
+mod Tally
+mod Evaluated

@@ -1,0 +1,4 @@
+pub mod means
+pub mod frame
+pub mod MachineView
+pub mod Machines

@@ -1,0 +1,102 @@
+-- What the code has in its hands, and where a stretch of it led.
+use Rattle.std.specs.Prelude.{◌≡◌, ◌⊎◌, ◌<◌, ◌≤◌, ◌+◌, ℕ, List, Bool, true, false, Option, Some, None, Result, Ok, Err, drop, take, length}
+use Rattle.std.specs.Vec.{vec_capacity}
+use Rattle.grain_value.specs.declared.values.Dynamic.{Dynamic}
+use Rattle.grain_value.specs.declared.values.Held.{Held}
+use Rattle.grain_value.specs.declared.memory.OutOfMemory.{OutOfMemory}
+use Rattle.grain_fault.specs.Problems.{NoMemory, problem_of}
+use Rattle.grain_fault.specs.declared.faults.EvalAltResult.{EvalAltResult}
+use Rattle.grain_program.specs.Reading.{op_at}
+use Rattle.grain_program.specs.Fits.{Fits}
+use Rattle.grain_program.specs.View.{View}
+use Rattle.grain_vm.specs.means.Operators.{Outcome, NotBuiltIn, Gave, Overflowed}
+use Rattle.grain_vm.specs.means.Acts.{Act, Go, End, Answer, Came, Failed, Frame, InFrame, left, raised, instr, or_return}
+use Rattle.grain_vm.specs.means.Goes.{InHand, Start, Same, Goes}
+use Rattle.grain_vm.specs.means.Means.{setup}
+use Rattle.grain_vm.specs.frame.Counts.{Counts}
+use Rattle.grain_vm.specs.declared.operators.OpAnswer.{OpAnswer}
+use Rattle.grain_vm.specs.declared.operators.OpAnswer.TheVariants as answer
+use Rattle.grain_vm.specs.declared.stack.Stacks.{Stacks}
+use Rattle.grain_vm.specs.declared.global.Engine.{Engine}
+use Rattle.grain_vm.specs.declared.frame.activations.Activation.{Activation}
+use Rattle.grain_vm.specs.declared.frame.states.State.{State}
+use Rattle.grain_vm.specs.declared.frame.states.Flow.{Flow}
+use Rattle.grain_vm.specs.declared.frame.states.Flow.TheVariants.{On, Give, Raise}
+
+abbrev pub outcome_of : OpAnswer → Outcome
+outcome_of answer.NotBuiltIn = NotBuiltIn
+outcome_of (answer.Done v) = Gave v
+outcome_of (answer.Failed t) = Overflowed t
+
+-- a frame's operands, which begin at its bottom
+abbrev pub own : Stacks → ℕ → List Held
+own s bottom = drop bottom s.operands.items
+
+-- the trace is as it was, and there is no less room
+abbrev pub AsWas : Stacks → Stacks → Type 0
+AsWas s t = (t.trace ≡ s.trace) × (vec_capacity s.operands ≤ vec_capacity t.operands)
+
+abbrev pub hand : State → Counts → InHand
+hand s n = record { scope = s.scope; this = None; count = s.count; level = s.level; trace = s.stacks.trace.items; ran = n.begun; passed = n.passed }
+
+abbrev pub frame_in : Activation → State → Frame
+frame_in a s = record { address = a.address; operands = own s.stacks a.bottom; base = a.base; floor = a.floor }
+
+-- memory is out
+abbrev pub is_out : {A : Type 0} → Result A OutOfMemory → Bool
+is_out (Ok x) = false
+is_out (Err e) = true
+
+-- where an instruction led
+abbrev pub led : Result Flow OutOfMemory → Frame → Start
+led (Ok On) f m this w = Go (InFrame f this) w
+led (Ok (Give v)) f m this w = End (Came v) w
+led (Ok (Raise x)) f m this w = raised m f (problem_of x) w
+led (Err e) f m this w = left m f NoMemory w
+
+-- the code did what the run does, and what it led to is left
+abbrev pub Does : View → Engine → State → Counts → Start → Result Flow OutOfMemory → State → Counts → Activation → Type 0
+Does program engine s n start result s' n' f' = Same (setup program engine) (hand s n) start (is_out result) (hand s' n') (led result (frame_in f' s'))
+
+-- a frame's operands and slots are in their lists
+abbrev pub Stands : Activation → State → Type 0
+Stands f s = (f.bottom ≤ length s.stacks.operands.items) × (f.base ≤ length s.scope)
+
+-- the frame is the same but for its address, and what lies below its operands is as it was
+abbrev pub Kept : Activation → State → Activation → State → Type 0
+Kept f s f' s' =
+    (f'.chunk ≡ f.chunk) × (f'.bottom ≡ f.bottom) × (f'.base ≡ f.base) × (f'.floor ≡ f.floor) ×
+    (take f.bottom s'.stacks.operands.items ≡ take f.bottom s.stacks.operands.items) × (f.bottom ≤ length s'.stacks.operands.items) ×
+    (s'.stacks.trace ≡ s.stacks.trace) × (vec_capacity s.stacks.operands ≤ vec_capacity s'.stacks.operands) × (length s.scope ≤ length s'.scope)
+
+-- an operation was taken, or the frame stands further on in the code
+abbrev pub Moves : Engine → State → Activation → State → Activation → Type 0
+Moves engine s f s' f' = ((s.count < s'.count) × (s.count < engine.limits.operations)) ⊎ ((s.count ≤ s'.count) × (f.address < f'.address))
+
+-- the frame goes on at one of these addresses with so many operands; it takes an operation or lies further on
+abbrev pub Lands : Engine → State → Activation → State → Activation → (ℕ → Type 0) → ℕ → Result Flow OutOfMemory → Type 0
+Lands engine s f s' f' At height (Ok On) =
+    At f'.address × (length (own s'.stacks f'.bottom) ≡ height) × Moves engine s f s' f'
+Lands engine s f s' f' At height (Ok (Give v)) = Unit {0}
+Lands engine s f s' f' At height (Ok (Raise x)) = Unit {0}
+Lands engine s f s' f' At height (Err e) = Unit {0}
+
+-- the instruction at which a frame stands
+abbrev pub performed : Frame → Start
+performed f m this w = let r = or_return (op_at m.program.code f.address) in instr m r.0 (f.address + r.1) f this w
+
+-- a run that is over
+abbrev pub answer_of : Result (Result Dynamic EvalAltResult) OutOfMemory → Answer
+answer_of (Ok (Ok v)) = Came v
+answer_of (Ok (Err x)) = Failed (problem_of x)
+answer_of (Err e) = Failed NoMemory
+
+abbrev pub over : Result (Result Dynamic EvalAltResult) OutOfMemory → Start
+over r m this w = End (answer_of r) w
+
+-- where the frame goes on, it stands where the typing knows it
+abbrev pub GoesOn : View → Engine → State → Activation → State → Activation → Result Flow OutOfMemory → Type 0
+GoesOn p engine s f s' f' (Ok On) = Fits p f'.chunk f'.address (length (own s'.stacks f'.bottom)) × Moves engine s f s' f' × (f.address < 16777216)
+GoesOn p engine s f s' f' (Ok (Give v)) = Unit {0}
+GoesOn p engine s f s' f' (Ok (Raise x)) = Unit {0}
+GoesOn p engine s f s' f' (Err e) = Unit {0}

@@ -1,0 +1,7 @@
+pub mod Operators
+pub mod Acts
+pub mod Ends
+pub mod Length
+pub mod Goes
+pub mod Means
+pub mod Causes

@@ -1,0 +1,71 @@
+-- The operators that are built in, and the fault where none is found.
+use Rattle.std.specs.Prelude.{ℕ, ℤ, pos, negsuc, ◌^◌, ◌+ℤ◌, int_lt, Bool, not, List, [], ◌∷◌, ◌++◌, codes, ◌&&◌, if◌then◌else◌}
+use Rattle.std.specs.Fmt.{signed_decimal}
+use Rattle.grain_value.specs.declared.values.Dynamic.{Dynamic}
+use Rattle.grain_value.specs.declared.values.Dynamic.TheVariants as dynamic
+use Rattle.grain_value.specs.declared.operators.Token.{Token}
+use Rattle.grain_value.specs.declared.operators.Token.TheVariants as token
+use Rattle.grain_value.specs.Writing.{type_name_of}
+
+-- what a built-in says: there is none, a value, or the text of an arithmetic fault
+pub data Outcome : Type 0 where
+  NotBuiltIn : Outcome
+  Gave : Dynamic → Outcome
+  Overflowed : List ℕ → Outcome
+
+-- whether an integer fits 64 bits with a sign
+abbrev pub fits64 : ℤ → Bool
+fits64 n = int_lt n (pos (2 ^ 63)) && int_lt (negsuc (2 ^ 63)) n
+
+abbrev pub overflow_text : ℤ → ℤ → List ℕ
+overflow_text x y = codes "Addition overflow: " ++ signed_decimal x ++ codes " + " ++ signed_decimal y
+
+abbrev pub sum_of : ℤ → ℤ → Outcome
+sum_of x y = if fits64 (x +ℤ y) then Gave (dynamic.Int (x +ℤ y)) else Overflowed (overflow_text x y)
+
+-- the exact sum of two integers, and whether one is at most the other
+abbrev pub integers : Token → ℤ → ℤ → Outcome
+integers token.Plus x y = sum_of x y
+integers token.LessThanEqualsTo x y = Gave (dynamic.Bool (not (int_lt y x)))
+integers token.PlusAssign x y = NotBuiltIn
+integers token.Other x y = NotBuiltIn
+
+abbrev pub binary : Token → Dynamic → Dynamic → Outcome
+binary t (dynamic.Int x) (dynamic.Int y) = integers t x y
+binary t (dynamic.Int x) (dynamic.Bool b) = NotBuiltIn
+binary t (dynamic.Int x) dynamic.Unit = NotBuiltIn
+binary t (dynamic.Bool b) v = NotBuiltIn
+binary t dynamic.Unit v = NotBuiltIn
+
+-- an operator on its arguments: only two of them have a built-in so far
+abbrev pub operation : Token → List Dynamic → Outcome
+operation t (x ∷ y ∷ []) = binary t x y
+operation t args = NotBuiltIn
+
+-- an op-assignment to two integers
+abbrev pub assigned_integers : Token → ℤ → ℤ → Outcome
+assigned_integers token.PlusAssign x y = sum_of x y
+assigned_integers token.Plus x y = NotBuiltIn
+assigned_integers token.LessThanEqualsTo x y = NotBuiltIn
+assigned_integers token.Other x y = NotBuiltIn
+
+-- an op-assignment to a target of a value
+abbrev pub assignment : Token → Dynamic → Dynamic → Outcome
+assignment t (dynamic.Int x) (dynamic.Int y) = assigned_integers t x y
+assignment t (dynamic.Int x) (dynamic.Bool b) = NotBuiltIn
+assignment t (dynamic.Int x) dynamic.Unit = NotBuiltIn
+assignment t (dynamic.Bool b) v = NotBuiltIn
+assignment t dynamic.Unit v = NotBuiltIn
+
+-- only where operators are fast is a built-in asked
+abbrev pub where_fast : Bool → Outcome → Outcome
+where_fast fast outcome = if fast then outcome else NotBuiltIn
+
+-- the types of values, each behind a lead, which is a comma from the second on
+abbrev pub types_text : List ℕ → List Dynamic → List ℕ
+types_text lead [] = []
+types_text lead (v ∷ vs) = lead ++ type_name_of v ++ types_text (codes ", ") vs
+
+-- a function that is not found: its name and the types of its arguments
+abbrev pub signature_text : List ℕ → List Dynamic → List ℕ
+signature_text name args = name ++ codes " (" ++ types_text [] args ++ codes ")"
