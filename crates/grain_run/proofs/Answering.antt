@@ -1,10 +1,6 @@
 -- What is answered, by what the steps on the way say.
 use Rattle.std.proofs.Common.{◌≡◌, ◌≢◌, ◌⊎◌, ◌<◌, ◌≤◌, ◌++◌, inl, inr, ℕ, Bool, true, false, List, [], length, Option, Some, None, option_map, nat_lt, lt-ltb, append-nil, length-append, arith, Result, Ok, Err, IfOk, IfSome, refl, sym, ap, ◌∙◌, subst}
 use Rattle.grain_value.specs.declared.memory.OutOfMemory.{OutOfMemory}
-use Rattle.grain_value.specs.declared.values.Dynamic.{Dynamic}
-use Rattle.grain_value.specs.declared.values.Limits.{Limits}
-use Rattle.grain_fault.specs.Problems.{Problem}
-use Rattle.grain_fault.specs.declared.traces.Fault.{Fault}
 use Rattle.grain_program.specs.View.{View}
 use Rattle.grain_program.specs.Typing.{IsProgram, IsRefusal}
 use Rattle.grain_program.specs.declared.refusals.Refusal.{Refusal}
@@ -12,36 +8,30 @@ use Rattle.grain_program.specs.declared.refusals.Refusal.TheVariants as refusals
 use Rattle.std.proofs.lemmas.Bool.{cases_lt}
 use Rattle.grain_run.specs.Streams.{IsSpent}
 use Rattle.grain_run.specs.Reading.{SetUp, reads, limits_of, most_bytes}
-use Rattle.grain_run.specs.Replies.{Replies, no_listing, refused, value, fault, reason_text, refusal_text}
+use Rattle.grain_run.specs.Replies.{Replies, no_listing, refused, reported, reason_text, refusal_text}
 use Rattle.grain_run.specs.Runs.{Reported}
 use Rattle.grain_run.specs.declared.reasons.Reason.{Reason}
 use Rattle.grain_run.specs.declared.reasons.Reason.TheVariants.{NotBuilt}
 use Rattle.grain_run.specs.declared.replies.Reply.{Reply}
 
-pub answers_reason : (Ends : View → Limits → Result Dynamic Problem → List Fault → Type 0) (said : Result SetUp Reason) (e : Reason) (r : Result Reply OutOfMemory) →
-    IfOk r (λ x. x.status ≡ 3) → IfOk r (λ x. x.text ≡ reason_text e) → Err e ≡ said → IfOk r (λ x. Replies Ends said x.status x.text)
-answers_reason Ends said e (Err m) status text is = tt
-answers_reason Ends said e (Ok x) status text is = rw (status, text) (no_listing (sym is))
+pub answers_reason : (said : Result SetUp Reason) (e : Reason) (r : Result Reply OutOfMemory) →
+    IfOk r (λ x. x.status ≡ 3) → IfOk r (λ x. x.text ≡ reason_text e) → Err e ≡ said → IfOk r (λ x. Replies said x.status x.text)
+answers_reason said e (Err m) status text is = tt
+answers_reason said e (Ok x) status text is = rw (status, text) (no_listing (sym is))
 
 is_refusal : (p : View) (r : Refusal) → r ≢ refusals.Memory → (r ≡ refusals.Memory) ⊎ IsRefusal p r → IsRefusal p r
 is_refusal p r other (inl e) = absurd (other e)
 is_refusal p r other (inr h) = h
 
-pub answers_refusal : (Ends : View → Limits → Result Dynamic Problem → List Fault → Type 0) (s : SetUp) (e : Refusal) (r : Result Reply OutOfMemory) →
+pub answers_refusal : (s : SetUp) (e : Refusal) (r : Result Reply OutOfMemory) →
     IfOk r (λ x. x.status ≡ 4) → IfOk r (λ x. x.text ≡ refusal_text e) → IfOk r (λ x. e ≢ refusals.Memory) →
-    (IsProgram s.parts → e ≡ refusals.Memory) → (e ≡ refusals.Memory) ⊎ IsRefusal s.parts e → IfOk r (λ x. Replies Ends (Ok s) x.status x.text)
-answers_refusal Ends s e (Err m) status text other complete first = tt
-answers_refusal Ends s e (Ok x) status text other complete first = rw (status, text) (refused refl (λ p. other (complete p)) (is_refusal s.parts e other first))
+    (IsProgram s.parts → e ≡ refusals.Memory) → (e ≡ refusals.Memory) ⊎ IsRefusal s.parts e → IfOk r (λ x. Replies (Ok s) x.status x.text)
+answers_refusal s e (Err m) status text other complete first = tt
+answers_refusal s e (Ok x) status text other complete first = rw (status, text) (refused refl (λ p. other (complete p)) (is_refusal s.parts e other first))
 
-reports : (Ends : View → Limits → Result Dynamic Problem → List Fault → Type 0) (s : SetUp) (a : Result Dynamic Problem) (trace : List Fault) (status : ℕ) (text : List ℕ) →
-    Reported a trace status text → IsProgram s.parts → Ends s.parts (limits_of s) a trace → Replies Ends (Ok s) status text
-reports Ends s (Ok v) trace status text (is, wrote) valid ends = rw (is, wrote) (value refl valid ends)
-reports Ends s (Err p) trace status text (is, wrote, other) valid ends = rw (is, wrote) (fault refl valid other ends)
-
-pub answers_end : (Ends : View → Limits → Result Dynamic Problem → List Fault → Type 0) (s : SetUp) (a : Result Dynamic Problem) (trace : List Fault) (r : Result Reply OutOfMemory) →
-    IfOk r (λ x. Reported a trace x.status x.text) → IsProgram s.parts → Ends s.parts (limits_of s) a trace → IfOk r (λ x. Replies Ends (Ok s) x.status x.text)
-answers_end Ends s a trace (Err m) told valid ends = tt
-answers_end Ends s a trace (Ok x) told valid ends = reports Ends s a trace x.status x.text told valid ends
+pub answers_end : (s : SetUp) (r : Result Reply OutOfMemory) → IsProgram s.parts → IfOk r (λ x. Reported s.parts (limits_of s) x.status x.text) → IfOk r (λ x. Replies (Ok s) x.status x.text)
+answers_end s (Err m) valid told = tt
+answers_end s (Ok x) valid told = reported refl valid told
 
 too_long : (bytes : List ℕ) → 16777216 < length bytes → reads bytes ≡ Err NotBuilt
 too_long bytes h =

@@ -1,16 +1,12 @@
 -- What the program answers: a status and a text.
 use Rattle.std.specs.Prelude.{◌≡◌, ℕ, ◌≤◌, Bool, true, false, List, [], ◌∷◌, ◌++◌, Option, Result, Ok, Err, IfSome, codes, bytes_eq}
 use Rattle.std.specs.Fmt.{decimal}
-use Rattle.grain_value.specs.declared.values.Dynamic.{Dynamic}
-use Rattle.grain_value.specs.declared.values.Limits.{Limits}
-use Rattle.grain_fault.specs.Problems.{Problem, NoMemory}
-use Rattle.grain_fault.specs.declared.traces.Fault.{Fault}
-use Rattle.grain_program.specs.View.{View}
 use Rattle.grain_program.specs.Typing.{IsProgram, IsRefusal}
 use Rattle.grain_program.specs.declared.refusals.Refusal.{Refusal}
 use Rattle.grain_program.specs.declared.refusals.Refusal.TheVariants as refusals
 use Rattle.grain_run.specs.Reading.{SetUp, reads, limits_of}
-use Rattle.grain_run.specs.Reports.{line_end, report_value, report_fault}
+use Rattle.grain_run.specs.Reports.{line_end}
+use Rattle.grain_run.specs.Runs.{Reported}
 use Rattle.grain_run.specs.Streams.{Rose, added, PartAdded}
 use Rattle.grain_run.specs.declared.reasons.Reason.{Reason}
 use Rattle.grain_run.specs.declared.reasons.Reason.TheVariants.{NotBuilt}
@@ -52,25 +48,22 @@ refusal_name refusals.Memory = codes "Memory"
 abbrev pub refusal_text : Refusal → List ℕ
 refusal_text r = codes "refused at " ++ decimal (refusal_address r) ++ codes ": " ++ refusal_name r ++ line_end
 
--- what is answered to what the listing says, by how its program's run may end
-pub data Replies (Ends : View → Limits → Result Dynamic Problem → List Fault → Type 0) (said : Result SetUp Reason) : ℕ → List ℕ → Type 0 where
+-- what is answered to what the listing says
+pub data Replies (said : Result SetUp Reason) : ℕ → List ℕ → Type 0 where
   -- it is no listing
-  no_listing : {e : Reason} → said ≡ Err e → Replies Ends said 3 (reason_text e)
+  no_listing : {e : Reason} → said ≡ Err e → Replies said 3 (reason_text e)
   -- its parts are no program
-  refused : {s : SetUp} {r : Refusal} → said ≡ Ok s → (IsProgram s.parts → ⊥) → IsRefusal s.parts r → Replies Ends said 4 (refusal_text r)
-  -- its program's run ends in a value
-  value : {s : SetUp} {v : Dynamic} {trace : List Fault} → said ≡ Ok s → IsProgram s.parts → Ends s.parts (limits_of s) (Ok v) trace → Replies Ends said 0 (report_value v)
-  -- its program's run ends in a fault other than want of memory
-  fault : {s : SetUp} {p : Problem} {trace : List Fault} → said ≡ Ok s → IsProgram s.parts → (p ≡ NoMemory → ⊥) → Ends s.parts (limits_of s) (Err p) trace →
-      Replies Ends said 1 (report_fault p trace)
+  refused : {s : SetUp} {r : Refusal} → said ≡ Ok s → (IsProgram s.parts → ⊥) → IsRefusal s.parts r → Replies said 4 (refusal_text r)
+  -- its program is run
+  reported : {s : SetUp} {status : ℕ} {text : List ℕ} → said ≡ Ok s → IsProgram s.parts → Reported s.parts (limits_of s) status text → Replies said status text
 
 -- what is answered to the words and to the bytes of the source, where it tells them
-pub data Answers (Ends : View → Limits → Result Dynamic Problem → List Fault → Type 0) (words : List (List ℕ)) (input : Option (List ℕ)) : ℕ → List ℕ → Type 0 where
+pub data Answers (words : List (List ℕ)) (input : Option (List ℕ)) : ℕ → List ℕ → Type 0 where
   -- the words are no command
-  no_command : is_run words ≡ false → Answers Ends words input 2 usage_text
+  no_command : is_run words ≡ false → Answers words input 2 usage_text
   -- the words are `run`, and the source was read to its end
-  replied : {said : Result SetUp Reason} {status : ℕ} {text : List ℕ} → is_run words ≡ true → IfSome input (λ bytes. reads bytes ≡ said) → Replies Ends said status text →
-      Answers Ends words input status text
+  replied : {said : Result SetUp Reason} {status : ℕ} {text : List ℕ} → is_run words ≡ true → IfSome input (λ bytes. reads bytes ≡ said) → Replies said status text →
+      Answers words input status text
 
 -- the counts of faults of a source and of a sink, before a call and behind it
 pub record Counts : Type 0 where
@@ -80,12 +73,12 @@ pub record Counts : Type 0 where
   pub sink_now : ℕ
 
 -- how a call of the program ends: with a status, and with what is written, before and behind it
-pub data Ended (Ends : View → Limits → Result Dynamic Problem → List Fault → Type 0) (words : List (List ℕ)) (input before now : Option (List ℕ)) (counts : Counts) : ℕ → Type 0 where
+pub data Ended (words : List (List ℕ)) (input before now : Option (List ℕ)) (counts : Counts) : ℕ → Type 0 where
   -- the answer's text is written, and nothing else
-  wrote : {status : ℕ} {text : List ℕ} → Answers Ends words input status text → now ≡ added text before → Ended Ends words input before now counts status
+  wrote : {status : ℕ} {text : List ℕ} → Answers words input status text → now ≡ added text before → Ended words input before now counts status
   -- the source failed: its count rose, and nothing is written
-  source_failed : is_run words ≡ true → Rose counts.source_before counts.source_now → now ≡ before → Ended Ends words input before now counts 5
+  source_failed : is_run words ≡ true → Rose counts.source_before counts.source_now → now ≡ before → Ended words input before now counts 5
   -- the sink failed: its count rose, and a part of the answer's text is written
-  sink_failed : {status : ℕ} {text : List ℕ} → Answers Ends words input status text → PartAdded text before now → Rose counts.sink_before counts.sink_now → Ended Ends words input before now counts 6
+  sink_failed : {status : ℕ} {text : List ℕ} → Answers words input status text → PartAdded text before now → Rose counts.sink_before counts.sink_now → Ended words input before now counts 6
   -- memory was out, and nothing is written
-  no_memory : now ≡ before → Ended Ends words input before now counts 7
+  no_memory : now ≡ before → Ended words input before now counts 7

@@ -2,24 +2,21 @@
 
 ghost use Rattle.std.specs.Prelude.{◌≡◌, ◌≢◌, ◌++◌, Ok, IfOk, map, string_bytes};
 ghost use Rattle.std.specs.Fmt.{decimal};
-ghost use Rattle.grain_fault.specs.Problems.{NoMemory};
-ghost use Rattle.grain_program.specs.View.{view_of};
 ghost use Rattle.grain_program.specs.declared.refusals.Refusal.TheVariants as refusals;
 ghost use Rattle.grain_run.specs.Reading.{reads};
 ghost use Rattle.grain_run.specs.Reports.{line_end};
 ghost use Rattle.grain_run.specs.Replies.{is_run, usage_text, reason_text, refusal_address, refusal_name, refusal_text, Replies};
-ghost use Rattle.grain_run.specs.Runs.{answer_of, Reported};
 ghost use Rattle.grain_run.specs.SetUpView.{set_up_of, IsReady};
 
 use crate::reading::read;
 use crate::reasons::Reason;
-use crate::reports::{report_fault, report_value};
-use crate::runs::{RunEnd, Runner};
+use crate::runs::run_program;
 use crate::setups::Setup;
-use grain_fault::EvalAltResult;
 use grain_program::{Refusal, verify};
 use grain_value::{OutOfMemory, Text};
+use grain_vm::Steps;
 use std::alloc::Global;
+use std::sync::ledger::Ledger;
 
 /// A status, and the text that is written.
 #[derive(Drop)]
@@ -124,46 +121,32 @@ fn refused(alloc: Global, refusal: Refusal) -> Result<Reply, OutOfMemory>
     Ok(Reply { status: 4, text })
 }
 
-/// The report of a run's end.
-fn reported(alloc: Global, end: RunEnd) -> Result<Reply, OutOfMemory>
-    ensures { IfOk result (λ r. Reported (answer_of end.answer) end.trace r.status r.text) }
-{
-    let RunEnd { answer, trace } = end;
-    match answer {
-        Ok(value) => {
-            let text = report_value(alloc, &value)?;
-            Ok(Reply { status: 0, text })
-        }
-        Err(EvalAltResult::Memory) => Err(OutOfMemory),
-        Err(fault) => {
-            let text = report_fault(alloc, &fault, &trace)?;
-            Ok(Reply { status: 1, text })
-        }
-    }
-}
-
 /// Verifies what a listing says and runs it.
-fn run_set_up<R: Runner>(alloc: Global, setup: Setup, runner: &mut R) -> Result<Reply, OutOfMemory>
+fn run_set_up<L: Ledger>(
+    alloc: Global,
+    setup: Setup,
+    steps: &mut Steps<L>,
+) -> Result<Reply, OutOfMemory>
     requires { IsReady setup }
-    ensures { IfOk result (λ r. Replies R.ends (Ok (set_up_of setup)) r.status r.text) }
+    ensures { IfOk result (λ r. Replies (Ok (set_up_of setup)) r.status r.text) }
 {
     let Setup { parts, limits } = setup;
     match verify(alloc, parts) {
         Err(refusal) => refused(alloc, refusal),
-        Ok(program) => reported(alloc, runner.run(alloc, program, limits)),
+        Ok(program) => run_program(alloc, &program, limits, steps),
     }
 }
 
 /// Reads a listing, verifies what it says and runs it.
-pub fn run_listing<R: Runner>(
+pub fn run_listing<L: Ledger>(
     alloc: Global,
     bytes: &[u8],
-    runner: &mut R,
+    steps: &mut Steps<L>,
 ) -> Result<Reply, OutOfMemory>
-    ensures { IfOk result (λ r. Replies R.ends (reads bytes.now) r.status r.text) }
+    ensures { IfOk result (λ r. Replies (reads bytes.now) r.status r.text) }
 {
     match read(alloc, bytes)? {
         Err(reason) => no_listing(alloc, reason),
-        Ok(setup) => run_set_up(alloc, setup, runner),
+        Ok(setup) => run_set_up(alloc, setup, steps),
     }
 }

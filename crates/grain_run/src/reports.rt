@@ -5,7 +5,7 @@ ghost use Rattle.grain_fault.specs.Problems.{problem_of};
 ghost use Rattle.grain_fault.specs.Texts.{fault_name, fault_text};
 ghost use Rattle.grain_run.specs.Reports.{line_end, report_value, report_fault, entry_text, entries_text, slot_text};
 
-use grain_fault::{EvalAltResult, Fault, Faults};
+use grain_fault::{EvalAltResult, Fault};
 use grain_value::{Dynamic, OutOfMemory, Text};
 use std::alloc::Global;
 
@@ -64,11 +64,11 @@ fn push_text(out: &mut Text, fault: &EvalAltResult) -> Result<(), OutOfMemory>
     out.push_str("\n")
 }
 
-fn push_trace(out: &mut Text, trace: &Faults) -> Result<(), OutOfMemory>
+fn push_trace(out: &mut Text, trace: &[Fault]) -> Result<(), OutOfMemory>
     ensures { IfOk result (λ _. out.new ≡ out.old ++ (codes "trace" ++ entries_text trace.now ++ line_end)) }
 {
     out.push_str("trace")?;
-    push_entries(out, trace.as_slice())?;
+    push_entries(out, trace)?;
     out.push_str("\n")
 }
 
@@ -76,7 +76,7 @@ fn push_trace(out: &mut Text, trace: &Faults) -> Result<(), OutOfMemory>
 pub fn report_fault(
     alloc: Global,
     fault: &EvalAltResult,
-    trace: &Faults,
+    trace: &[Fault],
 ) -> Result<Text, OutOfMemory>
     ensures { IfOk result (λ t. t ≡ report_fault (problem_of fault.now) trace.now) }
 {

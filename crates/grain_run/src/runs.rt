@@ -1,32 +1,55 @@
-//! Runs of programs.
+//! Runs of programs, and the replies that tell their ends.
 
-ghost use Rattle.std.specs.Prelude.{◌<◌, List, Result};
-ghost use Rattle.grain_value.specs.declared.values.Dynamic.{Dynamic};
-ghost use Rattle.grain_value.specs.declared.values.Limits.{Limits};
-ghost use Rattle.grain_fault.specs.Problems.{Problem};
-ghost use Rattle.grain_fault.specs.declared.traces.Fault.{Fault};
-ghost use Rattle.grain_program.specs.View.{View};
-ghost use Rattle.grain_run.specs.Runs.{answer_of};
+ghost use Rattle.std.specs.Prelude.{◌≡◌, ◌≢◌, ◌<◌, IfOk};
+ghost use Rattle.grain_fault.specs.Problems.{problem_of};
+ghost use Rattle.grain_fault.specs.declared.faults.EvalAltResult.TheVariants as faults;
+ghost use Rattle.grain_run.specs.Reports.{report_value, report_fault};
+ghost use Rattle.grain_run.specs.Runs.{Reported};
 
-use grain_fault::{Faults, RhaiResult};
+use crate::replies::Reply;
+use crate::reports::{report_fault, report_value};
+use grain_fault::{EvalAltResult, Fault};
 use grain_program::Program;
-use grain_value::Limits;
+use grain_value::{Dynamic, Limits, OutOfMemory, Scope};
+use grain_vm::{Engine, Steps, Vm};
 use std::alloc::Global;
+use std::sync::ledger::Ledger;
 
-/// How a run ended: with a value or a fault, and where the frames stopped that the fault left.
-#[derive(Drop)]
-pub struct RunEnd {
-    pub answer: RhaiResult,
-    pub trace: Faults,
+fn value_reply(alloc: Global, value: &Dynamic) -> Result<Reply, OutOfMemory>
+    ensures status { IfOk result (λ r. r.status ≡ 0) }
+    ensures text { IfOk result (λ r. r.text ≡ report_value value.now) }
+{
+    let text = report_value(alloc, value)?;
+    Ok(Reply { status: 0, text })
 }
 
-/// What runs programs.
-pub trait Runner {
-    /// The runs of a program within limits may end so.
-    ghost ends: { View → Limits → Result Dynamic Problem → List Fault → Type 0 };
+fn fault_reply(alloc: Global, fault: &EvalAltResult, trace: &[Fault]) -> Result<Reply, OutOfMemory>
+    ensures status { IfOk result (λ r. r.status ≡ 1) }
+    ensures text { IfOk result (λ r. r.text ≡ report_fault (problem_of fault.now) trace.now) }
+    ensures memory { IfOk result (λ _. fault.now ≢ faults.Memory) }
+{
+    if let EvalAltResult::Memory = fault {
+        return Err(OutOfMemory);
+    }
+    let text = report_fault(alloc, fault, trace)?;
+    Ok(Reply { status: 1, text })
+}
 
-    /// Runs the program on an empty scope. At least one operation is allowed.
-    fn run(&mut self, alloc: Global, program: Program, limits: Limits) -> RunEnd
-        requires { 0 < limits.operations }
-        ensures { ends program limits (answer_of result.answer) result.trace };
+/// Runs the program on an empty scope, and tells the end. At least one operation is allowed.
+pub fn run_program<L: Ledger>(
+    alloc: Global,
+    program: &Program,
+    limits: Limits,
+    steps: &mut Steps<L>,
+) -> Result<Reply, OutOfMemory>
+    requires { 0 < limits.operations }
+    ensures { IfOk result (λ r. Reported program.now limits r.status r.text) }
+{
+    let engine = Engine::new(alloc, limits);
+    let mut vm = Vm::new(alloc, &engine)?;
+    let mut scope = Scope::new(alloc);
+    match vm.eval_with_callbacks(alloc, &mut scope, program, steps) {
+        Ok(value) => value_reply(alloc, &value),
+        Err(fault) => fault_reply(alloc, &fault, vm.fault_trace()),
+    }
 }
