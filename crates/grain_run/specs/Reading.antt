@@ -1,5 +1,5 @@
 -- A listing as bytes, and what it says.
-use Rattle.std.specs.Prelude.{ℕ, ◌+◌, ◌^◌, List, [], ◌∷◌, length, Option, Some, None, Result, Ok, Err, nat_lt, if◌then◌else◌, slice_set, slice_get, chars}
+use Rattle.std.specs.Prelude.{ℕ, ◌+◌, ◌^◌, List, [], ◌∷◌, length, Result, Ok, Err, nat_lt, if◌then◌else◌, slice_set, slice_get, chars}
 use Rattle.std.specs.Str.{is_utf8}
 use Rattle.std.specs.Int.{w32, to_le_bytes}
 use Rattle.grain_value.specs.declared.values.Limits.{Limits}

@@ -1,4 +1,4 @@
-use Rattle.std.proofs.Common.{◌≡◌, ◌∙◌, ap, refl, rules, []}
+use Rattle.std.proofs.Common.{◌≡◌, ◌∙◌, ap, refl}
 use Rattle.grain_vm.specs.Machines.{begin, finish}
 use Rattle.grain_run.specs.Runs.{engine_of, start}
 use Rattle.grain_run.proofs.Ends.{engine_is, begin_is, value_told, fault_told}

@@ -1,5 +1,5 @@
 use Rattle.std.proofs.Common.{◌≡◌, refl, rules}
-use Rattle.grain_run.specs.Replies.{Ended, wrote, source_failed, sink_failed, no_memory}
+use Rattle.grain_run.specs.Replies.{wrote, source_failed, sink_failed, no_memory}
 use Rattle.grain_run.proofs.top.run_words.Goals as goal
 
 pub returns-in-Err : goal.returns-in-Err
