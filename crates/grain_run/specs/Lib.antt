@@ -15,3 +15,4 @@ pub mod SetUpView
 pub mod Reports
 pub mod Replies
 pub mod Runs
+pub mod Instructions

@@ -1,6 +1,8 @@
 //! The words that begin a line, and what stands behind them.
 
-ghost use Rattle.std.specs.Prelude.{◌≡◌, map};
+ghost use Rattle.std.specs.Prelude.{◌≡◌, map, Some};
+ghost use Rattle.grain_program.specs.declared.instructions.Op.{Op};
+ghost use Rattle.grain_run.specs.Instructions.{word_of, form_of};
 ghost use Rattle.grain_run.specs.Table.{line_in, line_of, stands};
 
 /// A place among a listing's lines.
@@ -147,3 +149,8 @@ pub fn stands(line: Line, place: Place) -> bool
         },
     }
 }
+
+/// The table has each instruction under its word, with the tag and the operands with which the code has it.
+pub fn instructions_are_in_the_table()
+    ensures { (o : Op) → line_of (word_of o) ≡ Some (Line.Instruction (form_of o)) }
+{}
