@@ -1,6 +1,6 @@
 //! Byte strings.
 
-ghost use Rattle.std.specs.Prelude.{◌≡◌, ◌==◌, ◌++◌, ◌∷◌, [], length, is_ok, if◌then◌else◌, IfOk, slice_get};
+ghost use Rattle.std.specs.Prelude.{◌≡◌, ◌==◌, ◌≤◌, ◌++◌, ◌∷◌, [], length, take, is_ok, if◌then◌else◌, IfOk, slice_get};
 
 use crate::memory::OutOfMemory;
 use std::alloc::Global;
@@ -28,6 +28,14 @@ impl Blob {
         Blob {
             bytes: Vec::new(alloc),
         }
+    }
+
+    /// No bytes, with room reserved for this many.
+    pub fn with_room(alloc: Global, room: usize) -> Result<Blob, OutOfMemory>
+        ensures { IfOk result (λ blob. blob ≡ []) }
+    {
+        let bytes = Vec::with_capacity(alloc, room)?;
+        Ok(Blob { bytes })
     }
 
     /// The bytes of a vector, taken as they are.
@@ -71,5 +79,19 @@ impl Blob {
     {
         self.bytes.push(byte)?;
         Ok(())
+    }
+
+    /// Puts as many of these bytes at the end as fit into the room that is there, and says how many. It takes no
+    /// memory.
+    pub fn put_within(&mut self, more: &[u8]) -> usize
+        ensures within { result ≤ length more.now }
+        ensures put { self.new ≡ self.old ++ take result more.now }
+    {
+        let room = self.bytes.capacity() - self.bytes.len();
+        let count = room.min(more.len());
+        match self.bytes.extend_from_slice(&more[..count]) {
+            Ok(()) => count,
+            Err(_) => unreachable!(),
+        }
     }
 }

@@ -1,6 +1,7 @@
 //! Texts: names, the fields of faults, and what is written.
 
 ghost use Rattle.std.specs.Prelude.{◌≡◌, ◌==◌, ◌++◌, [], length, Some, IfOk, IfSome, is_ok, if◌then◌else◌, slice_get};
+ghost use Rattle.std.specs.Char.{encode_utf8};
 ghost use Rattle.std.specs.Str.{chars};
 ghost use Rattle.std.specs.Fmt.{decimal, signed_decimal};
 
@@ -89,6 +90,14 @@ impl Text {
         ensures { self.new ≡ (if is_ok result then self.old ++ s.now else self.old) }
     {
         self.text.push_str(s)?;
+        Ok(())
+    }
+
+    /// Puts a character at the end, as UTF-8. Where memory is out, the text is as it was.
+    pub fn push(&mut self, character: char) -> Result<(), OutOfMemory>
+        ensures { self.new ≡ (if is_ok result then self.old ++ encode_utf8 character else self.old) }
+    {
+        self.text.push(character)?;
         Ok(())
     }
 

@@ -1,0 +1,27 @@
+//! The lines of a text.
+
+ghost use Rattle.std.specs.Prelude.{◌≡◌, ◌==◌, ◌∷◌, ◌<◌, length, position};
+ghost use Rattle.grain_run.specs.Lines.{lines_of};
+
+fn line_end(text: &[char]) -> Option<usize>
+    ensures { result ≡ position (λ c. c == 10) text.now }
+{
+    text.iter().position(|c| *c == '\n')
+}
+
+/// The first line of a text that has characters, and what follows it.
+#[tactic(auto, using(crate::proofs::LineEnds::line_cut, crate::proofs::LineEnds::line_whole, crate::proofs::LineEnds::found_within))]
+pub fn next_line(text: &[char]) -> (&[char], &[char])
+    requires { 0 < length text.now }
+    ensures line { lines_of text.now ≡ result.0.now ∷ lines_of result.1.now }
+    ensures less { length result.1.now < length text.now }
+{
+    match line_end(text) {
+        Some(end) => {
+            let (line, _) = text.split_at(end);
+            let (_, others) = text.split_at(end + 1);
+            (line, others)
+        }
+        None => (text, &[]),
+    }
+}

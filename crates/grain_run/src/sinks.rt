@@ -1,0 +1,25 @@
+//! Sinks of bytes.
+
+ghost use Rattle.std.specs.Prelude.{ℕ, List, Option};
+ghost use Rattle.grain_run.specs.Streams.{WasPut, CountsPut};
+
+/// What a put did.
+#[derive(Clone, Copy, Debug, PartialEq, Eq)]
+pub enum Put {
+    /// So many bytes were taken, from the front of the piece: at least one of a piece that has any.
+    Took(usize),
+    /// The sink failed, and took none.
+    Failed,
+}
+
+/// A sink of bytes. It counts its faults, and it may tell which bytes were written.
+pub trait Sink {
+    ghost written: { Self → Option (List ℕ) };
+
+    ghost faults: { Self → ℕ };
+
+    /// Writes bytes from the front of the piece.
+    fn put(&mut self, bytes: &[u8]) -> Put
+        ensures bytes { WasPut result (written self.old) (written self.new) bytes.now }
+        ensures count { CountsPut result (faults self.old) (faults self.new) };
+}

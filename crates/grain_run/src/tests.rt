@@ -1,0 +1,154 @@
+//! Whole calls, over sources and sinks in memory.
+
+use crate::memory::{CallNumbers, MemorySink, MemorySource};
+use crate::run_counted;
+use grain_value::{Blob, OutOfMemory};
+use std::alloc::Global;
+use std::marker::Brand;
+use std::process::Abort;
+use std::sync::ledger::Blank;
+
+const SUM: &str =
+    "grain 1\nconst 0\nconst 1\nconst 10\nname \"s\"\nname \"i\"\nname \"+=\"\nname \"+\"\nname \"<=\"\nop \"+=\"\nop \"+\"\nop \"<=\"\nassign 0 2 1 3\nmain 2\nload_const 0\ndeclare_local 0\nload_const 1\ndeclare_local 1\ntop:\nload_local 1\nload_const 2\ncall_op 4 2 2\njump_if_false done\nload_local 1\nassign_local_op 0 0 0\nload_const 1\nassign_local_op 1 1 0\njump top\ndone:\nload_local 0\nreturn\nend\n";
+
+/// The status of a call with one word, whose source holds the listing and fails at the call of that number, and what
+/// its sink of that room took.
+fn call(
+    alloc: Global,
+    word: &str,
+    listing: &str,
+    failing: u64,
+    room: usize,
+) -> Result<(u8, MemorySink), OutOfMemory> {
+    let mut words = Vec::new(alloc);
+    words.push(String::from_str(alloc, word)?)?;
+    let mut numbers = CallNumbers::new(alloc);
+    numbers.push(failing)?;
+    let bytes = Vec::from_slice(alloc, listing.as_bytes())?;
+    let mut source = MemorySource::new(Blob::from_vec(bytes), numbers);
+    let mut sink = MemorySink::new(alloc, room, CallNumbers::new(alloc))?;
+    let status = run_counted::<MemorySource, MemorySink, Brand>(
+        alloc,
+        &words,
+        &mut source,
+        &mut sink,
+        Blank::new(8),
+    );
+    Ok((status.number, sink))
+}
+
+/// Compares the status of a call whose source and sink do not fail, and what it writes.
+fn check(
+    rt: &impl Abort,
+    alloc: Global,
+    word: &str,
+    listing: &str,
+    status: u8,
+    text: &str,
+) -> Result<(), OutOfMemory> {
+    let (number, sink) = call(alloc, word, listing, 0, 1000)?;
+    assert_eq!(rt; number, status);
+    assert_eq!(rt; sink.bytes().as_slice(), text.as_bytes());
+    Ok(())
+}
+
+#[test]
+fn ends_are_reported(rt: HostRuntime) -> Result<(), OutOfMemory> {
+    let rows = [
+        ("grain 1\nmain 1\nreturn\nend\n", 0, "value ()\n"),
+        (
+            "grain 1\nlimit operations 3\nmain 1\njump 0\nend\n",
+            1,
+            "fault ErrorTooManyOperations\nToo many operations\ntrace 0\n",
+        ),
+        (SUM, 0, "value 55\n"),
+        (
+            "grain 1\nconst -9223372036854775808\nmain 1\nload_const 0\nreturn\nend",
+            0,
+            "value -9223372036854775808\n",
+        ),
+        (
+            "\n\n grain  1 \n\nconst -0\nname \"\\u{0041}\\\"\\n\"\nmain 1\na\"b: \nload_const 0\nreturn\nend\n\n",
+            0,
+            "value 0\n",
+        ),
+        (
+            "grain 1\nmain 1\njump 1\nend\n",
+            4,
+            "refused at 0: JumpTarget\n",
+        ),
+        ("grain 1\nmain 0\nend\n", 4, "refused at 0: FallsOff\n"),
+    ];
+    for (listing, status, text) in rows {
+        check(&rt, rt.alloc(), "run", listing, status, text)?;
+    }
+    Ok(())
+}
+
+#[test]
+fn operations_are_limited(rt: HostRuntime) -> Result<(), OutOfMemory> {
+    let enough = format!(in rt.alloc(); "grain 1\nlimit operations 10\n{}", &SUM[8..])?;
+    check(&rt, rt.alloc(), "run", enough.as_str(), 0, "value 55\n")?;
+    let few = format!(in rt.alloc(); "grain 1\nlimit operations 9\n{}", &SUM[8..])?;
+    check(
+        &rt,
+        rt.alloc(),
+        "run",
+        few.as_str(),
+        1,
+        "fault ErrorTooManyOperations\nToo many operations\ntrace 49\n",
+    )
+}
+
+#[test]
+fn no_listings(rt: HostRuntime) -> Result<(), OutOfMemory> {
+    let listings = [
+        "",
+        "grain 2\nmain 1\nreturn\nend\n",
+        "grain 1\nmain 1\nuni",
+        "grain 1\nmain 1\nreturn",
+        "grain 1\n",
+        "grain 1\nmain 1\nreturn\nend\nreturn\n",
+        "grain 1\nmain 1\nreturn ; done\nend\n",
+        "grain 1\nmain 1\nreturn\r\nend\n",
+        "grain 1\nmain\t1\nreturn\nend\n",
+        "grain 1\nmain 1\nreturn @1:1\nend\n",
+        "grain 1\nmain 01\nreturn\nend\n",
+        "grain 1\nmain 65536\nreturn\nend\n",
+        "grain 1\nconst 9223372036854775808\nmain 1\nreturn\nend\n",
+        "grain 1\nconst\nmain 1\nreturn\nend\n",
+        "grain 1\nname \"a\"b\nmain 1\nreturn\nend\n",
+        "grain 1\nname \"\\u{d800}\"\nmain 1\nreturn\nend\n",
+        "grain 1\nname \"\\u{110000}\"\nmain 1\nreturn\nend\n",
+        "grain 1\nop \"-\"\nmain 1\nreturn\nend\n",
+        "grain 1\nassign 0 0 0 0\nmain 1\nreturn\nend\n",
+        "grain 1\nlimit operations 0\nmain 1\nreturn\nend\n",
+        "grain 1\nlimit operations 1\nlimit operations 1\nmain 1\nreturn\nend\n",
+        "grain 1\nmain 1\na:\na:\nreturn\nend\n",
+        "grain 1\nmain 1\njump a\nreturn\nend\n",
+    ];
+    for listing in listings {
+        check(
+            &rt,
+            rt.alloc(),
+            "run",
+            listing,
+            3,
+            "listing line 0: not built\n",
+        )?;
+    }
+    Ok(())
+}
+
+#[test]
+fn words_and_streams_fail(rt: HostRuntime) -> Result<(), OutOfMemory> {
+    let usage = "usage: run, check, list or self N\n";
+    check(&rt, rt.alloc(), "check", SUM, 2, usage)?;
+    let (number, sink) = call(rt.alloc(), "run", SUM, 2, 1000)?;
+    assert_eq!(rt; number, 5);
+    assert!(rt; sink.bytes().is_empty());
+    let (number, sink) = call(rt.alloc(), "run", SUM, 0, 3)?;
+    assert_eq!(rt; number, 6);
+    assert_eq!(rt; sink.bytes().as_slice(), b"val".as_slice());
+    Ok(())
+}
