@@ -29,6 +29,7 @@ fn four_bytes(bytes: &[u8]) -> Option<u32>
 }
 
 /// The instruction of the tag, with its operands from the bytes behind it, and its width.
+#[inline(always)]
 #[tactic(auto, unfolding(crate::specs::Reading::by_tag))]
 fn tagged(tag: u8, rest: &[u8]) -> Option<(Op, usize)>
     ensures { result ≡ by_tag tag rest.now }
@@ -61,6 +62,7 @@ fn tagged(tag: u8, rest: &[u8]) -> Option<(Op, usize)>
     }
 }
 
+#[inline(always)]
 #[tactic(auto, unfolding(crate::specs::Reading::op_at, crate::specs::Reading::op_in))]
 fn read(code: &[u8], address: usize) -> Option<(Op, usize)>
     ensures { result ≡ op_at code.now address }
@@ -76,6 +78,7 @@ fn read(code: &[u8], address: usize) -> Option<(Op, usize)>
 
 /// The instruction at the address, and its width in bytes. There is none exactly where the address is at or past the
 /// code's end, the byte there is no tag, or the operands pass the code's end.
+#[inline(always)]
 pub fn decode(code: &Blob, address: usize) -> Option<(Op, usize)>
     ensures exact { result ≡ op_at code.now address }
     ensures within { IfSome result (λ r. (1 ≤ r.1) × (address + r.1 ≤ length code.now)) }

@@ -194,6 +194,7 @@ impl Program {
     }
 
     /// The instruction at which a frame of the chunk stands with so many operands, and its width in bytes.
+    #[inline(always)]
     pub fn fetch(&self, chunk: Chunk, address: usize, depth: usize) -> (Op, usize)
         requires { Fits self.now chunk address depth }
         ensures read { op_at self.now.code address ≡ Some (result.0, result.1) }

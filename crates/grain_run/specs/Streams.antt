@@ -47,3 +47,7 @@ pub record PartAdded (text : List ℕ) (before now : Option (List ℕ)) : Type 0
   pub count : ℕ
   pub part : count < length text
   pub written : now ≡ added (take count text) before
+
+-- at most so many bytes were taken from the source, where it tells what is left
+abbrev pub TakenWithin : ℕ → Option (List ℕ) → Option (List ℕ) → Type 0
+TakenWithin most before now = (taken : List ℕ) × ((length taken ≤ most) × (option_map (λ others. taken ++ others) now ≡ before))

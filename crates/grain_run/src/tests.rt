@@ -152,3 +152,62 @@ fn words_and_streams_fail(rt: HostRuntime) -> Result<(), OutOfMemory> {
     assert_eq!(rt; sink.bytes().as_slice(), b"val".as_slice());
     Ok(())
 }
+
+#[test]
+fn faults_of_operators_are_reported(rt: HostRuntime) -> Result<(), OutOfMemory> {
+    let rows = [
+        (
+            "grain 1\nconst 9223372036854775807\nconst 1\nname \"+\"\nop \"+\"\nmain 2\nload_const 0\nload_const 1\ncall_op 0 2 0\nreturn\nend\n",
+            "fault ErrorArithmetic\nAddition overflow: 9223372036854775807 + 1\ntrace 6\n",
+        ),
+        (
+            "grain 1\nconst -9223372036854775808\nconst -1\nname \"x\"\nname \"+=\"\nname \"+\"\nop \"+=\"\nop \"+\"\nassign 0 1 1 2\nmain 2\nload_const 0\ndeclare_local 0\nload_const 1\nassign_local_op 0 0 0\nload_local 0\nreturn\nend\n",
+            "fault ErrorArithmetic\nAddition overflow: -9223372036854775808 + -1\ntrace 9\n",
+        ),
+        (
+            "grain 1\nconst 1\nname \"<=\"\nname \"+\"\nop \"<=\"\nop \"+\"\nmain 2\nload_const 0\nload_const 0\ncall_op 0 2 0\nload_const 0\ncall_op 1 2 1\nreturn\nend\n",
+            "fault ErrorFunctionNotFound\nFunction not found: + (bool, i64)\ntrace 15\n",
+        ),
+        (
+            "grain 1\nconst 1\nname \"x\"\nname \"+=\"\nname \"+\"\nname \"<=\"\nop \"+=\"\nop \"+\"\nop \"<=\"\nassign 0 1 1 2\nmain 2\nload_const 0\ndeclare_local 0\nload_const 0\nload_const 0\ncall_op 3 2 2\nassign_local_op 0 0 0\nload_local 0\nreturn\nend\n",
+            "fault ErrorFunctionNotFound\nFunction not found: + (i64, bool)\ntrace 18\n",
+        ),
+        (
+            "grain 1\nconst 1\nname \"-\"\nop \"other\"\nmain 2\nload_const 0\nload_const 0\ncall_op 0 2 0\nreturn\nend\n",
+            "fault ErrorFunctionNotFound\nFunction not found: - (i64, i64)\ntrace 6\n",
+        ),
+    ];
+    for (listing, text) in rows {
+        check(&rt, rt.alloc(), "run", listing, 1, text)?;
+    }
+    Ok(())
+}
+
+#[test]
+fn faults_of_programs_are_reported(rt: HostRuntime) -> Result<(), OutOfMemory> {
+    let rows = [
+        (
+            "grain 1\nconst 1\nmain 1\nload_const 0\njump_if_false 0\nreturn\nend\n",
+            "fault ErrorMismatchDataType\nData type incorrect: i64 (expecting bool)\ntrace 3\n",
+        ),
+        (
+            "grain 1\nmain 1\nload_local 0\nreturn\nend\n",
+            "fault Malformed\nMalformed program: slot 0 past a scope of 0\ntrace 0\n",
+        ),
+        (
+            "grain 1\nconst 0\nname \"x\"\nmain 1\ntop:\nload_const 0\ndeclare_local 0\njump top\nend\n",
+            "fault ErrorTooManyVariables\nToo many variables defined\ntrace 3\n",
+        ),
+    ];
+    for (listing, text) in rows {
+        check(&rt, rt.alloc(), "run", listing, 1, text)?;
+    }
+    Ok(())
+}
+
+#[test]
+fn an_unknown_command_is_told_the_usage(rt: HostRuntime) -> Result<(), OutOfMemory> {
+    let usage = "usage: run, check, list or self N\n";
+    check(&rt, rt.alloc(), "walk", SUM, 2, usage)?;
+    check(&rt, rt.alloc(), "", SUM, 2, usage)
+}

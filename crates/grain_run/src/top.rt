@@ -2,7 +2,7 @@
 
 ghost use Rattle.std.specs.Prelude.{◌≡◌, ◌≤◌, true, IfOk, OnErr, map, string_bytes};
 ghost use Rattle.grain_run.specs.Replies.{is_run, Answers, Ended};
-ghost use Rattle.grain_run.specs.Streams.{Rose};
+ghost use Rattle.grain_run.specs.Streams.{Rose, TakenWithin};
 
 use crate::replies::{Reply, is_run, run_listing, usage};
 use crate::sinks::Sink;
@@ -24,6 +24,7 @@ fn answer<S: Source, L: Ledger>(
     ensures answers { IfOk result (λ o. IfOk o (λ r. Answers (map string_bytes words.now) (S.left source.old) r.status r.text)) }
     ensures failed { IfOk result (λ o. OnErr o (Rose (S.faults source.old) (S.faults source.new))) }
     ensures command { IfOk result (λ o. OnErr o (is_run (map string_bytes words.now) ≡ true)) }
+    ensures bounded { TakenWithin 16777217 (S.left source.old) (S.left source.new) }
 {
     if !is_run(words) {
         let reply = usage(alloc)?;
@@ -49,7 +50,8 @@ pub fn run_words<S: Source, K: Sink, L: Ledger>(
     sink: &mut K,
     steps: &mut Steps<L>,
 ) -> Status
-    ensures { Ended (map string_bytes words.now.items) (S.left source.old) (K.written sink.old) (K.written sink.new)
+    ensures bounded { TakenWithin 16777217 (S.left source.old) (S.left source.new) }
+    ensures ended { Ended (map string_bytes words.now.items) (S.left source.old) (K.written sink.old) (K.written sink.new)
         (record { source_before = S.faults source.old; source_now = S.faults source.new; sink_before = K.faults sink.old; sink_now = K.faults sink.new }) result.number }
 {
     match answer(alloc, words.as_slice(), source, steps) {

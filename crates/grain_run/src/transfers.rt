@@ -1,7 +1,7 @@
 //! Reading a source to its end, and writing a text to a sink.
 
 ghost use Rattle.std.specs.Prelude.{◌≡◌, ◌≤◌, ◌++◌, length, option_map, IfOk, OnErr, OnOk};
-ghost use Rattle.grain_run.specs.Streams.{Rose, IsSpent, added, PartAdded};
+ghost use Rattle.grain_run.specs.Streams.{Rose, IsSpent, TakenWithin, added, PartAdded};
 
 use crate::reading::MOST_BYTES;
 use crate::sinks::{Put, Sink};
@@ -26,11 +26,13 @@ pub fn read_all<S: Source>(
     ensures end { IfOk result (λ r. IfOk r (λ v. length v.items ≤ 16777216 → IsSpent (S.left source.new))) }
     ensures failed { IfOk result (λ r. OnErr r (Rose (S.faults source.old) (S.faults source.new))) }
     ensures counted { S.faults source.old ≤ S.faults source.new }
+    ensures bounded { TakenWithin 16777217 (S.left source.old) (S.left source.new) }
 {
     let mut bytes = Vec::new(alloc);
     let mut buffer = [0u8; 4096];
     'fill: while bytes.len() <= MOST_BYTES {
-        match source.read(&mut buffer) {
+        let room = (MOST_BYTES + 1 - bytes.len()).min(4096);
+        match source.read(&mut buffer[..room]) {
             Read::Failed => return Ok(Err(SourceFailed)),
             Read::End => break,
             Read::Got(count) => {

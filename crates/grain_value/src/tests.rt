@@ -50,6 +50,9 @@ fn lists_grow(rt: HostRuntime) -> Result<(), OutOfMemory> {
     blob.push(3)?;
     blob.push(255)?;
     assert_eq!(rt; blob.as_slice(), [3, 255].as_slice());
+    let mut roomy = Blob::with_room(rt.alloc(), 1)?;
+    roomy.push(7)?;
+    assert_eq!(rt; roomy.as_slice(), [7].as_slice());
     let mut array = Array::new(rt.alloc());
     array.push(Dynamic::Int(5))?;
     array.push(Dynamic::Unit)?;

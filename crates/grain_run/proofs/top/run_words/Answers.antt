@@ -2,24 +2,24 @@ use Rattle.std.proofs.Common.{◌≡◌, refl, rules}
 use Rattle.grain_run.specs.Replies.{wrote, source_failed, sink_failed, no_memory}
 use Rattle.grain_run.proofs.top.run_words.Goals as goal
 
-pub returns-in-Err : goal.returns-in-Err
-returns-in-Err g c = no_memory refl
+pub returns-in-Err-clause-ended : goal.returns-in-Err-clause-ended
+returns-in-Err-clause-ended g c = no_memory refl
 
-pub returns-in-Err-answered : goal.returns-in-Err-answered
-returns-in-Err-answered g c =
+pub returns-in-Err-answered-clause-ended : goal.returns-in-Err-answered-clause-ended
+returns-in-Err-answered-clause-ended g c =
     let failed = rw c.in-Err-answered.is at c.in-Ok.ensures.failed in
     let command = rw (c.in-Err-answered.is, c.as_slice.ensures.value) at c.in-Ok.ensures.command in
     source_failed command failed refl
 
-pub returns-in-Ok-write_all : goal.returns-in-Ok-write_all
-returns-in-Ok-write_all g c =
+pub returns-in-Ok-write_all-clause-ended : goal.returns-in-Ok-write_all-clause-ended
+returns-in-Ok-write_all-clause-ended g c =
     let answers = rw (c.in-Ok-answered.is, c.as_slice.ensures.value) at c.in-Ok.ensures.answers in
     let text : c.as_bytes.result.now ≡ c.in-Ok-answered.reply.text = search rules in
     let whole = rw text at c.in-Ok-write_all.ensures.whole in
     wrote answers whole
 
-pub returns : goal.returns
-returns g c =
+pub returns-clause-ended : goal.returns-clause-ended
+returns-clause-ended g c =
     let answers = rw (c.in-Ok-answered.is, c.as_slice.ensures.value) at c.in-Ok.ensures.answers in
     let text : c.as_bytes.result.now ≡ c.in-Ok-answered.reply.text = search rules in
     let part = rw text at c.in-Err-write_all.ensures.part in
