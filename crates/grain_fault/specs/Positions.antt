@@ -1,13 +1,14 @@
 -- Where a fault was raised, and the same fault raised elsewhere.
 use Rattle.std.specs.Prelude.{Bool, true, false, if◌then◌else◌}
 use Rattle.grain_fault.specs.Places.{nowhere, is_nowhere}
-use Rattle.grain_fault.specs.Problems.{Problem, FunctionNotFound, MismatchDataType, Arithmetic, TooManyOperations, TooManyVariables, Malformed, NoMemory}
+use Rattle.grain_fault.specs.Problems.{Problem, FunctionNotFound, MismatchDataType, AssignmentToConstant, Arithmetic, TooManyOperations, TooManyVariables, Malformed, NoMemory}
 use Rattle.grain_fault.specs.declared.places.Position.{Position}
 
 -- want of memory has no position
 abbrev pub position_of_problem : Problem → Position
 position_of_problem (FunctionNotFound s p) = p
 position_of_problem (MismatchDataType r a p) = p
+position_of_problem (AssignmentToConstant s p) = p
 position_of_problem (Arithmetic s p) = p
 position_of_problem (TooManyOperations p) = p
 position_of_problem (TooManyVariables p) = p
@@ -18,6 +19,7 @@ position_of_problem NoMemory = nowhere
 abbrev pub at_position : Position → Problem → Problem
 at_position p (FunctionNotFound s q) = FunctionNotFound s p
 at_position p (MismatchDataType r a q) = MismatchDataType r a p
+at_position p (AssignmentToConstant s q) = AssignmentToConstant s p
 at_position p (Arithmetic s q) = Arithmetic s p
 at_position p (TooManyOperations q) = TooManyOperations p
 at_position p (TooManyVariables q) = TooManyVariables p
@@ -28,6 +30,7 @@ at_position p NoMemory = NoMemory
 abbrev pub is_placeless : Problem → Bool
 is_placeless (FunctionNotFound s p) = false
 is_placeless (MismatchDataType r a p) = false
+is_placeless (AssignmentToConstant s p) = false
 is_placeless (Arithmetic s p) = false
 is_placeless (TooManyOperations p) = false
 is_placeless (TooManyVariables p) = false

@@ -8,6 +8,7 @@ use Rattle.grain_fault.specs.declared.faults.EvalAltResult.TheVariants as fault
 pub data Problem : Type 0 where
   FunctionNotFound : List ℕ → Position → Problem
   MismatchDataType : (requested actual : List ℕ) → Position → Problem
+  AssignmentToConstant : List ℕ → Position → Problem
   Arithmetic : List ℕ → Position → Problem
   TooManyOperations : Position → Problem
   TooManyVariables : Position → Problem
@@ -17,6 +18,7 @@ pub data Problem : Type 0 where
 abbrev pub problem_of : EvalAltResult → Problem
 problem_of (fault.ErrorFunctionNotFound s p) = FunctionNotFound s p
 problem_of (fault.ErrorMismatchDataType r a p) = MismatchDataType r a p
+problem_of (fault.ErrorAssignmentToConstant s p) = AssignmentToConstant s p
 problem_of (fault.ErrorArithmetic s p) = Arithmetic s p
 problem_of (fault.ErrorTooManyOperations p) = TooManyOperations p
 problem_of (fault.ErrorTooManyVariables p) = TooManyVariables p

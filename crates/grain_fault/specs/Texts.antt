@@ -3,7 +3,7 @@ use Rattle.std.specs.Prelude.{ℕ, List, [], ◌++◌, length, codes, ◌==◌, 
 use Rattle.std.specs.Fmt.{decimal}
 use Rattle.grain_fault.specs.Places.{is_nowhere}
 use Rattle.grain_fault.specs.Positions.{position_of_problem}
-use Rattle.grain_fault.specs.Problems.{Problem, FunctionNotFound, MismatchDataType, Arithmetic, TooManyOperations, TooManyVariables, Malformed, NoMemory}
+use Rattle.grain_fault.specs.Problems.{Problem, FunctionNotFound, MismatchDataType, AssignmentToConstant, Arithmetic, TooManyOperations, TooManyVariables, Malformed, NoMemory}
 use Rattle.grain_fault.specs.declared.places.Position.{Position}
 use Rattle.grain_fault.specs.declared.faults.MalformedKind.{MalformedKind}
 use Rattle.grain_fault.specs.declared.faults.MalformedKind.TheVariants as kind
@@ -12,6 +12,7 @@ use Rattle.grain_fault.specs.declared.faults.MalformedKind.TheVariants as kind
 abbrev pub fault_name : Problem → List ℕ
 fault_name (FunctionNotFound s p) = codes "ErrorFunctionNotFound"
 fault_name (MismatchDataType r a p) = codes "ErrorMismatchDataType"
+fault_name (AssignmentToConstant s p) = codes "ErrorAssignmentToConstant"
 fault_name (Arithmetic s p) = codes "ErrorArithmetic"
 fault_name (TooManyOperations p) = codes "ErrorTooManyOperations"
 fault_name (TooManyVariables p) = codes "ErrorTooManyVariables"
@@ -33,6 +34,7 @@ kind_text (kind.SlotPastScope i l) = codes "slot " ++ decimal i ++ codes " past 
 abbrev pub message : Problem → List ℕ
 message (FunctionNotFound s p) = codes "Function not found: " ++ s
 message (MismatchDataType r a p) = codes "Data type incorrect" ++ mismatch_text r a
+message (AssignmentToConstant s p) = codes "Cannot modify constant " ++ s
 message (Arithmetic s p) = if length s == 0 then codes "Arithmetic error" else s
 message (TooManyOperations p) = codes "Too many operations"
 message (TooManyVariables p) = codes "Too many variables defined"

@@ -14,6 +14,7 @@ impl EvalAltResult {
         match self {
             EvalAltResult::ErrorFunctionNotFound(..) => false,
             EvalAltResult::ErrorMismatchDataType(..) => false,
+            EvalAltResult::ErrorAssignmentToConstant(..) => false,
             EvalAltResult::ErrorArithmetic(..) => false,
             EvalAltResult::ErrorTooManyOperations(..) => false,
             EvalAltResult::ErrorTooManyVariables(..) => false,
@@ -29,6 +30,7 @@ impl EvalAltResult {
         match self {
             EvalAltResult::ErrorFunctionNotFound(..) => true,
             EvalAltResult::ErrorMismatchDataType(..) => true,
+            EvalAltResult::ErrorAssignmentToConstant(..) => true,
             EvalAltResult::ErrorArithmetic(..) => true,
             EvalAltResult::ErrorTooManyOperations(..) => false,
             EvalAltResult::ErrorTooManyVariables(..) => false,

@@ -23,6 +23,8 @@ pub enum EvalAltResult {
     ErrorFunctionNotFound(Text, Position),
     /// A value of the second type where one of the first was asked for.
     ErrorMismatchDataType(Text, Text, Position),
+    /// An assignment to an entry of this name that can only be read.
+    ErrorAssignmentToConstant(Text, Position),
     /// Arithmetic without a result.
     ErrorArithmetic(Text, Position),
     /// The operation limit is reached.

@@ -16,6 +16,7 @@ impl EvalAltResult {
         match self {
             EvalAltResult::ErrorFunctionNotFound(_, position) => *position,
             EvalAltResult::ErrorMismatchDataType(_, _, position) => *position,
+            EvalAltResult::ErrorAssignmentToConstant(_, position) => *position,
             EvalAltResult::ErrorArithmetic(_, position) => *position,
             EvalAltResult::ErrorTooManyOperations(position) => *position,
             EvalAltResult::ErrorTooManyVariables(position) => *position,
@@ -33,6 +34,7 @@ impl EvalAltResult {
         match self {
             EvalAltResult::ErrorFunctionNotFound(_, position) => *position = new_position,
             EvalAltResult::ErrorMismatchDataType(_, _, position) => *position = new_position,
+            EvalAltResult::ErrorAssignmentToConstant(_, position) => *position = new_position,
             EvalAltResult::ErrorArithmetic(_, position) => *position = new_position,
             EvalAltResult::ErrorTooManyOperations(position) => *position = new_position,
             EvalAltResult::ErrorTooManyVariables(position) => *position = new_position,

@@ -46,6 +46,18 @@ fn functions_not_found_are_told(rt: HostRuntime) -> Result<(), OutOfMemory> {
 }
 
 #[test]
+fn assignments_to_constants_are_told(rt: HostRuntime) -> Result<(), OutOfMemory> {
+    let variable = Text::copy_of(rt.alloc(), "x")?;
+    let fault = EvalAltResult::ErrorAssignmentToConstant(variable, NONE);
+    let texts = [
+        "Cannot modify constant x",
+        "Cannot modify constant x (line 2, position 7)",
+        "Cannot modify constant x (line 3)",
+    ];
+    check_told(&rt, rt.alloc(), fault, "ErrorAssignmentToConstant", texts)
+}
+
+#[test]
 fn mismatches_are_told(rt: HostRuntime) -> Result<(), OutOfMemory> {
     let name = "ErrorMismatchDataType";
     let fault = mismatch(rt.alloc(), "bool", "")?;

@@ -17,6 +17,7 @@ impl EvalAltResult {
         match self {
             EvalAltResult::ErrorFunctionNotFound(..) => "ErrorFunctionNotFound",
             EvalAltResult::ErrorMismatchDataType(..) => "ErrorMismatchDataType",
+            EvalAltResult::ErrorAssignmentToConstant(..) => "ErrorAssignmentToConstant",
             EvalAltResult::ErrorArithmetic(..) => "ErrorArithmetic",
             EvalAltResult::ErrorTooManyOperations(..) => "ErrorTooManyOperations",
             EvalAltResult::ErrorTooManyVariables(..) => "ErrorTooManyVariables",
@@ -72,6 +73,9 @@ impl fmt::Display for Message<'_> {
             EvalAltResult::ErrorMismatchDataType(requested, actual, _) => {
                 let mismatch = Mismatch { requested, actual };
                 write!(f, "Data type incorrect{mismatch}")
+            }
+            EvalAltResult::ErrorAssignmentToConstant(variable, _) => {
+                write!(f, "Cannot modify constant {variable}")
             }
             EvalAltResult::ErrorArithmetic(reason, _) => {
                 if reason.is_empty() {

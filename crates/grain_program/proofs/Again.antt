@@ -63,12 +63,19 @@ record Listed (o : Op) : Type 0 where
 listed : (o : Op) → Listed o
 unfolding operands_of numbers_of
 listed (op.LoadConst c) = record { found = λ rest. refl; operands = refl; makes = refl }
+listed op.Unit = record { found = λ rest. refl; operands = refl; makes = refl }
+listed op.False = record { found = λ rest. refl; operands = refl; makes = refl }
+listed op.True = record { found = λ rest. refl; operands = refl; makes = refl }
 listed (op.LoadLocal s) = record { found = λ rest. refl; operands = refl; makes = refl }
 listed (op.DeclareLocal n) = record { found = λ rest. refl; operands = refl; makes = refl }
+listed (op.AssignLocal s n) = record { found = λ rest. refl; operands = refl; makes = refl }
 listed (op.AssignLocalOp s n a) = record { found = λ rest. refl; operands = refl; makes = refl }
+listed op.Pop = record { found = λ rest. refl; operands = refl; makes = refl }
 listed (op.Jump t) = record { found = λ rest. refl; operands = refl; makes = refl }
 listed (op.JumpIfFalse t) = record { found = λ rest. refl; operands = refl; makes = refl }
+listed (op.JumpIfTrue t) = record { found = λ rest. refl; operands = refl; makes = refl }
 listed (op.CallOp n k o) = record { found = λ rest. refl; operands = refl; makes = refl }
+listed op.Tick = record { found = λ rest. refl; operands = refl; makes = refl }
 listed op.Return = record { found = λ rest. refl; operands = refl; makes = refl }
 
 op_in_again : (o : Op) (rest : List ℕ) → OpFits o → op_in (spelling o ++ rest) ≡ Some (o, length (spelling o))

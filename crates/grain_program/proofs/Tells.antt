@@ -68,15 +68,22 @@ pools_assign p s n a false h = λ i. h (i.0, (i.1, i.2, i.3))
 -- the test of the indices tells whether they are in their pools
 pub pools_tell : (p : View) (o : Op) → Tells (in_pools p o) (InPools p o)
 pools_tell p (op.LoadConst c) = lt_tells c (length p.consts)
+pools_tell p op.Unit = tt
+pools_tell p op.False = tt
+pools_tell p op.True = tt
 pools_tell p (op.LoadLocal s) = tt
 pools_tell p (op.DeclareLocal n) = lt_tells n (length p.names)
+pools_tell p (op.AssignLocal s n) = lt_tells n (length p.names)
 pools_tell p (op.AssignLocalOp s n a) =
     pools_assign p s n a (nat_lt n (length p.names) && record_named (length p.names) (slice_get p.assign_ops a))
     (both_tell (n < length p.names) (Named p a) (nat_lt n (length p.names)) (record_named (length p.names) (slice_get p.assign_ops a)) (lt_tells n (length p.names)) (named_tells p a))
+pools_tell p op.Pop = tt
 pools_tell p (op.Jump t) = tt
 pools_tell p (op.JumpIfFalse t) = tt
+pools_tell p (op.JumpIfTrue t) = tt
 pools_tell p (op.CallOp n k o) =
     both_tell (n < length p.names) (o < length p.tokens) (nat_lt n (length p.names)) (nat_lt o (length p.tokens)) (lt_tells n (length p.names)) (lt_tells o (length p.tokens))
+pools_tell p op.Tick = tt
 pools_tell p op.Return = tt
 
 -- the test of the end tells whether the flow stays in the chunk

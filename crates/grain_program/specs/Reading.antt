@@ -51,12 +51,19 @@ row tag operands make = record { tag = tag; operands = operands; make = make }
 abbrev pub rows : List Row
 rows =
     row 0x01 (two ∷ []) (λ n. op.LoadConst (slice_index n 0)) ∷
+    row 0x02 [] (λ n. op.Unit) ∷
+    row 0x03 [] (λ n. op.False) ∷
+    row 0x04 [] (λ n. op.True) ∷
     row 0x05 (two ∷ []) (λ n. op.LoadLocal (slice_index n 0)) ∷
     row 0x0d (two ∷ []) (λ n. op.DeclareLocal (slice_index n 0)) ∷
+    row 0x10 (two ∷ two ∷ []) (λ n. op.AssignLocal (slice_index n 0) (slice_index n 1)) ∷
     row 0x11 (two ∷ two ∷ two ∷ []) (λ n. op.AssignLocalOp (slice_index n 0) (slice_index n 1) (slice_index n 2)) ∷
+    row 0x1b [] (λ n. op.Pop) ∷
     row 0x1d (four ∷ []) (λ n. op.Jump (slice_index n 0)) ∷
     row 0x1e (four ∷ []) (λ n. op.JumpIfFalse (slice_index n 0)) ∷
+    row 0x1f (four ∷ []) (λ n. op.JumpIfTrue (slice_index n 0)) ∷
     row 0x23 (two ∷ one ∷ two ∷ []) (λ n. op.CallOp (slice_index n 0) (slice_index n 1) (slice_index n 2)) ∷
+    row 0x39 [] (λ n. op.Tick) ∷
     row 0x4a [] (λ n. op.Return) ∷
     []
 

@@ -21,22 +21,36 @@ word n = record { operand = four; number = n }
 
 abbrev pub tag_of : Op → ℕ
 tag_of (op.LoadConst c) = 0x01
+tag_of op.Unit = 0x02
+tag_of op.False = 0x03
+tag_of op.True = 0x04
 tag_of (op.LoadLocal s) = 0x05
 tag_of (op.DeclareLocal n) = 0x0d
+tag_of (op.AssignLocal s n) = 0x10
 tag_of (op.AssignLocalOp s n a) = 0x11
+tag_of op.Pop = 0x1b
 tag_of (op.Jump t) = 0x1d
 tag_of (op.JumpIfFalse t) = 0x1e
+tag_of (op.JumpIfTrue t) = 0x1f
 tag_of (op.CallOp n k o) = 0x23
+tag_of op.Tick = 0x39
 tag_of op.Return = 0x4a
 
 abbrev pub fields_of : Op → List Field
 fields_of (op.LoadConst c) = half c ∷ []
+fields_of op.Unit = []
+fields_of op.False = []
+fields_of op.True = []
 fields_of (op.LoadLocal s) = half s ∷ []
 fields_of (op.DeclareLocal n) = half n ∷ []
+fields_of (op.AssignLocal s n) = half s ∷ half n ∷ []
 fields_of (op.AssignLocalOp s n a) = half s ∷ half n ∷ half a ∷ []
+fields_of op.Pop = []
 fields_of (op.Jump t) = word t ∷ []
 fields_of (op.JumpIfFalse t) = word t ∷ []
+fields_of (op.JumpIfTrue t) = word t ∷ []
 fields_of (op.CallOp n k o) = half n ∷ byte k ∷ half o ∷ []
+fields_of op.Tick = []
 fields_of op.Return = []
 
 -- the bytes of a number in an operand

@@ -36,8 +36,19 @@ fn tagged(tag: u8, rest: &[u8]) -> Option<(Op, usize)>
 {
     match tag {
         0x01 => Some((Op::LoadConst(two_bytes(rest)?), 3)),
+        0x02 => Some((Op::Unit, 1)),
+        0x03 => Some((Op::False, 1)),
+        0x04 => Some((Op::True, 1)),
         0x05 => Some((Op::LoadLocal(two_bytes(rest)?), 3)),
         0x0d => Some((Op::DeclareLocal(two_bytes(rest)?), 3)),
+        0x10 => match rest {
+            [a, b, c, d, ..] => {
+                let slot = u16::from_le_bytes([*a, *b]);
+                let name = u16::from_le_bytes([*c, *d]);
+                Some((Op::AssignLocal(slot, name), 5))
+            }
+            _ => None,
+        },
         0x11 => match rest {
             [a, b, c, d, e, f, ..] => {
                 let slot = u16::from_le_bytes([*a, *b]);
@@ -47,8 +58,10 @@ fn tagged(tag: u8, rest: &[u8]) -> Option<(Op, usize)>
             }
             _ => None,
         },
+        0x1b => Some((Op::Pop, 1)),
         0x1d => Some((Op::Jump(four_bytes(rest)?), 5)),
         0x1e => Some((Op::JumpIfFalse(four_bytes(rest)?), 5)),
+        0x1f => Some((Op::JumpIfTrue(four_bytes(rest)?), 5)),
         0x23 => match rest {
             [a, b, count, c, d, ..] => {
                 let name = u16::from_le_bytes([*a, *b]);
@@ -57,6 +70,7 @@ fn tagged(tag: u8, rest: &[u8]) -> Option<(Op, usize)>
             }
             _ => None,
         },
+        0x39 => Some((Op::Tick, 1)),
         0x4a => Some((Op::Return, 1)),
         _ => None,
     }
@@ -94,6 +108,9 @@ fn spell(code: &mut Vec<u8>, op: Op) -> Result<(), OutOfMemory>
             code.push(0x01)?;
             code.extend_from_slice(&constant.to_le_bytes())?;
         }
+        Op::Unit => code.push(0x02)?,
+        Op::False => code.push(0x03)?,
+        Op::True => code.push(0x04)?,
         Op::LoadLocal(slot) => {
             code.push(0x05)?;
             code.extend_from_slice(&slot.to_le_bytes())?;
@@ -102,12 +119,18 @@ fn spell(code: &mut Vec<u8>, op: Op) -> Result<(), OutOfMemory>
             code.push(0x0d)?;
             code.extend_from_slice(&name.to_le_bytes())?;
         }
+        Op::AssignLocal(slot, name) => {
+            code.push(0x10)?;
+            code.extend_from_slice(&slot.to_le_bytes())?;
+            code.extend_from_slice(&name.to_le_bytes())?;
+        }
         Op::AssignLocalOp(slot, name, assign) => {
             code.push(0x11)?;
             code.extend_from_slice(&slot.to_le_bytes())?;
             code.extend_from_slice(&name.to_le_bytes())?;
             code.extend_from_slice(&assign.to_le_bytes())?;
         }
+        Op::Pop => code.push(0x1b)?,
         Op::Jump(target) => {
             code.push(0x1d)?;
             code.extend_from_slice(&target.to_le_bytes())?;
@@ -116,12 +139,17 @@ fn spell(code: &mut Vec<u8>, op: Op) -> Result<(), OutOfMemory>
             code.push(0x1e)?;
             code.extend_from_slice(&target.to_le_bytes())?;
         }
+        Op::JumpIfTrue(target) => {
+            code.push(0x1f)?;
+            code.extend_from_slice(&target.to_le_bytes())?;
+        }
         Op::CallOp(name, count, token) => {
             code.push(0x23)?;
             code.extend_from_slice(&name.to_le_bytes())?;
             code.push(count)?;
             code.extend_from_slice(&token.to_le_bytes())?;
         }
+        Op::Tick => code.push(0x39)?,
         Op::Return => code.push(0x4a)?,
     }
     Ok(())

@@ -38,16 +38,23 @@ fn has_entries(parts: &Parts, op: Op) -> bool
     let names = parts.names.len();
     match op {
         Op::LoadConst(constant) => (constant as usize) < parts.consts.len(),
+        Op::Unit => true,
+        Op::False => true,
+        Op::True => true,
         Op::LoadLocal(_) => true,
         Op::DeclareLocal(name) => (name as usize) < names,
+        Op::AssignLocal(_, name) => (name as usize) < names,
         Op::AssignLocalOp(_, name, assign) => {
             (name as usize) < names && has_assign_op(parts, assign)
         }
+        Op::Pop => true,
         Op::Jump(_) => true,
         Op::JumpIfFalse(_) => true,
+        Op::JumpIfTrue(_) => true,
         Op::CallOp(name, _, token) => {
             (name as usize) < names && (token as usize) < parts.tokens.len()
         }
+        Op::Tick => true,
         Op::Return => true,
     }
 }

@@ -33,12 +33,19 @@ impl Effect {
     {
         match op {
             Op::LoadConst(_) => row(0, 1, Flow::Next),
+            Op::Unit => row(0, 1, Flow::Next),
+            Op::False => row(0, 1, Flow::Next),
+            Op::True => row(0, 1, Flow::Next),
             Op::LoadLocal(_) => row(0, 1, Flow::Next),
             Op::DeclareLocal(_) => row(1, 0, Flow::Next),
+            Op::AssignLocal(_, _) => row(1, 0, Flow::Next),
             Op::AssignLocalOp(_, _, _) => row(1, 0, Flow::Next),
+            Op::Pop => row(1, 0, Flow::Next),
             Op::Jump(target) => row(0, 0, Flow::Jump(target)),
             Op::JumpIfFalse(target) => row(1, 0, Flow::Branch(target)),
+            Op::JumpIfTrue(target) => row(1, 0, Flow::Branch(target)),
             Op::CallOp(_, count, _) => row(u32::from(count), 1, Flow::Next),
+            Op::Tick => row(0, 0, Flow::Next),
             Op::Return => row(0, 0, Flow::End),
         }
     }

@@ -76,9 +76,28 @@ fn bytes_of_an_instruction(rt: HostRuntime) -> Result<(), Fail> {
     let code = assemble(rt.alloc(), &[Op::CallOp(0x0201, 3, 0x0504), Op::Return])?;
     assert_eq!(rt; code.as_slice(), [0x23, 1, 2, 3, 4, 5, 0x4a].as_slice());
     assert_eq!(rt; decode(&code, 0), Some((Op::CallOp(0x0201, 3, 0x0504), 6)));
-    assert_eq!(rt; decode(&code, 2), None);
+    assert_eq!(rt; decode(&code, 2), Some((Op::Unit, 1)));
+    assert_eq!(rt; decode(&code, 5), None);
     assert_eq!(rt; decode(&code, 6), Some((Op::Return, 1)));
     assert_eq!(rt; decode(&code, 7), None);
+    Ok(())
+}
+
+#[test]
+fn short_instructions_read_again(rt: HostRuntime) -> Result<(), Fail> {
+    let ops = [Op::Unit, Op::False, Op::True, Op::Pop, Op::Tick];
+    let code = assemble(rt.alloc(), &ops)?;
+    assert_eq!(rt; code.as_slice(), [2, 3, 4, 0x1b, 0x39].as_slice());
+    for (address, op) in ops.iter().enumerate() {
+        assert_eq!(rt; decode(&code, address), Some((*op, 1)));
+    }
+    let code = assemble(rt.alloc(), &[Op::AssignLocal(1, 2), Op::JumpIfTrue(5)])?;
+    assert_eq!(rt;
+        code.as_slice(),
+        [0x10, 1, 0, 2, 0, 0x1f, 5, 0, 0, 0].as_slice()
+    );
+    assert_eq!(rt; decode(&code, 0), Some((Op::AssignLocal(1, 2), 5)));
+    assert_eq!(rt; decode(&code, 5), Some((Op::JumpIfTrue(5), 5)));
     Ok(())
 }
 
@@ -116,6 +135,8 @@ fn refused_parts(rt: HostRuntime) {
     );
     let assign = [Op::LoadConst(0), Op::AssignLocalOp(0, 0, 1), Op::Return];
     assert_eq!(rt; verdict(alloc, &assign, 1), Err(Refusal::PoolIndex(3)));
+    let name = [Op::Unit, Op::AssignLocal(0, 1), Op::Return];
+    assert_eq!(rt; verdict(alloc, &name, 1), Err(Refusal::PoolIndex(1)));
     assert_eq!(rt;
         verdict(alloc, &[Op::Jump(1), Op::Return], 1),
         Err(Refusal::JumpTarget(0))

@@ -22,6 +22,7 @@ use Rattle.grain_run.specs.declared.replies.Reply.{Reply}
 meant : (p : View) (e : Engine) (b : Begin) (x : EvalAltResult) (finish : Answer → Finish) (ran : ℕ) → x ≢ faults.Memory → Evaluates p e b (Err x) finish ran → Means p e b (finish (Failed (problem_of x))) ran
 meant p e b (faults.ErrorFunctionNotFound s q) finish ran other h = h
 meant p e b (faults.ErrorMismatchDataType r a q) finish ran other h = h
+meant p e b (faults.ErrorAssignmentToConstant s q) finish ran other h = h
 meant p e b (faults.ErrorArithmetic s q) finish ran other h = h
 meant p e b (faults.ErrorTooManyOperations q) finish ran other h = h
 meant p e b (faults.ErrorTooManyVariables q) finish ran other h = h
@@ -31,6 +32,7 @@ meant p e b faults.Memory finish ran other h = absurd (other refl)
 no_want : (x : EvalAltResult) → x ≢ faults.Memory → Failed (problem_of x) ≢ Failed NoMemory
 no_want (faults.ErrorFunctionNotFound s q) other e = cc
 no_want (faults.ErrorMismatchDataType r a q) other e = cc
+no_want (faults.ErrorAssignmentToConstant s q) other e = cc
 no_want (faults.ErrorArithmetic s q) other e = cc
 no_want (faults.ErrorTooManyOperations q) other e = cc
 no_want (faults.ErrorTooManyVariables q) other e = cc

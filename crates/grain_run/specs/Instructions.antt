@@ -11,12 +11,19 @@ use Rattle.grain_run.specs.declared.table.Form.{Form}
 -- the word that begins the instruction's line
 abbrev pub word_of : Op → List ℕ
 word_of (op.LoadConst c) = codes "load_const"
+word_of op.Unit = codes "unit"
+word_of op.False = codes "false"
+word_of op.True = codes "true"
 word_of (op.LoadLocal s) = codes "load_local"
 word_of (op.DeclareLocal n) = codes "declare_local"
+word_of (op.AssignLocal s n) = codes "assign_local"
 word_of (op.AssignLocalOp s n a) = codes "assign_local_op"
+word_of op.Pop = codes "pop"
 word_of (op.Jump t) = codes "jump"
 word_of (op.JumpIfFalse t) = codes "jump_if_false"
+word_of (op.JumpIfTrue t) = codes "jump_if_true"
 word_of (op.CallOp n k o) = codes "call_op"
+word_of op.Tick = codes "tick"
 word_of op.Return = codes "return"
 
 -- a number of one byte or of two, or a target of four

@@ -1,5 +1,5 @@
 -- What the words behind a line's first word say. They are read from left to right, so that the first wrong one decides.
-use Rattle.std.specs.Prelude.{ℕ, ◌^◌, ◌-◌, ℤ, Bool, List, [], ◌∷◌, Option, Some, None, Result, Ok, Err, codes, bytes_eq, ◌==◌, if◌then◌else◌}
+use Rattle.std.specs.Prelude.{ℕ, ◌^◌, ◌-◌, ℤ, Bool, true, false, List, [], ◌∷◌, Option, Some, None, Result, Ok, Err, codes, bytes_eq, ◌==◌, if◌then◌else◌}
 use Rattle.grain_value.specs.declared.values.Dynamic.{Dynamic}
 use Rattle.grain_value.specs.declared.values.Dynamic.TheVariants as dynamic
 use Rattle.grain_value.specs.declared.operators.Token.{Token}
@@ -35,13 +35,21 @@ abbrev pub number_word : ℕ → Word → Result ℕ Reason
 number_word most (Bare w) = present (number most w)
 number_word most w = Err NotBuilt
 
--- a value: an integer so far
+-- an integer
 abbrev pub value_or : Option ℤ → Result Dynamic Reason
 value_or None = Err NotBuilt
 value_or (Some n) = Ok (dynamic.Int n)
 
+-- a value: unit, a truth value or an integer so far
+abbrev pub value_of : List ℕ → Result Dynamic Reason
+value_of w =
+    if bytes_eq w (codes "()") then Ok dynamic.Unit
+    else (if bytes_eq w (codes "true") then Ok (dynamic.Bool true)
+    else (if bytes_eq w (codes "false") then Ok (dynamic.Bool false)
+    else value_or (integer w)))
+
 abbrev pub value_word : Word → Result Dynamic Reason
-value_word (Bare w) = value_or (integer w)
+value_word (Bare w) = value_of w
 value_word w = Err NotBuilt
 
 abbrev pub text_word : Word → Result (List ℕ) Reason

@@ -1,7 +1,7 @@
 //! What the words behind a line's first word say.
 
 ghost use Rattle.std.specs.Prelude.{◌≡◌, ◌<◌, IfOk, ◌≤◌, IfOk, Ok};
-ghost use Rattle.grain_run.specs.Operands.{first, alone, number_word, value_word, text_word, limit_word, at_least_one, limit_of, constant_of, text_of, token_of, stack_of, index, assign_of};
+ghost use Rattle.grain_run.specs.Operands.{first, alone, number_word, value_of, value_word, text_word, limit_word, at_least_one, limit_of, constant_of, text_of, token_of, stack_of, index, assign_of};
 ghost use Rattle.grain_run.specs.Seen.{first_seen, index_seen, text_seen};
 
 use crate::numerals::{integer, number};
@@ -50,14 +50,30 @@ fn number_word(most: u64, word: &Word) -> Result<u64, Reason>
     }
 }
 
+// A value as a word: unit, a truth value or an integer.
+fn value_of(word: &str) -> Result<Dynamic, Reason>
+    ensures { result ≡ value_of word.now }
+{
+    if word == "()" {
+        return Ok(Dynamic::Unit);
+    }
+    if word == "true" {
+        return Ok(Dynamic::Bool(true));
+    }
+    if word == "false" {
+        return Ok(Dynamic::Bool(false));
+    }
+    match integer(word.as_bytes()) {
+        None => Err(Reason::NotBuilt),
+        Some(integer) => Ok(Dynamic::Int(integer)),
+    }
+}
+
 fn value_word(word: &Word) -> Result<Dynamic, Reason>
     ensures { result ≡ value_word word.now }
 {
     match word {
-        Word::Bare(text) => match integer(text.as_str().as_bytes()) {
-            None => Err(Reason::NotBuilt),
-            Some(integer) => Ok(Dynamic::Int(integer)),
-        },
+        Word::Bare(text) => value_of(text.as_str()),
         _ => Err(Reason::NotBuilt),
     }
 }

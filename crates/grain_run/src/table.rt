@@ -50,7 +50,7 @@ pub enum Line {
 }
 
 /// The lines, by their first words.
-pub const LINES: [(&str, Line); 15] = [
+pub const LINES: [(&str, Line); 22] = [
     ("limit", Line::Limit),
     ("const", Line::Constant),
     ("name", Line::Name),
@@ -63,6 +63,27 @@ pub const LINES: [(&str, Line); 15] = [
         Line::Instruction(Form {
             tag: 0x01,
             operands: [Some(Kind::Index), None, None],
+        }),
+    ),
+    (
+        "unit",
+        Line::Instruction(Form {
+            tag: 0x02,
+            operands: [None, None, None],
+        }),
+    ),
+    (
+        "false",
+        Line::Instruction(Form {
+            tag: 0x03,
+            operands: [None, None, None],
+        }),
+    ),
+    (
+        "true",
+        Line::Instruction(Form {
+            tag: 0x04,
+            operands: [None, None, None],
         }),
     ),
     (
@@ -80,10 +101,24 @@ pub const LINES: [(&str, Line); 15] = [
         }),
     ),
     (
+        "assign_local",
+        Line::Instruction(Form {
+            tag: 0x10,
+            operands: [Some(Kind::Index), Some(Kind::Index), None],
+        }),
+    ),
+    (
         "assign_local_op",
         Line::Instruction(Form {
             tag: 0x11,
             operands: [Some(Kind::Index), Some(Kind::Index), Some(Kind::Index)],
+        }),
+    ),
+    (
+        "pop",
+        Line::Instruction(Form {
+            tag: 0x1b,
+            operands: [None, None, None],
         }),
     ),
     (
@@ -101,10 +136,24 @@ pub const LINES: [(&str, Line); 15] = [
         }),
     ),
     (
+        "jump_if_true",
+        Line::Instruction(Form {
+            tag: 0x1f,
+            operands: [Some(Kind::Target), None, None],
+        }),
+    ),
+    (
         "call_op",
         Line::Instruction(Form {
             tag: 0x23,
             operands: [Some(Kind::Index), Some(Kind::Byte), Some(Kind::Index)],
+        }),
+    ),
+    (
+        "tick",
+        Line::Instruction(Form {
+            tag: 0x39,
+            operands: [None, None, None],
         }),
     ),
     (

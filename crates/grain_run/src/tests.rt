@@ -117,10 +117,11 @@ fn no_listings(rt: HostRuntime) -> Result<(), OutOfMemory> {
         "grain 1\nmain 65536\nreturn\nend\n",
         "grain 1\nconst 9223372036854775808\nmain 1\nreturn\nend\n",
         "grain 1\nconst\nmain 1\nreturn\nend\n",
+        "grain 1\nconst True\nmain 1\nreturn\nend\n",
         "grain 1\nname \"a\"b\nmain 1\nreturn\nend\n",
         "grain 1\nname \"\\u{d800}\"\nmain 1\nreturn\nend\n",
         "grain 1\nname \"\\u{110000}\"\nmain 1\nreturn\nend\n",
-        "grain 1\nop \"-\"\nmain 1\nreturn\nend\n",
+        "grain 1\nop \"/\"\nmain 1\nreturn\nend\n",
         "grain 1\nassign 0 0 0 0\nmain 1\nreturn\nend\n",
         "grain 1\nlimit operations 0\nmain 1\nreturn\nend\n",
         "grain 1\nlimit operations 1\nlimit operations 1\nmain 1\nreturn\nend\n",
@@ -210,4 +211,101 @@ fn an_unknown_command_is_told_the_usage(rt: HostRuntime) -> Result<(), OutOfMemo
     let usage = "usage: run, check, list or self N\n";
     check(&rt, rt.alloc(), "walk", SUM, 2, usage)?;
     check(&rt, rt.alloc(), "", SUM, 2, usage)
+}
+
+#[test]
+fn operators_on_integers(rt: HostRuntime) -> Result<(), OutOfMemory> {
+    let rows = [
+        ("-", "value 5\n"),
+        ("*", "value 14\n"),
+        ("==", "value false\n"),
+        ("!=", "value true\n"),
+        ("<", "value false\n"),
+        ("<=", "value false\n"),
+        (">", "value true\n"),
+        (">=", "value true\n"),
+    ];
+    for (op, text) in rows {
+        let listing = format!(in rt.alloc();
+            "grain 1\nconst 7\nconst 2\nname \"{op}\"\nop \"{op}\"\nmain 2\nload_const 0\nload_const 1\ncall_op 0 2 0\nreturn\nend\n"
+        )?;
+        check(&rt, rt.alloc(), "run", listing.as_str(), 0, text)?;
+    }
+    Ok(())
+}
+
+#[test]
+fn assignments_change_the_entry(rt: HostRuntime) -> Result<(), OutOfMemory> {
+    let rows = [
+        ("assign_local_op 0 0 0", "value 5\n"),
+        ("assign_local_op 0 0 1", "value 14\n"),
+        ("assign_local 0 0", "value 2\n"),
+        ("pop", "value 7\n"),
+    ];
+    for (line, text) in rows {
+        let listing = format!(in rt.alloc();
+            "grain 1\nconst 7\nconst 2\nname \"x\"\nname \"-=\"\nname \"-\"\nname \"*=\"\nname \"*\"\nop \"-=\"\nop \"-\"\nop \"*=\"\nop \"*\"\nassign 0 1 1 2\nassign 2 3 3 4\nmain 1\nload_const 0\ndeclare_local 0\nload_const 1\n{line}\nload_local 0\nreturn\nend\n"
+        )?;
+        check(&rt, rt.alloc(), "run", listing.as_str(), 0, text)?;
+    }
+    Ok(())
+}
+
+#[test]
+fn truth_values_and_ticks(rt: HostRuntime) -> Result<(), OutOfMemory> {
+    let rows = [
+        ("grain 1\nmain 1\nunit\nreturn\nend\n", 0, "value ()\n"),
+        (
+            "grain 1\nconst ()\nmain 1\nload_const 0\nreturn\nend\n",
+            0,
+            "value ()\n",
+        ),
+        (
+            "grain 1\nconst true\nmain 1\nload_const 0\nreturn\nend\n",
+            0,
+            "value true\n",
+        ),
+        (
+            "grain 1\nconst false\nmain 1\nload_const 0\nreturn\nend\n",
+            0,
+            "value false\n",
+        ),
+        (
+            "grain 1\nmain 1\ntrue\njump_if_true over\nfalse\nreturn\nover:\ntrue\nreturn\nend\n",
+            0,
+            "value true\n",
+        ),
+        (
+            "grain 1\nmain 1\nfalse\njump_if_true over\nfalse\nreturn\nover:\ntrue\nreturn\nend\n",
+            0,
+            "value false\n",
+        ),
+        (
+            "grain 1\nlimit operations 1\nmain 1\ntick\ntick\nreturn\nend\n",
+            1,
+            "fault ErrorTooManyOperations\nToo many operations\ntrace 1\n",
+        ),
+    ];
+    for (listing, status, text) in rows {
+        check(&rt, rt.alloc(), "run", listing, status, text)?;
+    }
+    Ok(())
+}
+
+#[test]
+fn overflows_are_told(rt: HostRuntime) -> Result<(), OutOfMemory> {
+    let rows = [
+        (
+            "grain 1\nconst -9223372036854775808\nconst 1\nname \"-\"\nop \"-\"\nmain 2\nload_const 0\nload_const 1\ncall_op 0 2 0\nreturn\nend\n",
+            "fault ErrorArithmetic\nSubtraction overflow: -9223372036854775808 - 1\ntrace 6\n",
+        ),
+        (
+            "grain 1\nconst 9223372036854775807\nconst 2\nname \"*\"\nop \"*\"\nmain 2\nload_const 0\nload_const 1\ncall_op 0 2 0\nreturn\nend\n",
+            "fault ErrorArithmetic\nMultiplication overflow: 9223372036854775807 * 2\ntrace 6\n",
+        ),
+    ];
+    for (listing, text) in rows {
+        check(&rt, rt.alloc(), "run", listing, 1, text)?;
+    }
+    Ok(())
 }

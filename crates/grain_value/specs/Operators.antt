@@ -6,7 +6,16 @@ use Rattle.grain_value.specs.declared.operators.Token.TheVariants as token
 abbrev pub token_in : List ℕ → Option Token
 token_in t =
     if bytes_eq t (codes "+") then Some token.Plus
+    else (if bytes_eq t (codes "-") then Some token.Minus
+    else (if bytes_eq t (codes "*") then Some token.Multiply
+    else (if bytes_eq t (codes "==") then Some token.EqualsTo
+    else (if bytes_eq t (codes "!=") then Some token.NotEqualsTo
+    else (if bytes_eq t (codes "<") then Some token.LessThan
     else (if bytes_eq t (codes "<=") then Some token.LessThanEqualsTo
+    else (if bytes_eq t (codes ">") then Some token.GreaterThan
+    else (if bytes_eq t (codes ">=") then Some token.GreaterThanEqualsTo
     else (if bytes_eq t (codes "+=") then Some token.PlusAssign
+    else (if bytes_eq t (codes "-=") then Some token.MinusAssign
+    else (if bytes_eq t (codes "*=") then Some token.MultiplyAssign
     else (if bytes_eq t (codes "other") then Some token.Other
-    else None)))
+    else None))))))))))))

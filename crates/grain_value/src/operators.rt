@@ -8,25 +8,61 @@ ghost use Rattle.grain_value.specs.Operators.{token_in};
 pub enum Token {
     /// `+`
     Plus,
+    /// `-`
+    Minus,
+    /// `*`
+    Multiply,
+    /// `==`
+    EqualsTo,
+    /// `!=`
+    NotEqualsTo,
+    /// `<`
+    LessThan,
     /// `<=`
     LessThanEqualsTo,
+    /// `>`
+    GreaterThan,
+    /// `>=`
+    GreaterThanEqualsTo,
     /// `+=`
     PlusAssign,
+    /// `-=`
+    MinusAssign,
+    /// `*=`
+    MultiplyAssign,
     /// `other`, which has no built-in.
     Other,
 }
 
 impl Token {
-    /// The token of this text, where there is one: `+`, `<=`, `+=` or `other`.
+    /// The token of this text, where there is one: an operator, or `other`.
     pub fn lookup_from_syntax(syntax: &str) -> Option<Token>
         ensures { result ≡ token_in syntax.now }
     {
         if syntax == "+" {
             Some(Token::Plus)
+        } else if syntax == "-" {
+            Some(Token::Minus)
+        } else if syntax == "*" {
+            Some(Token::Multiply)
+        } else if syntax == "==" {
+            Some(Token::EqualsTo)
+        } else if syntax == "!=" {
+            Some(Token::NotEqualsTo)
+        } else if syntax == "<" {
+            Some(Token::LessThan)
         } else if syntax == "<=" {
             Some(Token::LessThanEqualsTo)
+        } else if syntax == ">" {
+            Some(Token::GreaterThan)
+        } else if syntax == ">=" {
+            Some(Token::GreaterThanEqualsTo)
         } else if syntax == "+=" {
             Some(Token::PlusAssign)
+        } else if syntax == "-=" {
+            Some(Token::MinusAssign)
+        } else if syntax == "*=" {
+            Some(Token::MultiplyAssign)
         } else if syntax == "other" {
             Some(Token::Other)
         } else {

@@ -41,6 +41,7 @@ module _ (p : View) (e : Engine) (b : Begin) (trace : List Fault) (scope : List 
   evaluated (Ok (Err fault.Memory)) h = (passed, runs (Ok (Err fault.Memory)) h (Some passed) (clear_before 0 passed) tt)
   evaluated (Ok (Err (fault.ErrorFunctionNotFound s q))) h = runs (Ok (Err (fault.ErrorFunctionNotFound s q))) h None (never_clear 0 passed) tt
   evaluated (Ok (Err (fault.ErrorMismatchDataType s t q))) h = runs (Ok (Err (fault.ErrorMismatchDataType s t q))) h None (never_clear 0 passed) tt
+  evaluated (Ok (Err (fault.ErrorAssignmentToConstant s q))) h = runs (Ok (Err (fault.ErrorAssignmentToConstant s q))) h None (never_clear 0 passed) tt
   evaluated (Ok (Err (fault.ErrorArithmetic s q))) h = runs (Ok (Err (fault.ErrorArithmetic s q))) h None (never_clear 0 passed) tt
   evaluated (Ok (Err (fault.ErrorTooManyOperations q))) h = runs (Ok (Err (fault.ErrorTooManyOperations q))) h None (never_clear 0 passed) tt
   evaluated (Ok (Err (fault.ErrorTooManyVariables q))) h = runs (Ok (Err (fault.ErrorTooManyVariables q))) h None (never_clear 0 passed) tt
@@ -59,6 +60,7 @@ module _ (p : View) (e : Engine) (b : Begin) (trace : List Fault) (scope : List 
   has_cause (Ok (Err fault.Memory)) h = tt
   has_cause (Ok (Err (fault.ErrorFunctionNotFound s q))) h = caused (fault.ErrorFunctionNotFound s q) h
   has_cause (Ok (Err (fault.ErrorMismatchDataType s t q))) h = caused (fault.ErrorMismatchDataType s t q) h
+  has_cause (Ok (Err (fault.ErrorAssignmentToConstant s q))) h = caused (fault.ErrorAssignmentToConstant s q) h
   has_cause (Ok (Err (fault.ErrorArithmetic s q))) h = caused (fault.ErrorArithmetic s q) h
   has_cause (Ok (Err (fault.ErrorTooManyOperations q))) h = caused (fault.ErrorTooManyOperations q) h
   has_cause (Ok (Err (fault.ErrorTooManyVariables q))) h = caused (fault.ErrorTooManyVariables q) h

@@ -4,7 +4,6 @@ use Rattle.grain_value.specs.declared.values.Held.{Held}
 use Rattle.grain_value.specs.declared.memory.OutOfMemory.{OutOfMemory}
 use Rattle.grain_program.specs.View.{View}
 use Rattle.grain_program.specs.declared.instructions.Op.{Op}
-use Rattle.grain_program.specs.declared.instructions.Op.TheVariants as op
 use Rattle.grain_program.specs.declared.input.Chunk.{Chunk}
 use Rattle.grain_program.specs.Effects.{takes_of, gives_of, leads_of}
 use Rattle.grain_program.specs.Typing.{In, IsProgram}
@@ -53,11 +52,13 @@ module _ (p : View) (engine : Engine) (s s' : State) (f f' : Activation) (height
       (λ b same. subst (In b) (sym leads) (inl same)) (e ∙ ap (λ (n : ℕ). n - takes_of o + gives_of o) (sym depth))
 
   -- on to one of two addresses
-  pub goes_either : (target : ℕ) → said ≡ op.JumpIfFalse target → Lands engine s f s' f' (λ a. (a ≡ target) ⊎ (a ≡ f.address + width)) (length (own s.stacks f.bottom) - 1) r → GoesOn p engine s f s' f' r
-  goes_either target is lands =
+  pub goes_either : (o : Op) (target : ℕ) → said ≡ o → takes_of o ≡ 1 → gives_of o ≡ 0 → leads_of o (f.address + width) ≡ cond (nat_lt target (f.address + width)) (target ∷ (f.address + width) ∷ []) ((f.address + width) ∷ target ∷ []) →
+      Lands engine s f s' f' (λ a. (a ≡ target) ⊎ (a ≡ f.address + width)) (length (own s.stacks f.bottom) - 1) r → GoesOn p engine s f s' f' r
+  goes_either o target is takes gives leads lands =
       let depth = depth_own f.bottom (height - f.bottom) height s.stacks.operands.items told refl in
-      goes_on p engine s s' f f' (λ a. (a ≡ target) ⊎ (a ≡ f.address + width)) (length (own s.stacks f.bottom) - 1) (height - f.bottom) (op.JumpIfFalse target) width r
-      (subst (λ (q : Op). Foreseen p f.chunk f.address (height - f.bottom) q width) is seen) kept lands (of_two target (f.address + width)) (omega (arith, depth))
+      goes_on p engine s s' f f' (λ a. (a ≡ target) ⊎ (a ≡ f.address + width)) (length (own s.stacks f.bottom) - 1) (height - f.bottom) o width r
+      (subst (λ (q : Op). Foreseen p f.chunk f.address (height - f.bottom) q width) is seen) kept lands
+      (λ b one. subst (In b) (sym leads) (of_two target (f.address + width) b one)) (omega (arith, depth, takes, gives))
 
 nothing_above : (xs : List Held) → drop (length xs) xs ≡ []
 nothing_above [] = refl

@@ -1,12 +1,14 @@
 -- Where the built-ins and the slots have no result.
 use Rattle.std.proofs.Common.{◌≡◌, ◌≤◌, ℕ, zero, suc, List, [], ◌∷◌, Some, None, Bool, true, false, refl, sym, arith, length, if◌then◌else◌}
-use Rattle.std.specs.Prelude.{ℤ, ◌+ℤ◌}
+use Rattle.std.specs.Prelude.{ℤ}
 use Rattle.grain_value.specs.declared.values.Dynamic.{Dynamic}
 use Rattle.grain_value.specs.declared.values.Dynamic.TheVariants as dynamic
 use Rattle.grain_value.specs.declared.scopes.Entry.{Entry}
 use Rattle.grain_value.specs.declared.operators.Token.{Token}
 use Rattle.grain_value.specs.declared.operators.Token.TheVariants as token
-use Rattle.grain_vm.specs.means.Operators.{NotBuiltIn, Gave, Overflowed, fits64, overflow_text, sum_of, binary, operation, assignment, where_fast}
+use Rattle.grain_vm.specs.declared.operators.Calculation.{Calculation}
+use Rattle.grain_vm.specs.declared.operators.Calculation.TheVariants as calculation
+use Rattle.grain_vm.specs.means.Operators.{NotBuiltIn, Gave, Overflowed, fits64, exact, overflow_text, calculated, integers, binary, operation, assigned_integers, assignment, where_fast}
 use Rattle.grain_vm.specs.means.Acts.{held_at}
 use Rattle.grain_vm.specs.means.Causes.{Overflows}
 
@@ -20,17 +22,29 @@ gave_none e = cc
 same_text : {s t : List ℕ} → Overflowed s ≡ Overflowed t → s ≡ t
 same_text e = cc
 
-of_sum : (x y : ℤ) (text : List ℕ) → sum_of x y ≡ Overflowed text → Overflows text
-of_sum x y text e = at (fits64 (x +ℤ y)) refl e where
-  at : (b : Bool) → fits64 (x +ℤ y) ≡ b → (if b then Gave (dynamic.Int (x +ℤ y)) else Overflowed (overflow_text x y)) ≡ Overflowed text → Overflows text
+of_calculated : (c : Calculation) (x y : ℤ) (text : List ℕ) → calculated c x y ≡ Overflowed text → Overflows text
+of_calculated c x y text e = at (fits64 (exact c x y)) refl e where
+  at : (b : Bool) → fits64 (exact c x y) ≡ b → (if b then Gave (dynamic.Int (exact c x y)) else Overflowed (overflow_text c x y)) ≡ Overflowed text → Overflows text
   at true h e = gave_none e
-  at false h e = record { left = x; right = y; past = h; told = sym (same_text e) }
+  at false h e = record { calculation = c; left = x; right = y; past = h; told = sym (same_text e) }
+
+of_integers : (t : Token) (x y : ℤ) (text : List ℕ) → integers t x y ≡ Overflowed text → Overflows text
+of_integers token.Plus x y text e = of_calculated calculation.Addition x y text e
+of_integers token.Minus x y text e = of_calculated calculation.Subtraction x y text e
+of_integers token.Multiply x y text e = of_calculated calculation.Multiplication x y text e
+of_integers token.EqualsTo x y text e = gave_none e
+of_integers token.NotEqualsTo x y text e = gave_none e
+of_integers token.LessThan x y text e = gave_none e
+of_integers token.LessThanEqualsTo x y text e = gave_none e
+of_integers token.GreaterThan x y text e = gave_none e
+of_integers token.GreaterThanEqualsTo x y text e = gave_none e
+of_integers token.PlusAssign x y text e = none_of e
+of_integers token.MinusAssign x y text e = none_of e
+of_integers token.MultiplyAssign x y text e = none_of e
+of_integers token.Other x y text e = none_of e
 
 of_binary : (t : Token) (x y : Dynamic) (text : List ℕ) → binary t x y ≡ Overflowed text → Overflows text
-of_binary token.Plus (dynamic.Int x) (dynamic.Int y) text e = of_sum x y text e
-of_binary token.LessThanEqualsTo (dynamic.Int x) (dynamic.Int y) text e = gave_none e
-of_binary token.PlusAssign (dynamic.Int x) (dynamic.Int y) text e = none_of e
-of_binary token.Other (dynamic.Int x) (dynamic.Int y) text e = none_of e
+of_binary t (dynamic.Int x) (dynamic.Int y) text e = of_integers t x y text e
 of_binary t (dynamic.Int x) (dynamic.Bool b) text e = none_of e
 of_binary t (dynamic.Int x) dynamic.Unit text e = none_of e
 of_binary t (dynamic.Bool b) v text e = none_of e
@@ -42,11 +56,23 @@ of_operation t (x ∷ []) text e = none_of e
 of_operation t (x ∷ y ∷ []) text e = of_binary t x y text e
 of_operation t (x ∷ y ∷ z ∷ args) text e = none_of e
 
+of_assigned : (t : Token) (x y : ℤ) (text : List ℕ) → assigned_integers t x y ≡ Overflowed text → Overflows text
+of_assigned token.Plus x y text e = none_of e
+of_assigned token.Minus x y text e = none_of e
+of_assigned token.Multiply x y text e = none_of e
+of_assigned token.EqualsTo x y text e = none_of e
+of_assigned token.NotEqualsTo x y text e = none_of e
+of_assigned token.LessThan x y text e = none_of e
+of_assigned token.LessThanEqualsTo x y text e = none_of e
+of_assigned token.GreaterThan x y text e = none_of e
+of_assigned token.GreaterThanEqualsTo x y text e = none_of e
+of_assigned token.PlusAssign x y text e = of_calculated calculation.Addition x y text e
+of_assigned token.MinusAssign x y text e = of_calculated calculation.Subtraction x y text e
+of_assigned token.MultiplyAssign x y text e = of_calculated calculation.Multiplication x y text e
+of_assigned token.Other x y text e = none_of e
+
 of_assignment : (t : Token) (x y : Dynamic) (text : List ℕ) → assignment t x y ≡ Overflowed text → Overflows text
-of_assignment token.PlusAssign (dynamic.Int x) (dynamic.Int y) text e = of_sum x y text e
-of_assignment token.Plus (dynamic.Int x) (dynamic.Int y) text e = none_of e
-of_assignment token.LessThanEqualsTo (dynamic.Int x) (dynamic.Int y) text e = none_of e
-of_assignment token.Other (dynamic.Int x) (dynamic.Int y) text e = none_of e
+of_assignment t (dynamic.Int x) (dynamic.Int y) text e = of_assigned t x y text e
 of_assignment t (dynamic.Int x) (dynamic.Bool b) text e = none_of e
 of_assignment t (dynamic.Int x) dynamic.Unit text e = none_of e
 of_assignment t (dynamic.Bool b) v text e = none_of e

@@ -6,7 +6,7 @@ use Rattle.grain_value.specs.declared.values.Dynamic.TheVariants as dynamic
 use Rattle.grain_value.specs.declared.values.Held.{Held}
 use Rattle.grain_value.specs.declared.scopes.Entry.{Entry}
 use Rattle.grain_value.specs.Scopes.{set_held}
-use Rattle.grain_fault.specs.Problems.{Problem, NoMemory, TooManyOperations, TooManyVariables}
+use Rattle.grain_fault.specs.Problems.{Problem, NoMemory, AssignmentToConstant, TooManyOperations, TooManyVariables}
 use Rattle.grain_fault.specs.Problems as problem
 use Rattle.grain_program.specs.declared.input.AssignOp.{AssignOp}
 use Rattle.grain_program.specs.declared.instructions.Op.{Op}
@@ -14,10 +14,10 @@ use Rattle.grain_program.specs.declared.instructions.Op.TheVariants as op
 use Rattle.grain_program.specs.Reading.{op_at}
 use Rattle.grain_program.specs.View.{name_of, token_of, assign_op_of}
 use Rattle.grain_vm.specs.means.Operators.{Outcome, NotBuiltIn, Gave, Overflowed, operation, assignment, where_fast}
-use Rattle.grain_vm.specs.means.Acts.{Act, Go, End, Then, Answer, Came, Failed, World, Setup, Frame, Todo, InFrame, Place, top, below, under, arguments, held_at, read_write, noted, stepped, is_full, is_stop, or_return, left, marked, raised, charged, onward, jumped, loaded, declared, answered, stored, assigned, tested, instr, begun, next, passing, closed, called, main_frame, position}
+use Rattle.grain_vm.specs.means.Acts.{Act, Go, End, Then, Answer, Came, Failed, World, Setup, Frame, Todo, InFrame, Place, top, below, under, arguments, held_at, read_write, noted, stepped, is_full, is_stop, or_return, left, marked, raised, charged, onward, jumped, loaded, declared, answered, refused, put, stored, assigned, assigned_op, agrees, branched, tested, instr, begun, next, passing, closed, called, main_frame, position}
 use Rattle.grain_vm.specs.means.Ends.{Ends, ended, went, joined}
 use Rattle.grain_vm.specs.means.Length.{cost, run_length}
-use Rattle.grain_vm.specs.means.Causes.{RaisedAt, Operates, Tests, GoesBack, Declares, UsesSlot, Overflows, Caused}
+use Rattle.grain_vm.specs.means.Causes.{RaisedAt, Operates, Tests, Charges, Declares, UsesSlot, Assigns, Overflows, Caused}
 use Rattle.grain_vm.proofs.Reasons.{operator_overflows, assignment_overflows, past_scope}
 
 -- what is left to do begins after so many instructions, keeps these tokens out, and ends with a cause
@@ -58,13 +58,13 @@ module _ (m : Setup) where
     here : (Kind : ℕ → Op → Type 0) → Kind f.address o → RaisedAt m.program (position m f) Kind
     here Kind kind = record { address = f.address; width = width; instruction = o; stands = stands; kind = kind; position = refl }
 
-    even_charged : (g : Frame) (this : Option Place) (w : World) → GoesBack f.address o → Even w (charged m f w (onward m f g this))
+    even_charged : (g : Frame) (this : Option Place) (w : World) → Charges f.address o → Even w (charged m f w (onward m f g this))
     even_charged g this w back =
         by_test (Even w) (nat_lt w.count m.engine.limits.operations) (marked m f w (λ w1. onward m f g this (record w1 { count = w1.count + 1 }))) (raised m f (TooManyOperations (position m f)) w)
         (λ _. even_marked f w (λ w1. onward m f g this (record w1 { count = w1.count + 1 })) (even_onward f g this w (record w { passed = w.passed + 1; count = w.count + 1 }) refl refl))
-        (λ full. even_raised f (TooManyOperations (position m f)) w (ltb-false w.count m.engine.limits.operations full, here GoesBack back))
+        (λ full. even_raised f (TooManyOperations (position m f)) w (ltb-false w.count m.engine.limits.operations full, here Charges back))
 
-    even_jumped : (g : Frame) (this : Option Place) (w : World) → (g.address ≤ f.address → GoesBack f.address o) → Even w (jumped m f g this w)
+    even_jumped : (g : Frame) (this : Option Place) (w : World) → (g.address ≤ f.address → Charges f.address o) → Even w (jumped m f g this w)
     even_jumped g this w back =
         by_test (Even w) (nat_le g.address f.address) (charged m f w (onward m f g this)) (onward m f g this w) (λ le. even_charged g this w (back (leb-true g.address f.address le))) (λ _. even_onward f g this w w refl refl)
 
@@ -83,35 +83,58 @@ module _ (m : Setup) where
     even_answered name args next operands this w kind (Gave v) over = even_onward f _ this w w refl refl
     even_answered name args next operands this w kind (Overflowed t) over = even_raised f _ w (over t refl, here Operates kind)
 
+    even_refused : (n : ℕ) (w : World) → Assigns m.program (name_of m.program n) f.address o → Even w (refused m n f w)
+    even_refused n w kind = even_raised f (AssignmentToConstant (name_of m.program n) (position m f)) w (here (Assigns m.program (name_of m.program n)) kind)
+
+    even_put : (v : Dynamic) (h : Held) (slot next : ℕ) (this : Option Place) (w : World) → Even w (put m v h f slot next this w)
+    even_put v h slot next this w = even_written f (stepped f next (below f.operands)) this w (λ scope. set_held scope (f.base + slot) (record h { value = v }))
+
+    even_assigned : (n slot next : ℕ) (this : Option Place) (w : World) → UsesSlot f.address o → Assigns m.program (name_of m.program n) f.address o → (h : Option Held) → held_at w.scope (f.base + slot) ≡ h → Even w (assigned m h n f slot next this w)
+    even_assigned n slot next this w uses names None e = even_raised f _ w (past_scope w.scope (f.base + slot) e, here UsesSlot uses)
+    even_assigned n slot next this w uses names (Some h) e =
+        by_test (Even w) h.read_only (refused m n f w) (put m (top f.operands) h f slot next this w) (λ _. even_refused n w names) (λ _. even_put (top f.operands) h slot next this w)
+
     even_stored : (name : List ℕ) (h : Held) (slot next : ℕ) (this : Option Place) (w : World) → Operates f.address o → (outcome : Outcome) → ((text : List ℕ) → outcome ≡ Overflowed text → Overflows text) →
         Even w (stored m outcome name h f slot next this w)
     even_stored name h slot next this w kind NotBuiltIn over = even_raised f _ w (here Operates kind)
-    even_stored name h slot next this w kind (Gave v) over = even_written f (stepped f next (below f.operands)) this w (λ scope. set_held scope (f.base + slot) (record h { value = v }))
+    even_stored name h slot next this w kind (Gave v) over = even_put v h slot next this w
     even_stored name h slot next this w kind (Overflowed t) over = even_raised f _ w (over t refl, here Operates kind)
 
-    even_assigned : (a : AssignOp) (slot next : ℕ) (this : Option Place) (w : World) → Operates f.address o → UsesSlot f.address o → (h : Option Held) → held_at w.scope (f.base + slot) ≡ h → Even w (assigned m h a f slot next this w)
-    even_assigned a slot next this w kind uses None e = even_raised f _ w (past_scope w.scope (f.base + slot) e, here UsesSlot uses)
-    even_assigned a slot next this w kind uses (Some h) e =
-        even_stored (name_of m.program a.op_name) h slot next this w kind (where_fast m.engine.fast_operators (assignment a.op_assign h.value (top f.operands)))
-        (λ text over. assignment_overflows m.engine.fast_operators a.op_assign h.value (top f.operands) text over)
+    even_assigned_op : (n : ℕ) (a : AssignOp) (slot next : ℕ) (this : Option Place) (w : World) → Operates f.address o → UsesSlot f.address o → Assigns m.program (name_of m.program n) f.address o → (h : Option Held) → held_at w.scope (f.base + slot) ≡ h →
+        Even w (assigned_op m h n a f slot next this w)
+    even_assigned_op n a slot next this w kind uses names None e = even_raised f _ w (past_scope w.scope (f.base + slot) e, here UsesSlot uses)
+    even_assigned_op n a slot next this w kind uses names (Some h) e =
+        let said : Outcome = where_fast m.engine.fast_operators (assignment a.op_assign h.value (top f.operands)) in
+        by_test (Even w) h.read_only (refused m n f w) (stored m said (name_of m.program a.op_name) h f slot next this w) (λ _. even_refused n w names)
+        (λ _. even_stored (name_of m.program a.op_name) h slot next this w kind said (λ text over. assignment_overflows m.engine.fast_operators a.op_assign h.value (top f.operands) text over))
 
-    even_tested : (target next : ℕ) (this : Option Place) (w : World) → Tests f.address o → (target ≤ f.address → GoesBack f.address o) → (v : Dynamic) → Even w (tested m v f target next this w)
-    even_tested target next this w kind back (dynamic.Bool false) = even_jumped (stepped f target (below f.operands)) this w back
-    even_tested target next this w kind back (dynamic.Bool true) = even_onward f _ this w w refl refl
-    even_tested target next this w kind back (dynamic.Int n) = even_raised f _ w (refl, here Tests kind)
-    even_tested target next this w kind back dynamic.Unit = even_raised f _ w (refl, here Tests kind)
+    even_branched : (taken : Bool) (target next : ℕ) (this : Option Place) (w : World) → (target ≤ f.address → Charges f.address o) → Even w (branched m taken f target next this w)
+    even_branched true target next this w back = even_jumped (stepped f target (below f.operands)) this w back
+    even_branched false target next this w back = even_onward f _ this w w refl refl
+
+    even_tested : (wanted : Bool) (target next : ℕ) (this : Option Place) (w : World) → Tests f.address o → (target ≤ f.address → Charges f.address o) → (v : Dynamic) → Even w (tested m wanted v f target next this w)
+    even_tested wanted target next this w kind back (dynamic.Bool b) = even_branched (agrees wanted b) target next this w back
+    even_tested wanted target next this w kind back (dynamic.Int n) = even_raised f _ w (refl, here Tests kind)
+    even_tested wanted target next this w kind back dynamic.Unit = even_raised f _ w (refl, here Tests kind)
 
   even_instr : (f : Frame) (o : Op) (width : ℕ) → op_at m.program.code f.address ≡ Some (o, width) → (next : ℕ) (this : Option Place) (w : World) → Even w (instr m o next f this w)
   even_instr f (op.LoadConst c) width at next this w = even_onward f _ this w w refl refl
+  even_instr f op.Unit width at next this w = even_onward f _ this w w refl refl
+  even_instr f op.False width at next this w = even_onward f _ this w w refl refl
+  even_instr f op.True width at next this w = even_onward f _ this w w refl refl
   even_instr f (op.LoadLocal slot) width at next this w = even_loaded f (op.LoadLocal slot) width at slot next this w tt (held_at w.scope (f.base + slot)) refl
   even_instr f (op.DeclareLocal n) width at next this w = even_declared f (op.DeclareLocal n) width at (name_of m.program n) next this w tt
-  even_instr f (op.AssignLocalOp slot n a) width at next this w = even_assigned f (op.AssignLocalOp slot n a) width at (assign_op_of m.program a) slot next this w tt tt (held_at w.scope (f.base + slot)) refl
+  even_instr f (op.AssignLocal slot n) width at next this w = even_assigned f (op.AssignLocal slot n) width at n slot next this w tt refl (held_at w.scope (f.base + slot)) refl
+  even_instr f (op.AssignLocalOp slot n a) width at next this w = even_assigned_op f (op.AssignLocalOp slot n a) width at n (assign_op_of m.program a) slot next this w tt tt refl (held_at w.scope (f.base + slot)) refl
+  even_instr f op.Pop width at next this w = even_onward f _ this w w refl refl
   even_instr f (op.Jump target) width at next this w = even_jumped f (op.Jump target) width at (stepped f target f.operands) this w (λ le. le)
-  even_instr f (op.JumpIfFalse target) width at next this w = even_tested f (op.JumpIfFalse target) width at target next this w tt (λ le. le) (top f.operands)
+  even_instr f (op.JumpIfFalse target) width at next this w = even_tested f (op.JumpIfFalse target) width at false target next this w tt (λ le. le) (top f.operands)
+  even_instr f (op.JumpIfTrue target) width at next this w = even_tested f (op.JumpIfTrue target) width at true target next this w tt (λ le. le) (top f.operands)
   even_instr f (op.CallOp n count o) width at next this w =
       even_answered f (op.CallOp n count o) width at (name_of m.program n) (arguments count f.operands) next (under count f.operands) this w tt
       (where_fast m.engine.fast_operators (operation (token_of m.program o) (arguments count f.operands)))
       (λ text over. operator_overflows m.engine.fast_operators (token_of m.program o) (arguments count f.operands) text over)
+  even_instr f op.Tick width at next this w = even_charged f op.Tick width at (stepped f next f.operands) this w tt
   even_instr f op.Return width at next this w = even_marked f w (End (Came (top f.operands))) (refl, refl, tt)
 
   even_begun : (f : Frame) (this : Option Place) (w : World) (x : Option (Op × ℕ)) → op_at m.program.code f.address ≡ x → Even w (begun m (or_return x) f this w)
@@ -145,6 +168,7 @@ module _ (m : Setup) where
   later (Failed NoMemory) u clear cause = true-false cause clear
   later (Failed (problem.FunctionNotFound s p)) u clear cause = cause
   later (Failed (problem.MismatchDataType r a p)) u clear cause = cause
+  later (Failed (problem.AssignmentToConstant s p)) u clear cause = cause
   later (Failed (problem.Arithmetic s p)) u clear cause = cause
   later (Failed (problem.TooManyOperations p)) u clear cause = cause
   later (Failed (problem.TooManyVariables p)) u clear cause = cause

@@ -1,12 +1,56 @@
 //! The operators that are built in.
 
-ghost use Rattle.std.specs.Prelude.{◌≡◌, ◌++◌, ◌∷◌, ◌≤◌, [], IfOk, length, map};
-ghost use Rattle.grain_vm.specs.means.Operators.{binary, assignment, operation, where_fast, sum_of, overflow_text, types_text, signature_text};
+ghost use Rattle.std.specs.Prelude.{◌≡◌, ◌++◌, ◌∷◌, ◌≤◌, [], true, false, IfOk, MatchOption, length, map};
+ghost use Rattle.grain_value.specs.declared.values.Dynamic.TheVariants as dynamic;
+ghost use Rattle.grain_vm.specs.means.Operators.{Gave, fits64, exact, calculated, integers, binary, assigned_integers, assignment, operation, where_fast, overflow_lead, sign_between, overflow_text, types_text, signature_text};
 ghost use Rattle.grain_vm.specs.means.Acts.{value_in, arguments};
 ghost use Rattle.grain_vm.specs.frame.Hand.{outcome_of};
 
 use grain_value::{Dynamic, Held, OutOfMemory, Text, Token};
 use std::alloc::Global;
+
+/// What is calculated of two integers.
+#[derive(Clone, Copy, Debug, PartialEq, Eq)]
+pub enum Calculation {
+    Addition,
+    Subtraction,
+    Multiplication,
+}
+
+impl Calculation {
+    // The exact result, where it fits.
+    fn of(self, x: i64, y: i64) -> Option<i64>
+        ensures { MatchOption result (fits64 (exact self x y) ≡ false) (λ z. (z ≡ exact self x y) × (fits64 (exact self x y) ≡ true)) }
+    {
+        match self {
+            Calculation::Addition => x.checked_add(y),
+            Calculation::Subtraction => x.checked_sub(y),
+            Calculation::Multiplication => x.checked_mul(y),
+        }
+    }
+
+    // How it is told that a result does not fit, up to the first number.
+    fn overflow_lead(self) -> &'static str
+        ensures { result.now ≡ overflow_lead self }
+    {
+        match self {
+            Calculation::Addition => "Addition overflow: ",
+            Calculation::Subtraction => "Subtraction overflow: ",
+            Calculation::Multiplication => "Multiplication overflow: ",
+        }
+    }
+
+    // What stands between its numbers.
+    fn sign_between(self) -> &'static str
+        ensures { result.now ≡ sign_between self }
+    {
+        match self {
+            Calculation::Addition => " + ",
+            Calculation::Subtraction => " - ",
+            Calculation::Multiplication => " * ",
+        }
+    }
+}
 
 /// What a built-in operator says.
 #[derive(Drop)]
@@ -15,22 +59,44 @@ pub enum OpAnswer {
     NotBuiltIn,
     /// The value.
     Done(Dynamic),
-    /// The sum of these two integers does not fit.
-    Overflow(i64, i64),
+    /// The result of these two integers does not fit.
+    Overflow(Calculation, i64, i64),
 }
 
-// An operator on two values. Integers have `+`, which is exact, and `<=`.
+fn truth(holds: bool) -> OpAnswer
+    ensures { outcome_of result ≡ Gave (dynamic.Bool holds) }
+{
+    OpAnswer::Done(Dynamic::Bool(holds))
+}
+
+// An operator on two integers.
+fn integers(token: Token, x: i64, y: i64) -> OpAnswer
+    ensures { outcome_of result ≡ integers token x y }
+{
+    match token {
+        Token::Plus => calculate(Calculation::Addition, x, y),
+        Token::Minus => calculate(Calculation::Subtraction, x, y),
+        Token::Multiply => calculate(Calculation::Multiplication, x, y),
+        Token::EqualsTo => truth(x == y),
+        Token::NotEqualsTo => truth(x != y),
+        Token::LessThan => truth(x < y),
+        Token::LessThanEqualsTo => truth(x <= y),
+        Token::GreaterThan => truth(x > y),
+        Token::GreaterThanEqualsTo => truth(x >= y),
+        Token::PlusAssign => OpAnswer::NotBuiltIn,
+        Token::MinusAssign => OpAnswer::NotBuiltIn,
+        Token::MultiplyAssign => OpAnswer::NotBuiltIn,
+        Token::Other => OpAnswer::NotBuiltIn,
+    }
+}
+
+// An operator on two values.
 fn binary(token: Token, lhs: &Dynamic, rhs: &Dynamic) -> OpAnswer
     ensures { outcome_of result ≡ binary token lhs.now rhs.now }
 {
     match lhs {
         Dynamic::Int(x) => match rhs {
-            Dynamic::Int(y) => match token {
-                Token::Plus => sum(*x, *y),
-                Token::LessThanEqualsTo => OpAnswer::Done(Dynamic::Bool(*x <= *y)),
-                Token::PlusAssign => OpAnswer::NotBuiltIn,
-                Token::Other => OpAnswer::NotBuiltIn,
-            },
+            Dynamic::Int(y) => integers(token, *x, *y),
             Dynamic::Bool(_) => OpAnswer::NotBuiltIn,
             Dynamic::Unit => OpAnswer::NotBuiltIn,
         },
@@ -69,18 +135,34 @@ pub fn assign(fast: bool, token: Token, target: &Dynamic, value: &Dynamic) -> Op
     }
 }
 
-// An op-assignment's built-in. Integers have `+=`.
+// An op-assignment to two integers.
+fn assigned_integers(token: Token, x: i64, y: i64) -> OpAnswer
+    ensures { outcome_of result ≡ assigned_integers token x y }
+{
+    match token {
+        Token::Plus => OpAnswer::NotBuiltIn,
+        Token::Minus => OpAnswer::NotBuiltIn,
+        Token::Multiply => OpAnswer::NotBuiltIn,
+        Token::EqualsTo => OpAnswer::NotBuiltIn,
+        Token::NotEqualsTo => OpAnswer::NotBuiltIn,
+        Token::LessThan => OpAnswer::NotBuiltIn,
+        Token::LessThanEqualsTo => OpAnswer::NotBuiltIn,
+        Token::GreaterThan => OpAnswer::NotBuiltIn,
+        Token::GreaterThanEqualsTo => OpAnswer::NotBuiltIn,
+        Token::PlusAssign => calculate(Calculation::Addition, x, y),
+        Token::MinusAssign => calculate(Calculation::Subtraction, x, y),
+        Token::MultiplyAssign => calculate(Calculation::Multiplication, x, y),
+        Token::Other => OpAnswer::NotBuiltIn,
+    }
+}
+
+// An op-assignment's built-in.
 fn built_in_assignment(token: Token, target: &Dynamic, value: &Dynamic) -> OpAnswer
     ensures { outcome_of result ≡ assignment token target.now value.now }
 {
     match target {
         Dynamic::Int(x) => match value {
-            Dynamic::Int(y) => match token {
-                Token::PlusAssign => sum(*x, *y),
-                Token::Plus => OpAnswer::NotBuiltIn,
-                Token::LessThanEqualsTo => OpAnswer::NotBuiltIn,
-                Token::Other => OpAnswer::NotBuiltIn,
-            },
+            Dynamic::Int(y) => assigned_integers(token, *x, *y),
             Dynamic::Bool(_) => OpAnswer::NotBuiltIn,
             Dynamic::Unit => OpAnswer::NotBuiltIn,
         },
@@ -89,23 +171,28 @@ fn built_in_assignment(token: Token, target: &Dynamic, value: &Dynamic) -> OpAns
     }
 }
 
-// The exact sum, or that it does not fit.
-fn sum(x: i64, y: i64) -> OpAnswer
-    ensures { outcome_of result ≡ sum_of x y }
+// The exact result, or that it does not fit.
+fn calculate(calculation: Calculation, x: i64, y: i64) -> OpAnswer
+    ensures { outcome_of result ≡ calculated calculation x y }
 {
-    match x.checked_add(y) {
-        Some(total) => OpAnswer::Done(Dynamic::Int(total)),
-        None => OpAnswer::Overflow(x, y),
+    match calculation.of(x, y) {
+        Some(z) => OpAnswer::Done(Dynamic::Int(z)),
+        None => OpAnswer::Overflow(calculation, x, y),
     }
 }
 
-/// How it is told that a sum does not fit.
-pub fn overflow(alloc: Global, x: i64, y: i64) -> Result<Text, OutOfMemory>
-    ensures { IfOk result (λ text. text ≡ overflow_text x y) }
+/// How it is told that a result does not fit.
+pub fn overflow(
+    alloc: Global,
+    calculation: Calculation,
+    x: i64,
+    y: i64,
+) -> Result<Text, OutOfMemory>
+    ensures { IfOk result (λ text. text ≡ overflow_text calculation x y) }
 {
-    let mut text = Text::copy_of(alloc, "Addition overflow: ")?;
+    let mut text = Text::copy_of(alloc, calculation.overflow_lead())?;
     text.push_integer(x)?;
-    text.push_str(" + ")?;
+    text.push_str(calculation.sign_between())?;
     text.push_integer(y)?;
     Ok(text)
 }

@@ -1,7 +1,6 @@
 //! The machine that an embedder calls.
 
 ghost use Rattle.std.specs.Prelude.{◌≡◌, ◌+◌, ◌<◌, ℕ, [], false, IfOk, option_map, slice_get};
-ghost use Rattle.grain_value.specs.Scopes.{IsWritable};
 ghost use Rattle.grain_vm.specs.means.Causes.{HasCause};
 ghost use Rattle.grain_vm.specs.means.Means.{Evaluates};
 ghost use Rattle.grain_vm.specs.frame.Counts.{instructions};
@@ -98,7 +97,6 @@ impl<'e> Vm<'e> {
         steps: &mut Steps<L>,
     ) -> RhaiResult
         requires positive { 0 < self.old.engine.limits.operations }
-        requires writable { IsWritable scope.old }
         ensures evaluates { (ran : ℕ) × (Evaluates program.now self.old.engine (begin scope.old self.old.global) result (finish scope.new self.new) ran × (instructions steps.new ≡ instructions steps.old + ran)) }
         ensures causes { HasCause program.now self.old.engine self.new.global.num_operations result }
         ensures engine { self.new.engine ≡ self.old.engine }

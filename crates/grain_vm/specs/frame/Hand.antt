@@ -26,7 +26,7 @@ use Rattle.grain_vm.specs.declared.frame.states.Flow.TheVariants.{On, Over}
 abbrev pub outcome_of : OpAnswer → Outcome
 outcome_of answer.NotBuiltIn = NotBuiltIn
 outcome_of (answer.Done v) = Gave v
-outcome_of (answer.Overflow x y) = Overflowed (overflow_text x y)
+outcome_of (answer.Overflow c x y) = Overflowed (overflow_text c x y)
 
 -- a frame's operands, which begin at its bottom
 abbrev pub own : Stacks → ℕ → List Held

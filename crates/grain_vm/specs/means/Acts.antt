@@ -1,5 +1,5 @@
 -- The meaning of the machine: what one instruction does. Every rule is a definition by cases.
-use Rattle.std.specs.Prelude.{ℕ, ◌+◌, ◌-◌, List, [], ◌∷◌, ◌++◌, Option, Some, None, Bool, true, false, if◌then◌else◌, nat_lt, nat_le, nat_eq, length, take, drop, map, option_map, slice_get, codes}
+use Rattle.std.specs.Prelude.{ℕ, ◌+◌, ◌-◌, not, List, [], ◌∷◌, ◌++◌, Option, Some, None, Bool, true, false, if◌then◌else◌, nat_lt, nat_le, nat_eq, length, take, drop, map, option_map, slice_get, codes}
 use Rattle.grain_value.specs.declared.values.Dynamic.{Dynamic}
 use Rattle.grain_value.specs.declared.values.Dynamic.TheVariants as dynamic
 use Rattle.grain_value.specs.declared.values.Held.{Held}
@@ -9,7 +9,7 @@ use Rattle.grain_value.specs.Writing.{type_name_of}
 use Rattle.grain_fault.specs.declared.places.Position.{Position}
 use Rattle.grain_fault.specs.declared.traces.Fault.{Fault}
 use Rattle.grain_fault.specs.declared.faults.MalformedKind.TheVariants as kind
-use Rattle.grain_fault.specs.Problems.{Problem, FunctionNotFound, MismatchDataType, Arithmetic, TooManyOperations, TooManyVariables, Malformed, NoMemory}
+use Rattle.grain_fault.specs.Problems.{Problem, FunctionNotFound, MismatchDataType, AssignmentToConstant, Arithmetic, TooManyOperations, TooManyVariables, Malformed, NoMemory}
 use Rattle.grain_program.specs.declared.input.AssignOp.{AssignOp}
 use Rattle.grain_program.specs.declared.instructions.Op.{Op}
 use Rattle.grain_program.specs.declared.instructions.Op.TheVariants as op
@@ -93,6 +93,11 @@ abbrev pub is_stop : Option ℕ → ℕ → Bool
 is_stop None p = false
 is_stop (Some k) p = nat_eq k p
 
+-- whether a truth value is the one that is wanted
+abbrev pub agrees : Bool → Bool → Bool
+agrees true b = b
+agrees false b = not b
+
 -- where no instruction stands, which no valid program has, a frame ends as by a return
 abbrev pub or_return : Option (Op × ℕ) → Op × ℕ
 or_return None = (op.Return, 1)
@@ -166,35 +171,59 @@ module _ (m : Setup) where
   answered (Gave v) name args f next operands this w = pushed f next operands v this w
   answered (Overflowed text) name args f next operands this w = raised f (Arithmetic text (position f)) w
 
+  -- an assignment to an entry that can only be read
+  abbrev pub refused : ℕ → Frame → World → Act
+  refused n f w = raised f (AssignmentToConstant (name_of m.program n) (position f)) w
+
+  -- a value into the entry, of which the last operand is used up
+  abbrev pub put : Dynamic → Held → Frame → ℕ → ℕ → Option Place → World → Act
+  put v h f slot next this w =
+      marked f w (λ w1. onward f (stepped f next (below f.operands)) this (record w1 { scope = set_held w1.scope (f.base + slot) (record h { value = v }) }))
+
+  abbrev pub assigned : Option Held → ℕ → Frame → ℕ → ℕ → Option Place → World → Act
+  assigned None n f slot next this w = misplaced f (f.base + slot) w
+  assigned (Some h) n f slot next this w = if h.read_only then refused n f w else put (top f.operands) h f slot next this w
+
   -- what an op-assignment says, in the entry
   abbrev pub stored : Outcome → List ℕ → Held → Frame → ℕ → ℕ → Option Place → World → Act
   stored NotBuiltIn name h f slot next this w = raised f (FunctionNotFound (signature_text name (h.value ∷ top f.operands ∷ [])) (position f)) w
-  stored (Gave v) name h f slot next this w =
-      marked f w (λ w1. onward f (stepped f next (below f.operands)) this (record w1 { scope = set_held w1.scope (f.base + slot) (record h { value = v }) }))
+  stored (Gave v) name h f slot next this w = put v h f slot next this w
   stored (Overflowed text) name h f slot next this w = raised f (Arithmetic text (position f)) w
 
-  abbrev pub assigned : Option Held → AssignOp → Frame → ℕ → ℕ → Option Place → World → Act
-  assigned None a f slot next this w = misplaced f (f.base + slot) w
-  assigned (Some h) a f slot next this w =
+  abbrev pub assigned_op : Option Held → ℕ → AssignOp → Frame → ℕ → ℕ → Option Place → World → Act
+  assigned_op None n a f slot next this w = misplaced f (f.base + slot) w
+  assigned_op (Some h) n a f slot next this w =
+      if h.read_only then refused n f w else
       stored (where_fast m.engine.fast_operators (assignment a.op_assign h.value (top f.operands))) (name_of m.program a.op_name) h f slot next this w
 
-  -- a transfer where a truth value is false
-  abbrev pub tested : Dynamic → Frame → ℕ → ℕ → Option Place → World → Act
-  tested (dynamic.Bool false) f target next this w = jumped f (stepped f target (below f.operands)) this w
-  tested (dynamic.Bool true) f target next this w = onward f (stepped f next (below f.operands)) this w
-  tested (dynamic.Int n) f target next this w = raised f (MismatchDataType (codes "bool") (type_name_of (dynamic.Int n)) (position f)) w
-  tested dynamic.Unit f target next this w = raised f (MismatchDataType (codes "bool") (type_name_of dynamic.Unit) (position f)) w
+  -- a transfer, or on to the instruction behind, without the last operand
+  abbrev pub branched : Bool → Frame → ℕ → ℕ → Option Place → World → Act
+  branched taken f target next this w =
+      if taken then jumped f (stepped f target (below f.operands)) this w else onward f (stepped f next (below f.operands)) this w
+
+  -- a transfer where a truth value is the one that is wanted
+  abbrev pub tested : Bool → Dynamic → Frame → ℕ → ℕ → Option Place → World → Act
+  tested wanted (dynamic.Bool b) f target next this w = branched (agrees wanted b) f target next this w
+  tested wanted (dynamic.Int n) f target next this w = raised f (MismatchDataType (codes "bool") (type_name_of (dynamic.Int n)) (position f)) w
+  tested wanted dynamic.Unit f target next this w = raised f (MismatchDataType (codes "bool") (type_name_of dynamic.Unit) (position f)) w
 
   -- an instruction, and the address behind it
   abbrev pub instr : Op → ℕ → Frame → Option Place → World → Act
   instr (op.LoadConst c) next f this w = pushed f next f.operands (const_of m.program c) this w
+  instr op.Unit next f this w = pushed f next f.operands dynamic.Unit this w
+  instr op.False next f this w = pushed f next f.operands (dynamic.Bool false) this w
+  instr op.True next f this w = pushed f next f.operands (dynamic.Bool true) this w
   instr (op.LoadLocal slot) next f this w = loaded (held_at w.scope (f.base + slot)) f slot next this w
   instr (op.DeclareLocal n) next f this w = declared (name_of m.program n) f next this w
-  instr (op.AssignLocalOp slot n a) next f this w = assigned (held_at w.scope (f.base + slot)) (assign_op_of m.program a) f slot next this w
+  instr (op.AssignLocal slot n) next f this w = assigned (held_at w.scope (f.base + slot)) n f slot next this w
+  instr (op.AssignLocalOp slot n a) next f this w = assigned_op (held_at w.scope (f.base + slot)) n (assign_op_of m.program a) f slot next this w
+  instr op.Pop next f this w = onward f (stepped f next (below f.operands)) this w
   instr (op.Jump target) next f this w = jumped f (stepped f target f.operands) this w
-  instr (op.JumpIfFalse target) next f this w = tested (top f.operands) f target next this w
+  instr (op.JumpIfFalse target) next f this w = tested false (top f.operands) f target next this w
+  instr (op.JumpIfTrue target) next f this w = tested true (top f.operands) f target next this w
   instr (op.CallOp n count o) next f this w =
       answered (where_fast m.engine.fast_operators (operation (token_of m.program o) (arguments count f.operands))) (name_of m.program n) (arguments count f.operands) f next (under count f.operands) this w
+  instr op.Tick next f this w = charged f w (onward f (stepped f next f.operands) this)
   instr op.Return next f this w = marked f w (End (Came (top f.operands)))
 
   -- an instruction begins

@@ -1,16 +1,17 @@
 -- Why a run ends in a fault: each fault comes from an instruction that can raise it, at its position, and only where the numbers that it tells are so.
-use Rattle.std.specs.Prelude.{◌≡◌, ◌≤◌, ℕ, ℤ, ◌+ℤ◌, List, Some, true, false, codes, Result, Ok, Err}
+use Rattle.std.specs.Prelude.{◌≡◌, ◌≤◌, ℕ, ℤ, List, Some, true, false, codes, Result, Ok, Err}
 use Rattle.grain_value.specs.declared.values.Dynamic.{Dynamic}
 use Rattle.grain_fault.specs.declared.places.Position.{Position}
 use Rattle.grain_fault.specs.declared.faults.MalformedKind.TheVariants as kind
 use Rattle.grain_fault.specs.declared.faults.EvalAltResult.{EvalAltResult}
-use Rattle.grain_fault.specs.Problems.{Problem, FunctionNotFound, MismatchDataType, Arithmetic, TooManyOperations, TooManyVariables, Malformed, NoMemory, problem_of}
+use Rattle.grain_fault.specs.Problems.{Problem, FunctionNotFound, MismatchDataType, AssignmentToConstant, Arithmetic, TooManyOperations, TooManyVariables, Malformed, NoMemory, problem_of}
 use Rattle.grain_program.specs.declared.instructions.Op.{Op}
 use Rattle.grain_program.specs.declared.instructions.Op.TheVariants as op
-use Rattle.grain_program.specs.View.{View, position_of}
+use Rattle.grain_program.specs.View.{View, name_of, position_of}
 use Rattle.grain_program.specs.Reading.{op_at}
 use Rattle.grain_vm.specs.declared.global.Engine.{Engine}
-use Rattle.grain_vm.specs.means.Operators.{fits64, overflow_text}
+use Rattle.grain_vm.specs.declared.operators.Calculation.{Calculation}
+use Rattle.grain_vm.specs.means.Operators.{fits64, exact, overflow_text}
 use Rattle.grain_vm.specs.means.Acts.{Answer, Came, Failed, World, Setup, is_stop}
 
 -- an instruction of the program has this position and is of this kind
@@ -31,13 +32,16 @@ Operates a o = ⊥
 -- a test of a truth value
 abbrev pub Tests : ℕ → Op → Type 0
 Tests a (op.JumpIfFalse t) = Unit {0}
+Tests a (op.JumpIfTrue t) = Unit {0}
 Tests a o = ⊥
 
--- a transfer whose target does not lie ahead
-abbrev pub GoesBack : ℕ → Op → Type 0
-GoesBack a (op.Jump t) = t ≤ a
-GoesBack a (op.JumpIfFalse t) = t ≤ a
-GoesBack a o = ⊥
+-- what costs an operation: a transfer whose target does not lie ahead, or a tick
+abbrev pub Charges : ℕ → Op → Type 0
+Charges a (op.Jump t) = t ≤ a
+Charges a (op.JumpIfFalse t) = t ≤ a
+Charges a (op.JumpIfTrue t) = t ≤ a
+Charges a op.Tick = Unit {0}
+Charges a o = ⊥
 
 abbrev pub Declares : ℕ → Op → Type 0
 Declares a (op.DeclareLocal n) = Unit {0}
@@ -46,22 +50,31 @@ Declares a o = ⊥
 -- an access to an entry by its slot
 abbrev pub UsesSlot : ℕ → Op → Type 0
 UsesSlot a (op.LoadLocal s) = Unit {0}
+UsesSlot a (op.AssignLocal s n) = Unit {0}
 UsesSlot a (op.AssignLocalOp s n o) = Unit {0}
 UsesSlot a o = ⊥
 
--- two integers whose sum does not fit
+-- an assignment to an entry, of which the instruction tells this name
+abbrev pub Assigns : View → List ℕ → ℕ → Op → Type 0
+Assigns program name a (op.AssignLocal s n) = name ≡ name_of program n
+Assigns program name a (op.AssignLocalOp s n o) = name ≡ name_of program n
+Assigns program name a o = ⊥
+
+-- two integers of which a calculation's result does not fit
 pub record Overflows (text : List ℕ) : Type 0 where
+  pub calculation : Calculation
   pub left : ℤ
   pub right : ℤ
-  pub past : fits64 (left +ℤ right) ≡ false
-  pub told : text ≡ overflow_text left right
+  pub past : fits64 (exact calculation left right) ≡ false
+  pub told : text ≡ overflow_text calculation left right
 
 -- why there is this fault, after so many operations
 abbrev pub Cause : View → Engine → ℕ → Problem → Type 0
 Cause program engine count (FunctionNotFound s p) = RaisedAt program p Operates
 Cause program engine count (MismatchDataType r a p) = (r ≡ codes "bool") × RaisedAt program p Tests
+Cause program engine count (AssignmentToConstant s p) = RaisedAt program p (Assigns program s)
 Cause program engine count (Arithmetic s p) = Overflows s × RaisedAt program p Operates
-Cause program engine count (TooManyOperations p) = (engine.limits.operations ≤ count) × RaisedAt program p GoesBack
+Cause program engine count (TooManyOperations p) = (engine.limits.operations ≤ count) × RaisedAt program p Charges
 Cause program engine count (TooManyVariables p) = RaisedAt program p Declares
 Cause program engine count (Malformed (kind.SlotPastScope i n) p) = (n ≤ i) × RaisedAt program p UsesSlot
 Cause program engine count NoMemory = Unit {0}

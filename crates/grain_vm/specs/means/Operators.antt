@@ -1,10 +1,13 @@
 -- The operators that are built in, and the fault where none is found.
-use Rattle.std.specs.Prelude.{ℕ, ℤ, pos, negsuc, ◌^◌, ◌+ℤ◌, int_lt, Bool, not, List, [], ◌∷◌, ◌++◌, codes, ◌&&◌, if◌then◌else◌}
+use Rattle.std.specs.Prelude.{ℕ, ℤ, pos, negsuc, ◌^◌, ◌+ℤ◌, ◌-ℤ◌, ◌*ℤ◌, int_lt, Bool, not, List, [], ◌∷◌, ◌++◌, codes, ◌&&◌, if◌then◌else◌}
+use Rattle.std.specs.Ordering.{int_eq}
 use Rattle.std.specs.Fmt.{signed_decimal}
 use Rattle.grain_value.specs.declared.values.Dynamic.{Dynamic}
 use Rattle.grain_value.specs.declared.values.Dynamic.TheVariants as dynamic
 use Rattle.grain_value.specs.declared.operators.Token.{Token}
 use Rattle.grain_value.specs.declared.operators.Token.TheVariants as token
+use Rattle.grain_vm.specs.declared.operators.Calculation.{Calculation}
+use Rattle.grain_vm.specs.declared.operators.Calculation.TheVariants as calculation
 use Rattle.grain_value.specs.Writing.{type_name_of}
 
 -- what a built-in says: there is none, a value, or the text of an arithmetic fault
@@ -17,17 +20,43 @@ pub data Outcome : Type 0 where
 abbrev pub fits64 : ℤ → Bool
 fits64 n = int_lt n (pos (2 ^ 63)) && int_lt (negsuc (2 ^ 63)) n
 
-abbrev pub overflow_text : ℤ → ℤ → List ℕ
-overflow_text x y = codes "Addition overflow: " ++ signed_decimal x ++ codes " + " ++ signed_decimal y
+-- what is calculated exactly
+abbrev pub exact : Calculation → ℤ → ℤ → ℤ
+exact calculation.Addition x y = x +ℤ y
+exact calculation.Subtraction x y = x -ℤ y
+exact calculation.Multiplication x y = x *ℤ y
 
-abbrev pub sum_of : ℤ → ℤ → Outcome
-sum_of x y = if fits64 (x +ℤ y) then Gave (dynamic.Int (x +ℤ y)) else Overflowed (overflow_text x y)
+-- how it is told that a result does not fit
+abbrev pub overflow_lead : Calculation → List ℕ
+overflow_lead calculation.Addition = codes "Addition overflow: "
+overflow_lead calculation.Subtraction = codes "Subtraction overflow: "
+overflow_lead calculation.Multiplication = codes "Multiplication overflow: "
 
--- the exact sum of two integers, and whether one is at most the other
+abbrev pub sign_between : Calculation → List ℕ
+sign_between calculation.Addition = codes " + "
+sign_between calculation.Subtraction = codes " - "
+sign_between calculation.Multiplication = codes " * "
+
+abbrev pub overflow_text : Calculation → ℤ → ℤ → List ℕ
+overflow_text c x y = overflow_lead c ++ signed_decimal x ++ sign_between c ++ signed_decimal y
+
+abbrev pub calculated : Calculation → ℤ → ℤ → Outcome
+calculated c x y = if fits64 (exact c x y) then Gave (dynamic.Int (exact c x y)) else Overflowed (overflow_text c x y)
+
+-- an operator on two integers
 abbrev pub integers : Token → ℤ → ℤ → Outcome
-integers token.Plus x y = sum_of x y
+integers token.Plus x y = calculated calculation.Addition x y
+integers token.Minus x y = calculated calculation.Subtraction x y
+integers token.Multiply x y = calculated calculation.Multiplication x y
+integers token.EqualsTo x y = Gave (dynamic.Bool (int_eq x y))
+integers token.NotEqualsTo x y = Gave (dynamic.Bool (not (int_eq x y)))
+integers token.LessThan x y = Gave (dynamic.Bool (int_lt x y))
 integers token.LessThanEqualsTo x y = Gave (dynamic.Bool (not (int_lt y x)))
+integers token.GreaterThan x y = Gave (dynamic.Bool (int_lt y x))
+integers token.GreaterThanEqualsTo x y = Gave (dynamic.Bool (not (int_lt x y)))
 integers token.PlusAssign x y = NotBuiltIn
+integers token.MinusAssign x y = NotBuiltIn
+integers token.MultiplyAssign x y = NotBuiltIn
 integers token.Other x y = NotBuiltIn
 
 abbrev pub binary : Token → Dynamic → Dynamic → Outcome
@@ -44,9 +73,18 @@ operation t args = NotBuiltIn
 
 -- an op-assignment to two integers
 abbrev pub assigned_integers : Token → ℤ → ℤ → Outcome
-assigned_integers token.PlusAssign x y = sum_of x y
+assigned_integers token.PlusAssign x y = calculated calculation.Addition x y
+assigned_integers token.MinusAssign x y = calculated calculation.Subtraction x y
+assigned_integers token.MultiplyAssign x y = calculated calculation.Multiplication x y
 assigned_integers token.Plus x y = NotBuiltIn
+assigned_integers token.Minus x y = NotBuiltIn
+assigned_integers token.Multiply x y = NotBuiltIn
+assigned_integers token.EqualsTo x y = NotBuiltIn
+assigned_integers token.NotEqualsTo x y = NotBuiltIn
+assigned_integers token.LessThan x y = NotBuiltIn
 assigned_integers token.LessThanEqualsTo x y = NotBuiltIn
+assigned_integers token.GreaterThan x y = NotBuiltIn
+assigned_integers token.GreaterThanEqualsTo x y = NotBuiltIn
 assigned_integers token.Other x y = NotBuiltIn
 
 -- an op-assignment to a target of a value

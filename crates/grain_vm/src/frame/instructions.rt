@@ -8,7 +8,7 @@ ghost use Rattle.grain_value.specs.Writing.{type_name_of};
 ghost use Rattle.grain_fault.specs.declared.faults.EvalAltResult.TheVariants as fault;
 ghost use Rattle.grain_fault.specs.declared.faults.MalformedKind.TheVariants as kind;
 ghost use Rattle.grain_vm.specs.means.Operators.{overflow_text, where_fast, operation, signature_text};
-ghost use Rattle.grain_vm.specs.means.Acts.{End, Came, jumped, stepped, pushed, instr, marked, top, arguments};
+ghost use Rattle.grain_vm.specs.means.Acts.{End, Came, jumped, stepped, pushed, agrees, tested, instr, marked, top, arguments};
 ghost use Rattle.grain_vm.specs.frame.Hand.{own, frame_in, outcome_of, Does, Kept, Stands, Lands};
 
 use crate::frame::activations::Activation;
@@ -16,7 +16,7 @@ use crate::frame::states::{Flow, State};
 use crate::frame::steps::Steps;
 use crate::global::Engine;
 use crate::operators;
-use crate::operators::OpAnswer;
+use crate::operators::{Calculation, OpAnswer};
 use grain_fault::{EvalAltResult, MalformedKind};
 use grain_program::Program;
 use grain_value::{Dynamic, Held, OutOfMemory, Text};
@@ -56,7 +56,7 @@ impl State {
     }
 
     // Gives a value, as the frame's last operand, and goes on at the address behind the instruction.
-    fn push_on<L: Ledger>(
+    pub(crate) fn push_on<L: Ledger>(
         &mut self,
         engine: &Engine,
         program: &Program,
@@ -179,14 +179,70 @@ impl State {
         Ok(Flow::On)
     }
 
-    // `jump_if_false`: a transfer where the frame's last operand is false.
-    pub(crate) fn jump_if_false<L: Ledger>(
+    // `pop`: the frame's last operand goes.
+    pub(crate) fn pop_on<L: Ledger>(
+        &mut self,
+        engine: &Engine,
+        program: &Program,
+        steps: &mut Steps<L>,
+        frame: &mut Activation,
+        next: usize,
+    ) -> Flow
+        requires stands { Stands frame.old self.old }
+        requires operand { frame.old.bottom < length self.old.stacks.operands.items }
+        requires ahead { frame.old.address < next }
+        ensures same { Does program.now engine.now self.old steps.old
+            (λ m place w. instr m op.Pop next (frame_in frame.old self.old) place w)
+            (Ok result) self.new steps.new frame.new }
+        ensures kept { Kept frame.old self.old frame.new self.new }
+        ensures lands { Lands engine.now self.old frame.old self.new frame.new (λ a. a ≡ next) (length (own self.old.stacks frame.old.bottom) - 1) (Ok result) }
+        ensures before { steps.new.before ≡ steps.old.before }
+    {
+        let _engine = engine;
+        let _program = program;
+        let _value = self.stacks.pop(frame.bottom);
+        frame.address = next;
+        steps.mark();
+        Flow::On
+    }
+
+    // `tick`: costs an operation.
+    pub(crate) fn tick<L: Ledger>(
+        &mut self,
+        engine: &Engine,
+        program: &Program,
+        steps: &mut Steps<L>,
+        frame: &mut Activation,
+        next: usize,
+    ) -> Flow
+        requires stands { Stands frame.old self.old }
+        requires ahead { frame.old.address < next }
+        ensures same { Does program.now engine.now self.old steps.old
+            (λ m place w. instr m op.Tick next (frame_in frame.old self.old) place w)
+            (Ok result) self.new steps.new frame.new }
+        ensures kept { Kept frame.old self.old frame.new self.new }
+        ensures lands { Lands engine.now self.old frame.old self.new frame.new (λ a. a ≡ next) (length (own self.old.stacks frame.old.bottom)) (Ok result) }
+        ensures before { steps.new.before ≡ steps.old.before }
+    {
+        if self.charge(engine) {
+            steps.mark();
+            frame.address = next;
+            steps.mark();
+            Flow::On
+        } else {
+            self.raise(EvalAltResult::ErrorTooManyOperations(program.position(frame.address)))
+        }
+    }
+
+    // `jump_if_false` and `jump_if_true`: a transfer where the frame's last operand is the truth value that is wanted.
+    pub(crate) fn jump_if<L: Ledger>(
         &mut self,
         alloc: Global,
         engine: &Engine,
         program: &Program,
         steps: &mut Steps<L>,
         frame: &mut Activation,
+        wanted: bool,
         target: u32,
         next: usize,
     ) -> Result<Flow, OutOfMemory>
@@ -194,7 +250,7 @@ impl State {
         requires operand { frame.old.bottom < length self.old.stacks.operands.items }
         requires ahead { frame.old.address < next }
         ensures same { Does program.now engine.now self.old steps.old
-            (λ m place w. instr m (op.JumpIfFalse target) next (frame_in frame.old self.old) place w)
+            (λ m place w. tested m wanted (top (own self.old.stacks frame.old.bottom)) (frame_in frame.old self.old) target next place w)
             result self.new steps.new frame.new }
         ensures kept { Kept frame.old self.old frame.new self.new }
         ensures lands { Lands engine.now self.old frame.old self.new frame.new (λ a. (a ≡ target) ⊎ (a ≡ next)) (length (own self.old.stacks frame.old.bottom) - 1) result }
@@ -202,12 +258,12 @@ impl State {
     {
         match self.stacks.pop(frame.bottom) {
             Dynamic::Bool(truth) => {
-                if truth {
+                if agrees(wanted, truth) {
+                    Ok(self.jump_to(engine, program, steps, frame, target as usize))
+                } else {
                     frame.address = next;
                     steps.mark();
                     Ok(Flow::On)
-                } else {
-                    Ok(self.jump_to(engine, program, steps, frame, target as usize))
                 }
             }
             Dynamic::Int(integer) => {
@@ -216,6 +272,53 @@ impl State {
             }
             Dynamic::Unit => {
                 let fault = mistyped(alloc, program, frame, &Dynamic::Unit)?;
+                Ok(self.raise(fault))
+            }
+        }
+    }
+
+    // `assign_local`: an assignment to an entry.
+    #[tactic(auto, using(crate::proofs::Above::length_set_held))]
+    pub(crate) fn assign_local<L: Ledger>(
+        &mut self,
+        alloc: Global,
+        engine: &Engine,
+        program: &Program,
+        steps: &mut Steps<L>,
+        frame: &mut Activation,
+        slot: u16,
+        name: u16,
+        next: usize,
+    ) -> Result<Flow, OutOfMemory>
+        requires stands { Stands frame.old self.old }
+        requires operand { frame.old.bottom < length self.old.stacks.operands.items }
+        requires ahead { frame.old.address < next }
+        requires pool { name < length program.now.names }
+        ensures same { Does program.now engine.now self.old steps.old
+            (λ m place w. instr m (op.AssignLocal slot name) next (frame_in frame.old self.old) place w)
+            result self.new steps.new frame.new }
+        ensures kept { Kept frame.old self.old frame.new self.new }
+        ensures lands { Lands engine.now self.old frame.old self.new frame.new (λ a. a ≡ next) (length (own self.old.stacks frame.old.bottom) - 1) result }
+        ensures before { steps.new.before ≡ steps.old.before }
+    {
+        let _engine = engine;
+        let index = self.slot_index(frame, slot);
+        let value = self.stacks.pop(frame.bottom);
+        match self.scope.get(index) {
+            Some(held) => {
+                let read_only = held.read_only;
+                if read_only {
+                    let fault = constant(alloc, program, frame, name)?;
+                    return Ok(self.raise(fault));
+                }
+                self.scope.set(index, Held { value, read_only });
+                steps.mark();
+                frame.address = next;
+                steps.mark();
+                Ok(Flow::On)
+            }
+            None => {
+                let fault = self.misplaced(program, frame, index);
                 Ok(self.raise(fault))
             }
         }
@@ -238,7 +341,8 @@ impl State {
         requires stands { Stands frame.old self.old }
         requires operand { frame.old.bottom < length self.old.stacks.operands.items }
         requires ahead { frame.old.address < next }
-        requires pool { assign_op < length program.now.assign_ops }
+        requires pool { name < length program.now.names }
+        requires records { assign_op < length program.now.assign_ops }
         requires named { (assign_op_of program.now assign_op).op_name < length program.now.names }
         ensures same { Does program.now engine.now self.old steps.old
             (λ m place w. instr m (op.AssignLocalOp slot name assign_op) next (frame_in frame.old self.old) place w)
@@ -247,13 +351,16 @@ impl State {
         ensures lands { Lands engine.now self.old frame.old self.new frame.new (λ a. a ≡ next) (length (own self.old.stacks frame.old.bottom) - 1) result }
         ensures before { steps.new.before ≡ steps.old.before }
     {
-        let _name = name;
         let index = self.slot_index(frame, slot);
         let value = self.stacks.pop(frame.bottom);
         let assign_op = program.assign_op(u32::from(assign_op));
         match self.scope.get(index) {
             Some(held) => {
                 let read_only = held.read_only;
+                if read_only {
+                    let fault = constant(alloc, program, frame, name)?;
+                    return Ok(self.raise(fault));
+                }
                 match operators::assign(
                     engine.fast_operators,
                     assign_op.op_assign,
@@ -267,8 +374,8 @@ impl State {
                         steps.mark();
                         Ok(Flow::On)
                     }
-                    OpAnswer::Overflow(x, y) => {
-                        let fault = overflowed(alloc, program, frame, x, y)?;
+                    OpAnswer::Overflow(calculation, x, y) => {
+                        let fault = overflowed(alloc, program, frame, calculation, x, y)?;
                         Ok(self.raise(fault))
                     }
                     OpAnswer::NotBuiltIn => {
@@ -320,8 +427,8 @@ impl State {
                 self.stacks.drop_last(frame.bottom, count);
                 Ok(self.push_on(engine, program, steps, frame, value, next))
             }
-            OpAnswer::Overflow(x, y) => {
-                let fault = overflowed(alloc, program, frame, x, y)?;
+            OpAnswer::Overflow(calculation, x, y) => {
+                let fault = overflowed(alloc, program, frame, calculation, x, y)?;
                 Ok(self.raise(fault))
             }
             OpAnswer::NotBuiltIn => {
@@ -414,6 +521,28 @@ impl State {
     }
 }
 
+// Whether a truth value is the one that is wanted.
+fn agrees(wanted: bool, truth: bool) -> bool
+    ensures { result ≡ agrees wanted truth }
+{
+    if wanted { truth } else { !truth }
+}
+
+// The fault of an assignment to an entry that can only be read.
+#[cold]
+fn constant(
+    alloc: Global,
+    program: &Program,
+    frame: &Activation,
+    name: u16,
+) -> Result<EvalAltResult, OutOfMemory>
+    requires { name < length program.now.names }
+    ensures { IfOk result (λ f. f ≡ fault.ErrorAssignmentToConstant (name_of program.now name) (position_of program.now frame.now.address)) }
+{
+    let name = program.name(u32::from(name)).copy(alloc)?;
+    Ok(EvalAltResult::ErrorAssignmentToConstant(name, program.position(frame.address)))
+}
+
 // The fault of a value that is no truth value.
 #[cold]
 fn mistyped(
@@ -429,17 +558,18 @@ fn mistyped(
     Ok(EvalAltResult::ErrorMismatchDataType(requested, actual, program.position(frame.address)))
 }
 
-// The fault of a sum that does not fit.
+// The fault of a result that does not fit.
 #[cold]
 fn overflowed(
     alloc: Global,
     program: &Program,
     frame: &Activation,
+    calculation: Calculation,
     x: i64,
     y: i64,
 ) -> Result<EvalAltResult, OutOfMemory>
-    ensures { IfOk result (λ f. f ≡ fault.ErrorArithmetic (overflow_text x y) (position_of program.now frame.now.address)) }
+    ensures { IfOk result (λ f. f ≡ fault.ErrorArithmetic (overflow_text calculation x y) (position_of program.now frame.now.address)) }
 {
-    let text = operators::overflow(alloc, x, y)?;
+    let text = operators::overflow(alloc, calculation, x, y)?;
     Ok(EvalAltResult::ErrorArithmetic(text, program.position(frame.address)))
 }

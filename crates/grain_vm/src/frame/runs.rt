@@ -48,12 +48,40 @@ impl State {
                 constant,
                 address + width,
             ),
+            (Op::Unit, width) => {
+                Ok(self.push_on(
+                    engine,
+                    program,
+                    steps,
+                    frame,
+                    Dynamic::Unit,
+                    address + width,
+                ))
+            }
+            (Op::False, width) => {
+                let value = Dynamic::Bool(false);
+                Ok(self.push_on(engine, program, steps, frame, value, address + width))
+            }
+            (Op::True, width) => {
+                let value = Dynamic::Bool(true);
+                Ok(self.push_on(engine, program, steps, frame, value, address + width))
+            }
             (Op::LoadLocal(slot), width) => {
                 self.load_local(alloc, engine, program, steps, frame, slot, address + width)
             }
             (Op::DeclareLocal(name), width) => {
                 self.declare_local(alloc, engine, program, steps, frame, name, address + width)
             }
+            (Op::AssignLocal(slot, name), width) => self.assign_local(
+                alloc,
+                engine,
+                program,
+                steps,
+                frame,
+                slot,
+                name,
+                address + width,
+            ),
             (Op::AssignLocalOp(slot, name, assign_op), width) => self.assign_local_op(
                 alloc,
                 engine,
@@ -65,15 +93,27 @@ impl State {
                 assign_op,
                 address + width,
             ),
+            (Op::Pop, width) => { Ok(self.pop_on(engine, program, steps, frame, address + width)) }
             (Op::Jump(target), _) => {
                 Ok(self.jump_to(engine, program, steps, frame, target as usize))
             }
-            (Op::JumpIfFalse(target), width) => self.jump_if_false(
+            (Op::JumpIfFalse(target), width) => self.jump_if(
                 alloc,
                 engine,
                 program,
                 steps,
                 frame,
+                false,
+                target,
+                address + width,
+            ),
+            (Op::JumpIfTrue(target), width) => self.jump_if(
+                alloc,
+                engine,
+                program,
+                steps,
+                frame,
+                true,
                 target,
                 address + width,
             ),
@@ -88,6 +128,7 @@ impl State {
                 token,
                 address + width,
             ),
+            (Op::Tick, width) => Ok(self.tick(engine, program, steps, frame, address + width)),
             (Op::Return, _) => Ok(self.give_back(engine, program, steps, frame)),
         }
     }

@@ -1,4 +1,4 @@
-use Rattle.std.proofs.Common.{◌+◌, ◌-◌, length, refl, arith}
+use Rattle.std.proofs.Common.{◌+◌, ◌-◌, Ok, length, refl, arith}
 use Rattle.grain_program.specs.declared.instructions.Op.TheVariants as op
 use Rattle.grain_vm.specs.frame.Hand.{own}
 use Rattle.grain_vm.proofs.Landing.{goes_next, goes_either}
@@ -30,5 +30,40 @@ returns-in-AssignLocalOp-default-clause-goes_on g c =
 
 pub returns-in-JumpIfFalse-default-clause-goes_on : goal.returns-in-JumpIfFalse-default-clause-goes_on
 returns-in-JumpIfFalse-default-clause-goes_on g c =
-    goes_either c.args.program.now c.args.engine.now c.args.self.now c.jump_if_false.new.self c.args.frame.now c.jump_if_false.new.frame c.height.result c.height.ensures c.fetch.result.0 c.fetch.result.1 c.jump_if_false.result
-    c.fetch.ensures.foreseen c.jump_if_false.ensures.kept c.in-JumpIfFalse-default.target c.in-JumpIfFalse-default.is-0 c.jump_if_false.ensures.lands
+    goes_either c.args.program.now c.args.engine.now c.args.self.now c.jump_if.new.self c.args.frame.now c.jump_if.new.frame c.height.result c.height.ensures c.fetch.result.0 c.fetch.result.1 c.jump_if.result
+    c.fetch.ensures.foreseen c.jump_if.ensures.kept (op.JumpIfFalse c.in-JumpIfFalse-default.target) c.in-JumpIfFalse-default.target c.in-JumpIfFalse-default.is-0 refl refl refl c.jump_if.ensures.lands
+
+pub returns-in-Unit-default-clause-goes_on : goal.returns-in-Unit-default-clause-goes_on
+returns-in-Unit-default-clause-goes_on g c =
+    let depth = length (own c.args.self.now.stacks c.args.frame.now.bottom) in
+    goes_next c.args.program.now c.args.engine.now c.args.self.now c.push_on.new.self c.args.frame.now c.push_on.new.frame c.height.result c.height.ensures c.fetch.result.0 c.fetch.result.1 (Ok c.push_on.result)
+    c.fetch.ensures.foreseen c.push_on.ensures.kept op.Unit (depth + 1) c.in-Unit-default.is-0 refl (omega arith) c.push_on.ensures.lands
+
+pub returns-in-False-default-clause-goes_on : goal.returns-in-False-default-clause-goes_on
+returns-in-False-default-clause-goes_on g c =
+    let depth = length (own c.args.self.now.stacks c.args.frame.now.bottom) in
+    goes_next c.args.program.now c.args.engine.now c.args.self.now c.push_on-in-False-default.new.self c.args.frame.now c.push_on-in-False-default.new.frame c.height.result c.height.ensures c.fetch.result.0 c.fetch.result.1 (Ok c.push_on-in-False-default.result)
+    c.fetch.ensures.foreseen c.push_on-in-False-default.ensures.kept op.False (depth + 1) c.in-False-default.is-0 refl (omega arith) c.push_on-in-False-default.ensures.lands
+
+pub returns-in-True-default-clause-goes_on : goal.returns-in-True-default-clause-goes_on
+returns-in-True-default-clause-goes_on g c =
+    let depth = length (own c.args.self.now.stacks c.args.frame.now.bottom) in
+    goes_next c.args.program.now c.args.engine.now c.args.self.now c.push_on-in-True-default.new.self c.args.frame.now c.push_on-in-True-default.new.frame c.height.result c.height.ensures c.fetch.result.0 c.fetch.result.1 (Ok c.push_on-in-True-default.result)
+    c.fetch.ensures.foreseen c.push_on-in-True-default.ensures.kept op.True (depth + 1) c.in-True-default.is-0 refl (omega arith) c.push_on-in-True-default.ensures.lands
+
+pub returns-in-Pop-default-clause-goes_on : goal.returns-in-Pop-default-clause-goes_on
+returns-in-Pop-default-clause-goes_on g c =
+    let depth = length (own c.args.self.now.stacks c.args.frame.now.bottom) in
+    goes_next c.args.program.now c.args.engine.now c.args.self.now c.pop_on.new.self c.args.frame.now c.pop_on.new.frame c.height.result c.height.ensures c.fetch.result.0 c.fetch.result.1 (Ok c.pop_on.result)
+    c.fetch.ensures.foreseen c.pop_on.ensures.kept op.Pop (depth - 1) c.in-Pop-default.is-0 refl (omega arith) c.pop_on.ensures.lands
+
+pub returns-in-AssignLocal-default-clause-goes_on : goal.returns-in-AssignLocal-default-clause-goes_on
+returns-in-AssignLocal-default-clause-goes_on g c =
+    let depth = length (own c.args.self.now.stacks c.args.frame.now.bottom) in
+    goes_next c.args.program.now c.args.engine.now c.args.self.now c.assign_local.new.self c.args.frame.now c.assign_local.new.frame c.height.result c.height.ensures c.fetch.result.0 c.fetch.result.1 c.assign_local.result
+    c.fetch.ensures.foreseen c.assign_local.ensures.kept (op.AssignLocal c.in-AssignLocal-default.slot c.in-AssignLocal-default.name) (depth - 1) c.in-AssignLocal-default.is-0 refl (omega arith) c.assign_local.ensures.lands
+
+pub returns-in-JumpIfTrue-default-clause-goes_on : goal.returns-in-JumpIfTrue-default-clause-goes_on
+returns-in-JumpIfTrue-default-clause-goes_on g c =
+    goes_either c.args.program.now c.args.engine.now c.args.self.now c.jump_if-in-JumpIfTrue-default.new.self c.args.frame.now c.jump_if-in-JumpIfTrue-default.new.frame c.height.result c.height.ensures c.fetch.result.0 c.fetch.result.1 c.jump_if-in-JumpIfTrue-default.result
+    c.fetch.ensures.foreseen c.jump_if-in-JumpIfTrue-default.ensures.kept (op.JumpIfTrue c.in-JumpIfTrue-default.target) c.in-JumpIfTrue-default.target c.in-JumpIfTrue-default.is-0 refl refl refl c.jump_if-in-JumpIfTrue-default.ensures.lands
