@@ -6,26 +6,26 @@ use Rattle.grain_program.specs.declared.effects.Effect.{Effect}
 use Rattle.grain_program.specs.declared.effects.Flow.{Flow}
 use Rattle.grain_program.specs.declared.effects.Flow.TheVariants as flow
 
-abbrev pub row : ℕ → ℕ → Flow → Effect
-row takes gives flow = record { takes = takes; gives = gives; flow = flow }
+abbrev pub effect : ℕ → ℕ → Flow → Effect
+effect takes gives flow = record { takes = takes; gives = gives; flow = flow }
 
 -- how many operands the instruction takes, how many it then gives, and where the machine goes
 abbrev pub effect_of : Op → Effect
-effect_of (op.LoadConst c) = row 0 1 flow.Next
-effect_of op.Unit = row 0 1 flow.Next
-effect_of op.False = row 0 1 flow.Next
-effect_of op.True = row 0 1 flow.Next
-effect_of (op.LoadLocal s) = row 0 1 flow.Next
-effect_of (op.DeclareLocal n) = row 1 0 flow.Next
-effect_of (op.AssignLocal s n) = row 1 0 flow.Next
-effect_of (op.AssignLocalOp s n a) = row 1 0 flow.Next
-effect_of op.Pop = row 1 0 flow.Next
-effect_of (op.Jump t) = row 0 0 (flow.Jump t)
-effect_of (op.JumpIfFalse t) = row 1 0 (flow.Branch t)
-effect_of (op.JumpIfTrue t) = row 1 0 (flow.Branch t)
-effect_of (op.CallOp n k o) = row k 1 flow.Next
-effect_of op.Tick = row 0 0 flow.Next
-effect_of op.Return = row 0 0 flow.End
+effect_of (op.LoadConst c) = effect 0 1 flow.Next
+effect_of op.Unit = effect 0 1 flow.Next
+effect_of op.False = effect 0 1 flow.Next
+effect_of op.True = effect 0 1 flow.Next
+effect_of (op.LoadLocal s) = effect 0 1 flow.Next
+effect_of (op.DeclareLocal n) = effect 1 0 flow.Next
+effect_of (op.AssignLocal s n) = effect 1 0 flow.Next
+effect_of (op.AssignLocalOp s n a) = effect 1 0 flow.Next
+effect_of op.Pop = effect 1 0 flow.Next
+effect_of (op.Jump t) = effect 0 0 (flow.Jump t)
+effect_of (op.JumpIfFalse t) = effect 1 0 (flow.Branch t)
+effect_of (op.JumpIfTrue t) = effect 1 0 (flow.Branch t)
+effect_of (op.CallOp n k o) = effect k 1 flow.Next
+effect_of op.Tick = effect 0 0 flow.Next
+effect_of op.Return = effect 0 0 flow.End
 
 -- the addresses that a flow leads to, given the address behind the instruction, the lower one first
 abbrev pub leads : Flow → ℕ → List ℕ
