@@ -1,7 +1,9 @@
 //! The program: it reads a listing from standard input, verifies it, runs it and writes how the run ended.
 #![tactic(auto)]
 
-ghost use Rattle.std.specs.Prelude.{◌≡◌, ◌<◌};
+ghost use Rattle.std.specs.Prelude.{◌≡◌, ◌<◌, map, string_bytes};
+ghost use Rattle.grain_run.specs.Replies.{Ended};
+ghost use Rattle.grain_run.specs.Streams.{TakenWithin};
 
 mod draft;
 mod labels;
@@ -65,6 +67,9 @@ fn run_counted<S: Source, K: Sink, L: Ledger>(
     requires name { blank.name ≡ L.name }
     requires parts { blank.parts ≡ L.parts }
     requires enough { 5 < blank.parts }
+    ensures bounded { TakenWithin 16777217 (S.left source.old) (S.left source.new) }
+    ensures ended { Ended (map string_bytes words.now.items) (S.left source.old) (K.written sink.old) (K.written sink.new)
+        (record { source_before = S.faults source.old; source_now = S.faults source.new; sink_before = K.faults sink.old; sink_now = K.faults sink.new }) result.number }
 {
     let mut steps = Steps::<L>::new(blank);
     run_words(alloc, words, source, sink, &mut steps)
