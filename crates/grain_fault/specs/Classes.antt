@@ -1,6 +1,6 @@
 -- The three classes of faults: each fault is in exactly one.
 use Rattle.std.specs.Prelude.{Bool, true, false, not, ◌&&◌}
-use Rattle.grain_fault.specs.Problems.{Problem, FunctionNotFound, MismatchDataType, AssignmentToConstant, Arithmetic, TooManyOperations, TooManyVariables, Malformed, NoMemory}
+use Rattle.grain_fault.specs.Problems.{Problem, FunctionNotFound, MismatchDataType, InFunctionCall, AssignmentToConstant, Arithmetic, Runtime, TooManyOperations, TooManyVariables, StackOverflow, Malformed, NoMemory}
 
 pub data Class : Type 0 where
   -- no fault, but how control leaves a construct
@@ -14,10 +14,13 @@ pub data Class : Type 0 where
 abbrev pub class_of : Problem → Class
 class_of (FunctionNotFound s p) = Catchable
 class_of (MismatchDataType r a p) = Catchable
+class_of (InFunctionCall f s x p) = Catchable
 class_of (AssignmentToConstant s p) = Catchable
 class_of (Arithmetic s p) = Catchable
+class_of (Runtime v p) = Catchable
 class_of (TooManyOperations p) = System
 class_of (TooManyVariables p) = System
+class_of (StackOverflow p) = System
 class_of (Malformed k p) = System
 class_of NoMemory = System
 

@@ -1,28 +1,34 @@
 -- Where a fault was raised, and the same fault raised elsewhere.
 use Rattle.std.specs.Prelude.{Bool, true, false, if◌then◌else◌}
 use Rattle.grain_fault.specs.Places.{nowhere, is_nowhere}
-use Rattle.grain_fault.specs.Problems.{Problem, FunctionNotFound, MismatchDataType, AssignmentToConstant, Arithmetic, TooManyOperations, TooManyVariables, Malformed, NoMemory}
+use Rattle.grain_fault.specs.Problems.{Problem, FunctionNotFound, MismatchDataType, InFunctionCall, AssignmentToConstant, Arithmetic, Runtime, TooManyOperations, TooManyVariables, StackOverflow, Malformed, NoMemory}
 use Rattle.grain_fault.specs.declared.places.Position.{Position}
 
 -- want of memory has no position
 abbrev pub position_of_problem : Problem → Position
 position_of_problem (FunctionNotFound s p) = p
 position_of_problem (MismatchDataType r a p) = p
+position_of_problem (InFunctionCall f s x p) = p
 position_of_problem (AssignmentToConstant s p) = p
 position_of_problem (Arithmetic s p) = p
+position_of_problem (Runtime v p) = p
 position_of_problem (TooManyOperations p) = p
 position_of_problem (TooManyVariables p) = p
+position_of_problem (StackOverflow p) = p
 position_of_problem (Malformed k p) = p
 position_of_problem NoMemory = nowhere
 
--- the same fault at this position; want of memory stays as it is
+-- the same fault at this position, with what it wraps as it was; want of memory stays as it is
 abbrev pub at_position : Position → Problem → Problem
 at_position p (FunctionNotFound s q) = FunctionNotFound s p
 at_position p (MismatchDataType r a q) = MismatchDataType r a p
+at_position p (InFunctionCall f s x q) = InFunctionCall f s x p
 at_position p (AssignmentToConstant s q) = AssignmentToConstant s p
 at_position p (Arithmetic s q) = Arithmetic s p
+at_position p (Runtime v q) = Runtime v p
 at_position p (TooManyOperations q) = TooManyOperations p
 at_position p (TooManyVariables q) = TooManyVariables p
+at_position p (StackOverflow q) = StackOverflow p
 at_position p (Malformed k q) = Malformed k p
 at_position p NoMemory = NoMemory
 
@@ -30,10 +36,13 @@ at_position p NoMemory = NoMemory
 abbrev pub is_placeless : Problem → Bool
 is_placeless (FunctionNotFound s p) = false
 is_placeless (MismatchDataType r a p) = false
+is_placeless (InFunctionCall f s x p) = false
 is_placeless (AssignmentToConstant s p) = false
 is_placeless (Arithmetic s p) = false
+is_placeless (Runtime v p) = false
 is_placeless (TooManyOperations p) = false
 is_placeless (TooManyVariables p) = false
+is_placeless (StackOverflow p) = false
 is_placeless (Malformed k p) = false
 is_placeless NoMemory = true
 

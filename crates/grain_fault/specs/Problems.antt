@@ -1,5 +1,6 @@
 -- Faults as trees: what a fault is, without the places of its parts in memory.
 use Rattle.std.specs.Prelude.{ℕ, List}
+use Rattle.grain_value.specs.declared.values.Dynamic.{Dynamic}
 use Rattle.grain_fault.specs.declared.places.Position.{Position}
 use Rattle.grain_fault.specs.declared.faults.MalformedKind.{MalformedKind}
 use Rattle.grain_fault.specs.declared.faults.EvalAltResult.{EvalAltResult}
@@ -8,19 +9,30 @@ use Rattle.grain_fault.specs.declared.faults.EvalAltResult.TheVariants as fault
 pub data Problem : Type 0 where
   FunctionNotFound : List ℕ → Position → Problem
   MismatchDataType : (requested actual : List ℕ) → Position → Problem
+  InFunctionCall : (function source : List ℕ) → Problem → Position → Problem
   AssignmentToConstant : List ℕ → Position → Problem
   Arithmetic : List ℕ → Position → Problem
+  Runtime : Dynamic → Position → Problem
   TooManyOperations : Position → Problem
   TooManyVariables : Position → Problem
+  StackOverflow : Position → Problem
   Malformed : MalformedKind → Position → Problem
   NoMemory : Problem
 
 abbrev pub problem_of : EvalAltResult → Problem
 problem_of (fault.ErrorFunctionNotFound s p) = FunctionNotFound s p
 problem_of (fault.ErrorMismatchDataType r a p) = MismatchDataType r a p
+problem_of (fault.ErrorInFunctionCall' f s q x p) = InFunctionCall f s (problem_of x) p
 problem_of (fault.ErrorAssignmentToConstant s p) = AssignmentToConstant s p
 problem_of (fault.ErrorArithmetic s p) = Arithmetic s p
+problem_of (fault.ErrorRuntime v p) = Runtime v p
 problem_of (fault.ErrorTooManyOperations p) = TooManyOperations p
 problem_of (fault.ErrorTooManyVariables p) = TooManyVariables p
+problem_of (fault.ErrorStackOverflow p) = StackOverflow p
 problem_of (fault.Malformed k p) = Malformed k p
 problem_of fault.Memory = NoMemory
+
+-- the fault inside its wrappers
+abbrev pub unwrapped : Problem → Problem
+unwrapped (InFunctionCall f s x p) = unwrapped x
+unwrapped x = x

@@ -1,9 +1,13 @@
 -- The names and the texts of faults.
-use Rattle.std.specs.Prelude.{ℕ, List, [], ◌++◌, length, codes, ◌==◌, if◌then◌else◌}
-use Rattle.std.specs.Fmt.{decimal}
+use Rattle.std.specs.Prelude.{ℕ, Bool, List, [], ◌++◌, length, codes, ◌==◌, eqb, if◌then◌else◌}
+use Rattle.std.specs.List.{starts_with}
+use Rattle.std.specs.Fmt.{decimal, signed_decimal}
+use Rattle.grain_value.specs.declared.values.Dynamic.{Dynamic}
+use Rattle.grain_value.specs.declared.values.Dynamic.TheVariants as dynamic
+use Rattle.grain_value.specs.Writing.{truth}
 use Rattle.grain_fault.specs.Places.{is_nowhere}
 use Rattle.grain_fault.specs.Positions.{position_of_problem}
-use Rattle.grain_fault.specs.Problems.{Problem, FunctionNotFound, MismatchDataType, AssignmentToConstant, Arithmetic, TooManyOperations, TooManyVariables, Malformed, NoMemory}
+use Rattle.grain_fault.specs.Problems.{Problem, FunctionNotFound, MismatchDataType, InFunctionCall, AssignmentToConstant, Arithmetic, Runtime, TooManyOperations, TooManyVariables, StackOverflow, Malformed, NoMemory}
 use Rattle.grain_fault.specs.declared.places.Position.{Position}
 use Rattle.grain_fault.specs.declared.faults.MalformedKind.{MalformedKind}
 use Rattle.grain_fault.specs.declared.faults.MalformedKind.TheVariants as kind
@@ -12,10 +16,13 @@ use Rattle.grain_fault.specs.declared.faults.MalformedKind.TheVariants as kind
 abbrev pub fault_name : Problem → List ℕ
 fault_name (FunctionNotFound s p) = codes "ErrorFunctionNotFound"
 fault_name (MismatchDataType r a p) = codes "ErrorMismatchDataType"
+fault_name (InFunctionCall f s x p) = codes "ErrorInFunctionCall"
 fault_name (AssignmentToConstant s p) = codes "ErrorAssignmentToConstant"
 fault_name (Arithmetic s p) = codes "ErrorArithmetic"
+fault_name (Runtime v p) = codes "ErrorRuntime"
 fault_name (TooManyOperations p) = codes "ErrorTooManyOperations"
 fault_name (TooManyVariables p) = codes "ErrorTooManyVariables"
+fault_name (StackOverflow p) = codes "ErrorStackOverflow"
 fault_name (Malformed k p) = codes "Malformed"
 fault_name NoMemory = codes "Memory"
 
@@ -29,17 +36,7 @@ mismatch_text r a =
 -- what the program asks for that is not there
 abbrev pub kind_text : MalformedKind → List ℕ
 kind_text (kind.SlotPastScope i l) = codes "slot " ++ decimal i ++ codes " past a scope of " ++ decimal l
-
--- what happened, without where
-abbrev pub message : Problem → List ℕ
-message (FunctionNotFound s p) = codes "Function not found: " ++ s
-message (MismatchDataType r a p) = codes "Data type incorrect" ++ mismatch_text r a
-message (AssignmentToConstant s p) = codes "Cannot modify constant " ++ s
-message (Arithmetic s p) = if length s == 0 then codes "Arithmetic error" else s
-message (TooManyOperations p) = codes "Too many operations"
-message (TooManyVariables p) = codes "Too many variables defined"
-message (Malformed k p) = codes "Malformed program: " ++ kind_text k
-message NoMemory = codes "Out of memory"
+kind_text (kind.UnwindPastScope t l) = codes "unwind to " ++ decimal t ++ codes " past a scope of " ++ decimal l
 
 -- the line and the column in parentheses, behind a blank; no position is nothing, and the start of a line names no column
 abbrev pub place_text : Position → List ℕ
@@ -48,6 +45,43 @@ place_text p =
     else (if p.column == 0 then codes " (line " ++ decimal p.line ++ codes ")"
     else codes " (line " ++ decimal p.line ++ codes ", position " ++ decimal p.column ++ codes ")")
 
+-- where it happened: the source of the call, empty outside of all calls, and the position
+abbrev pub ending : List ℕ → Position → List ℕ
+ending source p = (if length source == 0 then [] else codes " @ '" ++ source ++ codes "'") ++ place_text p
+
+-- a closure's name begins so
+abbrev pub is_closure : List ℕ → Bool
+is_closure function = starts_with eqb function (codes "anon$")
+
+-- the call that a fault left
+abbrev pub call_text : List ℕ → List ℕ
+call_text function = if is_closure function then codes "in closure call" else codes "in call to function '" ++ function ++ codes "'"
+
+-- the source of the function that was called
+abbrev pub origin_text : List ℕ → List ℕ
+origin_text source = if length source == 0 then [] else codes " (from '" ++ source ++ codes "')"
+
+-- a value that was thrown, by its plain text; unit and the empty text tell nothing
+abbrev pub thrown_text : Dynamic → List ℕ
+thrown_text dynamic.Unit = []
+thrown_text (dynamic.Bool b) = codes ": " ++ truth b
+thrown_text (dynamic.Int n) = codes ": " ++ signed_decimal n
+thrown_text (dynamic.Text t) = if length t == 0 then [] else codes ": " ++ t
+
+-- what happened, without where
+abbrev pub message : Problem → List ℕ
+message (FunctionNotFound s p) = codes "Function not found: " ++ s
+message (MismatchDataType r a p) = codes "Data type incorrect" ++ mismatch_text r a
+message (InFunctionCall f s x p) = message x ++ ending s (position_of_problem x) ++ codes "\n" ++ call_text f ++ origin_text s
+message (AssignmentToConstant s p) = codes "Cannot modify constant " ++ s
+message (Arithmetic s p) = if length s == 0 then codes "Arithmetic error" else s
+message (Runtime v p) = codes "Runtime error" ++ thrown_text v
+message (TooManyOperations p) = codes "Too many operations"
+message (TooManyVariables p) = codes "Too many variables defined"
+message (StackOverflow p) = codes "Stack overflow"
+message (Malformed k p) = codes "Malformed program: " ++ kind_text k
+message NoMemory = codes "Out of memory"
+
 -- what happened, and then where
 abbrev pub fault_text : Problem → List ℕ
-fault_text f = message f ++ place_text (position_of_problem f)
+fault_text f = message f ++ ending [] (position_of_problem f)

@@ -14,10 +14,13 @@ impl EvalAltResult {
         match self {
             EvalAltResult::ErrorFunctionNotFound(..) => false,
             EvalAltResult::ErrorMismatchDataType(..) => false,
+            EvalAltResult::ErrorInFunctionCall(..) => false,
             EvalAltResult::ErrorAssignmentToConstant(..) => false,
             EvalAltResult::ErrorArithmetic(..) => false,
+            EvalAltResult::ErrorRuntime(..) => false,
             EvalAltResult::ErrorTooManyOperations(..) => false,
             EvalAltResult::ErrorTooManyVariables(..) => false,
+            EvalAltResult::ErrorStackOverflow(..) => false,
             EvalAltResult::Malformed(..) => false,
             EvalAltResult::Memory => false,
         }
@@ -30,10 +33,13 @@ impl EvalAltResult {
         match self {
             EvalAltResult::ErrorFunctionNotFound(..) => true,
             EvalAltResult::ErrorMismatchDataType(..) => true,
+            EvalAltResult::ErrorInFunctionCall(..) => true,
             EvalAltResult::ErrorAssignmentToConstant(..) => true,
             EvalAltResult::ErrorArithmetic(..) => true,
+            EvalAltResult::ErrorRuntime(..) => true,
             EvalAltResult::ErrorTooManyOperations(..) => false,
             EvalAltResult::ErrorTooManyVariables(..) => false,
+            EvalAltResult::ErrorStackOverflow(..) => false,
             EvalAltResult::Malformed(..) => false,
             EvalAltResult::Memory => false,
         }

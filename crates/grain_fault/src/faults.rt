@@ -1,7 +1,13 @@
 //! Faults: their kinds, classes, positions and texts.
 
+ghost use Rattle.std.specs.Prelude.{◌≡◌, IfOk};
+ghost use Rattle.grain_fault.specs.Places.{nowhere};
+ghost use Rattle.grain_fault.specs.Problems.{Runtime, problem_of};
+ghost use Rattle.grain_value.specs.declared.values.Dynamic.TheVariants as dynamic;
+
 use crate::places::Position;
-use grain_value::{Dynamic, Text};
+use grain_value::{Dynamic, OutOfMemory, Text};
+use std::alloc::Global;
 
 /// How a run ends.
 pub type RhaiResult = Result<Dynamic, EvalAltResult>;
@@ -14,6 +20,8 @@ pub type RhaiResultOf<T> = Result<T, EvalAltResult>;
 pub enum MalformedKind {
     /// A slot names the entry `index`, counted from 0, of a scope of `length` entries.
     SlotPastScope { index: usize, length: usize },
+    /// A scope of `length` entries is to be cut to `target` entries, which are more.
+    UnwindPastScope { target: usize, length: usize },
 }
 
 /// Why a run ended without a value.
@@ -23,16 +31,33 @@ pub enum EvalAltResult {
     ErrorFunctionNotFound(Text, Position),
     /// A value of the second type where one of the first was asked for.
     ErrorMismatchDataType(Text, Text, Position),
+    /// A fault that left the body of a function of this name. The second text is the source of the function's program,
+    /// empty where there is none, and the position is that of the call.
+    ErrorInFunctionCall(Text, Text, Box<EvalAltResult>, Position),
     /// An assignment to an entry of this name that can only be read.
     ErrorAssignmentToConstant(Text, Position),
     /// Arithmetic without a result.
     ErrorArithmetic(Text, Position),
+    /// A value that the script threw.
+    ErrorRuntime(Dynamic, Position),
     /// The operation limit is reached.
     ErrorTooManyOperations(Position),
     /// The variable limit is reached.
     ErrorTooManyVariables(Position),
+    /// The limit of compiled calls within one another is reached.
+    ErrorStackOverflow(Position),
     /// The program asks for what is not there.
     Malformed(MalformedKind, Position),
     /// Want of memory.
     Memory,
+}
+
+impl EvalAltResult {
+    /// The fault of a script that throws this text, without a position.
+    pub fn from_text(alloc: Global, s: &str) -> Result<EvalAltResult, OutOfMemory>
+        ensures { IfOk result (λ f. problem_of f ≡ Runtime (dynamic.Text s.now) nowhere) }
+    {
+        let text = Text::copy_of(alloc, s)?;
+        Ok(EvalAltResult::ErrorRuntime(Dynamic::Text(text), Position::NONE))
+    }
 }

@@ -1,7 +1,7 @@
 //! Where faults were raised.
 
 ghost use Rattle.std.specs.Prelude.{◌≡◌, if◌then◌else◌};
-ghost use Rattle.grain_fault.specs.Problems.{problem_of};
+ghost use Rattle.grain_fault.specs.Problems.{problem_of, unwrapped};
 ghost use Rattle.grain_fault.specs.Places.{nowhere};
 ghost use Rattle.grain_fault.specs.Positions.{position_of_problem, at_position, is_placeless, filled};
 
@@ -16,10 +16,13 @@ impl EvalAltResult {
         match self {
             EvalAltResult::ErrorFunctionNotFound(_, position) => *position,
             EvalAltResult::ErrorMismatchDataType(_, _, position) => *position,
+            EvalAltResult::ErrorInFunctionCall(_, _, _, position) => *position,
             EvalAltResult::ErrorAssignmentToConstant(_, position) => *position,
             EvalAltResult::ErrorArithmetic(_, position) => *position,
+            EvalAltResult::ErrorRuntime(_, position) => *position,
             EvalAltResult::ErrorTooManyOperations(position) => *position,
             EvalAltResult::ErrorTooManyVariables(position) => *position,
+            EvalAltResult::ErrorStackOverflow(position) => *position,
             EvalAltResult::Malformed(_, position) => *position,
             EvalAltResult::Memory => Position::NONE,
         }
@@ -34,10 +37,13 @@ impl EvalAltResult {
         match self {
             EvalAltResult::ErrorFunctionNotFound(_, position) => *position = new_position,
             EvalAltResult::ErrorMismatchDataType(_, _, position) => *position = new_position,
+            EvalAltResult::ErrorInFunctionCall(_, _, _, position) => *position = new_position,
             EvalAltResult::ErrorAssignmentToConstant(_, position) => *position = new_position,
             EvalAltResult::ErrorArithmetic(_, position) => *position = new_position,
+            EvalAltResult::ErrorRuntime(_, position) => *position = new_position,
             EvalAltResult::ErrorTooManyOperations(position) => *position = new_position,
             EvalAltResult::ErrorTooManyVariables(position) => *position = new_position,
+            EvalAltResult::ErrorStackOverflow(position) => *position = new_position,
             EvalAltResult::Malformed(_, position) => *position = new_position,
             EvalAltResult::Memory => {}
         }
@@ -71,10 +77,22 @@ impl EvalAltResult {
         fault
     }
 
-    /// The fault inside its wrappers. No fault is a wrapper yet, so it is the fault itself.
+    /// The fault inside its wrappers: goes through `ErrorInFunctionCall` alone.
     pub fn unwrap_inner(&self) -> &EvalAltResult
-        ensures { result.now ≡ self.now }
+        ensures { problem_of result.now ≡ unwrapped (problem_of self.now) }
     {
-        self
+        match self {
+            EvalAltResult::ErrorInFunctionCall(_, _, inner, _) => inner.unwrap_inner(),
+            EvalAltResult::ErrorFunctionNotFound(..) => self,
+            EvalAltResult::ErrorMismatchDataType(..) => self,
+            EvalAltResult::ErrorAssignmentToConstant(..) => self,
+            EvalAltResult::ErrorArithmetic(..) => self,
+            EvalAltResult::ErrorRuntime(..) => self,
+            EvalAltResult::ErrorTooManyOperations(..) => self,
+            EvalAltResult::ErrorTooManyVariables(..) => self,
+            EvalAltResult::ErrorStackOverflow(..) => self,
+            EvalAltResult::Malformed(..) => self,
+            EvalAltResult::Memory => self,
+        }
     }
 }

@@ -1,7 +1,7 @@
 //! The texts of faults, and each call that takes memory, once where there is enough of it.
 
 use crate::{EvalAltResult, Fault, Faults, MalformedKind, Position};
-use grain_value::{OutOfMemory, Text};
+use grain_value::{Dynamic, OutOfMemory, Text};
 use std::alloc::Global;
 use std::process::Abort;
 
@@ -123,7 +123,81 @@ fn limits_are_told(rt: HostRuntime) -> Result<(), OutOfMemory> {
         "Too many variables defined (line 2, position 7)",
         "Too many variables defined (line 3)",
     ];
-    check_told(&rt, rt.alloc(), fault, "ErrorTooManyVariables", texts)
+    check_told(&rt, rt.alloc(), fault, "ErrorTooManyVariables", texts)?;
+    let fault = EvalAltResult::ErrorStackOverflow(NONE);
+    let texts = [
+        "Stack overflow",
+        "Stack overflow (line 2, position 7)",
+        "Stack overflow (line 3)",
+    ];
+    check_told(&rt, rt.alloc(), fault, "ErrorStackOverflow", texts)
+}
+
+#[test]
+fn thrown_values_are_told(rt: HostRuntime) -> Result<(), OutOfMemory> {
+    let name = "ErrorRuntime";
+    let fault = EvalAltResult::ErrorRuntime(Dynamic::Unit, NONE);
+    let texts = [
+        "Runtime error",
+        "Runtime error (line 2, position 7)",
+        "Runtime error (line 3)",
+    ];
+    check_told(&rt, rt.alloc(), fault, name, texts)?;
+    let fault = EvalAltResult::from_text(rt.alloc(), "")?;
+    check_told(&rt, rt.alloc(), fault, name, texts)?;
+    let fault = EvalAltResult::from_text(rt.alloc(), "boom")?;
+    let texts = [
+        "Runtime error: boom",
+        "Runtime error: boom (line 2, position 7)",
+        "Runtime error: boom (line 3)",
+    ];
+    check_told(&rt, rt.alloc(), fault, name, texts)?;
+    let fault = EvalAltResult::ErrorRuntime(Dynamic::Int(7), NONE);
+    let texts = [
+        "Runtime error: 7",
+        "Runtime error: 7 (line 2, position 7)",
+        "Runtime error: 7 (line 3)",
+    ];
+    check_told(&rt, rt.alloc(), fault, name, texts)
+}
+
+/// A fault that left a call of the function, whose program has this source.
+fn in_call(
+    alloc: Global,
+    function: &str,
+    source: &str,
+    inner: EvalAltResult,
+) -> Result<EvalAltResult, OutOfMemory> {
+    let function = Text::copy_of(alloc, function)?;
+    let source = Text::copy_of(alloc, source)?;
+    let inner = Box::new(alloc, inner)?;
+    Ok(EvalAltResult::ErrorInFunctionCall(function, source, inner, NONE))
+}
+
+#[test]
+fn calls_are_told(rt: HostRuntime) -> Result<(), OutOfMemory> {
+    let name = "ErrorInFunctionCall";
+    let thrown = EvalAltResult::ErrorRuntime(Dynamic::Int(7), Position::new(9, 2));
+    let fault = in_call(rt.alloc(), "f", "", thrown)?;
+    let texts = [
+        "Runtime error: 7 (line 9, position 2)\nin call to function 'f'",
+        "Runtime error: 7 (line 9, position 2)\nin call to function 'f' (line 2, position 7)",
+        "Runtime error: 7 (line 9, position 2)\nin call to function 'f' (line 3)",
+    ];
+    check_told(&rt, rt.alloc(), fault, name, texts)?;
+    let overflow = EvalAltResult::ErrorStackOverflow(NONE);
+    let inner = in_call(rt.alloc(), "anon$1", "a", overflow)?;
+    let fault = in_call(rt.alloc(), "g", "b", inner)?;
+    assert!(rt; fault.is_catchable());
+    let inside = fault.unwrap_inner();
+    assert_eq!(rt; inside.name(), "ErrorStackOverflow");
+    assert!(rt; inside.is_system_exception());
+    let texts = [
+        "Stack overflow @ 'a'\nin closure call (from 'a') @ 'b'\nin call to function 'g' (from 'b')",
+        "Stack overflow @ 'a'\nin closure call (from 'a') @ 'b'\nin call to function 'g' (from 'b') (line 2, position 7)",
+        "Stack overflow @ 'a'\nin closure call (from 'a') @ 'b'\nin call to function 'g' (from 'b') (line 3)",
+    ];
+    check_told(&rt, rt.alloc(), fault, name, texts)
 }
 
 #[test]
@@ -144,6 +218,17 @@ fn system_faults_are_told(rt: HostRuntime) -> Result<(), OutOfMemory> {
         "Malformed",
         texts,
     )?;
+    let unwind = MalformedKind::UnwindPastScope {
+        target: 4,
+        length: 3,
+    };
+    let texts = [
+        "Malformed program: unwind to 4 past a scope of 3",
+        "Malformed program: unwind to 4 past a scope of 3 (line 2, position 7)",
+        "Malformed program: unwind to 4 past a scope of 3 (line 3)",
+    ];
+    let fault = EvalAltResult::Malformed(unwind, NONE);
+    check_told(&rt, rt.alloc(), fault, "Malformed", texts)?;
     let texts = ["Out of memory", "Out of memory", "Out of memory"];
     check_told(&rt, rt.alloc(), EvalAltResult::Memory, "Memory", texts)
 }

@@ -1,12 +1,13 @@
 //! The names and the texts of faults.
 
 ghost use Rattle.std.specs.Prelude.{◌≡◌, ◌++◌, IfOk, Some};
+ghost use Rattle.std.specs.Fmt.{WritesOnOk};
 ghost use Rattle.grain_fault.specs.Problems.{problem_of};
-ghost use Rattle.grain_fault.specs.Texts.{fault_name, fault_text, message, mismatch_text, kind_text, place_text};
+ghost use Rattle.grain_fault.specs.Texts.{fault_name, fault_text, message, mismatch_text, kind_text, place_text, ending, call_text, origin_text, thrown_text};
 
 use crate::faults::{EvalAltResult, MalformedKind};
 use crate::places::Position;
-use grain_value::{OutOfMemory, Text};
+use grain_value::{Dynamic, OutOfMemory, Text};
 use std::fmt;
 
 impl EvalAltResult {
@@ -17,10 +18,13 @@ impl EvalAltResult {
         match self {
             EvalAltResult::ErrorFunctionNotFound(..) => "ErrorFunctionNotFound",
             EvalAltResult::ErrorMismatchDataType(..) => "ErrorMismatchDataType",
+            EvalAltResult::ErrorInFunctionCall(..) => "ErrorInFunctionCall",
             EvalAltResult::ErrorAssignmentToConstant(..) => "ErrorAssignmentToConstant",
             EvalAltResult::ErrorArithmetic(..) => "ErrorArithmetic",
+            EvalAltResult::ErrorRuntime(..) => "ErrorRuntime",
             EvalAltResult::ErrorTooManyOperations(..) => "ErrorTooManyOperations",
             EvalAltResult::ErrorTooManyVariables(..) => "ErrorTooManyVariables",
+            EvalAltResult::ErrorStackOverflow(..) => "ErrorStackOverflow",
             EvalAltResult::Malformed(..) => "Malformed",
             EvalAltResult::Memory => "Memory",
         }
@@ -39,9 +43,12 @@ impl fmt::Display for EvalAltResult {
     ghost output = { λ f. Some (fault_text (problem_of f)) };
 
     fn fmt<W: fmt::Write>(&self, f: &mut fmt::Formatter<W>) -> fmt::Result {
-        let message = Message(self);
-        let place = Place(self.position());
-        write!(f, "{message}{place}")
+        write_message(self, f)?;
+        let ending = Ending {
+            source: "",
+            position: self.position(),
+        };
+        write!(f, "{ending}")
     }
 }
 
@@ -54,41 +61,54 @@ impl fmt::Display for MalformedKind {
             MalformedKind::SlotPastScope { index, length } => {
                 write!(f, "slot {index} past a scope of {length}")
             }
+            MalformedKind::UnwindPastScope { target, length } => {
+                write!(f, "unwind to {target} past a scope of {length}")
+            }
         }
     }
 }
 
-/// What happened, without where.
-#[derive(Drop)]
-struct Message<'a>(&'a EvalAltResult);
-
-impl fmt::Display for Message<'_> {
-    ghost output = { λ m. Some (message (problem_of m.0.now)) };
-
-    fn fmt<W: fmt::Write>(&self, f: &mut fmt::Formatter<W>) -> fmt::Result {
-        match self.0 {
-            EvalAltResult::ErrorFunctionNotFound(function, _) => {
-                write!(f, "Function not found: {function}")
-            }
-            EvalAltResult::ErrorMismatchDataType(requested, actual, _) => {
-                let mismatch = Mismatch { requested, actual };
-                write!(f, "Data type incorrect{mismatch}")
-            }
-            EvalAltResult::ErrorAssignmentToConstant(variable, _) => {
-                write!(f, "Cannot modify constant {variable}")
-            }
-            EvalAltResult::ErrorArithmetic(reason, _) => {
-                if reason.is_empty() {
-                    write!(f, "Arithmetic error")
-                } else {
-                    write!(f, "{reason}")
-                }
-            }
-            EvalAltResult::ErrorTooManyOperations(_) => write!(f, "Too many operations"),
-            EvalAltResult::ErrorTooManyVariables(_) => write!(f, "Too many variables defined"),
-            EvalAltResult::Malformed(kind, _) => write!(f, "Malformed program: {kind}"),
-            EvalAltResult::Memory => write!(f, "Out of memory"),
+/// Writes what happened, without where: of a fault that left a call, first what happened inside, and where.
+fn write_message<W: fmt::Write>(fault: &EvalAltResult, f: &mut fmt::Formatter<W>) -> fmt::Result
+    ensures { WritesOnOk W.write_str_gives f.old result (message (problem_of fault.now)) f.new }
+{
+    match fault {
+        EvalAltResult::ErrorFunctionNotFound(function, _) => {
+            write!(f, "Function not found: {function}")
         }
+        EvalAltResult::ErrorMismatchDataType(requested, actual, _) => {
+            let mismatch = Mismatch { requested, actual };
+            write!(f, "Data type incorrect{mismatch}")
+        }
+        EvalAltResult::ErrorInFunctionCall(function, source, inner, _) => {
+            let inner: &EvalAltResult = inner;
+            write_message(inner, f)?;
+            let ending = Ending {
+                source: source.as_str(),
+                position: inner.position(),
+            };
+            let call = Call { function, source };
+            write!(f, "{ending}\n{call}")
+        }
+        EvalAltResult::ErrorAssignmentToConstant(variable, _) => {
+            write!(f, "Cannot modify constant {variable}")
+        }
+        EvalAltResult::ErrorArithmetic(reason, _) => {
+            if reason.is_empty() {
+                write!(f, "Arithmetic error")
+            } else {
+                write!(f, "{reason}")
+            }
+        }
+        EvalAltResult::ErrorRuntime(value, _) => {
+            let thrown = Thrown(value);
+            write!(f, "Runtime error{thrown}")
+        }
+        EvalAltResult::ErrorTooManyOperations(_) => write!(f, "Too many operations"),
+        EvalAltResult::ErrorTooManyVariables(_) => write!(f, "Too many variables defined"),
+        EvalAltResult::ErrorStackOverflow(_) => write!(f, "Stack overflow"),
+        EvalAltResult::Malformed(kind, _) => write!(f, "Malformed program: {kind}"),
+        EvalAltResult::Memory => write!(f, "Out of memory"),
     }
 }
 
@@ -110,6 +130,89 @@ impl fmt::Display for Mismatch<'_> {
             write!(f, ": {actual}")
         } else {
             write!(f, ": {actual} (expecting {requested})")
+        }
+    }
+}
+
+/// A value that was thrown, behind a colon. Unit and the empty text are nothing.
+#[derive(Drop)]
+struct Thrown<'a>(&'a Dynamic);
+
+impl fmt::Display for Thrown<'_> {
+    ghost output = { λ t. Some (thrown_text t.0.now) };
+
+    fn fmt<W: fmt::Write>(&self, f: &mut fmt::Formatter<W>) -> fmt::Result {
+        let value = self.0;
+        match value {
+            Dynamic::Unit => Ok(()),
+            Dynamic::Bool(_) => write!(f, ": {value}"),
+            Dynamic::Int(_) => write!(f, ": {value}"),
+            Dynamic::Text(text) => {
+                if text.is_empty() {
+                    Ok(())
+                } else {
+                    write!(f, ": {text}")
+                }
+            }
+        }
+    }
+}
+
+/// The call that a fault left, and the source of the function.
+#[derive(Drop)]
+struct Call<'a> {
+    function: &'a Text,
+    source: &'a Text,
+}
+
+impl fmt::Display for Call<'_> {
+    ghost output = { λ c. Some (call_text c.function.now ++ origin_text c.source.now) };
+
+    fn fmt<W: fmt::Write>(&self, f: &mut fmt::Formatter<W>) -> fmt::Result {
+        let Call { function, source } = self;
+        let callee = Callee(function);
+        if source.is_empty() {
+            write!(f, "{callee}")
+        } else {
+            write!(f, "{callee} (from '{source}')")
+        }
+    }
+}
+
+/// The function that was called. A closure has no name to tell.
+#[derive(Drop)]
+struct Callee<'a>(&'a Text);
+
+impl fmt::Display for Callee<'_> {
+    ghost output = { λ c. Some (call_text c.0.now) };
+
+    fn fmt<W: fmt::Write>(&self, f: &mut fmt::Formatter<W>) -> fmt::Result {
+        let function = self.0;
+        if function.as_str().starts_with("anon$") {
+            write!(f, "in closure call")
+        } else {
+            write!(f, "in call to function '{function}'")
+        }
+    }
+}
+
+/// Where something happened: the source of the call, empty outside of all calls, and the position.
+#[derive(Drop)]
+struct Ending<'a> {
+    source: &'a str,
+    position: Position,
+}
+
+impl fmt::Display for Ending<'_> {
+    ghost output = { λ e. Some (ending e.source.now e.position) };
+
+    fn fmt<W: fmt::Write>(&self, f: &mut fmt::Formatter<W>) -> fmt::Result {
+        let Ending { source, position } = self;
+        let place = Place(*position);
+        if source.is_empty() {
+            write!(f, "{place}")
+        } else {
+            write!(f, " @ '{source}'{place}")
         }
     }
 }

@@ -67,15 +67,25 @@ listed op.Unit = record { found = λ rest. refl; operands = refl; makes = refl }
 listed op.False = record { found = λ rest. refl; operands = refl; makes = refl }
 listed op.True = record { found = λ rest. refl; operands = refl; makes = refl }
 listed (op.LoadLocal s) = record { found = λ rest. refl; operands = refl; makes = refl }
+listed (op.StoreLocal s) = record { found = λ rest. refl; operands = refl; makes = refl }
+listed (op.StoreConst s) = record { found = λ rest. refl; operands = refl; makes = refl }
 listed (op.DeclareLocal n) = record { found = λ rest. refl; operands = refl; makes = refl }
+listed (op.DeclareConst n) = record { found = λ rest. refl; operands = refl; makes = refl }
 listed (op.AssignLocal s n) = record { found = λ rest. refl; operands = refl; makes = refl }
 listed (op.AssignLocalOp s n a) = record { found = λ rest. refl; operands = refl; makes = refl }
 listed op.Pop = record { found = λ rest. refl; operands = refl; makes = refl }
+listed (op.Rotate u) = record { found = λ rest. refl; operands = refl; makes = refl }
 listed (op.Jump t) = record { found = λ rest. refl; operands = refl; makes = refl }
 listed (op.JumpIfFalse t) = record { found = λ rest. refl; operands = refl; makes = refl }
 listed (op.JumpIfTrue t) = record { found = λ rest. refl; operands = refl; makes = refl }
+listed (op.SkipIfNotUnit t) = record { found = λ rest. refl; operands = refl; makes = refl }
+listed (op.Call n k) = record { found = λ rest. refl; operands = refl; makes = refl }
 listed (op.CallOp n k o) = record { found = λ rest. refl; operands = refl; makes = refl }
+listed (op.UnwindTo d) = record { found = λ rest. refl; operands = refl; makes = refl }
 listed op.Tick = record { found = λ rest. refl; operands = refl; makes = refl }
+listed op.Checkpoint = record { found = λ rest. refl; operands = refl; makes = refl }
+listed (op.Statement d) = record { found = λ rest. refl; operands = refl; makes = refl }
+listed op.Throw = record { found = λ rest. refl; operands = refl; makes = refl }
 listed op.Return = record { found = λ rest. refl; operands = refl; makes = refl }
 
 op_in_again : (o : Op) (rest : List ℕ) → OpFits o → op_in (spelling o ++ rest) ≡ Some (o, length (spelling o))

@@ -13,11 +13,11 @@ use Rattle.grain_program.specs.declared.shapes.Shape.{Shape}
 use Rattle.grain_program.specs.declared.refusals.Refusal.{Refusal}
 use Rattle.grain_program.specs.declared.refusals.Refusal.TheVariants as refusal
 use Rattle.grain_program.specs.Reading.{op_at}
-use Rattle.grain_program.specs.Effects.{effect_of}
+use Rattle.grain_program.specs.Effects.{effect_of, leads}
 use Rattle.grain_program.specs.Starts.{Start}
 use Rattle.grain_program.specs.Rules.{Spot}
 use Rattle.grain_program.specs.Shapes.{height_after, after, stepped, clash, shape_at}
-use Rattle.grain_program.specs.Typing.{In, Agrees, Seen, ◌>>=◌, unless, noted, meets, arrive, arrive_all}
+use Rattle.grain_program.specs.Typing.{In, Agrees, Seen, ◌>>=◌, unless, noted, meets, arrive, arrive_all, take_op, take_at}
 use Rattle.grain_program.proofs.Ascending.{new_in, old_in, new_or_old, one_longer}
 use Rattle.grain_program.proofs.Cells.{free, free_put}
 
@@ -74,11 +74,130 @@ arrival s f g b e = at (shape_at f.shapes b) refl e where
   at None k h = record { cases = inr (k, cc) }
   at (Some t) k h = agreed t k (clash b t s) refl h
 
--- ---- what stays true
+-- ---- what arrivals do
 
 -- what is known stays known
 abbrev pub Stays : Seen → Seen → Type 0
 Stays f g = (a : ℕ) (s : Shape) → shape_at f.shapes a ≡ Some s → shape_at g.shapes a ≡ Some s
+
+-- the shape has come to each of the addresses; what was not known before is one of them and waits
+pub record Spread (s : Shape) (f g : Seen) (bs : List ℕ) : Type 0 where
+  pub long : length g.shapes ≡ length f.shapes
+  pub stays : Stays f g
+  pub there : (b : ℕ) → In b bs → shape_at g.shapes b ≡ Some s
+  pub new : (a : ℕ) (t : Shape) → shape_at g.shapes a ≡ Some t → (shape_at f.shapes a ≡ Some t) ⊎ (In a bs × In a g.waiting)
+  pub waits : (a : ℕ) → In a f.waiting → In a g.waiting
+  pub fresh : (a : ℕ) → In a g.waiting → In a f.waiting ⊎ In a bs
+  pub less : free g.shapes + length g.waiting ≤ free f.shapes + length f.waiting
+
+module _ (s : Shape) where
+  module _ (f : Seen) (b : ℕ) (lt : b < length f.shapes) (none : shape_at f.shapes b ≡ None) where
+    here : shape_at (set f.shapes b (Some s)) b ≡ Some s
+    here = get_or-set_same f.shapes b (Some s) None lt
+
+    other : (a : ℕ) → (a ≡ b → ⊥) → shape_at (set f.shapes b (Some s)) a ≡ shape_at f.shapes a
+    other a ne = get_or-set_other f.shapes b a (Some s) None ne
+
+    noted_spread : Spread s f (noted b s f) (b ∷ [])
+    noted_spread = record {
+      long = length-set f.shapes b (Some s);
+      stays = λ a t k. stays a t k (cases_eq a b);
+      there = λ a i. there a i;
+      new = λ a t k. new a t k (cases_eq a b);
+      waits = λ a i. old_in f.waiting b a i;
+      fresh = λ a i. fresh a (new_or_old f.waiting b a i);
+      less = omega (arith, one_longer f.waiting b, free_put f.shapes b s lt none);
+    } where
+      stays : (a : ℕ) (t : Shape) → shape_at f.shapes a ≡ Some t → (a ≡ b) ⊎ (a ≡ b → ⊥) → shape_at (set f.shapes b (Some s)) a ≡ Some t
+      stays a t k (inl same) = let bad : None ≡ Some t = sym none ∙ sym (ap (shape_at f.shapes) same) ∙ k in absurd cc
+      stays a t k (inr ne) = other a ne ∙ k
+
+      there : (a : ℕ) → In a (b ∷ []) → shape_at (set f.shapes b (Some s)) a ≡ Some s
+      there a (inl same) = subst (λ x. shape_at (set f.shapes b (Some s)) x ≡ Some s) (sym same) here
+      there a (inr i) = absurd i
+
+      new : (a : ℕ) (t : Shape) → shape_at (set f.shapes b (Some s)) a ≡ Some t → (a ≡ b) ⊎ (a ≡ b → ⊥) → (shape_at f.shapes a ≡ Some t) ⊎ (In a (b ∷ []) × In a (insert_key nat_cmp f.waiting b))
+      new a t k (inl same) = inr (inl same, subst (λ x. In x (insert_key nat_cmp f.waiting b)) (sym same) (new_in f.waiting b))
+      new a t k (inr ne) = inl (sym (other a ne) ∙ k)
+
+      fresh : (a : ℕ) → (a ≡ b) ⊎ In a f.waiting → In a f.waiting ⊎ In a (b ∷ [])
+      fresh a (inl same) = inr (inl same)
+      fresh a (inr i) = inl i
+
+  nothing_spread : (f : Seen) (bs : List ℕ) → ((b : ℕ) → In b bs → shape_at f.shapes b ≡ Some s) → Spread s f f bs
+  nothing_spread f bs there = record { long = refl; stays = λ a t k. k; there = there; new = λ a t k. inl k; waits = λ a i. i; fresh = λ a i. inl i; less = omega arith }
+
+  pub arrive_spread : (f g : Seen) (b : ℕ) → b < length f.shapes → arrive s f b ≡ Ok g → Spread s f g (b ∷ [])
+  arrive_spread f g b lt e = at (arrival s f g b e).cases where
+    one : (a : ℕ) → shape_at f.shapes b ≡ Some s → In a (b ∷ []) → shape_at f.shapes a ≡ Some s
+    one a k (inl same) = ap (shape_at f.shapes) same ∙ k
+    one a k (inr i) = absurd i
+
+    at : ((shape_at f.shapes b ≡ Some s) × (f ≡ g)) ⊎ ((shape_at f.shapes b ≡ None) × (noted b s f ≡ g)) → Spread s f g (b ∷ [])
+    at (inl k) = subst (λ (x : Seen). Spread s f x (b ∷ [])) k.1 (nothing_spread f (b ∷ []) (λ a i. one a k.0 i))
+    at (inr k) = subst (λ (x : Seen). Spread s f x (b ∷ [])) k.1 (noted_spread f b lt k.0)
+
+  both_spread : (b : ℕ) (bs : List ℕ) (f k g : Seen) → Spread s f k (b ∷ []) → Spread s k g bs → Spread s f g (b ∷ bs)
+  both_spread b bs f k g one more = record {
+    long = more.long ∙ one.long;
+    stays = λ a t h. more.stays a t (one.stays a t h);
+    there = λ a i. there a i;
+    new = λ a t h. new a t (more.new a t h);
+    waits = λ a i. more.waits a (one.waits a i);
+    fresh = λ a i. fresh a (more.fresh a i);
+    less = omega (arith, one.less, more.less);
+  } where
+    there : (a : ℕ) → In a (b ∷ bs) → shape_at g.shapes a ≡ Some s
+    there a (inl same) = more.stays a s (one.there a (inl same))
+    there a (inr i) = more.there a i
+
+    in_one : (a : ℕ) → In a (b ∷ []) → In a (b ∷ bs)
+    in_one a (inl same) = inl same
+    in_one a (inr i) = absurd i
+
+    old : (a : ℕ) (t : Shape) → (shape_at f.shapes a ≡ Some t) ⊎ (In a (b ∷ []) × In a k.waiting) → (shape_at f.shapes a ≡ Some t) ⊎ (In a (b ∷ bs) × In a g.waiting)
+    old a t (inl h) = inl h
+    old a t (inr i) = inr (in_one a i.0, more.waits a i.1)
+
+    new : (a : ℕ) (t : Shape) → (shape_at k.shapes a ≡ Some t) ⊎ (In a bs × In a g.waiting) → (shape_at f.shapes a ≡ Some t) ⊎ (In a (b ∷ bs) × In a g.waiting)
+    new a t (inl h) = old a t (one.new a t h)
+    new a t (inr i) = inr (inr i.0, i.1)
+
+    before : (a : ℕ) → In a f.waiting ⊎ In a (b ∷ []) → In a f.waiting ⊎ In a (b ∷ bs)
+    before a (inl i) = inl i
+    before a (inr i) = inr (in_one a i)
+
+    fresh : (a : ℕ) → In a k.waiting ⊎ In a bs → In a f.waiting ⊎ In a (b ∷ bs)
+    fresh a (inl i) = before a (one.fresh a i)
+    fresh a (inr i) = inr (inr i)
+
+  pub arrive_all_spread : (bs : List ℕ) (f g : Seen) → ((b : ℕ) → In b bs → b < length f.shapes) → arrive_all s bs f ≡ Ok g → Spread s f g bs
+  arrive_all_spread [] f g within e =
+      let is : f ≡ g = cc in
+      subst (λ (x : Seen). Spread s f x []) is (nothing_spread f [] (λ a i. absurd i))
+  arrive_all_spread (b ∷ bs) f g within e =
+      let k = then_ok (arrive s f b) (λ h. arrive_all s bs h) g e in
+      let one = arrive_spread f k.0 b (within b (inl refl)) k.1 in
+      both_spread b bs f k.0 g one (arrive_all_spread bs k.0 g (λ x i. subst (λ n. x < n) (sym one.long) (within x (inr i))) k.2)
+
+-- ---- one instruction
+
+-- what was done where an address was taken and not refused
+pub record Moved (code : List ℕ) (max a : ℕ) (r : Op × ℕ) (t : Shape) (f g : Seen) : Type 0 where
+  pub shape : Shape
+  pub stepped : Stepped max (effect_of r.0) t shape
+  pub spread : Spread shape f g (leads (effect_of r.0).flow (a + r.1))
+
+module _ (code : List ℕ) (max a : ℕ) (r : Op × ℕ) (t : Shape) (f : Seen) (is : op_at code a ≡ Some r) (known : shape_at f.shapes a ≡ Some t) where
+  taking : take_at code max a f ≡ (stepped max a (effect_of r.0) t >>= λ s. arrive_all s (leads (effect_of r.0).flow (a + r.1)) f)
+  taking = ap (λ o. take_op max a f o (shape_at f.shapes a)) is ∙ ap (λ o. take_op max a f (Some r) o) known
+
+  pub moved : (g : Seen) → ((b : ℕ) → In b (leads (effect_of r.0).flow (a + r.1)) → b < length f.shapes) → take_at code max a f ≡ Ok g → Moved code max a r t f g
+  moved g within e =
+      let m = then_ok (stepped max a (effect_of r.0) t) (λ s. arrive_all s (leads (effect_of r.0).flow (a + r.1)) f) g (sym taking ∙ e) in
+      record { shape = m.0; stepped = stepped_is max a (effect_of r.0) t m.0 m.1; spread = arrive_all_spread m.0 (leads (effect_of r.0).flow (a + r.1)) f g within m.2 }
+
+-- ---- what stays true
 
 module _ (code : List ℕ) (chunks : List Chunk) where
   -- the instruction at the address agrees with what is known
@@ -92,96 +211,35 @@ module _ (code : List ℕ) (chunks : List Chunk) where
     pub known : (a : ℕ) → In a f.waiting → (s : Shape) × (shape_at f.shapes a ≡ Some s)
     pub done : (a : ℕ) (s : Shape) → shape_at f.shapes a ≡ Some s → In a f.waiting ⊎ (left_out a ⊎ Done f a s)
 
-  pub done_stays : (f g : Seen) → Stays f g → (a : ℕ) (s : Shape) → Done f a s → Done g a s
+  done_stays : (f g : Seen) → Stays f g → (a : ℕ) (s : Shape) → Done f a s → Done g a s
   done_stays f g stays a s d i c r h k e =
       let x = d i c r h k e in
       record { enough = x.enough; room = x.room; arrives = λ b j. stays b (after (effect_of r.0) s) (x.arrives b j) }
 
-  -- the shape has come to each of the addresses, and all that was true is
-  pub record Grown (left_out : ℕ → Type 0) (s : Shape) (f g : Seen) (bs : List ℕ) : Type 0 where
-    pub sound : SoundBut left_out g
-    pub stays : Stays f g
-    pub there : (b : ℕ) → In b bs → shape_at g.shapes b ≡ Some s
-    pub less : free g.shapes + length g.waiting ≤ free f.shapes + length f.waiting
+  -- arrivals at starts keep what is true
+  pub spread_sound : (left_out : ℕ → Type 0) (s : Shape) (f g : Seen) (bs : List ℕ) → ((b : ℕ) → In b bs → Spot code chunks b) → SoundBut left_out f → Spread s f g bs → SoundBut left_out g
+  spread_sound left_out s f g bs spots sound spread = record {
+    long = spread.long ∙ sound.long;
+    spots = λ a t k. spot a t (spread.new a t k);
+    known = λ a i. known a (spread.fresh a i);
+    done = λ a t k. done a t (spread.new a t k);
+  } where
+    spot : (a : ℕ) (t : Shape) → (shape_at f.shapes a ≡ Some t) ⊎ (In a bs × In a g.waiting) → Spot code chunks a
+    spot a t (inl k) = sound.spots a t k
+    spot a t (inr i) = spots a i.0
 
-  module _ (left_out : ℕ → Type 0) (s : Shape) where
-    module _ (f : Seen) (b : ℕ) (spot : Spot code chunks b) (lt : b < length f.shapes) (sound : SoundBut left_out f) (none : shape_at f.shapes b ≡ None) where
-      now : List (Option Shape)
-      now = set f.shapes b (Some s)
+    known : (a : ℕ) → In a f.waiting ⊎ In a bs → (t : Shape) × (shape_at g.shapes a ≡ Some t)
+    known a (inl i) = let k = sound.known a i in (k.0, spread.stays a k.0 k.1)
+    known a (inr i) = (s, spread.there a i)
 
-      here : shape_at (set f.shapes b (Some s)) b ≡ Some s
-      here = get_or-set_same f.shapes b (Some s) None lt
+    later : (a : ℕ) (t : Shape) → In a f.waiting ⊎ (left_out a ⊎ Done f a t) → In a g.waiting ⊎ (left_out a ⊎ Done g a t)
+    later a t (inl i) = inl (spread.waits a i)
+    later a t (inr (inl o)) = inr (inl o)
+    later a t (inr (inr d)) = inr (inr (done_stays f g spread.stays a t d))
 
-      other : (a : ℕ) → (a ≡ b → ⊥) → shape_at (set f.shapes b (Some s)) a ≡ shape_at f.shapes a
-      other a ne = get_or-set_other f.shapes b a (Some s) None ne
-
-      noted_stays : Stays f (noted b s f)
-      noted_stays a t k = at (cases_eq a b) where
-        at : (a ≡ b) ⊎ (a ≡ b → ⊥) → shape_at (set f.shapes b (Some s)) a ≡ Some t
-        at (inl same) = let bad : None ≡ Some t = sym none ∙ sym (ap (shape_at f.shapes) same) ∙ k in absurd cc
-        at (inr ne) = other a ne ∙ k
-
-      noted_grown : Grown left_out s f (noted b s f) (b ∷ [])
-      noted_grown = record {
-        sound = record {
-          long = length-set f.shapes b (Some s) ∙ sound.long;
-          spots = λ a t k. spots a t k (cases_eq a b);
-          known = λ a i. known a (new_or_old f.waiting b a i);
-          done = λ a t k. done a t k (cases_eq a b);
-        };
-        stays = noted_stays;
-        there = λ a i. there a i;
-        less = omega (arith, one_longer f.waiting b, free_put f.shapes b s lt none);
-      } where
-        spots : (a : ℕ) (t : Shape) → shape_at (set f.shapes b (Some s)) a ≡ Some t → (a ≡ b) ⊎ (a ≡ b → ⊥) → Spot code chunks a
-        spots a t k (inl same) = subst (Spot code chunks) (sym same) spot
-        spots a t k (inr ne) = sound.spots a t (sym (other a ne) ∙ k)
-
-        known : (a : ℕ) → (a ≡ b) ⊎ In a f.waiting → (t : Shape) × (shape_at (set f.shapes b (Some s)) a ≡ Some t)
-        known a (inl same) = (s, subst (λ x. shape_at (set f.shapes b (Some s)) x ≡ Some s) (sym same) here)
-        known a (inr i) = let k = sound.known a i in (k.0, noted_stays a k.0 k.1)
-
-        later : (a : ℕ) (t : Shape) → In a f.waiting ⊎ (left_out a ⊎ Done f a t) → In a (insert_key nat_cmp f.waiting b) ⊎ (left_out a ⊎ Done (noted b s f) a t)
-        later a t (inl i) = inl (old_in f.waiting b a i)
-        later a t (inr (inl o)) = inr (inl o)
-        later a t (inr (inr d)) = inr (inr (done_stays f (noted b s f) noted_stays a t d))
-
-        done : (a : ℕ) (t : Shape) → shape_at (set f.shapes b (Some s)) a ≡ Some t → (a ≡ b) ⊎ (a ≡ b → ⊥) → In a (insert_key nat_cmp f.waiting b) ⊎ (left_out a ⊎ Done (noted b s f) a t)
-        done a t k (inl same) = inl (subst (λ x. In x (insert_key nat_cmp f.waiting b)) (sym same) (new_in f.waiting b))
-        done a t k (inr ne) = later a t (sound.done a t (sym (other a ne) ∙ k))
-
-        there : (a : ℕ) → In a (b ∷ []) → shape_at (set f.shapes b (Some s)) a ≡ Some s
-        there a (inl same) = subst (λ x. shape_at (set f.shapes b (Some s)) x ≡ Some s) (sym same) here
-        there a (inr i) = absurd i
-
-    pub arrive_grown : (f g : Seen) (b : ℕ) → Spot code chunks b → b < length f.shapes → SoundBut left_out f → arrive s f b ≡ Ok g → Grown left_out s f g (b ∷ [])
-    arrive_grown f g b spot lt sound e = at (arrival s f g b e).cases where
-      one : (a : ℕ) → shape_at f.shapes b ≡ Some s → In a (b ∷ []) → shape_at f.shapes a ≡ Some s
-      one a k (inl same) = ap (shape_at f.shapes) same ∙ k
-      one a k (inr i) = absurd i
-
-      at : ((shape_at f.shapes b ≡ Some s) × (f ≡ g)) ⊎ ((shape_at f.shapes b ≡ None) × (noted b s f ≡ g)) → Grown left_out s f g (b ∷ [])
-      at (inl k) = subst (λ (x : Seen). Grown left_out s f x (b ∷ [])) k.1 (record { sound = sound; stays = λ a t h. h; there = λ a i. one a k.0 i; less = omega arith })
-      at (inr k) = subst (λ (x : Seen). Grown left_out s f x (b ∷ [])) k.1 (noted_grown f b spot lt sound k.0)
-
-    pub arrive_all_grown : (bs : List ℕ) (f g : Seen) → ((b : ℕ) → Spot code chunks b → b < length code) → ((b : ℕ) → In b bs → Spot code chunks b) → SoundBut left_out f → arrive_all s bs f ≡ Ok g → Grown left_out s f g bs
-    arrive_all_grown [] f g within spots sound e =
-        let is : f ≡ g = cc in
-        subst (λ (x : Seen). Grown left_out s f x []) is (record { sound = sound; stays = λ a t h. h; there = λ a i. absurd i; less = omega arith })
-    arrive_all_grown (b ∷ bs) f g within spots sound e =
-        let k = then_ok (arrive s f b) (λ h. arrive_all s bs h) g e in
-        let spot = spots b (inl refl) in
-        let one = arrive_grown f k.0 b spot (omega (arith, within b spot, sound.long)) sound k.1 in
-        let more = arrive_all_grown bs k.0 g within (λ x i. spots x (inr i)) one.sound k.2 in
-        record {
-          sound = more.sound;
-          stays = λ a t h. more.stays a t (one.stays a t h);
-          there = λ a i. both a k.0 (one.there b (inl refl)) (λ j. more.there a j) (λ t h. more.stays b t h) i;
-          less = omega (arith, one.less, more.less);
-        } where
-          both : (a : ℕ) (k : Seen) → shape_at k.shapes b ≡ Some s → (In a bs → shape_at g.shapes a ≡ Some s) → ((t : Shape) → shape_at k.shapes b ≡ Some t → shape_at g.shapes b ≡ Some t) → In a (b ∷ bs) → shape_at g.shapes a ≡ Some s
-          both a k h later on (inl same) = ap (shape_at g.shapes) same ∙ on s h
-          both a k h later on (inr i) = later i
+    done : (a : ℕ) (t : Shape) → (shape_at f.shapes a ≡ Some t) ⊎ (In a bs × In a g.waiting) → In a g.waiting ⊎ (left_out a ⊎ Done g a t)
+    done a t (inl k) = later a t (sound.done a t k)
+    done a t (inr i) = inl i.1
 
 -- ---- a typing that exists lets each arrival pass
 
@@ -211,3 +269,11 @@ arrive_all_fits typing s (b ∷ bs) f ys below =
     let one = arrive_fits typing s f b (ys b (inl refl)) below in
     let more = arrive_all_fits typing s bs one.0 (λ x i. ys x (inr i)) one.2 in
     (more.0, ap (λ (r : Result Seen Refusal). r >>= λ h. arrive_all s bs h) one.1 ∙ more.1, more.2)
+
+-- a typing that agrees with the instruction lets it be taken
+pub take_fits : (code : List ℕ) (typing : ℕ → Option Shape) (max a : ℕ) (r : Op × ℕ) (t : Shape) (f : Seen) → op_at code a ≡ Some r → shape_at f.shapes a ≡ Some t → Agrees typing max a r.1 (effect_of r.0) t → Below typing f
+    → (g : Seen) × (take_at code max a f ≡ Ok g) × Below typing g
+take_fits code typing max a r t f is known agrees below =
+    let all = arrive_all_fits typing (after (effect_of r.0) t) (leads (effect_of r.0).flow (a + r.1)) f agrees.arrives below in
+    let fine = stepped_ok max a (effect_of r.0) t agrees.enough agrees.room in
+    (all.0, taking code max a r t f is known ∙ ap (λ (o : Result Shape Refusal). o >>= λ s. arrive_all s (leads (effect_of r.0).flow (a + r.1)) f) fine ∙ all.1, all.2)

@@ -1,116 +1,180 @@
--- The loop of the search, as the code has it.
-use Rattle.std.proofs.Common.{◌≡◌, ℕ, suc, ◌+◌, ◌<◌, ◌⊎◌, List, [], ◌∷◌, length, map, Option, Some, None, Result, Ok, Err, refl, sym, ap, subst, ◌∙◌, inl, inr, arith}
+-- The loop over the instructions of one chunk, as the code has it.
+use Rattle.std.proofs.Common.{◌≡◌, ℕ, zero, suc, ◌+◌, ◌<◌, ◌≤◌, ◌⊎◌, List, [], ◌∷◌, length, Some, None, Result, Ok, Err, refl, sym, ap, subst, ◌∙◌, inl, inr, arith}
 use Rattle.std.specs.Prelude.{slice_get}
 use Rattle.std.specs.List.{AllByRecursion}
-use Rattle.std.proofs.lemmas.List.{length-replicate}
-use Rattle.std.proofs.lemmas.Option.{slice_get_within}
+use Rattle.grain_program.specs.declared.instructions.Op.{Op}
 use Rattle.grain_program.specs.declared.input.Chunk.{Chunk}
-use Rattle.grain_program.specs.declared.owners.Owner.{Owner}
 use Rattle.grain_program.specs.declared.shapes.Shape.{Shape}
 use Rattle.grain_program.specs.declared.refusals.Refusal.{Refusal}
 use Rattle.grain_program.specs.declared.refusals.Refusal.TheVariants.{Memory}
 use Rattle.grain_program.specs.View.{View}
+use Rattle.grain_program.specs.Reading.{op_at}
 use Rattle.grain_program.specs.Effects.{effect_of, leads}
-use Rattle.grain_program.specs.Layout.{layout_fault}
-use Rattle.grain_program.specs.Rules.{Splits}
-use Rattle.grain_program.specs.Owners.{owner_at, Owned}
+use Rattle.grain_program.specs.Starts.{Start}
+use Rattle.grain_program.specs.Begins.{start_first, start_within}
+use Rattle.grain_program.specs.Rules.{IsSplit}
 use Rattle.grain_program.specs.Shapes.{bare, shape_at}
-use Rattle.grain_program.specs.Typing.{In, Typing, Seen, ◌>>=◌, arrive_all, limit_at, take_at, take_lowest, nothing_seen, with_lowest, walk, survey, Ready}
+use Rattle.grain_program.specs.Typing.{In, HasTyping, Seen, ◌>>=◌, arrive, take_at, take_lowest, with_lowest, walk, survey_chunk, survey_from, survey, Ready, Walkable}
 use Rattle.grain_program.proofs.Tiles.{is_tiled}
 use Rattle.grain_program.proofs.Cells.{free}
-use Rattle.grain_program.proofs.Walks.{Sound, Taken, taken, spot_within, spot_limit, leads_spots, step_ok, begun, is_typing, one_more}
+use Rattle.grain_program.proofs.Grows.{Spread, arrive_spread, Moved, moved}
+use Rattle.grain_program.proofs.Walks.{free_within, walk_none, inside, closed, has_typing}
 
 -- a fact of each number in a list
 all_in : (P : ℕ → Type 0) (bs : List ℕ) → ((b : ℕ) → In b bs → P b) → AllByRecursion P bs
 all_in P [] h = tt
 all_in P (b ∷ bs) h = (h b (inl refl), all_in P bs (λ x i. h x (inr i)))
 
--- want of memory, or where the search stops
-abbrev pub Stops : List ℕ → List Chunk → Refusal → Type 0
-Stops code chunks r = (r ≡ Memory) ⊎ ((n : ℕ) × (survey code chunks n ≡ Err r))
+-- the walk has come so far: what is left of it gives what all of it gives, and is long enough
+pub record Walking (code : List ℕ) (c : Chunk) (before f : Seen) : Type 0 where
+  pub left : ℕ
+  pub is : walk code c.max_stack left f ≡ survey_chunk code c before
+  pub enough : free f.shapes + length f.waiting ≤ left
+  pub long : length f.shapes ≡ length code
+  pub known : (a : ℕ) → In a f.waiting → (s : Shape) × (shape_at f.shapes a ≡ Some s)
+  pub mine : (a : ℕ) → In a f.waiting → Start code c a
 
--- the search has come so far
-pub record Walked (p : View) (chunks : List Chunk) (f : Seen) : Type 0 where
-  pub steps : ℕ
-  pub is : survey p.code chunks steps ≡ Ok f
-  pub laid : layout_fault (length p.code) chunks ≡ None
-  pub splits : Splits p chunks
-  pub sound : Sound p chunks laid splits f
+module _ (code : List ℕ) (c : Chunk) (before : Seen) (w : Walkable code c before) where
+  within : (a : ℕ) → Start code c a → a < length code
+  within a s = let x = start_within code c a s in omega (arith, x.1, w.inside)
 
-module _ (p : View) (chunks : List Chunk) (laid : layout_fault (length p.code) chunks ≡ None) (w : Splits p chunks) where
-  pub entries_below : (n : ℕ) (start : Seen) → n ≡ length p.code → start ≡ nothing_seen n → (i : ℕ) (c : Chunk) → slice_get chunks i ≡ Some c → c.entry < length start.shapes
-  entries_below n start e s i c g =
-      let t = (is_tiled (length p.code) chunks laid).inside i c g in
-      let full = w.full i c g in
-      let long : length start.shapes ≡ n = ap (λ (x : Seen). length x.shapes) s ∙ length-replicate {A = Option Shape} n None in
-      omega (arith, t.1)
+  pub entry_within : c.entry < length before.shapes
+  entry_within = omega (arith, w.full, w.inside, w.room)
 
-  beginning : (n : ℕ) (start : Seen) (x : Result Seen Refusal) → n ≡ length p.code → start ≡ nothing_seen n → arrive_all bare (map (λ c. c.entry) chunks) start ≡ x
-      → arrive_all bare (map (λ c. c.entry) chunks) (nothing_seen (length p.code)) ≡ x
-  beginning n start x e s k = ap (λ (f : Seen). arrive_all bare (map (λ c. c.entry) chunks) f) (ap nothing_seen (sym e) ∙ sym s) ∙ k
+  pub entered : (f : Seen) → arrive bare before c.entry ≡ Ok f → Walking code c before f
+  unfolding survey_chunk
+  entered f ok = record {
+    left = length code;
+    is = sym (ap (λ (x : Result Seen Refusal). x >>= λ g. walk code c.max_stack (length code) g) ok);
+    enough = omega (arith, spread.less, ap length w.none, free_within before.shapes, w.room);
+    long = spread.long ∙ w.room;
+    known = λ a i. known a (spread.fresh a i);
+    mine = λ a i. mine a (spread.fresh a i);
+  } where
+    spread : Spread bare before f (c.entry ∷ [])
+    spread = arrive_spread bare before f c.entry entry_within ok
 
-  pub entered : (n : ℕ) (start f : Seen) → n ≡ length p.code → start ≡ nothing_seen n → arrive_all bare (map (λ c. c.entry) chunks) start ≡ Ok f → Walked p chunks f
-  unfolding survey walk
-  entered n start f e s k =
-      let b = beginning n start (Ok f) e s k in
-      record { steps = 0; is = ap (λ (r : Result Seen Refusal). r >>= λ g. Ok g) b; laid = laid; splits = w; sound = begun p chunks laid w f b }
+    known : (a : ℕ) → In a before.waiting ⊎ In a (c.entry ∷ []) → (s : Shape) × (shape_at f.shapes a ≡ Some s)
+    known a (inl i) = absurd (subst (In a) w.none i)
+    known a (inr i) = (bare, spread.there a i)
 
-  pub not_entered : (n : ℕ) (start : Seen) (r : Refusal) → n ≡ length p.code → start ≡ nothing_seen n → (r ≡ Memory) ⊎ (arrive_all bare (map (λ c. c.entry) chunks) start ≡ Err r) → Stops p.code chunks r
-  unfolding survey walk
-  not_entered n start r e s (inl m) = inl m
-  not_entered n start r e s (inr k) = inr (0, ap (λ (x : Result Seen Refusal). x >>= λ g. Ok g) (beginning n start (Err r) e s k))
+    at : (a : ℕ) → In a (c.entry ∷ []) → Start code c a
+    at a (inl same) = subst (Start code c) (sym same) (start_first code c w.full)
+    at a (inr i) = absurd i
 
--- the address is the lowest that waits, and the others wait still
-abbrev pub Lowers : Seen → ℕ → Seen → Type 0
-Lowers f a g = f ≡ with_lowest a g
+    mine : (a : ℕ) → In a before.waiting ⊎ In a (c.entry ∷ []) → Start code c a
+    mine a (inl i) = absurd (subst (In a) w.none i)
+    mine a (inr i) = at a i
 
-module _ (p : View) (chunks : List Chunk) (owners : List Owner) (o : Owned p.code chunks (length chunks) owners) (f g : Seen) (a : ℕ) (walked : Walked p chunks f) (e : Lowers f a g) where
-  waits : f.waiting ≡ a ∷ g.waiting
-  waits = ap (λ (x : Seen). x.waiting) e
+  pub not_entered : (r : Refusal) → (r ≡ Memory) ⊎ (arrive bare before c.entry ≡ Err r) → (r ≡ Memory) ⊎ (survey_chunk code c before ≡ Err r)
+  unfolding survey_chunk
+  not_entered r (inl m) = inl m
+  not_entered r (inr e) = inr (ap (λ (x : Result Seen Refusal). x >>= λ g. walk code c.max_stack (length code) g) e)
 
-  same_shapes : f.shapes ≡ g.shapes
-  same_shapes = ap (λ (x : Seen). x.shapes) e
+  -- the address is the lowest that waits, and the others wait still
+  module _ (f g : Seen) (a : ℕ) (so : Walking code c before f) (e : f ≡ with_lowest a g) where
+    waits : f.waiting ≡ a ∷ g.waiting
+    waits = ap (λ (x : Seen). x.waiting) e
 
-  at : Taken p chunks walked.laid walked.splits f a
-  at = taken p chunks walked.laid walked.splits f a walked.sound (subst (In a) (sym waits) (inl refl))
+    shapes : f.shapes ≡ g.shapes
+    shapes = ap (λ (x : Seen). x.shapes) e
 
-  pub is_ready : Ready p.code g.shapes a
-  is_ready = record {
-    small = (is_tiled (length p.code) chunks walked.laid).small;
-    room = ap length (sym same_shapes) ∙ walked.sound.all.long;
-    within = spot_within p chunks walked.laid walked.splits a at.spot;
-    read = λ k. let bad : None ≡ Some at.read = sym k ∙ at.is in cc;
-    known = λ k. let bad : None ≡ Some at.shape = sym k ∙ ap (λ l. shape_at l a) (sym same_shapes) ∙ at.known in cc;
-    targets = λ r k. all_in (λ b. b < length p.code) (leads (effect_of r.0).flow (a + r.1)) (λ b i. spot_within p chunks walked.laid walked.splits b (leads_spots p chunks walked.laid walked.splits a at.spot r k b i));
+    here : In a f.waiting
+    here = subst (In a) (sym waits) (inl refl)
+
+    start : Start code c a
+    start = so.mine a here
+
+    known : (t : Shape) × (shape_at g.shapes a ≡ Some t)
+    known = let k = so.known a here in (k.0, ap (λ l. shape_at l a) (sym shapes) ∙ k.1)
+
+    long : length g.shapes ≡ length code
+    long = ap length (sym shapes) ∙ so.long
+
+    read : (r : Op × ℕ) × (op_at code a ≡ Some r) × ((b : ℕ) → In b (leads (effect_of r.0).flow (a + r.1)) → Start code c b)
+    read = w.closed a start
+
+    pub is_ready : Ready code g.shapes a
+    is_ready = record {
+      small = w.small;
+      room = long;
+      within = within a start;
+      read = λ k. let bad : None ≡ Some read.0 = sym k ∙ read.1 in cc;
+      known = λ k. let bad : None ≡ Some known.0 = sym k ∙ known.1 in cc;
+      targets = λ r k. targets r k;
+    } where
+      targets : (r : Op × ℕ) → op_at code a ≡ Some r → AllByRecursion (λ b. b < length code) (leads (effect_of r.0).flow (a + r.1))
+      targets r k =
+          let both : Some read.0 ≡ Some r = sym read.1 ∙ k in
+          let same : read.0 ≡ r = cc in
+          subst (λ (x : Op × ℕ). AllByRecursion (λ b. b < length code) (leads (effect_of x.0).flow (a + x.1))) same
+          (all_in (λ b. b < length code) (leads (effect_of read.0.0).flow (a + read.0.1)) (λ b i. within b (read.2 b i)))
+
+    -- one step less is left
+    step : (n : ℕ) → so.left ≡ suc n → (x : Result Seen Refusal) → take_at code c.max_stack a g ≡ x → survey_chunk code c before ≡ (x >>= λ h. walk code c.max_stack n h)
+    unfolding walk
+    step n l x k =
+        sym so.is
+        ∙ ap (λ m. walk code c.max_stack m f) l
+        ∙ ap (λ (y : Seen). take_lowest code c.max_stack y y.waiting >>= λ h. walk code c.max_stack n h) e
+        ∙ ap (λ (y : Result Seen Refusal). y >>= λ h. walk code c.max_stack n h) k
+
+    some_left : (m : ℕ) → so.left ≡ m → (n : ℕ) × (so.left ≡ suc n)
+    some_left zero l = absurd (omega (arith, so.enough, ap length waits, l))
+    some_left (suc n) l = (n, l)
+
+    left : (n : ℕ) × (so.left ≡ suc n)
+    left = some_left so.left refl
+
+    pub walked_on : (h : Seen) → take_at code c.max_stack a g ≡ Ok h → Walking code c before h × (free h.shapes + length h.waiting < free f.shapes + length f.waiting)
+    walked_on h k = (
+      record {
+        left = left.0;
+        is = sym (step left.0 left.1 (Ok h) k);
+        enough = omega (arith, less, so.enough, left.1);
+        long = m.spread.long ∙ long;
+        known = λ x i. known' x (m.spread.fresh x i);
+        mine = λ x i. mine' x (m.spread.fresh x i);
+      },
+      less,
+    ) where
+      m : Moved code c.max_stack a read.0 known.0 g h
+      m = moved code c.max_stack a read.0 known.0 g read.1 known.1 h (λ b i. let lt = within b (read.2 b i) in omega (arith, long)) k
+
+      less : free h.shapes + length h.waiting < free f.shapes + length f.waiting
+      less = omega (arith, m.spread.less, ap length waits, ap free shapes)
+
+      old : (x : ℕ) → In x g.waiting → In x f.waiting
+      old x i = subst (In x) (sym waits) (inr i)
+
+      known' : (x : ℕ) → In x g.waiting ⊎ In x (leads (effect_of read.0.0).flow (a + read.0.1)) → (s : Shape) × (shape_at h.shapes x ≡ Some s)
+      known' x (inl i) = let k = so.known x (old x i) in (k.0, m.spread.stays x k.0 (ap (λ l. shape_at l x) (sym shapes) ∙ k.1))
+      known' x (inr i) = (m.shape, m.spread.there x i)
+
+      mine' : (x : ℕ) → In x g.waiting ⊎ In x (leads (effect_of read.0.0).flow (a + read.0.1)) → Start code c x
+      mine' x (inl i) = so.mine x (old x i)
+      mine' x (inr i) = read.2 x i
+
+    pub refused_on : (r : Refusal) → (r ≡ Memory) ⊎ (take_at code c.max_stack a g ≡ Err r) → (r ≡ Memory) ⊎ (survey_chunk code c before ≡ Err r)
+    refused_on r (inl m) = inl m
+    refused_on r (inr k) = inr (step left.0 left.1 (Err r) k)
+
+  pub ended : (f : Seen) → Walking code c before f → f.waiting ≡ [] → survey_chunk code c before ≡ Ok f
+  ended f so e = sym so.is ∙ walk_none code c.max_stack so.left f e
+
+-- ---- the loop over the chunks
+
+module _ (p : View) (chunks : List Chunk) (split : IsSplit p chunks) (i : ℕ) (c : Chunk) (g : slice_get chunks i ≡ Some c) (f : Seen) where
+  pub walkable : length f.shapes ≡ length p.code → f.waiting ≡ [] → Walkable p.code c f
+  walkable long none = record {
+    small = (is_tiled (length p.code) chunks split.laid).small;
+    room = long;
+    none = none;
+    full = split.splits.full i c g;
+    inside = inside p chunks split.laid split.splits i c g;
+    closed = closed p chunks split.laid split.splits i c g;
   }
 
-  limit : (max : ℕ) → max ≡ (owner_at owners a).max_stack → max ≡ limit_at chunks a
-  limit max m =
-      let s = at.spot in
-      m
-      ∙ ap (λ (x : Owner). x.max_stack) (o.owned s.number s.chunk a (slice_get_within chunks s.number s.chunk s.is) s.is s.start)
-      ∙ sym (spot_limit p chunks walked.laid walked.splits a s.number s.chunk s.is s.start)
-
-  abbrev without : Seen
-  without = record { shapes = f.shapes; waiting = g.waiting }
-
-  step_is : (max : ℕ) (x : Result Seen Refusal) → max ≡ (owner_at owners a).max_stack → take_at p.code max a g ≡ x → take_at p.code (limit_at chunks a) a (record { shapes = f.shapes; waiting = g.waiting }) ≡ x
-  step_is max x m k =
-      subst (λ l. take_at p.code (limit_at chunks a) a (record { shapes = l; waiting = g.waiting }) ≡ x) (sym same_shapes)
-      (subst (λ n. take_at p.code n a (record { shapes = g.shapes; waiting = g.waiting }) ≡ x) (limit max m) k)
-
-  more : survey p.code chunks (suc walked.steps) ≡ take_at p.code (limit_at chunks a) a (record { shapes = f.shapes; waiting = g.waiting })
-  more = one_more p chunks walked.laid walked.splits walked.steps f walked.is ∙ ap (take_lowest p.code chunks f) waits
-
-  pub walked_on : (max : ℕ) (h : Seen) → max ≡ (owner_at owners a).max_stack → take_at p.code max a g ≡ Ok h → Walked p chunks h × (free h.shapes + length h.waiting < free f.shapes + length f.waiting)
-  walked_on max h m k =
-      let l = step_is max (Ok h) m k in
-      let s = step_ok p chunks walked.laid walked.splits f a g.waiting walked.sound waits h l in
-      (record { steps = suc walked.steps; is = more ∙ l; laid = walked.laid; splits = walked.splits; sound = s.0 }, s.1)
-
-  pub refused_on : (max : ℕ) (r : Refusal) → max ≡ (owner_at owners a).max_stack → (r ≡ Memory) ⊎ (take_at p.code max a g ≡ Err r) → Stops p.code chunks r
-  refused_on max r m (inl k) = inl k
-  refused_on max r m (inr k) = inr (suc walked.steps, more ∙ step_is max (Err r) m k)
-
-pub ended : (p : View) (chunks : List Chunk) (f : Seen) → Walked p chunks f → f.waiting ≡ [] → (typing : ℕ → Option Shape) × Typing p.code chunks typing
-ended p chunks f walked e = (shape_at f.shapes, is_typing p chunks walked.laid walked.splits f walked.sound e)
+-- where no chunk is left, a typing is found
+pub found : (p : View) (chunks : List Chunk) → IsSplit p chunks → (cs : List Chunk) (f : Seen) → survey_from p.code cs f ≡ survey p.code chunks → cs ≡ [] → HasTyping p.code chunks
+found p chunks split cs f so e = has_typing p chunks split.laid split.splits f (sym so ∙ ap (λ l. survey_from p.code l f) e)

@@ -5,6 +5,7 @@ use Rattle.std.proofs.lemmas.Bool.{cases_lt, eqb-true, eqb-false}
 use Rattle.std.proofs.lemmas.Option.{slice_get_within}
 use Rattle.grain_program.specs.declared.instructions.Op.{Op}
 use Rattle.grain_program.specs.declared.input.Chunk.{Chunk}
+use Rattle.grain_program.specs.declared.functions.Function.{Function}
 use Rattle.grain_program.specs.declared.owners.Owner.{Owner}
 use Rattle.grain_program.specs.declared.refusals.Refusal.{Refusal}
 use Rattle.grain_program.specs.declared.refusals.Refusal.TheVariants as refusal
@@ -13,14 +14,16 @@ use Rattle.grain_program.specs.declared.effects.Flow.TheVariants as flow
 use Rattle.grain_program.specs.View.{View}
 use Rattle.grain_program.specs.Reading.{op_at}
 use Rattle.grain_program.specs.Effects.{effect_of}
-use Rattle.grain_program.specs.Indices.{in_pools}
+use Rattle.grain_program.specs.Indices.{in_pools, IsNamed}
+use Rattle.grain_program.specs.Capabilities.{permits}
 use Rattle.grain_program.specs.Layout.{Tiled}
 use Rattle.grain_program.specs.Starts.{Start}
 use Rattle.grain_program.specs.Begins.{start_within}
-use Rattle.grain_program.specs.Rules.{Lands, Whole, IndexRule, TargetRule, EndRule, Obeys, Splits, Spot, Unread, Disobeys, IsHollow, Breach, address_of, rule_of, Precedes, IsFirst}
-use Rattle.grain_program.specs.Owners.{owner_at, Owned, lands, stays_in, rule_in, rule_at}
-use Rattle.grain_program.proofs.Tells.{Tells, tells, lt_tells, pools_tell, stays_tell}
-use Rattle.grain_program.proofs.Tiles.{NoneEmpty, Lowest}
+use Rattle.grain_program.specs.Rules.{Lands, Whole, IndexRule, TargetRule, EndRule, CapabilityRule, Obeys, Splits, Spot, Unread, Disobeys, address_of, rule_of, Precedes}
+use Rattle.grain_program.specs.Owners.{owner_at, Owned, lands, stays_in, rule_in, rule_at, IsFirstFound}
+use Rattle.grain_program.proofs.Tells.{Tells, tells, lt_tells, pools_tell, stays_tell, permits_tell}
+use Rattle.grain_program.proofs.Breaches.{ByOp, FirstOf}
+use Rattle.grain_program.proofs.Tiles.{NoneEmpty}
 
 module _ (p : View) (chunks : List Chunk) (t : Tiled (length p.code) chunks) where
   one_chunk : (i j : ℕ) (c d : Chunk) → slice_get chunks i ≡ Some c → slice_get chunks j ≡ Some d → (i < j → ⊥) → (j < i → ⊥) → c ≡ d
@@ -52,7 +55,7 @@ module _ (p : View) (chunks : List Chunk) (t : Tiled (length p.code) chunks) whe
         let same : r ≡ d.1.0 = cc in
         d.1.2 (subst (λ (x : Op × ℕ). rule d.0.chunk a x) same (subst (λ (x : Chunk). rule x a r) one ok))
 
-  -- where each instruction obeys, only an empty chunk breaks a rule
+  -- where each instruction obeys, none breaks a rule
   abbrev pub ObeysAt : ℕ → Type 0
   ObeysAt a = (i : ℕ) (c : Chunk) → slice_get chunks i ≡ Some c → Start p.code c a → Obeys p c a
 
@@ -68,28 +71,32 @@ module _ (p : View) (chunks : List Chunk) (t : Tiled (length p.code) chunks) whe
   end_not : (a : ℕ) → ObeysAt a → Disobeys p.code chunks (EndRule p) a → ⊥
   end_not a o u = let x = o u.0.number u.0.chunk u.0.is u.0.start in not_disobeys u.0.number u.0.chunk a u.0.is u.0.start x.read x.whole (EndRule p) x.end u
 
-  pub only_hollow : (a : ℕ) → ObeysAt a → (q : Refusal) → Breach p chunks q → address_of q ≡ a → IsHollow chunks a
-  only_hollow a o (refusal.Undecodable b) h e = absurd (unread_not a o (subst (Unread p.code chunks) e h))
-  only_hollow a o (refusal.PoolIndex b) h e = absurd (index_not a o (subst (Disobeys p.code chunks (IndexRule p)) e h))
-  only_hollow a o (refusal.JumpTarget b) h e = absurd (target_not a o (subst (Disobeys p.code chunks (TargetRule p)) e h))
-  only_hollow a o (refusal.FallsOff b) (inl h) e = absurd (end_not a o (subst (Disobeys p.code chunks (EndRule p)) e h))
-  only_hollow a o (refusal.FallsOff b) (inr h) e = subst (IsHollow chunks) e h
-  only_hollow a o _ h e = absurd h
+  capability_not : (a : ℕ) → ObeysAt a → Disobeys p.code chunks (CapabilityRule p) a → ⊥
+  capability_not a o u = let x = o u.0.number u.0.chunk u.0.is u.0.start in not_disobeys u.0.number u.0.chunk a u.0.is u.0.start x.read x.whole (CapabilityRule p) x.capability u
+
+  pub none_by_op : (a : ℕ) → ObeysAt a → (q : Refusal) → ByOp p chunks q → address_of q ≡ a → ⊥
+  none_by_op a o (refusal.Undecodable b) h e = unread_not a o (subst (Unread p.code chunks) e h)
+  none_by_op a o (refusal.PoolIndex b) h e = index_not a o (subst (Disobeys p.code chunks (IndexRule p)) e h)
+  none_by_op a o (refusal.JumpTarget b) h e = target_not a o (subst (Disobeys p.code chunks (TargetRule p)) e h)
+  none_by_op a o (refusal.FallsOff b) h e = end_not a o (subst (Disobeys p.code chunks (EndRule p)) e h)
+  none_by_op a o (refusal.Capability b) h e = capability_not a o (subst (Disobeys p.code chunks (CapabilityRule p)) e h)
+  none_by_op a o _ h e = h
 
   -- a breach at the address is of no lower rule, where the lower ones are not broken there
-  rank : (a k : ℕ) → k ≤ 4 → (1 < k → Unread p.code chunks a → ⊥) → (2 < k → Disobeys p.code chunks (IndexRule p) a → ⊥) → (3 < k → Disobeys p.code chunks (TargetRule p) a → ⊥)
-      → (q : Refusal) → Breach p chunks q → address_of q ≡ a → k ≤ rule_of q
-  rank a k le one two three (refusal.Undecodable b) h e = elim (cases_lt 1 k) [ inl lt ↦ absurd (one lt (subst (Unread p.code chunks) e h)) | inr ge ↦ ge ]
-  rank a k le one two three (refusal.PoolIndex b) h e = elim (cases_lt 2 k) [ inl lt ↦ absurd (two lt (subst (Disobeys p.code chunks (IndexRule p)) e h)) | inr ge ↦ ge ]
-  rank a k le one two three (refusal.JumpTarget b) h e = elim (cases_lt 3 k) [ inl lt ↦ absurd (three lt (subst (Disobeys p.code chunks (TargetRule p)) e h)) | inr ge ↦ ge ]
-  rank a k le one two three (refusal.FallsOff b) h e = le
-  rank a k le one two three _ h e = absurd h
+  rank : (a k : ℕ) → k ≤ 12 → (1 < k → Unread p.code chunks a → ⊥) → (2 < k → Disobeys p.code chunks (IndexRule p) a → ⊥) → (3 < k → Disobeys p.code chunks (TargetRule p) a → ⊥)
+      → (4 < k → Disobeys p.code chunks (EndRule p) a → ⊥) → (q : Refusal) → ByOp p chunks q → address_of q ≡ a → k ≤ rule_of q
+  rank a k le one two three four (refusal.Undecodable b) h e = elim (cases_lt 1 k) [ inl lt ↦ absurd (one lt (subst (Unread p.code chunks) e h)) | inr ge ↦ ge ]
+  rank a k le one two three four (refusal.PoolIndex b) h e = elim (cases_lt 2 k) [ inl lt ↦ absurd (two lt (subst (Disobeys p.code chunks (IndexRule p)) e h)) | inr ge ↦ ge ]
+  rank a k le one two three four (refusal.JumpTarget b) h e = elim (cases_lt 3 k) [ inl lt ↦ absurd (three lt (subst (Disobeys p.code chunks (TargetRule p)) e h)) | inr ge ↦ ge ]
+  rank a k le one two three four (refusal.FallsOff b) h e = elim (cases_lt 4 k) [ inl lt ↦ absurd (four lt (subst (Disobeys p.code chunks (EndRule p)) e h)) | inr ge ↦ ge ]
+  rank a k le one two three four (refusal.Capability b) h e = le
+  rank a k le one two three four _ h e = absurd h
 
   -- the refusal is a breach at the address, and of the lowest rule there
   pub record Least (a : ℕ) (r : Refusal) : Type 0 where
     pub there : address_of r ≡ a
-    pub breach : Breach p chunks r
-    pub least : (q : Refusal) → Breach p chunks q → address_of q ≡ a → rule_of r ≤ rule_of q
+    pub breach : ByOp p chunks r
+    pub least : (q : Refusal) → ByOp p chunks q → address_of q ≡ a → rule_of r ≤ rule_of q
 
   -- what the test says of an address
   abbrev pub MeansAt : ℕ → Option Refusal → Type 0
@@ -122,7 +129,7 @@ module _ (p : View) (chunks : List Chunk) (t : Tiled (length p.code) chunks) whe
     lands_tell i c g full flow.End = tt
 
     module _ (i : ℕ) (c : Chunk) (a : ℕ) (g : slice_get chunks i ≡ Some c) (s : Start p.code c a) where
-      spot : Spot p.code chunks a
+      abbrev spot : Spot p.code chunks a
       spot = record { number = i; chunk = c; is = g; start = s }
 
       abbrev Says : Option Refusal → Type 0
@@ -132,38 +139,61 @@ module _ (p : View) (chunks : List Chunk) (t : Tiled (length p.code) chunks) whe
       full : c.entry < c.end
       full = let w = start_within p.code c a s in omega (arith, w.0, w.1)
 
-      fourth : (r : Op × ℕ) → Whole p.code c a r → IndexRule p c a r → TargetRule p c a r → (b : Bool) → Tells b (EndRule p c a r) → Says (cond b None (Some (refusal.FallsOff a)))
-      fourth r w ix tg true h = record { read = r; whole = w; index = ix; target = tg; end = h }
-      fourth r w ix tg false h = record {
-        there = refl;
-        breach = inl (record { number = i; chunk = c; is = g; start = s }, (r, w, h));
-        least = rank a 4 (omega arith) (λ _. not_unread i c a g s r w) (λ _. not_disobeys i c a g s r w (IndexRule p) ix) (λ _. not_disobeys i c a g s r w (TargetRule p) tg);
-      }
+      -- what is tested once the first rules are obeyed
+      abbrev after_end : Op × ℕ → Option Refusal
+      after_end r = cond (permits p.caps r.0) None (Some (refusal.Capability a))
 
-      third : (r : Op × ℕ) → Whole p.code c a r → IndexRule p c a r → (b : Bool) → Tells b (TargetRule p c a r)
-          → Says (cond b (cond (stays_in c.end (a + r.1) (effect_of r.0).flow) None (Some (refusal.FallsOff a))) (Some (refusal.JumpTarget a)))
-      third r w ix true h = fourth r w ix h (stays_in c.end (a + r.1) (effect_of r.0).flow) (stays_tell c (a + r.1) (effect_of r.0).flow)
-      third r w ix false h = record {
-        there = refl;
-        breach = (record { number = i; chunk = c; is = g; start = s }, (r, w, h));
-        least = rank a 3 (omega arith) (λ _. not_unread i c a g s r w) (λ _. not_disobeys i c a g s r w (IndexRule p) ix) (λ lt. absurd (omega arith));
-      }
+      abbrev after_target : Op × ℕ → Option Refusal
+      after_target r = cond (stays_in c.end (a + r.1) (effect_of r.0).flow) (after_end r) (Some (refusal.FallsOff a))
 
-      second : (r : Op × ℕ) → Whole p.code c a r → (b : Bool) → Tells b (IndexRule p c a r)
-          → Says (cond b (cond (lands owners c.end (effect_of r.0).flow) (cond (stays_in c.end (a + r.1) (effect_of r.0).flow) None (Some (refusal.FallsOff a))) (Some (refusal.JumpTarget a))) (Some (refusal.PoolIndex a)))
-      second r w true h = third r w h (lands owners c.end (effect_of r.0).flow) (lands_tell i c g full (effect_of r.0).flow)
-      second r w false h = record {
-        there = refl;
-        breach = (record { number = i; chunk = c; is = g; start = s }, (r, w, h));
-        least = rank a 2 (omega arith) (λ _. not_unread i c a g s r w) (λ lt. absurd (omega arith)) (λ lt. absurd (omega arith));
-      }
+      abbrev after_index : Op × ℕ → Option Refusal
+      after_index r = cond (lands owners c.end (effect_of r.0).flow) (after_target r) (Some (refusal.JumpTarget a))
+
+      abbrev after_whole : Op × ℕ → Option Refusal
+      after_whole r = cond (in_pools p r.0) (after_index r) (Some (refusal.PoolIndex a))
+
+      module _ (r : Op × ℕ) (w : Whole p.code c a r) where
+        fifth : IndexRule p c a r → TargetRule p c a r → EndRule p c a r → (b : Bool) → Tells b (CapabilityRule p c a r) → Says (cond b None (Some (refusal.Capability a)))
+        fifth ix tg en true h = record { read = r; whole = w; index = ix; target = tg; end = en; capability = h }
+        fifth ix tg en false h = record {
+          there = refl;
+          breach = (spot, (r, w, h));
+          least =
+              rank a 12 (omega arith) (λ _. not_unread i c a g s r w) (λ _. not_disobeys i c a g s r w (IndexRule p) ix) (λ _. not_disobeys i c a g s r w (TargetRule p) tg)
+              (λ _. not_disobeys i c a g s r w (EndRule p) en);
+        }
+
+        fourth : IndexRule p c a r → TargetRule p c a r → (b : Bool) → Tells b (EndRule p c a r) → Says (cond b (after_end r) (Some (refusal.FallsOff a)))
+        fourth ix tg true h = fifth ix tg h (permits p.caps r.0) (permits_tell p.caps r.0)
+        fourth ix tg false h = record {
+          there = refl;
+          breach = (spot, (r, w, h));
+          least =
+              rank a 4 (omega arith) (λ _. not_unread i c a g s r w) (λ _. not_disobeys i c a g s r w (IndexRule p) ix) (λ _. not_disobeys i c a g s r w (TargetRule p) tg)
+              (λ lt. absurd (omega arith));
+        }
+
+        third : IndexRule p c a r → (b : Bool) → Tells b (TargetRule p c a r) → Says (cond b (after_target r) (Some (refusal.JumpTarget a)))
+        third ix true h = fourth ix h (stays_in c.end (a + r.1) (effect_of r.0).flow) (stays_tell c (a + r.1) (effect_of r.0).flow)
+        third ix false h = record {
+          there = refl;
+          breach = (spot, (r, w, h));
+          least = rank a 3 (omega arith) (λ _. not_unread i c a g s r w) (λ _. not_disobeys i c a g s r w (IndexRule p) ix) (λ lt. absurd (omega arith)) (λ lt. absurd (omega arith));
+        }
+
+        second : (b : Bool) → Tells b (IndexRule p c a r) → Says (cond b (after_index r) (Some (refusal.PoolIndex a)))
+        second true h = third h (lands owners c.end (effect_of r.0).flow) (lands_tell i c g full (effect_of r.0).flow)
+        second false h = record {
+          there = refl;
+          breach = (spot, (r, w, h));
+          least = rank a 2 (omega arith) (λ _. not_unread i c a g s r w) (λ lt. absurd (omega arith)) (λ lt. absurd (omega arith)) (λ lt. absurd (omega arith));
+        }
 
       unread_least : Unread p.code chunks a → Least a (refusal.Undecodable a)
-      unread_least u = record { there = refl; breach = u; least = rank a 1 (omega arith) (λ lt. absurd (omega arith)) (λ lt. absurd (omega arith)) (λ lt. absurd (omega arith)) }
+      unread_least u = record { there = refl; breach = u; least = rank a 1 (omega arith) (λ lt. absurd (omega arith)) (λ lt. absurd (omega arith)) (λ lt. absurd (omega arith)) (λ lt. absurd (omega arith)) }
 
-      first : (r : Op × ℕ) → op_at p.code a ≡ Some r → (b : Bool) → Tells b (c.end < a + r.1)
-          → Says (cond b (Some (refusal.Undecodable a)) (cond (in_pools p r.0) (cond (lands owners c.end (effect_of r.0).flow) (cond (stays_in c.end (a + r.1) (effect_of r.0).flow) None (Some (refusal.FallsOff a))) (Some (refusal.JumpTarget a))) (Some (refusal.PoolIndex a))))
-      first r e true h = unread_least (record { number = i; chunk = c; is = g; start = s }, no) where
+      first : (r : Op × ℕ) → op_at p.code a ≡ Some r → (b : Bool) → Tells b (c.end < a + r.1) → Says (cond b (Some (refusal.Undecodable a)) (after_whole r))
+      first r e true h = unread_least (spot, no) where
         no : (q : Op × ℕ) → Whole p.code c a q → ⊥
         no q w =
             let both : Some q ≡ Some r = sym w.is ∙ e in
@@ -208,33 +238,35 @@ module _ (p : View) (chunks : List Chunk) (t : Tiled (length p.code) chunks) whe
 
     -- ---- what the search over the addresses finds
 
-    pub first_found : (a : ℕ) (r : Refusal) → rule_at p owners a ≡ Some r → ((b : ℕ) → b < a → rule_at p owners b ≡ None) → ((b : ℕ) → IsHollow chunks b → a ≤ b) → IsFirst p chunks r
-    first_found a r e none hollow = record { breach = m.breach; first = λ q h. one q h (cases_lt (address_of q) a) (cases_lt a (address_of q)) } where
-      m : Least a r
-      m = subst (MeansAt a) e (address_means a)
+    pub first_op : (q : Option Refusal) → IsFirstFound (rule_at p owners) (length p.code) q → FirstOf (ByOp p chunks) q
+    first_op None none = λ s h. at s h (spot_of s h) where
+      spot_of : (s : Refusal) → ByOp p chunks s → Spot p.code chunks (address_of s)
+      spot_of (refusal.Undecodable b) h = h.0
+      spot_of (refusal.PoolIndex b) h = h.0
+      spot_of (refusal.JumpTarget b) h = h.0
+      spot_of (refusal.FallsOff b) h = h.0
+      spot_of (refusal.Capability b) h = h.0
+      spot_of _ h = absurd h
 
-      one : (q : Refusal) → Breach p chunks q → (address_of q < a) ⊎ (a ≤ address_of q) → (a < address_of q) ⊎ (address_of q ≤ a) → Precedes r q
-      one q h (inl lt) z = let le = hollow (address_of q) (only_hollow (address_of q) (obeys_where (address_of q) (none (address_of q) lt)) q h refl) in absurd (omega arith)
-      one q h (inr ge) (inl lt) = inl (omega (arith, m.there))
-      one q h (inr ge) (inr le) = inr (omega (arith, m.there), m.least q h (omega arith))
+      at : (s : Refusal) → ByOp p chunks s → Spot p.code chunks (address_of s) → ⊥
+      at s h u =
+          let w = start_within p.code u.chunk (address_of s) u.start in
+          let n = t.inside u.number u.chunk u.is in
+          none_by_op (address_of s) (obeys_where (address_of s) (none (address_of s) (omega (arith, w.1, n.1)))) s h refl
+    first_op (Some r) f = (m.breach, λ s h. one s h (cases_lt (address_of s) f.0) (cases_lt f.0 (address_of s))) where
+      m : Least f.0 r
+      m = subst (MeansAt f.0) f.1.1 (address_means f.0)
 
-    pub hollow_found : (a : ℕ) → Lowest chunks a → ((b : ℕ) → b < a + 1 → rule_at p owners b ≡ None) → IsFirst p chunks (refusal.FallsOff a)
-    hollow_found a l none = record { breach = inr l.hollow; first = λ q h. one q h (cases_lt (address_of q) a) (cases_lt a (address_of q)) } where
-      here : ObeysAt a
-      here = obeys_where a (none a (omega arith))
+      one : (s : Refusal) → ByOp p chunks s → (address_of s < f.0) ⊎ (f.0 ≤ address_of s) → (f.0 < address_of s) ⊎ (address_of s ≤ f.0) → Precedes r s
+      one s h (inl lt) z = absurd (none_by_op (address_of s) (obeys_where (address_of s) (f.1.2 (address_of s) lt)) s h refl)
+      one s h (inr ge) (inl lt) = inl (omega (arith, m.there))
+      one s h (inr ge) (inr le) = inr (omega (arith, m.there), m.least s h (omega arith))
 
-      one : (q : Refusal) → Breach p chunks q → (address_of q < a) ⊎ (a ≤ address_of q) → (a < address_of q) ⊎ (address_of q ≤ a) → Precedes (refusal.FallsOff a) q
-      one q h (inl lt) z =
-          let x = only_hollow (address_of q) (obeys_where (address_of q) (none (address_of q) (omega arith))) q h refl in
-          let le = l.least x.0 x.1.0 x.1.1 (x.1.2 ∙ sym x.1.3) in
-          absurd (omega (arith, x.1.2))
-      one q h (inr ge) (inl lt) = inl lt
-      one q h (inr ge) (inr le) = inr (omega arith, rank a 4 (omega arith) (λ _. unread_not a here) (λ _. index_not a here) (λ _. target_not a here) q h (omega arith))
-
-    pub none_found : NoneEmpty chunks → ((b : ℕ) → b < length p.code → rule_at p owners b ≡ None) → Splits p chunks
-    none_found full none = record {
+    pub none_found : NoneEmpty chunks → ((b : ℕ) → b < length p.code → rule_at p owners b ≡ None) → ((i : ℕ) (f : Function) → slice_get p.functions i ≡ Some f → IsNamed p f) → Splits p chunks
+    none_found full none named = record {
       full = λ i c g. let n = t.inside i c g in at c n.0 (full i c g) (cases_lt c.entry c.end);
       obeys = λ i c a g s. let w = start_within p.code c a s in let n = t.inside i c g in obeys_where a (none a (omega (arith, w.1, n.1))) i c g s;
+      named = named;
     } where
       at : (c : Chunk) → c.entry ≤ c.end → (c.entry ≡ c.end → ⊥) → (c.entry < c.end) ⊎ (c.end ≤ c.entry) → c.entry < c.end
       at c le ne (inl lt) = lt

@@ -1,38 +1,38 @@
--- What the search over the addresses found, as the code has it.
-use Rattle.std.proofs.Common.{◌≡◌, ℕ, ◌+◌, List, length, Option, Some, None, sym, subst, inr, arith}
+-- What the searches for the first breach found, as the code has it.
+use Rattle.std.proofs.Common.{◌≡◌, ◌⊎◌, List, length, Option, Some, None, sym, ap, subst, ◌∙◌, inr}
 use Rattle.grain_program.specs.declared.input.Chunk.{Chunk}
 use Rattle.grain_program.specs.declared.owners.Owner.{Owner}
 use Rattle.grain_program.specs.declared.refusals.Refusal.{Refusal}
-use Rattle.grain_program.specs.declared.refusals.Refusal.TheVariants as refusal
 use Rattle.grain_program.specs.View.{View}
-use Rattle.grain_program.specs.Layout.{layout_fault, first_empty}
-use Rattle.grain_program.specs.Rules.{Splits, RefusedEarly}
-use Rattle.grain_program.specs.Owners.{Owned, rule_at, IsFirstFound}
-use Rattle.grain_program.proofs.Tiles.{is_tiled, none_empty, lowest}
-use Rattle.grain_program.proofs.Meaning.{first_found, hollow_found, none_found}
+use Rattle.grain_program.specs.Layout.{chunks_in, layout_fault}
+use Rattle.grain_program.specs.Rules.{Splits, RefusedEarly, earlier}
+use Rattle.grain_program.specs.Owners.{Owned, rule_at, IsFirstFound, first_empty, first_misnamed}
+use Rattle.grain_program.proofs.Breaches.{ByOp, ByName, ByHollow, FirstOf, earlier_first, is_first, neither}
+use Rattle.grain_program.proofs.Tiles.{is_tiled, none_empty, first_hollow, first_name, all_named}
+use Rattle.grain_program.proofs.Meaning.{first_op, none_found}
 
-module _ (p : View) (chunks : List Chunk) (laid : layout_fault (length p.code) chunks ≡ None) (owners : List Owner) (o : Owned p.code chunks (length chunks) owners) (table : List Owner) (same : table ≡ owners) where
-  here : Owned p.code chunks (length chunks) table
-  here = subst (Owned p.code chunks (length chunks)) (sym same) o
+module _ (p : View) (chunks : List Chunk) (whole : chunks ≡ chunks_in p) (laid : layout_fault (length p.code) chunks ≡ None) (owners : List Owner) (o : Owned p.code chunks (length chunks) owners)
+    (ops : Option Refusal) (found : IsFirstFound (rule_at p owners) (length owners) ops) where
+  searched : IsFirstFound (rule_at p owners) (length p.code) ops
+  searched = subst (λ n. IsFirstFound (rule_at p owners) n ops) o.long found
 
-  pub refused_before : (a : ℕ) (q : Option Refusal) (r : Refusal) → first_empty chunks ≡ Some a → IsFirstFound (rule_at p table) (a + 1) q → q ≡ Some r → RefusedEarly p chunks r
-  refused_before a q r e h g =
-      let f = subst (IsFirstFound (rule_at p table) (a + 1)) g h in
-      let l = lowest (length p.code) chunks a laid e in
-      inr (laid, first_found p chunks (is_tiled (length p.code) chunks laid) table here f.0 r f.1.1 f.1.2 (λ b x. let le = l.least x.0 x.1.0 x.1.1 (rw x.1.2 (sym x.1.3)) in omega (arith, le, f.1.0, x.1.2)))
+  all : FirstOf (λ s. ByOp p chunks s ⊎ (ByName p s ⊎ ByHollow chunks s)) (earlier ops (earlier (first_misnamed p p.functions) (first_empty chunks)))
+  all =
+      earlier_first (ByOp p chunks) (λ s. ByName p s ⊎ ByHollow chunks s) ops (earlier (first_misnamed p p.functions) (first_empty chunks))
+      (first_op p chunks (is_tiled (length p.code) chunks laid) owners o ops searched)
+      (earlier_first (ByName p) (ByHollow chunks) (first_misnamed p p.functions) (first_empty chunks) (first_name p chunks whole laid) (first_hollow (length p.code) chunks laid))
 
-  pub refused_hollow : (a : ℕ) (q : Option Refusal) → first_empty chunks ≡ Some a → IsFirstFound (rule_at p table) (a + 1) q → q ≡ None → RefusedEarly p chunks (refusal.FallsOff a)
-  refused_hollow a q e h g =
-      let f = subst (IsFirstFound (rule_at p table) (a + 1)) g h in
-      inr (laid, hollow_found p chunks (is_tiled (length p.code) chunks laid) table here a (lowest (length p.code) chunks a laid e) f)
+  -- what the code puts together is the first of all
+  module _ (misnamed hollow others first : Option Refusal) (e : misnamed ≡ first_misnamed p p.functions) (h : hollow ≡ first_empty chunks) (by : others ≡ earlier misnamed hollow) (is : first ≡ earlier ops others) where
+    together : first ≡ earlier ops (earlier (first_misnamed p p.functions) (first_empty chunks))
+    together = is ∙ ap (λ x. earlier ops x) (by ∙ ap (λ x. earlier x hollow) e ∙ ap (λ x. earlier (first_misnamed p p.functions) x) h)
 
-  pub refused_full : (n : ℕ) (q : Option Refusal) (r : Refusal) → first_empty chunks ≡ None → IsFirstFound (rule_at p table) n q → q ≡ Some r → RefusedEarly p chunks r
-  refused_full n q r e h g =
-      let f = subst (IsFirstFound (rule_at p table) n) g h in
-      let full = none_empty chunks e in
-      inr (laid, first_found p chunks (is_tiled (length p.code) chunks laid) table here f.0 r f.1.1 f.1.2 (λ b x. absurd (full x.0 x.1.0 x.1.1 (rw x.1.2 (sym x.1.3)))))
+    pub refused : (r : Refusal) → first ≡ Some r → RefusedEarly p chunks r
+    refused r k = inr (laid, is_first p chunks r (subst (FirstOf (λ s. ByOp p chunks s ⊎ (ByName p s ⊎ ByHollow chunks s))) (sym together ∙ k) all))
 
-  pub splits : (n : ℕ) (q : Option Refusal) → n ≡ length p.code → first_empty chunks ≡ None → IsFirstFound (rule_at p table) n q → q ≡ None → Splits p chunks
-  splits n q k e h g =
-      let f = subst (IsFirstFound (rule_at p table) n) g h in
-      none_found p chunks (is_tiled (length p.code) chunks laid) table here (none_empty chunks e) (λ b lt. f b (omega arith))
+    pub splits : first ≡ None → Splits p chunks
+    splits k =
+        let one = neither ops (earlier (first_misnamed p p.functions) (first_empty chunks)) (sym together ∙ k) in
+        let two = neither (first_misnamed p p.functions) (first_empty chunks) one.1 in
+        let none = subst (IsFirstFound (rule_at p owners) (length p.code)) one.0 searched in
+        none_found p chunks (is_tiled (length p.code) chunks laid) owners o (none_empty chunks two.1) none (all_named p p.functions two.0)

@@ -1,16 +1,20 @@
 -- Tests that tell whether a fact holds.
-use Rattle.std.proofs.Common.{◌≡◌, ℕ, zero, suc, ◌<◌, ◌&&◌, Bool, true, false, List, [], ◌∷◌, length, get_or, Option, Some, None, refl, sym, subst, arith}
-use Rattle.std.specs.Prelude.{nat_lt, slice_get}
-use Rattle.std.proofs.lemmas.Bool.{ltb-true, ltb-false}
+use Rattle.std.proofs.Common.{◌≡◌, ℕ, zero, suc, ◌<◌, ◌≤◌, ◌⊎◌, ◌&&◌, ◌||◌, ◌==◌, Bool, true, false, List, [], ◌∷◌, length, get_or, Option, Some, None, refl, sym, subst, inl, inr, arith}
+use Rattle.std.specs.Prelude.{nat_lt, nat_le, slice_get}
+use Rattle.std.proofs.lemmas.Bool.{ltb-true, ltb-false, leb-true, leb-false, eqb-true, eqb-false}
+use Rattle.std.specs.Int.RustNames.{bit_and}
 use Rattle.grain_program.specs.declared.instructions.Op.{Op}
 use Rattle.grain_program.specs.declared.instructions.Op.TheVariants as op
 use Rattle.grain_program.specs.declared.input.AssignOp.{AssignOp}
 use Rattle.grain_program.specs.declared.input.Chunk.{Chunk}
+use Rattle.grain_program.specs.declared.functions.Function.{Function}
+use Rattle.grain_program.specs.declared.refusals.Refusal.{Refusal}
 use Rattle.grain_program.specs.declared.effects.Flow.{Flow}
 use Rattle.grain_program.specs.declared.effects.Flow.TheVariants as flow
 use Rattle.grain_program.specs.View.{View, no_op, assign_op_of}
-use Rattle.grain_program.specs.Indices.{InPools, record_named, in_pools}
-use Rattle.grain_program.specs.Rules.{StaysIn}
+use Rattle.grain_program.specs.Indices.{InPools, record_named, in_pools, IsNamed, all_below, is_named}
+use Rattle.grain_program.specs.Capabilities.{needs, Permits, permits}
+use Rattle.grain_program.specs.Rules.{StaysIn, address_of, rule_of, Precedes, precedes}
 use Rattle.grain_program.specs.Owners.{stays_in}
 
 -- the fact holds where the test is true, and not where it is false
@@ -29,6 +33,28 @@ both_tell : (P Q : Type 0) (a b : Bool) → Tells a P → Tells b Q → Tells (a
 both_tell P Q true true p q = (p, q)
 both_tell P Q true false p q = λ h. q h.1
 both_tell P Q false b p q = λ h. p h.0
+
+either_tell : (P Q : Type 0) (a b : Bool) → Tells a P → Tells b Q → Tells (a || b) (P ⊎ Q)
+either_tell P Q true b p q = inl p
+either_tell P Q false true p q = inr q
+either_tell P Q false false p q = λ h. elim h [ inl x ↦ p x | inr y ↦ q y ]
+
+le_tells : (a b : ℕ) → Tells (nat_le a b) (a ≤ b)
+le_tells a b = tells (a ≤ b) (nat_le a b) (λ e. leb-true a b e) (λ e le. let lt = leb-false a b e in omega arith)
+
+pub eq_tells : (a b : ℕ) → Tells (a == b) (a ≡ b)
+eq_tells a b = tells (a ≡ b) (a == b) (λ e. eqb-true a b e) (λ e same. eqb-false a b e same)
+
+-- the test of which of two comes first tells it
+pub precedes_tell : (r s : Refusal) → Tells (precedes r s) (Precedes r s)
+precedes_tell r s =
+    either_tell (address_of r < address_of s) ((address_of r ≡ address_of s) × (rule_of r ≤ rule_of s)) (nat_lt (address_of r) (address_of s)) ((address_of r == address_of s) && nat_le (rule_of r) (rule_of s))
+    (lt_tells (address_of r) (address_of s))
+    (both_tell (address_of r ≡ address_of s) (rule_of r ≤ rule_of s) (address_of r == address_of s) (nat_le (rule_of r) (rule_of s)) (eq_tells (address_of r) (address_of s)) (le_tells (rule_of r) (rule_of s)))
+
+-- the test of an instruction's capability tells whether it is there
+pub permits_tell : (caps : ℕ) (o : Op) → Tells (permits caps o) (Permits caps o)
+permits_tell caps o = eq_tells (bit_and caps (needs o)) (needs o)
 
 -- the record at the index is there, and both its names
 abbrev Named : View → ℕ → Type 0
@@ -72,19 +98,51 @@ pools_tell p op.Unit = tt
 pools_tell p op.False = tt
 pools_tell p op.True = tt
 pools_tell p (op.LoadLocal s) = tt
+pools_tell p (op.StoreLocal s) = tt
+pools_tell p (op.StoreConst s) = tt
 pools_tell p (op.DeclareLocal n) = lt_tells n (length p.names)
+pools_tell p (op.DeclareConst n) = lt_tells n (length p.names)
 pools_tell p (op.AssignLocal s n) = lt_tells n (length p.names)
 pools_tell p (op.AssignLocalOp s n a) =
     pools_assign p s n a (nat_lt n (length p.names) && record_named (length p.names) (slice_get p.assign_ops a))
     (both_tell (n < length p.names) (Named p a) (nat_lt n (length p.names)) (record_named (length p.names) (slice_get p.assign_ops a)) (lt_tells n (length p.names)) (named_tells p a))
 pools_tell p op.Pop = tt
+pools_tell p (op.Rotate u) = tt
 pools_tell p (op.Jump t) = tt
 pools_tell p (op.JumpIfFalse t) = tt
 pools_tell p (op.JumpIfTrue t) = tt
+pools_tell p (op.SkipIfNotUnit t) = tt
+pools_tell p (op.Call n k) = lt_tells n (length p.names)
 pools_tell p (op.CallOp n k o) =
     both_tell (n < length p.names) (o < length p.tokens) (nat_lt n (length p.names)) (nat_lt o (length p.tokens)) (lt_tells n (length p.names)) (lt_tells o (length p.tokens))
+pools_tell p (op.UnwindTo d) = tt
 pools_tell p op.Tick = tt
+pools_tell p op.Checkpoint = tt
+pools_tell p (op.Statement d) = tt
+pools_tell p op.Throw = tt
 pools_tell p op.Return = tt
+
+-- each number of the list is below the end
+abbrev AllBelow : ℕ → List ℕ → Type 0
+AllBelow end ns = (k n : ℕ) → slice_get ns k ≡ Some n → n < end
+
+all_tell : (end : ℕ) (ns : List ℕ) → Tells (all_below end ns) (AllBelow end ns)
+all_tell end [] = λ k n e. absurd cc
+all_tell end (x ∷ ns) = more (nat_lt x end && all_below end ns) (both_tell (x < end) (AllBelow end ns) (nat_lt x end) (all_below end ns) (lt_tells x end) (all_tell end ns)) where
+  one : (x < end) × AllBelow end ns → AllBelow end (x ∷ ns)
+  one h zero n e = let same : x ≡ n = cc in omega (arith, h.0)
+  one h (suc k) n e = h.1 k n e
+
+  more : (b : Bool) → Tells b ((x < end) × AllBelow end ns) → Tells b (AllBelow end (x ∷ ns))
+  more true h = one h
+  more false h = λ all. h (all 0 x refl, λ k n e. all (suc k) n e)
+
+-- the test of a function's names tells whether they are in the pool
+pub named_tell : (p : View) (f : Function) → Tells (is_named p f) (IsNamed p f)
+named_tell p f = at (is_named p f) (both_tell (f.name < length p.names) (AllBelow (length p.names) f.params) (nat_lt f.name (length p.names)) (all_below (length p.names) f.params) (lt_tells f.name (length p.names)) (all_tell (length p.names) f.params)) where
+  at : (b : Bool) → Tells b ((f.name < length p.names) × AllBelow (length p.names) f.params) → Tells b (IsNamed p f)
+  at true h = record { name = h.0; params = h.1 }
+  at false h = λ n. h (n.name, n.params)
 
 -- the test of the end tells whether the flow stays in the chunk
 pub stays_tell : (c : Chunk) (next : ℕ) (w : Flow) → Tells (stays_in c.end next w) (StaysIn c next w)

@@ -1,5 +1,5 @@
 -- Both groups of rules together: what is valid is not refused, and what is refused is refused for one reason.
-use Rattle.std.proofs.Common.{◌≡◌, ℕ, zero, suc, ◌+◌, ◌⊎◌, List, length, map, Some, None, Result, Ok, Err, refl, sym, ap, subst, ◌∙◌, inl, inr, arith}
+use Rattle.std.proofs.Common.{◌≡◌, ℕ, zero, suc, ◌⊎◌, List, length, Some, None, Result, Ok, Err, refl, sym, ap, ◌∙◌, inl, inr, arith}
 use Rattle.std.specs.Prelude.{IfErr}
 use Rattle.grain_program.specs.declared.input.Chunk.{Chunk}
 use Rattle.grain_program.specs.declared.refusals.Refusal.{Refusal}
@@ -7,12 +7,11 @@ use Rattle.grain_program.specs.declared.refusals.Refusal.TheVariants as refusal
 use Rattle.grain_program.specs.View.{View}
 use Rattle.grain_program.specs.Layout.{layout_fault}
 use Rattle.grain_program.specs.Rules.{Splits, Breach, address_of, rule_of, Precedes, IsFirst, RefusedEarly}
-use Rattle.grain_program.specs.Shapes.{bare}
-use Rattle.grain_program.specs.Typing.{Valid, Seen, ◌>>=◌, arrive_all, take_lowest, nothing_seen, walk, survey, Refused}
+use Rattle.grain_program.specs.Typing.{Valid, survey, StopsWith, Refused}
 use Rattle.grain_program.proofs.Tiles.{is_tiled}
-use Rattle.grain_program.proofs.Meaning.{only_hollow}
+use Rattle.grain_program.proofs.Breaches.{ByOp, ByName, ByHollow, kind_of}
+use Rattle.grain_program.proofs.Meaning.{none_by_op}
 use Rattle.grain_program.proofs.Walks.{never_stops}
-use Rattle.grain_program.proofs.Loops.{Stops}
 
 -- the refusal of the rule at the address
 refusal_of : ℕ → ℕ → Refusal
@@ -20,15 +19,25 @@ refusal_of zero a = refusal.Memory
 refusal_of (suc zero) a = refusal.Undecodable a
 refusal_of (suc (suc zero)) a = refusal.PoolIndex a
 refusal_of (suc (suc (suc zero))) a = refusal.JumpTarget a
-refusal_of (suc (suc (suc (suc n)))) a = refusal.FallsOff a
+refusal_of (suc (suc (suc (suc zero)))) a = refusal.FallsOff a
+refusal_of (suc (suc (suc (suc (suc n))))) a = refusal.Capability a
 
 module _ (p : View) (chunks : List Chunk) where
-  -- where no instruction breaks a rule and no chunk is empty, there is no breach
+  -- where each rule is obeyed there is no breach
   no_breach : layout_fault (length p.code) chunks ≡ None → Splits p chunks → (q : Refusal) → Breach p chunks q → ⊥
-  no_breach laid w q h =
-      let x = only_hollow p chunks (is_tiled (length p.code) chunks laid) (address_of q) (λ i c g s. w.obeys i c (address_of q) g s) q h refl in
-      let full = w.full x.0 x.1.0 x.1.1 in
-      omega (arith, full, x.1.2, x.1.3)
+  no_breach laid w q h = at q (kind_of p chunks q h) where
+    name : (q : Refusal) → ByName p q → ⊥
+    name (refusal.PoolIndex a) h = h.1.3 (w.named h.0 h.1.0 h.1.1)
+    name _ h = h
+
+    hollow : (q : Refusal) → ByHollow chunks q → ⊥
+    hollow (refusal.FallsOff a) h = let full = w.full h.0 h.1.0 h.1.1 in omega (arith, full, h.1.2, h.1.3)
+    hollow _ h = h
+
+    at : (q : Refusal) → ByOp p chunks q ⊎ (ByName p q ⊎ ByHollow chunks q) → ⊥
+    at q (inl h) = none_by_op p chunks (is_tiled (length p.code) chunks laid) (address_of q) (λ i c g s. w.obeys i c (address_of q) g s) q h refl
+    at q (inr (inl h)) = name q h
+    at q (inr (inr h)) = hollow q h
 
   not_early : layout_fault (length p.code) chunks ≡ None → Splits p chunks → (r : Refusal) → RefusedEarly p chunks r → ⊥
   not_early laid w r (inl h) = let bad : None ≡ Some h.0 = sym laid ∙ h.1 in cc
@@ -36,7 +45,7 @@ module _ (p : View) (chunks : List Chunk) where
 
   pub not_refused : Valid p chunks → (r : Refusal) → Refused p chunks r → ⊥
   not_refused v r (inl h) = not_early v.layout v.splits r h
-  not_refused v r (inr h) = never_stops p chunks v.layout v.splits v.typing v.typed h.2.0 r h.2.1
+  not_refused v r (inr h) = never_stops p chunks v.layout v.splits v.typing v.typed r h.2
 
   -- what is refused for want of memory or else for a broken rule is, of valid parts, for want of memory
   pub only_memory : Valid p chunks → (r : Refusal) → (r ≡ refusal.Memory) ⊎ Refused p chunks r → r ≡ refusal.Memory
@@ -47,7 +56,7 @@ module _ (p : View) (chunks : List Chunk) where
   refused_early r (inl m) = inl m
   refused_early r (inr h) = inr (inl h)
 
-  pub refused_late : layout_fault (length p.code) chunks ≡ None → Splits p chunks → (x : Result (Unit {0}) Refusal) → IfErr x (Stops p.code chunks) → IfErr x (λ r. (r ≡ refusal.Memory) ⊎ Refused p chunks r)
+  pub refused_late : layout_fault (length p.code) chunks ≡ None → Splits p chunks → (x : Result (Unit {0}) Refusal) → IfErr x (λ r. (r ≡ refusal.Memory) ⊎ StopsWith p.code chunks r) → IfErr x (λ r. (r ≡ refusal.Memory) ⊎ Refused p chunks r)
   refused_late laid w (Ok y) h = tt
   refused_late laid w (Err r) (inl m) = inl m
   refused_late laid w (Err r) (inr s) = inr (inr (laid, w, s))
@@ -64,6 +73,7 @@ module _ (p : View) (chunks : List Chunk) where
   is_of (refusal.PoolIndex a) h = refl
   is_of (refusal.JumpTarget a) h = refl
   is_of (refusal.FallsOff a) h = refl
+  is_of (refusal.Capability a) h = refl
   is_of _ h = absurd h
 
   both_ways : (r s : Refusal) → Precedes r s → Precedes s r → (address_of r ≡ address_of s) × (rule_of r ≡ rule_of s)
@@ -86,27 +96,13 @@ module _ (p : View) (chunks : List Chunk) where
   one_early r s (inr x) (inl y) = let bad : Some y.0 ≡ None = sym y.1 ∙ x.0 in absurd cc
   one_early r s (inr x) (inr y) = one_first r s x.1 y.1
 
-  -- a search that has stopped stops there with more steps too
-  stops_still : (n : ℕ) (r : Refusal) → survey p.code chunks n ≡ Err r → survey p.code chunks (suc n) ≡ Err r
-  unfolding survey walk
-  stops_still n r e = at (arrive_all bare (map (λ c. c.entry) chunks) (nothing_seen (length p.code))) e where
-    at : (x : Result Seen Refusal) → (x >>= λ g. walk p.code chunks n g) ≡ Err r → (x >>= λ g. walk p.code chunks n g >>= λ h. take_lowest p.code chunks h h.waiting) ≡ Err r
-    at (Ok g) h = ap (λ (y : Result Seen Refusal). y >>= λ h. take_lowest p.code chunks h h.waiting) h
-    at (Err d) h = h
-
-  stops_later : (k n : ℕ) (r : Refusal) → survey p.code chunks n ≡ Err r → survey p.code chunks (k + n) ≡ Err r
-  stops_later zero n r e = let z : n ≡ 0 + n = omega arith in subst (λ m. survey p.code chunks m ≡ Err r) z e
-  stops_later (suc k) n r e = let z : suc (k + n) ≡ suc k + n = omega arith in subst (λ m. survey p.code chunks m ≡ Err r) z (stops_still (k + n) r (stops_later k n r e))
-
-  one_stop : (m n : ℕ) (r s : Refusal) → survey p.code chunks m ≡ Err r → survey p.code chunks n ≡ Err s → r ≡ s
-  one_stop m n r s x y =
-      let e : n + m ≡ m + n = omega arith in
-      let one = subst (λ k. survey p.code chunks k ≡ Err r) e (stops_later n m r x) in
-      let both : Err r ≡ Err s = sym one ∙ stops_later m n s y in
+  one_stop : (r s : Refusal) → survey p.code chunks ≡ Err r → survey p.code chunks ≡ Err s → r ≡ s
+  one_stop r s x y =
+      let both : Err r ≡ Err s = sym x ∙ y in
       cc
 
   pub one_refused : (r s : Refusal) → Refused p chunks r → Refused p chunks s → r ≡ s
   one_refused r s (inl x) (inl y) = one_early r s x y
   one_refused r s (inl x) (inr y) = absurd (not_early y.0 y.1 r x)
   one_refused r s (inr x) (inl y) = absurd (not_early x.0 x.1 s y)
-  one_refused r s (inr x) (inr y) = one_stop x.2.0 y.2.0 r s x.2.1 y.2.1
+  one_refused r s (inr x) (inr y) = one_stop r s x.2 y.2

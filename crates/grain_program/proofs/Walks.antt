@@ -1,7 +1,7 @@
 -- The search for a typing: where it ends it has found one, and where there is one it does not stop.
-use Rattle.std.proofs.Common.{◌≡◌, ℕ, zero, suc, ◌+◌, ◌<◌, ◌≤◌, ◌⊎◌, Bool, cond, List, [], ◌∷◌, length, map, replicate, Option, Some, None, Result, Ok, Err, refl, sym, ap, subst, ◌∙◌, inl, inr, arith}
+use Rattle.std.proofs.Common.{◌≡◌, ℕ, zero, suc, ◌+◌, ◌<◌, ◌≤◌, ◌⊎◌, List, [], ◌∷◌, length, replicate, Option, Some, None, Result, Ok, Err, refl, sym, ap, subst, ◌∙◌, inl, inr, arith}
 use Rattle.std.specs.Prelude.{slice_get}
-use Rattle.std.proofs.lemmas.Bool.{cases_lt, lt-ltb, le-ltb}
+use Rattle.std.proofs.lemmas.Bool.{cases_lt}
 use Rattle.std.proofs.lemmas.List.{get_or-replicate, length-replicate, get_or_past}
 use Rattle.grain_program.specs.declared.instructions.Op.{Op}
 use Rattle.grain_program.specs.declared.input.Chunk.{Chunk}
@@ -13,42 +13,14 @@ use Rattle.grain_program.specs.Effects.{effect_of, leads}
 use Rattle.grain_program.specs.Layout.{layout_fault, Tiled}
 use Rattle.grain_program.specs.Starts.{Start}
 use Rattle.grain_program.specs.Begins.{start_first, start_next, start_within}
-use Rattle.grain_program.specs.Rules.{Lands, StaysIn, Splits, Spot}
-use Rattle.grain_program.specs.Shapes.{bare, after, stepped, shape_at}
-use Rattle.grain_program.specs.Typing.{In, Agrees, Typing, Seen, ◌>>=◌, arrive_all, limit_at, take_op, take_at, take_lowest, nothing_seen, walk, survey}
+use Rattle.grain_program.specs.Rules.{Splits, Spot}
+use Rattle.grain_program.specs.Shapes.{bare, shape_at}
+use Rattle.grain_program.specs.Typing.{In, Agrees, Typing, HasTyping, Seen, ◌>>=◌, arrive, take_at, take_lowest, nothing_seen, walk, survey_chunk, survey_from, survey}
 use Rattle.grain_program.specs.Fits.{leads_to_start}
 use Rattle.grain_program.proofs.Tiles.{is_tiled}
+use Rattle.grain_program.proofs.Meaning.{same_chunk}
 use Rattle.grain_program.proofs.Cells.{free}
-use Rattle.grain_program.proofs.Grows.{then_ok, stepped_is, stepped_ok, SoundBut, Done, Grown, arrive_all_grown, Below, arrive_all_fits}
-
--- ---- the chunk of an address
-
-limit_of : (chunks : List Chunk) (i : ℕ) (c : Chunk) (a : ℕ) → ((j k : ℕ) (x y : Chunk) → j < k → slice_get chunks j ≡ Some x → slice_get chunks k ≡ Some y → x.end ≤ y.entry)
-    → slice_get chunks i ≡ Some c → c.entry ≤ a → a < c.end → limit_at chunks a ≡ c.max_stack
-limit_of [] i c a apart g lo hi = absurd cc
-limit_of (d ∷ cs) zero c a apart g lo hi =
-    let same : d ≡ c = cc in
-    let e : d.end ≡ c.end = ap (λ (x : Chunk). x.end) same in
-    ap (λ (t : Bool). cond t d.max_stack (limit_at cs a)) (lt-ltb a d.end (omega arith)) ∙ ap (λ (x : Chunk). x.max_stack) same
-limit_of (d ∷ cs) (suc i) c a apart g lo hi =
-    let le = apart 0 (suc i) d c (omega arith) refl g in
-    ap (λ (t : Bool). cond t d.max_stack (limit_at cs a)) (le-ltb a d.end (omega arith))
-    ∙ limit_of cs i c a (λ j k x y lt p q. apart (suc j) (suc k) x y (omega arith) p q) g lo hi
-
--- ---- entries
-
-pub entry_in : (cs : List Chunk) (i : ℕ) (c : Chunk) → slice_get cs i ≡ Some c → In c.entry (map (λ c. c.entry) cs)
-entry_in [] i c g = absurd cc
-entry_in (d ∷ cs) zero c g = let same : c ≡ d = cc in inl (ap (λ (x : Chunk). x.entry) same)
-entry_in (d ∷ cs) (suc i) c g = inr (entry_in cs i c g)
-
-abbrev IsEntry : List Chunk → ℕ → Type 0
-IsEntry cs b = (i : ℕ) × ((c : Chunk) × (slice_get cs i ≡ Some c) × (b ≡ c.entry))
-
-is_entry : (cs : List Chunk) (b : ℕ) → In b (map (λ c. c.entry) cs) → IsEntry cs b
-is_entry [] b h = absurd h
-is_entry (d ∷ cs) b (inl e) = (0, (d, refl, e))
-is_entry (d ∷ cs) b (inr h) = let x = is_entry cs b h in (suc x.0, x.1)
+use Rattle.grain_program.proofs.Grows.{then_ok, Stays, Spread, arrive_spread, Moved, moved, SoundBut, Done, spread_sound, Below, arrive_fits, take_fits}
 
 none_seen : (n a : ℕ) (s : Shape) → shape_at (replicate n None) a ≡ Some s → ⊥
 none_seen n a s e = at (cases_lt a n) where
@@ -56,212 +28,279 @@ none_seen n a s e = at (cases_lt a n) where
   at (inl lt) = let none : None ≡ Some s = sym (get_or-replicate n a None None lt) ∙ e in cc
   at (inr le) = let none : None ≡ Some s = sym (get_or_past (replicate n None) a None (omega (arith, length-replicate {A = Option Shape} n None))) ∙ e in cc
 
+-- an address without a shape is free, so there are no more of them than addresses
+pub free_within : (xs : List (Option Shape)) → free xs ≤ length xs
+free_within [] = omega arith
+free_within (None ∷ xs) = omega (arith, free_within xs)
+free_within (Some s ∷ xs) = omega (arith, free_within xs)
+
+-- where none waits, no more is taken
+pub walk_none : (code : List ℕ) (max n : ℕ) (f : Seen) → f.waiting ≡ [] → walk code max n f ≡ Ok f
+unfolding walk
+walk_none code max zero f e = refl
+walk_none code max (suc n) f e = ap (λ xs. take_lowest code max f xs >>= λ g. walk code max n g) e ∙ walk_none code max n f e
+
+pub empty : (xs : List ℕ) → length xs ≤ 0 → xs ≡ []
+empty [] le = refl
+empty (x ∷ xs) le = absurd (omega arith)
+
+-- the chunks of a sound layout
 module _ (p : View) (chunks : List Chunk) (laid : layout_fault (length p.code) chunks ≡ None) (w : Splits p chunks) where
   tiles : Tiled (length p.code) chunks
   tiles = is_tiled (length p.code) chunks laid
 
-  pub spot_within : (b : ℕ) → Spot p.code chunks b → b < length p.code
-  spot_within b s = let x = start_within p.code s.chunk b s.start in let i = tiles.inside s.number s.chunk s.is in omega (arith, x.1, i.1)
+  -- an instruction of the chunk is read, and leads to instructions of the chunk
+  pub closed : (i : ℕ) (c : Chunk) → slice_get chunks i ≡ Some c → (a : ℕ) → Start p.code c a → (r : Op × ℕ) × (op_at p.code a ≡ Some r) × ((b : ℕ) → In b (leads (effect_of r.0).flow (a + r.1)) → Start p.code c b)
+  closed i c g a s =
+      let o = w.obeys i c a g s in
+      (o.read, o.whole.is, leads_to_start p.code c (a + o.read.1) (effect_of o.read.0).flow o.target o.end (λ lt. start_next p.code c a o.read s o.whole.is lt))
 
-  pub spot_limit : (a i : ℕ) (c : Chunk) → slice_get chunks i ≡ Some c → Start p.code c a → limit_at chunks a ≡ c.max_stack
-  spot_limit a i c g s = let x = start_within p.code c a s in limit_of chunks i c a tiles.apart g x.0 x.1
+  pub inside : (i : ℕ) (c : Chunk) → slice_get chunks i ≡ Some c → c.end ≤ length p.code
+  inside i c g = (tiles.inside i c g).1
 
-  -- where an instruction leads, instructions begin
-  pub leads_spots : (a : ℕ) (s : Spot p.code chunks a) (r : Op × ℕ) → op_at p.code a ≡ Some r → (b : ℕ) → In b (leads (effect_of r.0).flow (a + r.1)) → Spot p.code chunks b
-  leads_spots a s r e b i =
-      let o = w.obeys s.number s.chunk a s.is s.start in
-      let both : Some o.read ≡ Some r = sym o.whole.is ∙ e in
-      let same : o.read ≡ r = cc in
-      let lands = subst (λ (x : Op × ℕ). Lands p.code s.chunk (effect_of x.0).flow) same o.target in
-      let stays = subst (λ (x : Op × ℕ). StaysIn s.chunk (a + x.1) (effect_of x.0).flow) same o.end in
-      record {
-        number = s.number;
-        chunk = s.chunk;
-        is = s.is;
-        start = leads_to_start p.code s.chunk (a + r.1) (effect_of r.0).flow lands stays (λ lt. start_next p.code s.chunk a r s.start e lt) b i;
-      }
-
-  abbrev pub None_out : ℕ → Type 0
+  abbrev None_out : ℕ → Type 0
   None_out a = ⊥
 
-  -- each known address waits or is done, and each entry is known
-  pub record Sound (f : Seen) : Type 0 where
-    pub all : SoundBut p.code chunks None_out f
-    pub entries : (i : ℕ) (c : Chunk) → slice_get chunks i ≡ Some c → shape_at f.shapes c.entry ≡ Some bare
+  -- each known address waits or is done
+  abbrev Sound : Seen → Type 0
+  Sound f = SoundBut p.code chunks None_out f
 
-  -- the address that is taken, with what is known there
-  pub record Taken (f : Seen) (a : ℕ) : Type 0 where
-    pub shape : Shape
-    pub known : shape_at f.shapes a ≡ Some shape
-    pub spot : Spot p.code chunks a
-    pub read : Op × ℕ
-    pub is : op_at p.code a ≡ Some read
+  -- ---- one chunk
 
-  pub taken : (f : Seen) (a : ℕ) → Sound f → In a f.waiting → Taken f a
-  taken f a sound i =
-      let s = sound.all.known a i in
-      let q = sound.all.spots a s.0 s.1 in
-      let o = w.obeys q.number q.chunk a q.is q.start in
-      record { shape = s.0; known = s.1; spot = q; read = o.read; is = o.whole.is }
+  module _ (i : ℕ) (c : Chunk) (g : slice_get chunks i ≡ Some c) where
+    spot : (a : ℕ) → Start p.code c a → Spot p.code chunks a
+    spot a s = record { number = i; chunk = c; is = g; start = s }
 
-  -- ---- one step
+    within : (f : Seen) → Sound f → (a : ℕ) → Start p.code c a → a < length f.shapes
+    within f sound a s = let x = start_within p.code c a s in let n = inside i c g in omega (arith, x.1, sound.long)
 
-  module _ (f : Seen) (a : ℕ) (rest : List ℕ) (sound : Sound f) (e : f.waiting ≡ a ∷ rest) where
-    abbrev without : Seen
-    without = record { shapes = f.shapes; waiting = rest }
+    -- the search is in the chunk: what waits are instructions of it
+    record Here (f : Seen) : Type 0 where
+      sound : Sound f
+      mine : (a : ℕ) → In a f.waiting → Start p.code c a
 
-    t : Taken f a
-    t = taken f a sound (subst (In a) (sym e) (inl refl))
+    -- the lowest of those that wait is taken
+    module _ (f : Seen) (a : ℕ) (rest : List ℕ) (h : Here f) (e : f.waiting ≡ a ∷ rest) where
+      abbrev without : Seen
+      without = record { shapes = f.shapes; waiting = rest }
 
-    abbrev bs : List ℕ
-    bs = leads (effect_of t.read.0).flow (a + t.read.1)
+      waits : In a f.waiting
+      waits = subst (In a) (sym e) (inl refl)
 
-    moves : (g : Seen) → take_at p.code (limit_at chunks a) a (record { shapes = f.shapes; waiting = rest }) ≡ Ok g
-        → (stepped (limit_at chunks a) a (effect_of t.read.0) t.shape >>= λ s. arrive_all s (leads (effect_of t.read.0).flow (a + t.read.1)) (record { shapes = f.shapes; waiting = rest })) ≡ Ok g
-    moves g ok =
-        subst (λ o. take_op (limit_at chunks a) a (record { shapes = f.shapes; waiting = rest }) (Some t.read) o ≡ Ok g) t.known
-        (subst (λ o. take_op (limit_at chunks a) a (record { shapes = f.shapes; waiting = rest }) o (shape_at f.shapes a) ≡ Ok g) t.is ok)
+      start : Start p.code c a
+      start = h.mine a waits
 
-    -- without the address that is taken, all others are sound
-    rest_sound : SoundBut p.code chunks (λ x. x ≡ a) (record { shapes = f.shapes; waiting = rest })
-    rest_sound = record {
-      long = sound.all.long;
-      spots = sound.all.spots;
-      known = λ x i. sound.all.known x (subst (In x) (sym e) (inr i));
-      done = λ x s k. at x s (sound.all.done x s k);
-    } where
-      waits : (x : ℕ) (s : Shape) → In x (a ∷ rest) → In x rest ⊎ ((x ≡ a) ⊎ Done p.code chunks (record { shapes = f.shapes; waiting = rest }) x s)
-      waits x s (inl same) = inr (inl same)
-      waits x s (inr i) = inl i
+      read : (r : Op × ℕ) × (op_at p.code a ≡ Some r) × ((b : ℕ) → In b (leads (effect_of r.0).flow (a + r.1)) → Start p.code c b)
+      read = closed i c g a start
 
-      at : (x : ℕ) (s : Shape) → In x f.waiting ⊎ (None_out x ⊎ Done p.code chunks f x s) → In x rest ⊎ ((x ≡ a) ⊎ Done p.code chunks (record { shapes = f.shapes; waiting = rest }) x s)
-      at x s (inl i) = waits x s (subst (In x) e i)
-      at x s (inr (inl o)) = absurd o
-      at x s (inr (inr d)) = inr (inr d)
+      known : (t : Shape) × (shape_at f.shapes a ≡ Some t)
+      known = h.sound.known a waits
 
-    pub step_ok : (g : Seen) → take_at p.code (limit_at chunks a) a (record { shapes = f.shapes; waiting = rest }) ≡ Ok g → Sound g × (free g.shapes + length g.waiting < free f.shapes + length f.waiting)
-    step_ok g ok = (
+      -- without the address that is taken, all others are sound
+      rest_sound : SoundBut p.code chunks (λ x. x ≡ a) (record { shapes = f.shapes; waiting = rest })
+      rest_sound = record {
+        long = h.sound.long;
+        spots = h.sound.spots;
+        known = λ x j. h.sound.known x (subst (In x) (sym e) (inr j));
+        done = λ x s k. at x s (h.sound.done x s k);
+      } where
+        one : (x : ℕ) (s : Shape) → In x (a ∷ rest) → In x rest ⊎ ((x ≡ a) ⊎ Done p.code chunks (record { shapes = f.shapes; waiting = rest }) x s)
+        one x s (inl same) = inr (inl same)
+        one x s (inr j) = inl j
+
+        at : (x : ℕ) (s : Shape) → In x f.waiting ⊎ (None_out x ⊎ Done p.code chunks f x s) → In x rest ⊎ ((x ≡ a) ⊎ Done p.code chunks (record { shapes = f.shapes; waiting = rest }) x s)
+        at x s (inl j) = one x s (subst (In x) e j)
+        at x s (inr (inl o)) = absurd o
+        at x s (inr (inr d)) = inr (inr d)
+
+      module _ (h' : Seen) (ok : take_at p.code c.max_stack a (record { shapes = f.shapes; waiting = rest }) ≡ Ok h') where
+        m : Moved p.code c.max_stack a read.0 known.0 (record { shapes = f.shapes; waiting = rest }) h'
+        m = moved p.code c.max_stack a read.0 known.0 (record { shapes = f.shapes; waiting = rest }) read.1 known.1 h' (λ b j. within f h.sound b (read.2 b j)) ok
+
+        all : SoundBut p.code chunks (λ x. x ≡ a) h'
+        all = spread_sound p.code chunks (λ x. x ≡ a) m.shape (record { shapes = f.shapes; waiting = rest }) h' (leads (effect_of read.0.0).flow (a + read.0.1)) (λ b j. spot b (read.2 b j)) rest_sound m.spread
+
+        -- the address that was taken is done
+        done : Done p.code chunks h' a known.0
+        done j d r k s is =
+            let both : Some read.0 ≡ Some r = sym read.1 ∙ is in
+            let same : read.0 ≡ r = cc in
+            let chunk : c ≡ d = same_chunk p chunks tiles i j c d a g k start s in
+            let after = m.stepped.is in
+            subst (λ (x : Chunk). Agrees (shape_at h'.shapes) x.max_stack a r.1 (effect_of r.0) known.0) chunk
+            (subst (λ (x : Op × ℕ). Agrees (shape_at h'.shapes) c.max_stack a x.1 (effect_of x.0) known.0) same
+            (record { enough = m.stepped.enough; room = m.stepped.room; arrives = λ b q. m.spread.there b q ∙ ap (λ (x : Shape). Some x) (sym after) }))
+
+        here : Here h'
+        here = record {
+          sound = record { long = all.long; spots = all.spots; known = all.known; done = λ x s k. at x s k (all.done x s k) };
+          mine = λ x j. mine x (m.spread.fresh x j);
+        } where
+          at : (x : ℕ) (s : Shape) → shape_at h'.shapes x ≡ Some s → In x h'.waiting ⊎ ((x ≡ a) ⊎ Done p.code chunks h' x s) → In x h'.waiting ⊎ (None_out x ⊎ Done p.code chunks h' x s)
+          at x s k (inl j) = inl j
+          at x s k (inr (inr d)) = inr (inr d)
+          at x s k (inr (inl same)) =
+              let is : shape_at h'.shapes a ≡ Some known.0 = m.spread.stays a known.0 known.1 in
+              let both : Some known.0 ≡ Some s = sym is ∙ ap (shape_at h'.shapes) (sym same) ∙ k in
+              let shape : known.0 ≡ s = cc in
+              inr (inr (subst (λ y. Done p.code chunks h' y s) (sym same) (subst (λ (y : Shape). Done p.code chunks h' a y) shape done)))
+
+          mine : (x : ℕ) → In x rest ⊎ In x (leads (effect_of read.0.0).flow (a + read.0.1)) → Start p.code c x
+          mine x (inl j) = h.mine x (subst (In x) (sym e) (inr j))
+          mine x (inr j) = read.2 x j
+
+        step_ok : Here h' × Stays f h' × (free h'.shapes + length h'.waiting < free f.shapes + length f.waiting)
+        step_ok = (here, m.spread.stays, omega (arith, m.spread.less, ap length e))
+
+      step_fits : (typing : ℕ → Option Shape) → Typing p.code chunks typing → Below typing f → (h' : Seen) × (take_at p.code c.max_stack a (record { shapes = f.shapes; waiting = rest }) ≡ Ok h') × Below typing h'
+      step_fits typing y below =
+          take_fits p.code typing c.max_stack a read.0 known.0 (record { shapes = f.shapes; waiting = rest }) read.1 known.1 (y.steps i c a read.0 known.0 g start read.1 (below a known.0 known.1)) below
+
+    -- a walk that is long enough, and is not refused, ends where none waits
+    record Walked (f f' : Seen) : Type 0 where
+      sound : Sound f'
+      over : f'.waiting ≡ []
+      stays : Stays f f'
+
+    walk_ok : (n : ℕ) (f f' : Seen) → Here f → free f.shapes + length f.waiting ≤ n → walk p.code c.max_stack n f ≡ Ok f' → Walked f f'
+    unfolding walk
+    walk_ok zero f f' h enough ok =
+        let same : f ≡ f' = cc in
+        subst (Walked f) same (record { sound = h.sound; over = empty f.waiting (omega arith); stays = λ a s k. k })
+    walk_ok (suc n) f f' h enough ok = at f.waiting refl ok (λ k h' less ok'. walk_ok n k f' h' less ok') where
+      at : (xs : List ℕ) → f.waiting ≡ xs → (take_lowest p.code c.max_stack f xs >>= λ g. walk p.code c.max_stack n g) ≡ Ok f'
+          → ((k : Seen) → Here k → free k.shapes + length k.waiting ≤ n → walk p.code c.max_stack n k ≡ Ok f' → Walked k f') → Walked f f'
+      at [] e k more =
+          let both : Ok f ≡ Ok f' = sym (walk_none p.code c.max_stack n f e) ∙ k in
+          let same : f ≡ f' = cc in
+          subst (Walked f) same (record { sound = h.sound; over = e; stays = λ a s q. q })
+      at (a ∷ rest) e k more =
+          let t = then_ok (take_at p.code c.max_stack a (record { shapes = f.shapes; waiting = rest })) (λ g. walk p.code c.max_stack n g) f' k in
+          let s = step_ok f a rest h e t.0 t.1 in
+          let w = more t.0 s.0 (omega (arith, s.2, enough)) t.2 in
+          record { sound = w.sound; over = w.over; stays = λ x q z. w.stays x q (s.1 x q z) }
+
+    walk_fits : (typing : ℕ → Option Shape) → Typing p.code chunks typing → (n : ℕ) (f : Seen) → Here f → Below typing f → (f' : Seen) × (walk p.code c.max_stack n f ≡ Ok f') × Below typing f'
+    unfolding walk
+    walk_fits typing y zero f h below = (f, refl, below)
+    walk_fits typing y (suc n) f h below = at f.waiting refl (λ k h' b. walk_fits typing y n k h' b) where
+      at : (xs : List ℕ) → f.waiting ≡ xs → ((k : Seen) → Here k → Below typing k → (f' : Seen) × (walk p.code c.max_stack n k ≡ Ok f') × Below typing f')
+          → (f' : Seen) × ((take_lowest p.code c.max_stack f xs >>= λ g. walk p.code c.max_stack n g) ≡ Ok f') × Below typing f'
+      at [] e more = (f, walk_none p.code c.max_stack n f e, below)
+      at (a ∷ rest) e more =
+          let t = step_fits f a rest h e typing y below in
+          let w = more t.0 (step_ok f a rest h e t.0 t.1).0 t.2 in
+          (w.0, ap (λ (x : Result Seen Refusal). x >>= λ g. walk p.code c.max_stack n g) t.1 ∙ w.1, w.2)
+
+    -- a bare frame at the entry begins the walk
+    enter : (f k : Seen) → Sound f → f.waiting ≡ [] → arrive bare f c.entry ≡ Ok k → Here k × Spread bare f k (c.entry ∷ [])
+    enter f k sound e ok = (record { sound = all; mine = λ a j. mine a (spread.fresh a j) }, spread) where
+      first : Start p.code c c.entry
+      first = start_first p.code c (w.full i c g)
+
+      at : (b : ℕ) → In b (c.entry ∷ []) → Start p.code c b
+      at b (inl same) = subst (Start p.code c) (sym same) first
+      at b (inr j) = absurd j
+
+      spread : Spread bare f k (c.entry ∷ [])
+      spread = arrive_spread bare f k c.entry (within f sound c.entry first) ok
+
+      all : Sound k
+      all = spread_sound p.code chunks None_out bare f k (c.entry ∷ []) (λ b j. spot b (at b j)) sound spread
+
+      mine : (a : ℕ) → In a f.waiting ⊎ In a (c.entry ∷ []) → Start p.code c a
+      mine a (inl j) = absurd (subst (In a) e j)
+      mine a (inr j) = at a j
+
+    -- the chunk is done, and its entry is known
+    record Surveyed (f f' : Seen) : Type 0 where
+      walked : Walked f f'
+      entry : shape_at f'.shapes c.entry ≡ Some bare
+
+    chunk_ok : (f f' : Seen) → Sound f → f.waiting ≡ [] → survey_chunk p.code c f ≡ Ok f' → Surveyed f f'
+    unfolding survey_chunk
+    chunk_ok f f' sound e ok =
+        let t = then_ok (arrive bare f c.entry) (λ g. walk p.code c.max_stack (length p.code) g) f' ok in
+        let h = enter f t.0 sound e t.1 in
+        let v = walk_ok (length p.code) t.0 f' h.0 (omega (arith, h.1.less, ap length e, free_within f.shapes, sound.long)) t.2 in
+        record {
+          walked = record { sound = v.sound; over = v.over; stays = λ a s k. v.stays a s (h.1.stays a s k) };
+          entry = v.stays c.entry bare (h.1.there c.entry (inl refl));
+        }
+
+    chunk_fits : (typing : ℕ → Option Shape) → Typing p.code chunks typing → (f : Seen) → Sound f → f.waiting ≡ [] → Below typing f → (f' : Seen) × (survey_chunk p.code c f ≡ Ok f') × Below typing f'
+    unfolding survey_chunk
+    chunk_fits typing y f sound e below =
+        let b = arrive_fits typing bare f c.entry (y.entries i c g) below in
+        let h = enter f b.0 sound e b.1 in
+        let v = walk_fits typing y (length p.code) b.0 h.0 b.2 in
+        (v.0, ap (λ (x : Result Seen Refusal). x >>= λ g. walk p.code c.max_stack (length p.code) g) b.1 ∙ v.1, v.2)
+
+  -- ---- all chunks
+
+  -- these are some of the chunks
+  abbrev Among : List Chunk → Type 0
+  Among cs = (j : ℕ) (c : Chunk) → slice_get cs j ≡ Some c → (i : ℕ) × (slice_get chunks i ≡ Some c)
+
+  -- the chunks are done, and their entries are known
+  record Over (cs : List Chunk) (f f' : Seen) : Type 0 where
+    sound : Sound f'
+    over : f'.waiting ≡ []
+    stays : Stays f f'
+    entries : (j : ℕ) (c : Chunk) → slice_get cs j ≡ Some c → shape_at f'.shapes c.entry ≡ Some bare
+
+  from_ok : (cs : List Chunk) (f f' : Seen) → Among cs → Sound f → f.waiting ≡ [] → survey_from p.code cs f ≡ Ok f' → Over cs f f'
+  from_ok [] f f' among sound e ok =
+      let same : f ≡ f' = cc in
+      subst (Over [] f) same (record { sound = sound; over = e; stays = λ a s k. k; entries = λ j c k. absurd cc })
+  from_ok (c ∷ cs) f f' among sound e ok =
+      let t = then_ok (survey_chunk p.code c f) (λ g. survey_from p.code cs g) f' ok in
+      let i = among 0 c refl in
+      let s = chunk_ok i.0 c i.1 f t.0 sound e t.1 in
+      let more = from_ok cs t.0 f' (λ j d k. among (suc j) d k) s.walked.sound s.walked.over t.2 in
       record {
-        all = record {
-          long = all.sound.long;
-          spots = all.sound.spots;
-          known = all.sound.known;
-          done = λ x s k. at x s k (all.sound.done x s k);
-        };
-        entries = λ i c h. all.stays c.entry bare (sound.entries i c h);
-      },
-      omega (arith, all.less, ap length e),
-    ) where
-      m : (s : Shape) × (stepped (limit_at chunks a) a (effect_of t.read.0) t.shape ≡ Ok s) × (arrive_all s (leads (effect_of t.read.0).flow (a + t.read.1)) (record { shapes = f.shapes; waiting = rest }) ≡ Ok g)
-      m = then_ok (stepped (limit_at chunks a) a (effect_of t.read.0) t.shape) (λ s. arrive_all s (leads (effect_of t.read.0).flow (a + t.read.1)) (record { shapes = f.shapes; waiting = rest })) g (moves g ok)
+        sound = more.sound;
+        over = more.over;
+        stays = λ a x k. more.stays a x (s.walked.stays a x k);
+        entries = λ j d k. entry (more.stays c.entry bare s.entry) more.entries j d k;
+      } where
+        entry : shape_at f'.shapes c.entry ≡ Some bare → ((j : ℕ) (d : Chunk) → slice_get cs j ≡ Some d → shape_at f'.shapes d.entry ≡ Some bare)
+            → (j : ℕ) (d : Chunk) → slice_get (c ∷ cs) j ≡ Some d → shape_at f'.shapes d.entry ≡ Some bare
+        entry first later zero d k = let same : c ≡ d = cc in subst (λ (x : Chunk). shape_at f'.shapes x.entry ≡ Some bare) same first
+        entry first later (suc j) d k = later j d k
 
-      all : Grown p.code chunks (λ x. x ≡ a) m.0 (record { shapes = f.shapes; waiting = rest }) g (leads (effect_of t.read.0).flow (a + t.read.1))
-      all = arrive_all_grown p.code chunks (λ x. x ≡ a) m.0 (leads (effect_of t.read.0).flow (a + t.read.1)) (record { shapes = f.shapes; waiting = rest }) g spot_within (leads_spots a t.spot t.read t.is) rest_sound m.2
+  from_fits : (typing : ℕ → Option Shape) → Typing p.code chunks typing → (cs : List Chunk) (f : Seen) → Among cs → Sound f → f.waiting ≡ [] → Below typing f → (f' : Seen) × (survey_from p.code cs f ≡ Ok f')
+  from_fits typing y [] f among sound e below = (f, refl)
+  from_fits typing y (c ∷ cs) f among sound e below =
+      let i = among 0 c refl in
+      let t = chunk_fits i.0 c i.1 typing y f sound e below in
+      let s = chunk_ok i.0 c i.1 f t.0 sound e t.1 in
+      let more = from_fits typing y cs t.0 (λ j d k. among (suc j) d k) s.walked.sound s.walked.over t.2 in
+      (more.0, ap (λ (x : Result Seen Refusal). x >>= λ g. survey_from p.code cs g) t.1 ∙ more.1)
 
-      -- the address that was taken is done
-      here : Done p.code chunks g a t.shape
-      here i c r h s k =
-          let q = stepped_is (limit_at chunks a) a (effect_of t.read.0) t.shape m.0 m.1 in
-          let both : Some t.read ≡ Some r = sym t.is ∙ k in
-          let same : t.read ≡ r = cc in
-          let limit = spot_limit a i c h s in
-          subst (λ (x : Op × ℕ). Agrees (shape_at g.shapes) c.max_stack a x.1 (effect_of x.0) t.shape) same
-          (record { enough = q.enough; room = omega (arith, q.room, limit); arrives = λ b j. all.there b j ∙ ap (λ (s : Shape). Some s) (sym q.is) })
+  nothing_sound : Sound (nothing_seen (length p.code))
+  nothing_sound = record {
+    long = length-replicate {A = Option Shape} (length p.code) None;
+    spots = λ a s k. absurd (none_seen (length p.code) a s k);
+    known = λ a i. absurd i;
+    done = λ a s k. absurd (none_seen (length p.code) a s k);
+  }
 
-      at : (x : ℕ) (s : Shape) → shape_at g.shapes x ≡ Some s → In x g.waiting ⊎ ((x ≡ a) ⊎ Done p.code chunks g x s) → In x g.waiting ⊎ (None_out x ⊎ Done p.code chunks g x s)
-      at x s k (inl i) = inl i
-      at x s k (inr (inr d)) = inr (inr d)
-      at x s k (inr (inl same)) =
-          let known : shape_at g.shapes a ≡ Some t.shape = all.stays a t.shape t.known in
-          let both : Some t.shape ≡ Some s = sym known ∙ ap (shape_at g.shapes) (sym same) ∙ k in
-          let is : t.shape ≡ s = cc in
-          inr (inr (subst (λ y. Done p.code chunks g y s) (sym same) (subst (λ (y : Shape). Done p.code chunks g a y) is here)))
+  -- a search that is not refused has found a typing
+  pub has_typing : (f : Seen) → survey p.code chunks ≡ Ok f → HasTyping p.code chunks
+  has_typing f ok = (shape_at f.shapes, record { entries = o.entries; steps = λ i c a r s g st is k. at i c a r s g st is (o.sound.done a s k) }) where
+    o : Over chunks (nothing_seen (length p.code)) f
+    o = from_ok chunks (nothing_seen (length p.code)) f (λ j c k. (j, k)) nothing_sound refl ok
 
-    pub step_fits : (typing : ℕ → Option Shape) → Typing p.code chunks typing → Below typing f → (g : Seen) × (take_at p.code (limit_at chunks a) a (record { shapes = f.shapes; waiting = rest }) ≡ Ok g) × Below typing g
-    step_fits typing y below =
-        let q = t.spot in
-        let x = y.steps q.number q.chunk a t.read t.shape q.is q.start t.is (below a t.shape t.known) in
-        let limit = spot_limit a q.number q.chunk q.is q.start in
-        let next = after (effect_of t.read.0) t.shape in
-        let fine = stepped_ok (limit_at chunks a) a (effect_of t.read.0) t.shape x.enough (omega (arith, x.room, limit)) in
-        let all = arrive_all_fits typing next (leads (effect_of t.read.0).flow (a + t.read.1)) (record { shapes = f.shapes; waiting = rest }) x.arrives below in
-        let moved : take_op (limit_at chunks a) a (record { shapes = f.shapes; waiting = rest }) (Some t.read) (Some t.shape) ≡ Ok all.0 =
-        ap (λ (o : Result Shape Refusal). o >>= λ s. arrive_all s (leads (effect_of t.read.0).flow (a + t.read.1)) (record { shapes = f.shapes; waiting = rest })) fine ∙ all.1 in (
-          all.0,
-          subst (λ o. take_op (limit_at chunks a) a (record { shapes = f.shapes; waiting = rest }) o (shape_at f.shapes a) ≡ Ok all.0) (sym t.is)
-              (subst (λ o. take_op (limit_at chunks a) a (record { shapes = f.shapes; waiting = rest }) (Some t.read) o ≡ Ok all.0) (sym t.known) moved),
-          all.2,
-        )
-
-  -- ---- the beginning
-
-  pub begun : (f : Seen) → arrive_all bare (map (λ c. c.entry) chunks) (nothing_seen (length p.code)) ≡ Ok f → Sound f
-  begun f e = record { all = all.sound; entries = λ i c g. all.there c.entry (entry_in chunks i c g) } where
-    spot_of : (b : ℕ) → In b (map (λ c. c.entry) chunks) → Spot p.code chunks b
-    spot_of b h =
-        let x = is_entry chunks b h in
-        let c = x.1.0 in
-        record { number = x.0; chunk = c; is = x.1.1; start = subst (Start p.code c) (sym x.1.2) (start_first p.code c (w.full x.0 c x.1.1)) }
-
-    nothing : SoundBut p.code chunks None_out (nothing_seen (length p.code))
-    nothing = record {
-      long = length-replicate {A = Option Shape} (length p.code) None;
-      spots = λ a s k. absurd (none_seen (length p.code) a s k);
-      known = λ a i. absurd i;
-      done = λ a s k. absurd (none_seen (length p.code) a s k);
-    }
-
-    all : Grown p.code chunks None_out bare (nothing_seen (length p.code)) f (map (λ c. c.entry) chunks)
-    all = arrive_all_grown p.code chunks None_out bare (map (λ c. c.entry) chunks) (nothing_seen (length p.code)) f spot_within spot_of nothing e
-
-  -- ---- the end
-
-  pub is_typing : (f : Seen) → Sound f → f.waiting ≡ [] → Typing p.code chunks (shape_at f.shapes)
-  is_typing f sound e = record {
-    entries = sound.entries;
-    steps = λ i c a r s g st is k. at i c a r s g st is (sound.all.done a s k);
-  } where
     at : (i : ℕ) (c : Chunk) (a : ℕ) (r : Op × ℕ) (s : Shape) → slice_get chunks i ≡ Some c → Start p.code c a → op_at p.code a ≡ Some r → In a f.waiting ⊎ (None_out a ⊎ Done p.code chunks f a s)
         → Agrees (shape_at f.shapes) c.max_stack a r.1 (effect_of r.0) s
-    at i c a r s g st is (inl j) = absurd (subst (In a) e j)
-    at i c a r s g st is (inr (inl o)) = absurd o
+    at i c a r s g st is (inl j) = absurd (subst (In a) o.over j)
+    at i c a r s g st is (inr (inl out)) = absurd out
     at i c a r s g st is (inr (inr d)) = d i c r g st is
 
-  -- ---- step by step
-
-  pub one_more : (n : ℕ) (f : Seen) → survey p.code chunks n ≡ Ok f → survey p.code chunks (suc n) ≡ take_lowest p.code chunks f f.waiting
-  unfolding survey walk
-  one_more n f e = at (arrive_all bare (map (λ c. c.entry) chunks) (nothing_seen (length p.code))) e where
-    at : (x : Result Seen Refusal) → (x >>= λ g. walk p.code chunks n g) ≡ Ok f → (x >>= λ g. walk p.code chunks n g >>= λ h. take_lowest p.code chunks h h.waiting) ≡ take_lowest p.code chunks f f.waiting
-    at (Ok g) h = ap (λ (y : Result Seen Refusal). y >>= λ h. take_lowest p.code chunks h h.waiting) h
-    at (Err r) h = absurd cc
-
-  -- a search that a typing lets pass
-  record Reached (typing : ℕ → Option Shape) (n : ℕ) : Type 0 where
-    seen : Seen
-    is : survey p.code chunks n ≡ Ok seen
-    sound : Sound seen
-    below : Below typing seen
-
-  reached : (typing : ℕ → Option Shape) → Typing p.code chunks typing → (n : ℕ) → Reached typing n
-  unfolding survey walk
-  reached typing y zero =
-      let all = arrive_all_fits typing bare (map (λ c. c.entry) chunks) (nothing_seen (length p.code)) (λ b h. entry_typed b (is_entry chunks b h)) (λ a s k. absurd (none_seen (length p.code) a s k)) in
-      record { seen = all.0; is = ap (λ (x : Result Seen Refusal). x >>= λ g. Ok g) all.1; sound = begun all.0 all.1; below = all.2 } where
-        entry_typed : (b : ℕ) → IsEntry chunks b → typing b ≡ Some bare
-        entry_typed b x = ap typing x.1.2 ∙ y.entries x.0 x.1.0 x.1.1
-  reached typing y (suc n) = more (reached typing y n) where
-    next : (q : Reached typing n) (l : List ℕ) → q.seen.waiting ≡ l → Reached typing (suc n)
-    next q [] e = record { seen = q.seen; is = one_more n q.seen q.is ∙ ap (take_lowest p.code chunks q.seen) e; sound = q.sound; below = q.below }
-    next q (a ∷ rest) e =
-        let s = step_fits q.seen a rest q.sound e typing y q.below in
-        record { seen = s.0; is = one_more n q.seen q.is ∙ ap (take_lowest p.code chunks q.seen) e ∙ s.1; sound = (step_ok q.seen a rest q.sound e s.0 s.1).0; below = s.2 }
-
-    more : Reached typing n → Reached typing (suc n)
-    more q = next q q.seen.waiting refl
-
-  pub never_stops : (typing : ℕ → Option Shape) → Typing p.code chunks typing → (n : ℕ) (r : Refusal) → survey p.code chunks n ≡ Err r → ⊥
-  never_stops typing y n r e =
-      let q = reached typing y n in
-      let bad : Ok q.seen ≡ Err r = sym q.is ∙ e in
+  -- where there is a typing, the search is not refused
+  pub never_stops : (typing : ℕ → Option Shape) → Typing p.code chunks typing → (r : Refusal) → survey p.code chunks ≡ Err r → ⊥
+  never_stops typing y r e =
+      let q = from_fits typing y chunks (nothing_seen (length p.code)) (λ j c k. (j, k)) nothing_sound refl (λ a s k. absurd (none_seen (length p.code) a s k)) in
+      let bad : Ok q.0 ≡ Err r = sym q.1 ∙ e in
       cc

@@ -1,5 +1,5 @@
 -- What each instruction takes and gives, and where it leads: one row for each.
-use Rattle.std.specs.Prelude.{ℕ, List, [], ◌∷◌, nat_lt, if◌then◌else◌}
+use Rattle.std.specs.Prelude.{ℕ, ◌+◌, List, [], ◌∷◌, nat_lt, if◌then◌else◌}
 use Rattle.grain_program.specs.declared.instructions.Op.{Op}
 use Rattle.grain_program.specs.declared.instructions.Op.TheVariants as op
 use Rattle.grain_program.specs.declared.effects.Effect.{Effect}
@@ -16,15 +16,25 @@ effect_of op.Unit = effect 0 1 flow.Next
 effect_of op.False = effect 0 1 flow.Next
 effect_of op.True = effect 0 1 flow.Next
 effect_of (op.LoadLocal s) = effect 0 1 flow.Next
+effect_of (op.StoreLocal s) = effect 1 0 flow.Next
+effect_of (op.StoreConst s) = effect 1 0 flow.Next
 effect_of (op.DeclareLocal n) = effect 1 0 flow.Next
+effect_of (op.DeclareConst n) = effect 1 0 flow.Next
 effect_of (op.AssignLocal s n) = effect 1 0 flow.Next
 effect_of (op.AssignLocalOp s n a) = effect 1 0 flow.Next
 effect_of op.Pop = effect 1 0 flow.Next
+effect_of (op.Rotate u) = effect (u + 1) (u + 1) flow.Next
 effect_of (op.Jump t) = effect 0 0 (flow.Jump t)
 effect_of (op.JumpIfFalse t) = effect 1 0 (flow.Branch t)
 effect_of (op.JumpIfTrue t) = effect 1 0 (flow.Branch t)
+effect_of (op.SkipIfNotUnit t) = effect 1 1 (flow.Branch t)
+effect_of (op.Call n k) = effect k 1 flow.Next
 effect_of (op.CallOp n k o) = effect k 1 flow.Next
+effect_of (op.UnwindTo d) = effect 0 0 flow.Next
 effect_of op.Tick = effect 0 0 flow.Next
+effect_of op.Checkpoint = effect 0 0 flow.Next
+effect_of (op.Statement d) = effect 0 0 flow.Next
+effect_of op.Throw = effect 1 0 flow.End
 effect_of op.Return = effect 0 0 flow.End
 
 -- the addresses that a flow leads to, given the address behind the instruction, the lower one first

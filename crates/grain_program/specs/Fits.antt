@@ -1,9 +1,10 @@
 -- A frame that stands at an instruction with as many operands as the typing says, and what that tells of the instruction.
-use Rattle.std.specs.Prelude.{ℕ, ◌≡◌, ◌<◌, ◌≤◌, ◌+◌, ◌-◌, nat_lt, Bool, true, false, cond, List, [], ◌∷◌, length, slice_get, Option, Some, None, refl}
+use Rattle.std.specs.Prelude.{ℕ, suc, ◌≡◌, ◌<◌, ◌≤◌, ◌+◌, ◌-◌, nat_lt, Bool, true, false, cond, List, [], ◌∷◌, length, slice_get, Option, Some, None, refl}
 use Rattle.std.proofs.Common.{sym, subst, ◌∙◌, inl, inr, arith}
 use Rattle.std.proofs.lemmas.Bool.{ltb-false}
 use Rattle.grain_program.specs.declared.instructions.Op.{Op}
 use Rattle.grain_program.specs.declared.input.Chunk.{Chunk}
+use Rattle.grain_program.specs.declared.functions.Function.{Function}
 use Rattle.grain_program.specs.declared.shapes.Shape.{Shape}
 use Rattle.grain_program.specs.View.{View}
 use Rattle.grain_program.specs.Reading.{op_at}
@@ -11,8 +12,8 @@ use Rattle.grain_program.specs.Widths.{op_at_within}
 use Rattle.grain_program.specs.declared.effects.Flow.{Flow}
 use Rattle.grain_program.specs.declared.effects.Flow.TheVariants as flow
 use Rattle.grain_program.specs.Effects.{effect_of, leads, takes_of, gives_of, leads_of}
-use Rattle.grain_program.specs.Indices.{InPools}
-use Rattle.grain_program.specs.Layout.{chunks_in, gap_from, layout_fault}
+use Rattle.grain_program.specs.Indices.{InPools, IsNamed}
+use Rattle.grain_program.specs.Layout.{chunks_in, function_chunk, gap_from, layout_fault}
 use Rattle.grain_program.specs.Starts.{Start}
 use Rattle.grain_program.specs.Begins.{start_first, start_next}
 use Rattle.grain_program.specs.Rules.{Lands, StaysIn}
@@ -108,6 +109,24 @@ begins p v = record {
   known = v.typed.entries 0 p.main refl;
   low = omega arith;
 }
+
+-- a frame of a function begins at its entry, without operands
+pub enters : (p : View) → IsProgram p → (i : ℕ) (f : Function) → slice_get p.functions i ≡ Some f → Fits p f.chunk f.chunk.entry 0
+enters p v i f e =
+    let is = function_chunk p i f e in
+    record {
+      number = suc i;
+      is = is;
+      start = start_first p.code f.chunk (v.splits.full (suc i) f.chunk is);
+      typing = v.typing;
+      typed = v.typed;
+      known = v.typed.entries (suc i) f.chunk is;
+      low = omega arith;
+    }
+
+-- a function's name and its parameters' names are entries of the pool
+pub has_names : (p : View) → IsProgram p → (i : ℕ) (f : Function) → slice_get p.functions i ≡ Some f → IsNamed p f
+has_names p v i f e = v.splits.named i f e
 
 -- a frame has no more operands than its chunk may have
 pub shallow : (p : View) (c : Chunk) (at depth : ℕ) → Fits p c at depth → depth ≤ c.max_stack

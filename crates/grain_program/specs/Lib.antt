@@ -4,6 +4,7 @@ pub mod Spelling
 pub mod Widths
 pub mod Effects
 pub mod Indices
+pub mod Capabilities
 pub mod Layout
 pub mod Starts
 pub mod Begins
@@ -12,4 +13,5 @@ pub mod Owners
 pub mod Shapes
 pub mod Typing
 pub mod Fits
+pub mod Lookups
 pub mod Recorded

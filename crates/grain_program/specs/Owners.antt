@@ -1,7 +1,9 @@
--- The table of instruction starts, and the tests of the rules of single instructions by it.
-use Rattle.std.specs.Prelude.{ℕ, ◌≡◌, ◌<◌, ◌+◌, ◌⊎◌, ◌==◌, nat_lt, Bool, true, List, length, slice_get, slice_index_or, Option, Some, None, if◌then◌else◌}
+-- The table of instruction starts, and the tests of the rules of single instructions by it; the tests of empty chunks and
+-- of functions' names.
+use Rattle.std.specs.Prelude.{ℕ, ◌≡◌, ◌<◌, ◌+◌, ◌⊎◌, ◌==◌, nat_lt, Bool, true, List, [], ◌∷◌, length, slice_get, slice_index_or, Option, Some, None, if◌then◌else◌}
 use Rattle.grain_program.specs.declared.instructions.Op.{Op}
 use Rattle.grain_program.specs.declared.input.Chunk.{Chunk}
+use Rattle.grain_program.specs.declared.functions.Function.{Function}
 use Rattle.grain_program.specs.declared.owners.Owner.{Owner}
 use Rattle.grain_program.specs.declared.refusals.Refusal.{Refusal}
 use Rattle.grain_program.specs.declared.refusals.Refusal.TheVariants as refusal
@@ -10,18 +12,17 @@ use Rattle.grain_program.specs.declared.effects.Flow.TheVariants as flow
 use Rattle.grain_program.specs.View.{View}
 use Rattle.grain_program.specs.Reading.{op_at}
 use Rattle.grain_program.specs.Effects.{effect_of}
-use Rattle.grain_program.specs.Indices.{in_pools}
-use Rattle.grain_program.specs.Layout.{layout_fault}
+use Rattle.grain_program.specs.Indices.{in_pools, is_named}
+use Rattle.grain_program.specs.Capabilities.{permits}
 use Rattle.grain_program.specs.Starts.{Start}
-use Rattle.grain_program.specs.Rules.{Splits}
 
 -- what stands where no instruction begins
 abbrev pub no_owner : Owner
-no_owner = record { end = 0; max_stack = 0 }
+no_owner = record { end = 0 }
 
 -- what stands where an instruction of the chunk begins
 abbrev pub owner_of : Chunk → Owner
-owner_of c = record { end = c.end; max_stack = c.max_stack }
+owner_of c = record { end = c.end }
 
 abbrev pub owner_at : List Owner → ℕ → Owner
 owner_at owners a = slice_index_or owners a no_owner
@@ -35,12 +36,6 @@ pub record Owned (code : List ℕ) (chunks : List Chunk) (upto : ℕ) (owners : 
   pub long : length owners ≡ length code
   pub owned : (i : ℕ) (c : Chunk) (a : ℕ) → i < upto → slice_get chunks i ≡ Some c → Start code c a → owner_at owners a ≡ owner_of c
   pub only : (a : ℕ) → (owner_at owners a ≡ no_owner) ⊎ IsOwned code chunks owners a
-
--- the layout is without a fault, each instruction obeys its rules, and this is the table of their starts
-pub record IsSplit (p : View) (chunks : List Chunk) (owners : List Owner) : Type 0 where
-  pub laid : layout_fault (length p.code) chunks ≡ None
-  pub splits : Splits p chunks
-  pub owned : Owned p.code chunks (length chunks) owners
 
 -- the starts of the chunk have got this owner, and every other address has kept its own
 abbrev pub IsMarked : List ℕ → Chunk → List Owner → List Owner → Type 0
@@ -68,7 +63,9 @@ rule_in p owners end a (Some r) =
     if nat_lt end (a + r.1) then Some (refusal.Undecodable a)
     else if in_pools p r.0 then
     (if lands owners end (effect_of r.0).flow then
-    (if stays_in end (a + r.1) (effect_of r.0).flow then None else Some (refusal.FallsOff a))
+    (if stays_in end (a + r.1) (effect_of r.0).flow then
+    (if permits p.caps r.0 then None else Some (refusal.Capability a))
+    else Some (refusal.FallsOff a))
     else Some (refusal.JumpTarget a))
     else Some (refusal.PoolIndex a)
 
@@ -80,3 +77,13 @@ rule_at p owners a = if (owner_at owners a).end == 0 then None else rule_in p ow
 abbrev pub IsFirstFound : (ℕ → Option Refusal) → ℕ → Option Refusal → Type 0
 IsFirstFound f n None = (a : ℕ) → a < n → f a ≡ None
 IsFirstFound f n (Some r) = (a : ℕ) × ((a < n) × (f a ≡ Some r) × ((b : ℕ) → b < a → f b ≡ None))
+
+-- the refusal of the first empty chunk
+abbrev pub first_empty : List Chunk → Option Refusal
+first_empty [] = None
+first_empty (c ∷ cs) = if c.entry == c.end then Some (refusal.FallsOff c.entry) else first_empty cs
+
+-- the refusal of the first function that has a name that is no entry of the pool
+abbrev pub first_misnamed : View → List Function → Option Refusal
+first_misnamed p [] = None
+first_misnamed p (f ∷ fs) = if is_named p f then first_misnamed p fs else Some (refusal.PoolIndex f.chunk.entry)

@@ -55,15 +55,25 @@ rows =
     row 0x03 [] (λ n. op.False) ∷
     row 0x04 [] (λ n. op.True) ∷
     row 0x05 (two ∷ []) (λ n. op.LoadLocal (slice_index n 0)) ∷
+    row 0x06 (two ∷ []) (λ n. op.StoreLocal (slice_index n 0)) ∷
+    row 0x07 (two ∷ []) (λ n. op.StoreConst (slice_index n 0)) ∷
     row 0x0d (two ∷ []) (λ n. op.DeclareLocal (slice_index n 0)) ∷
+    row 0x0e (two ∷ []) (λ n. op.DeclareConst (slice_index n 0)) ∷
     row 0x10 (two ∷ two ∷ []) (λ n. op.AssignLocal (slice_index n 0) (slice_index n 1)) ∷
     row 0x11 (two ∷ two ∷ two ∷ []) (λ n. op.AssignLocalOp (slice_index n 0) (slice_index n 1) (slice_index n 2)) ∷
     row 0x1b [] (λ n. op.Pop) ∷
+    row 0x1c (one ∷ []) (λ n. op.Rotate (slice_index n 0)) ∷
     row 0x1d (four ∷ []) (λ n. op.Jump (slice_index n 0)) ∷
     row 0x1e (four ∷ []) (λ n. op.JumpIfFalse (slice_index n 0)) ∷
     row 0x1f (four ∷ []) (λ n. op.JumpIfTrue (slice_index n 0)) ∷
+    row 0x20 (four ∷ []) (λ n. op.SkipIfNotUnit (slice_index n 0)) ∷
+    row 0x22 (two ∷ one ∷ []) (λ n. op.Call (slice_index n 0) (slice_index n 1)) ∷
     row 0x23 (two ∷ one ∷ two ∷ []) (λ n. op.CallOp (slice_index n 0) (slice_index n 1) (slice_index n 2)) ∷
+    row 0x38 (two ∷ []) (λ n. op.UnwindTo (slice_index n 0)) ∷
     row 0x39 [] (λ n. op.Tick) ∷
+    row 0x3a [] (λ n. op.Checkpoint) ∷
+    row 0x3b (two ∷ []) (λ n. op.Statement (slice_index n 0)) ∷
+    row 0x49 [] (λ n. op.Throw) ∷
     row 0x4a [] (λ n. op.Return) ∷
     []
 

@@ -1,7 +1,9 @@
--- The rules of single instructions: what obeys them, what breaks them, and which breach is the first.
-use Rattle.std.specs.Prelude.{ℕ, ◌≡◌, ◌<◌, ◌≤◌, ◌+◌, ◌⊎◌, List, length, slice_get, Some, None}
+-- The rules of single instructions and of functions' names: what obeys them, what breaks them, and which breach is the
+-- first.
+use Rattle.std.specs.Prelude.{ℕ, ◌≡◌, ◌<◌, ◌≤◌, ◌+◌, ◌⊎◌, ◌==◌, ◌&&◌, ◌||◌, nat_lt, nat_le, Bool, List, length, slice_get, Option, Some, None, if◌then◌else◌}
 use Rattle.grain_program.specs.declared.instructions.Op.{Op}
 use Rattle.grain_program.specs.declared.input.Chunk.{Chunk}
+use Rattle.grain_program.specs.declared.functions.Function.{Function}
 use Rattle.grain_program.specs.declared.refusals.Refusal.{Refusal}
 use Rattle.grain_program.specs.declared.refusals.Refusal.TheVariants as refusal
 use Rattle.grain_program.specs.declared.effects.Flow.{Flow}
@@ -9,7 +11,8 @@ use Rattle.grain_program.specs.declared.effects.Flow.TheVariants as flow
 use Rattle.grain_program.specs.View.{View}
 use Rattle.grain_program.specs.Reading.{op_at}
 use Rattle.grain_program.specs.Effects.{effect_of}
-use Rattle.grain_program.specs.Indices.{InPools}
+use Rattle.grain_program.specs.Indices.{InPools, IsNamed}
+use Rattle.grain_program.specs.Capabilities.{Permits}
 use Rattle.grain_program.specs.Layout.{layout_fault}
 use Rattle.grain_program.specs.Starts.{Start}
 
@@ -44,6 +47,10 @@ TargetRule p c a r = Lands p.code c (effect_of r.0).flow
 abbrev pub EndRule : View → Chunk → ℕ → Op × ℕ → Type 0
 EndRule p c a r = StaysIn c (a + r.1) (effect_of r.0).flow
 
+-- the capability that an instruction needs is among the program's
+abbrev pub CapabilityRule : View → Chunk → ℕ → Op × ℕ → Type 0
+CapabilityRule p c a r = Permits p.caps r.0
+
 -- the instruction at the address obeys the rules of single instructions
 pub record Obeys (p : View) (c : Chunk) (a : ℕ) : Type 0 where
   pub read : Op × ℕ
@@ -51,11 +58,18 @@ pub record Obeys (p : View) (c : Chunk) (a : ℕ) : Type 0 where
   pub index : IndexRule p c a read
   pub target : TargetRule p c a read
   pub end : EndRule p c a read
+  pub capability : CapabilityRule p c a read
 
--- every chunk has an instruction, and every instruction obeys the rules of single instructions
+-- every chunk has an instruction, every instruction obeys the rules of single instructions, and every function has names
 pub record Splits (p : View) (chunks : List Chunk) : Type 0 where
   pub full : (i : ℕ) (c : Chunk) → slice_get chunks i ≡ Some c → c.entry < c.end
   pub obeys : (i : ℕ) (c : Chunk) (a : ℕ) → slice_get chunks i ≡ Some c → Start p.code c a → Obeys p c a
+  pub named : (i : ℕ) (f : Function) → slice_get p.functions i ≡ Some f → IsNamed p f
+
+-- the layout is without a fault, and the rules are obeyed that look at no heights
+pub record IsSplit (p : View) (chunks : List Chunk) : Type 0 where
+  pub laid : layout_fault (length p.code) chunks ≡ None
+  pub splits : Splits p chunks
 
 -- an instruction of some chunk begins at the address
 pub record Spot (code : List ℕ) (chunks : List Chunk) (a : ℕ) : Type 0 where
@@ -76,12 +90,17 @@ Disobeys code chunks rule a = (s : Spot code chunks a) × ((r : Op × ℕ) × Wh
 abbrev pub IsHollow : List Chunk → ℕ → Type 0
 IsHollow chunks a = (i : ℕ) × ((c : Chunk) × (slice_get chunks i ≡ Some c) × (c.entry ≡ a) × (c.end ≡ a))
 
+-- a function that is entered at the address has a name that is no entry of the pool
+abbrev pub IsMisnamed : View → ℕ → Type 0
+IsMisnamed p a = (i : ℕ) × ((f : Function) × (slice_get p.functions i ≡ Some f) × (f.chunk.entry ≡ a) × (IsNamed p f → ⊥))
+
 -- the rule is broken at the address
 abbrev pub Breach : View → List Chunk → Refusal → Type 0
 Breach p chunks (refusal.Undecodable a) = Unread p.code chunks a
-Breach p chunks (refusal.PoolIndex a) = Disobeys p.code chunks (IndexRule p) a
+Breach p chunks (refusal.PoolIndex a) = Disobeys p.code chunks (IndexRule p) a ⊎ IsMisnamed p a
 Breach p chunks (refusal.JumpTarget a) = Disobeys p.code chunks (TargetRule p) a
 Breach p chunks (refusal.FallsOff a) = Disobeys p.code chunks (EndRule p) a ⊎ IsHollow chunks a
+Breach p chunks (refusal.Capability a) = Disobeys p.code chunks (CapabilityRule p) a
 Breach p chunks _ = ⊥
 
 -- the address of a refusal
@@ -93,6 +112,7 @@ address_of (refusal.FallsOff a) = a
 address_of (refusal.HeightDisagrees a) = a
 address_of (refusal.TooDeep a) = a
 address_of (refusal.Underflow a) = a
+address_of (refusal.Capability a) = a
 address_of refusal.Memory = 0
 
 -- the place of a refusal's rule in the order in which the rules are tested at one address
@@ -104,19 +124,29 @@ rule_of (refusal.FallsOff a) = 4
 rule_of (refusal.HeightDisagrees a) = 5
 rule_of (refusal.TooDeep a) = 6
 rule_of (refusal.Underflow a) = 7
-rule_of refusal.Memory = 8
+rule_of (refusal.Capability a) = 12
+rule_of refusal.Memory = 13
 
 -- at a lower address, or at the same one by a lower rule or the same
 abbrev pub Precedes : Refusal → Refusal → Type 0
 Precedes r s = (address_of r < address_of s) ⊎ ((address_of r ≡ address_of s) × (rule_of r ≤ rule_of s))
+
+-- the test of which of two comes first
+abbrev pub precedes : Refusal → Refusal → Bool
+precedes r s = nat_lt (address_of r) (address_of s) || ((address_of r == address_of s) && nat_le (rule_of r) (rule_of s))
+
+-- the one of two that comes first, where there are any
+abbrev pub earlier : Option Refusal → Option Refusal → Option Refusal
+earlier None other = other
+earlier (Some r) None = Some r
+earlier (Some r) (Some s) = if precedes r s then Some r else Some s
 
 -- the breach that precedes every other
 pub record IsFirst (p : View) (chunks : List Chunk) (r : Refusal) : Type 0 where
   pub breach : Breach p chunks r
   pub first : (s : Refusal) → Breach p chunks s → Precedes r s
 
--- what is refused before heights are looked at: the layout, and else the first breach of a rule of single
--- instructions
+-- what is refused before heights are looked at: the layout, and else the first breach
 abbrev pub RefusedEarly : View → List Chunk → Refusal → Type 0
 RefusedEarly p chunks r =
     ((a : ℕ) × (layout_fault (length p.code) chunks ≡ Some a) × (r ≡ refusal.Undecodable a))

@@ -1,6 +1,6 @@
--- Typings: at each address that is reached, the one shape with which it is reached. The search for one goes from the
--- entries on, always at the lowest waiting address.
-use Rattle.std.specs.Prelude.{ℕ, zero, suc, ◌≡◌, ◌<◌, ◌≤◌, ◌+◌, nat_lt, List, [], ◌∷◌, length, map, replicate, slice_get, slice_set, Option, Some, None, Result, Ok, Err, if◌then◌else◌, ◌⊎◌}
+-- Typings: at each address that is reached, the one shape with which it is reached. The search for one takes the chunks in
+-- their order, and goes from the entry on, always at the lowest waiting address.
+use Rattle.std.specs.Prelude.{ℕ, zero, suc, ◌≡◌, ◌<◌, ◌≤◌, ◌+◌, List, [], ◌∷◌, length, replicate, slice_get, slice_set, Option, Some, None, Result, Ok, Err, ◌⊎◌}
 use Rattle.std.specs.List.{AllByRecursion}
 use Rattle.std.specs.Ordering.{nat_cmp}
 use Rattle.std.specs.BTreeSet.{insert_key}
@@ -87,11 +87,6 @@ abbrev pub arrive_all : Shape → List ℕ → Seen → Result Seen Refusal
 arrive_all s [] f = Ok f
 arrive_all s (b ∷ bs) f = arrive s f b >>= λ g. arrive_all s bs g
 
--- how many operands the chunk of the address may have
-abbrev pub limit_at : List Chunk → ℕ → ℕ
-limit_at [] a = 0
-limit_at (c ∷ cs) a = if nat_lt a c.end then c.max_stack else limit_at cs a
-
 -- the instruction at the address is taken, from the shape that is known there; without either, which a walk never
 -- comes to, nothing is done
 abbrev pub take_op : ℕ → ℕ → Seen → Option (Op × ℕ) → Option Shape → Result Seen Refusal
@@ -104,14 +99,14 @@ abbrev pub take_at : List ℕ → ℕ → ℕ → Seen → Result Seen Refusal
 take_at code max a f = take_op max a f (op_at code a) (shape_at f.shapes a)
 
 -- the lowest waiting address is taken
-abbrev pub take_lowest : List ℕ → List Chunk → Seen → List ℕ → Result Seen Refusal
-take_lowest code chunks f [] = Ok f
-take_lowest code chunks f (a ∷ rest) = take_at code (limit_at chunks a) a (record { shapes = f.shapes; waiting = rest })
+abbrev pub take_lowest : List ℕ → ℕ → Seen → List ℕ → Result Seen Refusal
+take_lowest code max f [] = Ok f
+take_lowest code max f (a ∷ rest) = take_at code max a (record { shapes = f.shapes; waiting = rest })
 
--- that many addresses are taken, or fewer where no more wait
-unfoldable pub walk : List ℕ → List Chunk → ℕ → Seen → Result Seen Refusal
-walk code chunks zero f = Ok f
-walk code chunks (suc n) f = walk code chunks n f >>= λ g. take_lowest code chunks g g.waiting
+-- that many addresses are taken, the lowest waiting one each time, or fewer where no more wait
+unfoldable pub walk : List ℕ → ℕ → ℕ → Seen → Result Seen Refusal
+walk code max zero f = Ok f
+walk code max (suc n) f = take_lowest code max f f.waiting >>= λ g. walk code max n g
 
 abbrev pub nothing_seen : ℕ → Seen
 nothing_seen len = record { shapes = replicate len None; waiting = [] }
@@ -120,13 +115,23 @@ nothing_seen len = record { shapes = replicate len None; waiting = [] }
 abbrev pub with_lowest : ℕ → Seen → Seen
 with_lowest a f = record { shapes = f.shapes; waiting = a ∷ f.waiting }
 
--- a bare frame comes to each entry, and then that many addresses are taken
-unfoldable pub survey : List ℕ → List Chunk → ℕ → Result Seen Refusal
-survey code chunks n = arrive_all bare (map (λ c. c.entry) chunks) (nothing_seen (length code)) >>= λ f. walk code chunks n f
+-- a bare frame comes to the chunk's entry, and then addresses are taken until none waits: no more than the code has, since
+-- each waits once at most
+unfoldable pub survey_chunk : List ℕ → Chunk → Seen → Result Seen Refusal
+survey_chunk code c f = arrive bare f c.entry >>= λ g. walk code c.max_stack (length code) g
 
--- after some steps the search stops with this refusal
+-- the chunks one after the other
+abbrev pub survey_from : List ℕ → List Chunk → Seen → Result Seen Refusal
+survey_from code [] f = Ok f
+survey_from code (c ∷ cs) f = survey_chunk code c f >>= λ g. survey_from code cs g
+
+-- the whole search, which begins with nothing
+abbrev pub survey : List ℕ → List Chunk → Result Seen Refusal
+survey code chunks = survey_from code chunks (nothing_seen (length code))
+
+-- the search stops with this refusal
 abbrev pub StopsWith : List ℕ → List Chunk → Refusal → Type 0
-StopsWith code chunks r = (n : ℕ) × (survey code chunks n ≡ Err r)
+StopsWith code chunks r = survey code chunks ≡ Err r
 
 -- what is refused: by the layout and the rules of single instructions, or else where the search for a typing stops
 abbrev pub Refused : View → List Chunk → Refusal → Type 0
@@ -154,3 +159,13 @@ pub record Ready (code : List ℕ) (shapes : List (Option Shape)) (a : ℕ) : Ty
   pub read : op_at code a ≡ None → ⊥
   pub known : shape_at shapes a ≡ None → ⊥
   pub targets : (r : Op × ℕ) → op_at code a ≡ Some r → AllByRecursion (λ b. b < length code) (leads (effect_of r.0).flow (a + r.1))
+
+-- what the code needs where it walks a chunk: none waits yet, the table has a place for each address, and the chunk's
+-- instructions are read and lead to instructions of the chunk
+pub record Walkable (code : List ℕ) (c : Chunk) (f : Seen) : Type 0 where
+  pub small : length code ≤ 16777216
+  pub room : length f.shapes ≡ length code
+  pub none : f.waiting ≡ []
+  pub full : c.entry < c.end
+  pub inside : c.end ≤ length code
+  pub closed : (a : ℕ) → Start code c a → (r : Op × ℕ) × (op_at code a ≡ Some r) × ((b : ℕ) → In b (leads (effect_of r.0).flow (a + r.1)) → Start code c b)

@@ -7,13 +7,17 @@ use Rattle.grain_value.specs.declared.operators.Token.TheVariants as token
 use Rattle.grain_fault.specs.declared.places.Position.{Position}
 use Rattle.grain_fault.specs.Places.{nowhere}
 use Rattle.grain_program.specs.declared.input.Chunk.{Chunk}
+use Rattle.grain_program.specs.declared.functions.Function.{Function}
 use Rattle.grain_program.specs.declared.input.AssignOp.{AssignOp}
 use Rattle.grain_program.specs.declared.input.PositionEntry.{PositionEntry}
 use Rattle.grain_program.specs.declared.input.Parts.{Parts}
 
+-- the capabilities are the bits of a number
 pub record View : Type 0 where
+  pub caps : ℕ
   pub code : List ℕ
   pub main : Chunk
+  pub functions : List Function
   pub consts : List Dynamic
   pub names : List (List ℕ)
   pub tokens : List Token
@@ -21,7 +25,17 @@ pub record View : Type 0 where
   pub positions : List PositionEntry
 
 abbrev pub view_of : Parts → View
-view_of p = record { code = p.code; main = p.main; consts = p.consts; names = p.names; tokens = p.tokens; assign_ops = p.assign_ops; positions = p.positions }
+view_of p = record {
+  caps = p.caps.0;
+  code = p.code;
+  main = p.main;
+  functions = p.functions;
+  consts = p.consts;
+  names = p.names;
+  tokens = p.tokens;
+  assign_ops = p.assign_ops;
+  positions = p.positions;
+}
 
 -- the entries of the pools; past a pool's end, where no valid program looks, there is a neutral one
 abbrev pub const_of : View → ℕ → Dynamic

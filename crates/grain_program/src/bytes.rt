@@ -40,7 +40,10 @@ fn tagged(tag: u8, rest: &[u8]) -> Option<(Op, usize)>
         0x03 => Some((Op::False, 1)),
         0x04 => Some((Op::True, 1)),
         0x05 => Some((Op::LoadLocal(two_bytes(rest)?), 3)),
+        0x06 => Some((Op::StoreLocal(two_bytes(rest)?), 3)),
+        0x07 => Some((Op::StoreConst(two_bytes(rest)?), 3)),
         0x0d => Some((Op::DeclareLocal(two_bytes(rest)?), 3)),
+        0x0e => Some((Op::DeclareConst(two_bytes(rest)?), 3)),
         0x10 => match rest {
             [a, b, c, d, ..] => {
                 let slot = u16::from_le_bytes([*a, *b]);
@@ -59,9 +62,18 @@ fn tagged(tag: u8, rest: &[u8]) -> Option<(Op, usize)>
             _ => None,
         },
         0x1b => Some((Op::Pop, 1)),
+        0x1c => match rest {
+            [under, ..] => Some((Op::Rotate(*under), 2)),
+            [] => None,
+        },
         0x1d => Some((Op::Jump(four_bytes(rest)?), 5)),
         0x1e => Some((Op::JumpIfFalse(four_bytes(rest)?), 5)),
         0x1f => Some((Op::JumpIfTrue(four_bytes(rest)?), 5)),
+        0x20 => Some((Op::SkipIfNotUnit(four_bytes(rest)?), 5)),
+        0x22 => match rest {
+            [a, b, count, ..] => Some((Op::Call(u16::from_le_bytes([*a, *b]), *count), 4)),
+            _ => None,
+        },
         0x23 => match rest {
             [a, b, count, c, d, ..] => {
                 let name = u16::from_le_bytes([*a, *b]);
@@ -70,7 +82,11 @@ fn tagged(tag: u8, rest: &[u8]) -> Option<(Op, usize)>
             }
             _ => None,
         },
+        0x38 => Some((Op::UnwindTo(two_bytes(rest)?), 3)),
         0x39 => Some((Op::Tick, 1)),
+        0x3a => Some((Op::Checkpoint, 1)),
+        0x3b => Some((Op::Statement(two_bytes(rest)?), 3)),
+        0x49 => Some((Op::Throw, 1)),
         0x4a => Some((Op::Return, 1)),
         _ => None,
     }
@@ -115,8 +131,20 @@ fn spell(code: &mut Vec<u8>, op: Op) -> Result<(), OutOfMemory>
             code.push(0x05)?;
             code.extend_from_slice(&slot.to_le_bytes())?;
         }
+        Op::StoreLocal(slot) => {
+            code.push(0x06)?;
+            code.extend_from_slice(&slot.to_le_bytes())?;
+        }
+        Op::StoreConst(slot) => {
+            code.push(0x07)?;
+            code.extend_from_slice(&slot.to_le_bytes())?;
+        }
         Op::DeclareLocal(name) => {
             code.push(0x0d)?;
+            code.extend_from_slice(&name.to_le_bytes())?;
+        }
+        Op::DeclareConst(name) => {
+            code.push(0x0e)?;
             code.extend_from_slice(&name.to_le_bytes())?;
         }
         Op::AssignLocal(slot, name) => {
@@ -131,6 +159,10 @@ fn spell(code: &mut Vec<u8>, op: Op) -> Result<(), OutOfMemory>
             code.extend_from_slice(&assign.to_le_bytes())?;
         }
         Op::Pop => code.push(0x1b)?,
+        Op::Rotate(under) => {
+            code.push(0x1c)?;
+            code.push(under)?;
+        }
         Op::Jump(target) => {
             code.push(0x1d)?;
             code.extend_from_slice(&target.to_le_bytes())?;
@@ -143,13 +175,32 @@ fn spell(code: &mut Vec<u8>, op: Op) -> Result<(), OutOfMemory>
             code.push(0x1f)?;
             code.extend_from_slice(&target.to_le_bytes())?;
         }
+        Op::SkipIfNotUnit(target) => {
+            code.push(0x20)?;
+            code.extend_from_slice(&target.to_le_bytes())?;
+        }
+        Op::Call(name, count) => {
+            code.push(0x22)?;
+            code.extend_from_slice(&name.to_le_bytes())?;
+            code.push(count)?;
+        }
         Op::CallOp(name, count, token) => {
             code.push(0x23)?;
             code.extend_from_slice(&name.to_le_bytes())?;
             code.push(count)?;
             code.extend_from_slice(&token.to_le_bytes())?;
         }
+        Op::UnwindTo(depth) => {
+            code.push(0x38)?;
+            code.extend_from_slice(&depth.to_le_bytes())?;
+        }
         Op::Tick => code.push(0x39)?,
+        Op::Checkpoint => code.push(0x3a)?,
+        Op::Statement(depth) => {
+            code.push(0x3b)?;
+            code.extend_from_slice(&depth.to_le_bytes())?;
+        }
+        Op::Throw => code.push(0x49)?,
         Op::Return => code.push(0x4a)?,
     }
     Ok(())

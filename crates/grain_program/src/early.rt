@@ -1,21 +1,26 @@
 //! The layout, and the rules of single instructions: each is read and whole, its indices name entries of their pools, its
-//! target is an instruction, and it does not go on behind its chunk.
+//! target is an instruction, it does not go on behind its chunk, and the program has the capability that it needs. No
+//! chunk is empty, and the functions' names are entries of their pool.
 
 ghost use Rattle.std.specs.Prelude.{◌≡◌, ◌==◌, ◌⊎◌, ◌≤◌, ℕ, List, length, slice_get, IfOk, IfErr, Some, None};
 ghost use Rattle.grain_program.specs.View.{view_of};
-ghost use Rattle.grain_program.specs.Indices.{in_pools, record_named};
+ghost use Rattle.grain_program.specs.Indices.{in_pools, record_named, all_below, is_named};
 ghost use Rattle.grain_program.specs.Reading.{op_at};
-ghost use Rattle.grain_program.specs.Layout.{layout_fault};
-ghost use Rattle.grain_program.specs.Rules.{RefusedEarly};
-ghost use Rattle.grain_program.specs.Owners.{owner_at, lands, stays_in, rule_in, rule_at, IsFirstFound, IsSplit};
+ghost use Rattle.grain_program.specs.Capabilities.{needs};
+ghost use Rattle.grain_program.specs.Layout.{chunks_in, layout_fault};
+ghost use Rattle.grain_program.specs.Rules.{IsSplit, RefusedEarly};
+ghost use Rattle.grain_program.specs.Owners.{owner_at, lands, stays_in, rule_in, rule_at, IsFirstFound, first_empty, first_misnamed};
 ghost use Rattle.grain_program.specs.declared.refusals.Refusal.TheVariants.{Memory};
 
 use crate::bytes::decode;
+use crate::caps::Caps;
 use crate::effects::{Effect, Flow};
+use crate::functions::Function;
 use crate::input::{Chunk, Parts};
 use crate::instructions::Op;
-use crate::owners::{Owner, first_empty_chunk, misplaced, owners_of};
-use crate::refusals::Refusal;
+use crate::owners::{Owner, misplaced, owners_of};
+use crate::refusals::{Refusal, earlier};
+use bitflags::Flags;
 use std::alloc::Global;
 
 /// Whether there is an op-assignment at the index, and its names are in their pool.
@@ -42,19 +47,29 @@ fn has_entries(parts: &Parts, op: Op) -> bool
         Op::False => true,
         Op::True => true,
         Op::LoadLocal(_) => true,
+        Op::StoreLocal(_) => true,
+        Op::StoreConst(_) => true,
         Op::DeclareLocal(name) => (name as usize) < names,
+        Op::DeclareConst(name) => (name as usize) < names,
         Op::AssignLocal(_, name) => (name as usize) < names,
         Op::AssignLocalOp(_, name, assign) => {
             (name as usize) < names && has_assign_op(parts, assign)
         }
         Op::Pop => true,
+        Op::Rotate(_) => true,
         Op::Jump(_) => true,
         Op::JumpIfFalse(_) => true,
         Op::JumpIfTrue(_) => true,
+        Op::SkipIfNotUnit(_) => true,
+        Op::Call(name, _) => (name as usize) < names,
         Op::CallOp(name, _, token) => {
             (name as usize) < names && (token as usize) < parts.tokens.len()
         }
+        Op::UnwindTo(_) => true,
         Op::Tick => true,
+        Op::Checkpoint => true,
+        Op::Statement(_) => true,
+        Op::Throw => true,
         Op::Return => true,
     }
 }
@@ -94,6 +109,16 @@ fn stays(end: usize, next: usize, flow: Flow) -> bool
     }
 }
 
+/// The capability that the instruction needs, or none.
+fn needed(op: Op) -> Caps
+    ensures { result.0 ≡ needs op }
+{
+    match op {
+        Op::Call(_, _) => Caps::FUNCTION,
+        _ => Caps::empty(),
+    }
+}
+
 /// The first rule that the instruction at the address breaks, in a chunk of this end.
 fn instruction_rule(parts: &Parts, owners: &[Owner], end: usize, address: usize) -> Option<Refusal>
     requires { length parts.now.code ≤ 16777216 }
@@ -112,6 +137,8 @@ fn instruction_rule(parts: &Parts, owners: &[Owner], end: usize, address: usize)
         Some(Refusal::JumpTarget(address))
     } else if !stays(end, next, flow) {
         Some(Refusal::FallsOff(address))
+    } else if !parts.caps.contains(needed(op)) {
+        Some(Refusal::Capability(address))
     } else {
         None
     }
@@ -133,12 +160,12 @@ fn address_rule(parts: &Parts, owners: &[Owner], address: usize) -> Option<Refus
     }
 }
 
-/// The first rule that is broken at the lowest address.
-fn first_rule(parts: &Parts, owners: &[Owner], upto: usize) -> Option<Refusal>
+/// The first rule that an instruction breaks, at the lowest address.
+fn first_rule(parts: &Parts, owners: &[Owner]) -> Option<Refusal>
     requires { length parts.now.code ≤ 16777216 }
-    ensures { IsFirstFound (rule_at (view_of parts.now) owners.now) upto result }
+    ensures { IsFirstFound (rule_at (view_of parts.now) owners.now) (length owners.now) result }
 {
-    for address in 0..upto {
+    for address in 0..owners.len() {
         if let Some(refusal) = address_rule(parts, owners, address) {
             return Some(refusal);
         }
@@ -146,31 +173,72 @@ fn first_rule(parts: &Parts, owners: &[Owner], upto: usize) -> Option<Refusal>
     None
 }
 
-/// The table of instruction starts, or the first rule of single instructions that is broken, where the layout has no
-/// fault.
-fn instruction_rules(alloc: Global, parts: &Parts, chunks: &[Chunk]) -> Result<Vec<Owner>, Refusal>
-    requires { layout_fault (length parts.now.code) chunks.now ≡ None }
-    ensures ok { IfOk result (λ owners. IsSplit (view_of parts.now) chunks.now owners.items) }
+/// Whether each index is below the end.
+fn all_below(end: usize, indices: &[u32]) -> bool
+    ensures { result ≡ all_below end indices.now }
+{
+    for index in indices {
+        if *index as usize >= end {
+            return false;
+        }
+    }
+    true
+}
+
+/// Whether the function's name and its parameters' names are entries of the pool.
+fn is_named(parts: &Parts, function: &Function) -> bool
+    ensures { result ≡ is_named (view_of parts.now) function.now }
+{
+    let names = parts.names.len();
+    (function.name as usize) < names && all_below(names, function.params.as_slice())
+}
+
+/// The refusal of the first function that has a name that is no entry of the pool.
+fn misnamed_function(parts: &Parts) -> Option<Refusal>
+    ensures { result ≡ first_misnamed (view_of parts.now) parts.now.functions }
+{
+    let functions = parts.functions.as_slice();
+    for function in functions {
+        if !is_named(parts, function) {
+            return Some(Refusal::PoolIndex(function.chunk.entry as usize));
+        }
+    }
+    None
+}
+
+/// The refusal of the first empty chunk.
+fn empty_chunk(chunks: &[Chunk]) -> Option<Refusal>
+    ensures { result ≡ first_empty chunks.now }
+{
+    for chunk in chunks {
+        if chunk.entry == chunk.end {
+            return Some(Refusal::FallsOff(chunk.entry as usize));
+        }
+    }
+    None
+}
+
+/// The first rule that is broken, where the layout has no fault.
+fn instruction_rules(alloc: Global, parts: &Parts, chunks: &[Chunk]) -> Result<(), Refusal>
+    requires whole { chunks.now ≡ chunks_in (view_of parts.now) }
+    requires laid { layout_fault (length parts.now.code) chunks.now ≡ None }
+    ensures ok { IfOk result (λ _. IsSplit (view_of parts.now) chunks.now) }
     ensures err { IfErr result (λ r. (r ≡ Memory) ⊎ RefusedEarly (view_of parts.now) chunks.now r) }
 {
     let Ok(owners) = owners_of(alloc, &parts.code, chunks) else {
         return Err(Refusal::Memory);
     };
-    match first_empty_chunk(chunks) {
-        Some(address) => match first_rule(parts, &owners, address as usize + 1) {
-            Some(refusal) => Err(refusal),
-            None => Err(Refusal::FallsOff(address as usize)),
-        },
-        None => match first_rule(parts, &owners, owners.len()) {
-            Some(refusal) => Err(refusal),
-            None => Ok(owners),
-        },
+    let by_functions = earlier(misnamed_function(parts), empty_chunk(chunks));
+    match earlier(first_rule(parts, &owners), by_functions) {
+        Some(refusal) => Err(refusal),
+        None => Ok(()),
     }
 }
 
-/// The table of instruction starts, or the layout's fault or the first rule of single instructions that is broken.
-pub fn early(alloc: Global, parts: &Parts, chunks: &[Chunk]) -> Result<Vec<Owner>, Refusal>
-    ensures ok { IfOk result (λ owners. IsSplit (view_of parts.now) chunks.now owners.items) }
+/// The layout's fault, or the first rule that is broken.
+pub fn early(alloc: Global, parts: &Parts, chunks: &[Chunk]) -> Result<(), Refusal>
+    requires { chunks.now ≡ chunks_in (view_of parts.now) }
+    ensures ok { IfOk result (λ _. IsSplit (view_of parts.now) chunks.now) }
     ensures err { IfErr result (λ r. (r ≡ Memory) ⊎ RefusedEarly (view_of parts.now) chunks.now r) }
 {
     match misplaced(parts.code.len(), chunks) {

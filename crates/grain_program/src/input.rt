@@ -1,5 +1,7 @@
 //! What may become a program.
 
+use crate::caps::Caps;
+use crate::functions::Functions;
 use crate::pools::{AssignOps, Names, Positions, Tokens};
 use grain_fault::Position;
 use grain_value::{Array, Blob, Token};
@@ -28,11 +30,13 @@ pub struct PositionEntry {
     pub position: Position,
 }
 
-/// Code, its pools, and the positions of its instructions by ascending address.
+/// What the code may do, code with its chunks, its pools, and the positions of its instructions by ascending address.
 #[derive(Drop)]
 pub struct Parts {
+    pub caps: Caps,
     pub code: Blob,
     pub main: Chunk,
+    pub functions: Functions,
     pub consts: Array,
     pub names: Names,
     pub tokens: Tokens,

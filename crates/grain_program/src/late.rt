@@ -2,41 +2,26 @@
 
 ghost use Rattle.std.specs.Prelude.{◌≡◌, ◌⊎◌, IfOk, IfErr};
 ghost use Rattle.grain_program.specs.View.{view_of};
-ghost use Rattle.grain_program.specs.Owners.{IsSplit, owner_at};
+ghost use Rattle.grain_program.specs.Rules.{IsSplit};
 ghost use Rattle.grain_program.specs.Typing.{HasTyping, StopsWith};
 ghost use Rattle.grain_program.specs.declared.refusals.Refusal.TheVariants.{Memory};
 
 use crate::input::{Chunk, Parts};
-use crate::owners::Owner;
 use crate::refusals::Refusal;
 use crate::surveys::Survey;
 use std::alloc::Global;
 
-/// How many operands the chunk that owns the address may have.
-fn max_at(owners: &[Owner], address: usize) -> u16
-    ensures { result ≡ (owner_at owners.now address).max_stack }
-{
-    match owners.get(address) {
-        Some(owner) => owner.max_stack,
-        None => 0,
-    }
-}
-
 /// Whether there is a typing, or where the search for one stops.
-pub fn late(alloc: Global, parts: &Parts, chunks: &[Chunk], owners: &[Owner]) -> Result<(), Refusal>
-    requires { IsSplit (view_of parts.now) chunks.now owners.now }
+pub fn late(alloc: Global, parts: &Parts, chunks: &[Chunk]) -> Result<(), Refusal>
+    requires { IsSplit (view_of parts.now) chunks.now }
     ensures ok { IfOk result (λ _. HasTyping parts.now.code chunks.now) }
     ensures err { IfErr result (λ r. (r ≡ Memory) ⊎ StopsWith parts.now.code chunks.now r) }
 {
     let Ok(mut survey) = Survey::new(alloc, parts.code.len()) else {
         return Err(Refusal::Memory);
     };
-    if let Err(refusal) = survey.enter(chunks) {
-        return Err(refusal);
-    }
-    while let Some(address) = survey.lowest() {
-        let max = max_at(owners, address);
-        if let Err(refusal) = survey.take(&parts.code, max, address) {
+    for chunk in chunks {
+        if let Err(refusal) = survey.walk(&parts.code, *chunk) {
             return Err(refusal);
         }
     }

@@ -2,11 +2,16 @@
 #![tactic(auto)]
 
 mod bytes;
+mod caps;
+#[cfg(test)]
+mod chunk_tests;
 mod early;
 mod effects;
+mod functions;
 mod input;
 mod instructions;
 mod late;
+mod lookups;
 mod owners;
 mod pools;
 mod programs;
@@ -17,7 +22,9 @@ mod surveys;
 mod tests;
 
 pub use bytes::{assemble, assembled_reads_back, decode};
+pub use caps::Caps;
 pub use effects::{Effect, Flow};
+pub use functions::{Function, Functions, Indices};
 pub use input::{AssignOp, Chunk, Parts, PositionEntry};
 pub use instructions::Op;
 pub use pools::{AssignOps, Names, Positions, Tokens};

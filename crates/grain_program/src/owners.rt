@@ -1,7 +1,7 @@
 //! The chunks, and where their instructions begin.
 
 ghost use Rattle.std.specs.Prelude.{◌≡◌, ◌≤◌, ◌⊎◌, ℕ, List, length, IfOk};
-ghost use Rattle.grain_program.specs.Layout.{gap_from, layout_fault, first_empty, Tiled};
+ghost use Rattle.grain_program.specs.Layout.{gap_from, layout_fault, Tiled};
 ghost use Rattle.grain_program.specs.Owners.{Owned, IsMarked};
 
 use crate::bytes::decode;
@@ -12,12 +12,10 @@ use std::alloc::Global;
 /// The longest code, in bytes.
 pub const LIMIT: usize = 16_777_216;
 
-/// The chunk of which an instruction begins at an address: its end, which is 0 where none begins, and how many operands
-/// its frame may have.
+/// The chunk of which an instruction begins at an address: its end, which is 0 where none begins.
 #[derive(Clone, Copy, Debug, PartialEq, Eq)]
 pub struct Owner {
     pub end: u32,
-    pub max_stack: u16,
 }
 
 /// The address where the layout of the chunks fails.
@@ -42,18 +40,6 @@ pub fn misplaced(len: usize, chunks: &[Chunk]) -> Option<usize>
     }
 }
 
-/// The address of the first empty chunk.
-pub fn first_empty_chunk(chunks: &[Chunk]) -> Option<u32>
-    ensures { result ≡ first_empty chunks.now }
-{
-    for chunk in chunks {
-        if chunk.entry == chunk.end {
-            return Some(chunk.entry);
-        }
-    }
-    None
-}
-
 /// Makes the chunk the owner of its instructions' starts.
 fn mark(code: &Blob, chunk: Chunk, owners: &mut [Owner])
     requires inside { (chunk.entry ≤ chunk.end) × (chunk.end ≤ length code.now) }
@@ -61,10 +47,7 @@ fn mark(code: &Blob, chunk: Chunk, owners: &mut [Owner])
     ensures length_same { length owners.new ≡ length owners.old }
     ensures marked { IsMarked code.now chunk owners.old owners.new }
 {
-    let owner = Owner {
-        end: chunk.end,
-        max_stack: chunk.max_stack,
-    };
+    let owner = Owner { end: chunk.end };
     let end = chunk.end as usize;
     let mut at = chunk.entry as usize;
     while at < end {
@@ -81,10 +64,7 @@ pub fn owners_of(alloc: Global, code: &Blob, chunks: &[Chunk]) -> Result<Vec<Own
     requires { Tiled (length code.now) chunks.now }
     ensures { IfOk result (λ owners. Owned code.now chunks.now (length chunks.now) owners.items) }
 {
-    let nobody = Owner {
-        end: 0,
-        max_stack: 0,
-    };
+    let nobody = Owner { end: 0 };
     let mut owners = vec![in alloc; nobody; code.len()]?;
     for chunk in chunks {
         mark(code, *chunk, &mut owners);

@@ -1,11 +1,13 @@
 //! Programs: parts that break no rule.
 
-ghost use Rattle.std.specs.Prelude.{◌≡◌, ◌<◌, ◌^◌, ◌⊎◌, ℕ, List, length, IfOk, IfErr, Some};
+ghost use Rattle.std.specs.Prelude.{◌≡◌, ◌<◌, ◌^◌, ◌⊎◌, ℕ, List, length, slice_get, IfOk, IfErr, IfSome, Some};
 ghost use Rattle.grain_program.specs.View.{View, view_of, position_in, const_of, name_of, token_of, assign_op_of, position_of};
 ghost use Rattle.grain_program.specs.Reading.{op_at};
 ghost use Rattle.grain_program.specs.Layout.{chunks_in};
 ghost use Rattle.grain_program.specs.Typing.{Valid, Refused, IsProgram, IsRefusal};
+ghost use Rattle.grain_program.specs.Indices.{IsNamed};
 ghost use Rattle.grain_program.specs.Fits.{Fits, Foreseen};
+ghost use Rattle.grain_program.specs.Lookups.{function_of, Called, function_by_text, CalledByText, name_at};
 ghost use Rattle.grain_program.specs.Recorded.{Ascends, HasOrder};
 ghost use Rattle.grain_program.specs.declared.input.Chunk.{Chunk};
 ghost use Rattle.grain_program.specs.declared.refusals.Refusal.{Refusal};
@@ -13,9 +15,11 @@ ghost use Rattle.grain_program.specs.declared.refusals.Refusal.TheVariants.{Memo
 
 use crate::bytes::decode;
 use crate::early::early;
+use crate::functions::{Function, Functions};
 use crate::input::{AssignOp, Chunk, Parts, PositionEntry};
 use crate::instructions::Op;
 use crate::late::late;
+use crate::lookups::{Firsts, first_by_text, firsts_of};
 use crate::refusals::Refusal;
 use grain_fault::Position;
 use grain_value::{Blob, Dynamic, OutOfMemory, Text, Token};
@@ -26,18 +30,20 @@ use std::marker::Model;
 #[derive(Drop)]
 pub struct Program {
     parts: Parts,
+    firsts: Firsts,
 }
 
 impl Model for Program {
     ghost use Rattle.grain_program.specs.View.{View, view_of};
     ghost use Rattle.grain_program.specs.Typing.{IsProgram};
     ghost use Rattle.grain_program.specs.Recorded.{HasOrder};
+    ghost use Rattle.grain_program.specs.Lookups.{IsIndex};
 
     ghost Value = { View };
 
     ghost view = { λ p. view_of p.parts };
 
-    ghost invariant = { λ p. IsProgram (view_of p.parts) × HasOrder (view_of p.parts) };
+    ghost invariant = { λ p. IsProgram (view_of p.parts) × HasOrder (view_of p.parts) × IsIndex p.parts.functions p.firsts };
 }
 
 fn chunks_of(alloc: Global, parts: &Parts) -> Result<Vec<Chunk>, OutOfMemory>
@@ -45,17 +51,22 @@ fn chunks_of(alloc: Global, parts: &Parts) -> Result<Vec<Chunk>, OutOfMemory>
 {
     let mut chunks = Vec::new(alloc);
     chunks.push(parts.main)?;
+    let functions = parts.functions.as_slice();
+    for function in functions {
+        chunks.push(function.chunk)?;
+    }
     Ok(chunks)
 }
 
 /// Whether these chunks of the parts break no rule, or the first that they break.
 fn check_chunks(alloc: Global, parts: &Parts, chunks: &[Chunk]) -> Result<(), Refusal>
+    requires { chunks.now ≡ chunks_in (view_of parts.now) }
     ensures sound { IfOk result (λ _. Valid (view_of parts.now) chunks.now) }
     ensures complete { Valid (view_of parts.now) chunks.now → IfErr result (λ r. r ≡ Memory) }
     ensures first { IfErr result (λ r. (r ≡ Memory) ⊎ Refused (view_of parts.now) chunks.now r) }
 {
     match early(alloc, parts, chunks) {
-        Ok(owners) => late(alloc, parts, chunks, &owners),
+        Ok(()) => late(alloc, parts, chunks),
         Err(refusal) => Err(refusal),
     }
 }
@@ -84,9 +95,12 @@ pub fn verify(alloc: Global, parts: Parts) -> Result<Program, Refusal>
     // What is refused is the first rule that is broken, at its address, or want of memory.
     ensures first { IfErr result (λ r. (r ≡ Memory) ⊎ IsRefusal (view_of parts) r) }
 {
-    match check(alloc, &parts) {
-        Ok(()) => Ok(Program { parts }),
-        Err(refusal) => Err(refusal),
+    if let Err(refusal) = check(alloc, &parts) {
+        return Err(refusal);
+    }
+    match firsts_of(alloc, parts.functions.as_slice()) {
+        Ok(firsts) => Ok(Program { parts, firsts }),
+        Err(_) => Err(Refusal::Memory),
     }
 }
 
@@ -146,6 +160,64 @@ impl Program {
             entry: main.entry,
             end: main.end,
             max_stack: bounded(main.max_stack),
+        }
+    }
+
+    /// The functions, by number.
+    pub fn functions(&self) -> &Functions
+        ensures { result.now ≡ self.now.functions }
+    {
+        &self.parts.functions
+    }
+
+    /// The function of that number. A frame can be entered at its chunk's entry, and its names can be looked up.
+    pub fn function_at(&self, number: usize) -> &Function
+        requires { number < length self.now.functions }
+        ensures value { slice_get self.now.functions number ≡ Some result.now }
+        ensures enters { Fits self.now result.now.chunk result.now.chunk.entry 0 }
+        ensures named { IsNamed self.now result.now }
+        ensures small { result.now.chunk.max_stack < 2 ^ 16 }
+    {
+        match self.parts.functions.get(number) {
+            Some(function) => {
+                let _ = bounded(function.chunk.max_stack);
+                function
+            }
+            None => unreachable!(),
+        }
+    }
+
+    /// The number of the first function of this name, by its index, with so many parameters.
+    pub fn function(&self, name_index: u32, argc: usize) -> Option<usize>
+        ensures exact { result ≡ function_of self.now name_index argc }
+        ensures called { IfSome result (Called self.now name_index argc) }
+    {
+        self.firsts.get(&(name_index, argc)).copied()
+    }
+
+    /// The number of the first function whose name is this text, with so many parameters.
+    pub fn function_named(&self, name: &str, argc: usize) -> Option<usize>
+        ensures exact { result ≡ function_by_text self.now name.now argc }
+        ensures called { IfSome result (CalledByText self.now name.now argc) }
+    {
+        first_by_text(
+            &self.parts.names,
+            self.parts.functions.as_slice(),
+            name,
+            argc,
+        )
+    }
+
+    /// The index of the name of that function.
+    pub fn function_name_index(&self, name: &str, argc: usize) -> Option<u32>
+        ensures { result ≡ name_at self.now (function_by_text self.now name.now argc) }
+    {
+        match self.function_named(name, argc) {
+            Some(number) => match self.parts.functions.get(number) {
+                Some(function) => Some(function.name),
+                None => None,
+            },
+            None => None,
         }
     }
 

@@ -1,11 +1,9 @@
 //! The search for a typing.
 
-ghost use Rattle.std.specs.Prelude.{◌≡◌, ◌<◌, ◌≤◌, ◌^◌, ℕ, List, ◌∷◌, [], length, map, slice_get, IfOk, Some, MatchOption};
+ghost use Rattle.std.specs.Prelude.{◌≡◌, ◌<◌, ◌^◌, [], length, IfOk, MatchOption};
 ghost use Rattle.std.specs.List.{AllByRecursion};
-ghost use Rattle.grain_program.specs.declared.input.Chunk.{Chunk};
 ghost use Rattle.grain_program.specs.Effects.{leads};
-ghost use Rattle.grain_program.specs.Shapes.{bare};
-ghost use Rattle.grain_program.specs.Typing.{Seen, nothing_seen, with_lowest, arrive, arrive_all, take_at, Gives, Ready};
+ghost use Rattle.grain_program.specs.Typing.{nothing_seen, with_lowest, arrive, arrive_all, take_at, survey_chunk, Gives, Ready, Walkable};
 
 use crate::bytes::decode;
 use crate::effects::{Effect, Flow};
@@ -86,26 +84,15 @@ impl Survey {
         }
     }
 
-    /// A bare frame comes to each entry.
-    pub fn enter(&mut self, chunks: &[Chunk]) -> Result<(), Refusal>
-        requires { (i : ℕ) (c : Chunk) → slice_get chunks.now i ≡ Some c → c.entry < length self.old.shapes }
-        ensures { Gives self.new result (arrive_all bare (map (λ c. c.entry) chunks.now) self.old) }
-    {
-        for chunk in chunks {
-            self.arrive(Shape { height: 0 }, chunk.entry as usize)?;
-        }
-        Ok(())
-    }
-
-    /// The lowest address that waits, which waits no longer.
-    pub fn lowest(&mut self) -> Option<usize>
-        ensures { MatchOption result (self.old.waiting ≡ []) (λ a. self.old ≡ with_lowest a self.new) }
+    /// The lowest address that waits, which waits no longer. Where none waits, nothing changes.
+    fn lowest(&mut self) -> Option<usize>
+        ensures { MatchOption result ((self.old.waiting ≡ []) × (self.new ≡ self.old)) (λ a. self.old ≡ with_lowest a self.new) }
     {
         self.waiting.pop_first()
     }
 
     /// Takes the instruction at the address, in a chunk whose frame may have so many operands.
-    pub fn take(&mut self, code: &Blob, max: u16, address: usize) -> Result<(), Refusal>
+    fn take(&mut self, code: &Blob, max: u16, address: usize) -> Result<(), Refusal>
         requires { Ready code.now self.old.shapes address }
         ensures { Gives self.new result (take_at code.now max address self.old) }
     {
@@ -120,5 +107,18 @@ impl Survey {
             Ok(after) => self.arrive_by(after, effect.flow, address + width),
             Err(refusal) => Err(refusal),
         }
+    }
+
+    /// Takes the instructions of the chunk from its entry on, the lowest waiting address each time, until none waits.
+    pub fn walk(&mut self, code: &Blob, chunk: Chunk) -> Result<(), Refusal>
+        requires { Walkable code.now chunk self.old }
+        ensures exact { Gives self.new result (survey_chunk code.now chunk self.old) }
+        ensures rest { IfOk result (λ _. (self.new.waiting ≡ []) × (length self.new.shapes ≡ length code.now)) }
+    {
+        self.arrive(Shape { height: 0 }, chunk.entry as usize)?;
+        while let Some(address) = self.lowest() {
+            self.take(code, chunk.max_stack, address)?;
+        }
+        Ok(())
     }
 }

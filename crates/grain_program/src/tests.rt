@@ -5,6 +5,8 @@ ghost use Rattle.grain_program.specs.View.{view_of};
 ghost use Rattle.grain_program.specs.Recorded.{HasOrder};
 
 use crate::bytes::{assemble, decode};
+use crate::caps::Caps;
+use crate::functions::Functions;
 use crate::input::{AssignOp, Chunk, Parts};
 use crate::instructions::Op;
 use crate::pools::{AssignOps, Names, Positions, Tokens};
@@ -12,6 +14,7 @@ use crate::programs::verify;
 use crate::refusals::Refusal;
 use grain_value::{Array, Blob, Dynamic, OutOfMemory, Text, Token};
 use std::alloc::Global;
+use std::process::Abort;
 use std::test::Fail;
 
 /// Parts of this code, with one constant, one name and one token, and two op-assignments of which the second has a name
@@ -35,12 +38,14 @@ fn parts_of(alloc: Global, code: Blob, end: u32, max_stack: u16) -> Result<Parts
         })?;
     }
     Ok(Parts {
+        caps: Caps::all(),
         code,
         main: Chunk {
             entry: 0,
             end,
             max_stack,
         },
+        functions: Functions::new(alloc),
         consts,
         names,
         tokens,
@@ -99,6 +104,66 @@ fn short_instructions_read_again(rt: HostRuntime) -> Result<(), Fail> {
     assert_eq!(rt; decode(&code, 0), Some((Op::AssignLocal(1, 2), 5)));
     assert_eq!(rt; decode(&code, 5), Some((Op::JumpIfTrue(5), 5)));
     Ok(())
+}
+
+/// The instruction has these bytes, and is read from them.
+fn has_bytes(rt: &impl Abort, alloc: Global, op: Op, bytes: &[u8]) -> Result<(), Fail> {
+    let code = assemble(alloc, &[op])?;
+    assert_eq!(rt; code.as_slice(), bytes);
+    assert_eq!(rt; decode(&code, 0), Some((op, bytes.len())));
+    Ok(())
+}
+
+#[test]
+fn bytes_of_calls_and_stores(rt: HostRuntime) -> Result<(), Fail> {
+    let alloc = rt.alloc();
+    has_bytes(&rt, alloc, Op::StoreLocal(0x0201), &[0x06, 1, 2])?;
+    has_bytes(&rt, alloc, Op::StoreConst(0x0201), &[0x07, 1, 2])?;
+    has_bytes(&rt, alloc, Op::DeclareConst(0x0201), &[0x0e, 1, 2])?;
+    has_bytes(&rt, alloc, Op::Rotate(3), &[0x1c, 3])?;
+    has_bytes(
+        &rt,
+        alloc,
+        Op::SkipIfNotUnit(0x0403_0201),
+        &[0x20, 1, 2, 3, 4],
+    )?;
+    has_bytes(&rt, alloc, Op::Call(0x0201, 3), &[0x22, 1, 2, 3])?;
+    has_bytes(&rt, alloc, Op::UnwindTo(0x0201), &[0x38, 1, 2])?;
+    has_bytes(&rt, alloc, Op::Checkpoint, &[0x3a])?;
+    has_bytes(&rt, alloc, Op::Statement(0x0201), &[0x3b, 1, 2])?;
+    has_bytes(&rt, alloc, Op::Throw, &[0x49])
+}
+
+#[test]
+fn operands_of_calls_and_stores(rt: HostRuntime) {
+    let alloc = rt.alloc();
+    let under = [Op::Unit, Op::Rotate(1), Op::Return];
+    assert_eq!(rt; verdict(alloc, &under, 2), Err(Refusal::Underflow(1)));
+    let turned = [Op::Unit, Op::Unit, Op::Rotate(1), Op::Pop, Op::Throw];
+    assert_eq!(rt; verdict(alloc, &turned, 2), Ok(()));
+    let looked = [Op::Unit, Op::SkipIfNotUnit(7), Op::Pop, Op::Return];
+    assert_eq!(rt;
+        verdict(alloc, &looked, 1),
+        Err(Refusal::HeightDisagrees(7))
+    );
+    assert_eq!(rt; verdict(alloc, &[Op::Throw], 1), Err(Refusal::Underflow(0)));
+    let stored = [Op::Unit, Op::StoreConst(0), Op::StoreLocal(0), Op::Return];
+    assert_eq!(rt; verdict(alloc, &stored, 1), Err(Refusal::Underflow(4)));
+    let declared = [Op::Unit, Op::DeclareConst(1), Op::Return];
+    assert_eq!(rt; verdict(alloc, &declared, 1), Err(Refusal::PoolIndex(1)));
+    let plain = [
+        Op::Checkpoint,
+        Op::Statement(9),
+        Op::UnwindTo(9),
+        Op::Return,
+    ];
+    assert_eq!(rt; verdict(alloc, &plain, 0), Ok(()));
+    let call = [Op::Unit, Op::Unit, Op::Call(0, 2), Op::Return];
+    assert_eq!(rt; verdict(alloc, &call, 2), Ok(()));
+    assert_eq!(rt;
+        verdict(alloc, &[Op::Call(0, 0)], 1),
+        Err(Refusal::FallsOff(0))
+    );
 }
 
 #[test]

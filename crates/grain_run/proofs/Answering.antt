@@ -7,15 +7,15 @@ use Rattle.grain_program.specs.declared.refusals.Refusal.{Refusal}
 use Rattle.grain_program.specs.declared.refusals.Refusal.TheVariants as refusals
 use Rattle.std.proofs.lemmas.Bool.{cases_lt}
 use Rattle.grain_run.specs.Streams.{IsSpent}
-use Rattle.grain_run.specs.Reading.{SetUp, reads, limits_of, most_bytes}
-use Rattle.grain_run.specs.Replies.{Replies, no_listing, refused, reported, reason_text, refusal_text}
+use Rattle.grain_listing.specs.Reading.{SetUp, reads, bad_line, most_bytes}
+use Rattle.grain_run.specs.Replies.{Replies, no_listing, refused, reported, bad_line_text, refusal_text}
 use Rattle.grain_run.specs.Runs.{Reported}
-use Rattle.grain_run.specs.declared.reasons.Reason.{Reason}
-use Rattle.grain_run.specs.declared.reasons.Reason.TheVariants.{NotBuilt}
+use Rattle.grain_listing.specs.declared.reasons.BadLine.{BadLine}
+use Rattle.grain_listing.specs.declared.reasons.Reason.TheVariants.{TooLong}
 use Rattle.grain_run.specs.declared.replies.Reply.{Reply}
 
-pub answers_reason : (said : Result SetUp Reason) (e : Reason) (r : Result Reply OutOfMemory) →
-    IfOk r (λ x. x.status ≡ 3) → IfOk r (λ x. x.text ≡ reason_text e) → Err e ≡ said → IfOk r (λ x. Replies said x.status x.text)
+pub answers_reason : (said : Result SetUp BadLine) (e : BadLine) (r : Result Reply OutOfMemory) →
+    IfOk r (λ x. x.status ≡ 3) → IfOk r (λ x. x.text ≡ bad_line_text e) → Err e ≡ said → IfOk r (λ x. Replies said x.status x.text)
 answers_reason said e (Err m) status text is = tt
 answers_reason said e (Ok x) status text is = rw (status, text) (no_listing (sym is))
 
@@ -29,11 +29,11 @@ pub answers_refusal : (s : SetUp) (e : Refusal) (r : Result Reply OutOfMemory) �
 answers_refusal s e (Err m) status text other complete first = tt
 answers_refusal s e (Ok x) status text other complete first = rw (status, text) (refused refl (λ p. other (complete p)) (is_refusal s.parts e other first))
 
-pub answers_end : (s : SetUp) (r : Result Reply OutOfMemory) → IsProgram s.parts → IfOk r (λ x. Reported s.parts (limits_of s) x.status x.text) → IfOk r (λ x. Replies (Ok s) x.status x.text)
+pub answers_end : (s : SetUp) (r : Result Reply OutOfMemory) → IsProgram s.parts → IfOk r (λ x. Reported s.parts s.limits s.scope x.status x.text) → IfOk r (λ x. Replies (Ok s) x.status x.text)
 answers_end s (Err m) valid told = tt
 answers_end s (Ok x) valid told = reported refl valid told
 
-too_long : (bytes : List ℕ) → 16777216 < length bytes → reads bytes ≡ Err NotBuilt
+too_long : (bytes : List ℕ) → 16777216 < length bytes → reads bytes ≡ Err (bad_line 0 TooLong)
 too_long bytes h =
     let long : nat_lt most_bytes (length bytes) ≡ true = lt-ltb _ _ h in
     rw long refl

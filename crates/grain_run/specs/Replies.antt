@@ -1,15 +1,16 @@
 -- What the program answers: a status and a text.
 use Rattle.std.specs.Prelude.{◌≡◌, ℕ, Bool, true, false, List, [], ◌∷◌, ◌++◌, Option, Result, Ok, Err, IfSome, codes, bytes_eq}
 use Rattle.std.specs.Fmt.{decimal}
+use Rattle.grain_program.specs.Rules.{address_of}
 use Rattle.grain_program.specs.Typing.{IsProgram, IsRefusal}
 use Rattle.grain_program.specs.declared.refusals.Refusal.{Refusal}
 use Rattle.grain_program.specs.declared.refusals.Refusal.TheVariants as refusals
-use Rattle.grain_run.specs.Reading.{SetUp, reads, limits_of}
+use Rattle.grain_listing.specs.Reading.{SetUp, reads}
+use Rattle.grain_listing.specs.Reasons.{reason_text}
 use Rattle.grain_run.specs.Reports.{line_end}
 use Rattle.grain_run.specs.Runs.{Reported}
 use Rattle.grain_run.specs.Streams.{Rose, added, PartAdded}
-use Rattle.grain_run.specs.declared.reasons.Reason.{Reason}
-use Rattle.grain_run.specs.declared.reasons.Reason.TheVariants.{NotBuilt}
+use Rattle.grain_listing.specs.declared.reasons.BadLine.{BadLine}
 
 -- the one command so far is the one word `run`
 abbrev pub is_run : List (List ℕ) → Bool
@@ -19,20 +20,9 @@ is_run ws = false
 abbrev pub usage_text : List ℕ
 usage_text = codes "usage: run, check, list or self N" ++ line_end
 
--- why bytes are no listing
-abbrev pub reason_text : Reason → List ℕ
-reason_text NotBuilt = codes "listing line 0: not built" ++ line_end
-
--- the address of a refusal
-abbrev pub refusal_address : Refusal → ℕ
-refusal_address (refusals.Undecodable a) = a
-refusal_address (refusals.PoolIndex a) = a
-refusal_address (refusals.JumpTarget a) = a
-refusal_address (refusals.FallsOff a) = a
-refusal_address (refusals.HeightDisagrees a) = a
-refusal_address (refusals.TooDeep a) = a
-refusal_address (refusals.Underflow a) = a
-refusal_address refusals.Memory = 0
+-- which line makes bytes no listing, and why
+abbrev pub bad_line_text : BadLine → List ℕ
+bad_line_text bad = codes "listing line " ++ decimal bad.line ++ codes ": " ++ reason_text bad.reason ++ line_end
 
 -- the name of its variant
 abbrev pub refusal_name : Refusal → List ℕ
@@ -43,26 +33,27 @@ refusal_name (refusals.FallsOff a) = codes "FallsOff"
 refusal_name (refusals.HeightDisagrees a) = codes "HeightDisagrees"
 refusal_name (refusals.TooDeep a) = codes "TooDeep"
 refusal_name (refusals.Underflow a) = codes "Underflow"
+refusal_name (refusals.Capability a) = codes "Capability"
 refusal_name refusals.Memory = codes "Memory"
 
 abbrev pub refusal_text : Refusal → List ℕ
-refusal_text r = codes "refused at " ++ decimal (refusal_address r) ++ codes ": " ++ refusal_name r ++ line_end
+refusal_text r = codes "refused at " ++ decimal (address_of r) ++ codes ": " ++ refusal_name r ++ line_end
 
 -- what is answered to what the listing says
-pub data Replies (said : Result SetUp Reason) : ℕ → List ℕ → Type 0 where
+pub data Replies (said : Result SetUp BadLine) : ℕ → List ℕ → Type 0 where
   -- it is no listing
-  no_listing : {e : Reason} → said ≡ Err e → Replies said 3 (reason_text e)
+  no_listing : {bad : BadLine} → said ≡ Err bad → Replies said 3 (bad_line_text bad)
   -- its parts are no program
   refused : {s : SetUp} {r : Refusal} → said ≡ Ok s → (IsProgram s.parts → ⊥) → IsRefusal s.parts r → Replies said 4 (refusal_text r)
   -- its program is run
-  reported : {s : SetUp} {status : ℕ} {text : List ℕ} → said ≡ Ok s → IsProgram s.parts → Reported s.parts (limits_of s) status text → Replies said status text
+  reported : {s : SetUp} {status : ℕ} {text : List ℕ} → said ≡ Ok s → IsProgram s.parts → Reported s.parts s.limits s.scope status text → Replies said status text
 
 -- what is answered to the words and to the bytes of the source, where it tells them
 pub data Answers (words : List (List ℕ)) (input : Option (List ℕ)) : ℕ → List ℕ → Type 0 where
   -- the words are no command
   no_command : is_run words ≡ false → Answers words input 2 usage_text
   -- the words are `run`, and the source was read to its end
-  replied : {said : Result SetUp Reason} {status : ℕ} {text : List ℕ} → is_run words ≡ true → IfSome input (λ bytes. reads bytes ≡ said) → Replies said status text →
+  replied : {said : Result SetUp BadLine} {status : ℕ} {text : List ℕ} → is_run words ≡ true → IfSome input (λ bytes. reads bytes ≡ said) → Replies said status text →
       Answers words input status text
 
 -- the counts of faults of a source and of a sink, before a call and behind it

@@ -1,6 +1,7 @@
 -- How the program's runs begin, and what is written of their ends.
-use Rattle.std.specs.Prelude.{◌≡◌, ℕ, List, [], true}
+use Rattle.std.specs.Prelude.{◌≡◌, ℕ, List, true}
 use Rattle.grain_value.specs.declared.values.Limits.{Limits}
+use Rattle.grain_value.specs.declared.scopes.Entry.{Entry}
 use Rattle.grain_fault.specs.Problems.{NoMemory}
 use Rattle.grain_fault.specs.declared.traces.Fault.{Fault}
 use Rattle.grain_program.specs.View.{View}
@@ -13,9 +14,9 @@ use Rattle.grain_run.specs.Reports.{report_value, report_fault}
 abbrev pub engine_of : Limits → Engine
 engine_of limits = record { limits = limits; fast_operators = true }
 
--- an empty scope, and nothing was run before
-abbrev pub start : Begin
-start = record { scope = []; count = 0; level = 0 }
+-- the scope that the listing says, and nothing was run before
+abbrev pub start : List Entry → Begin
+start scope = record { scope = scope; count = 0; level = 0 }
 
 -- 0 for a value and 1 for a fault
 abbrev pub status_of : Answer → ℕ
@@ -30,11 +31,11 @@ answer_report (Failed p) trace = report_fault p trace
 abbrev pub report : Finish → List ℕ
 report end = answer_report end.answer end.trace
 
--- a status and a text tell the end that the program means within the limits, which is not want of memory
-pub record Reported (program : View) (limits : Limits) (status : ℕ) (text : List ℕ) : Type 0 where
+-- a status and a text tell the end that the program means on the scope within the limits, which is not want of memory
+pub record Reported (program : View) (limits : Limits) (scope : List Entry) (status : ℕ) (text : List ℕ) : Type 0 where
   pub end : Finish
   pub instructions : ℕ
-  pub means : Means program (engine_of limits) start end instructions
+  pub means : Means program (engine_of limits) (start scope) end instructions
   pub number : status ≡ status_of end.answer
   pub written : text ≡ report end
   pub memory : end.answer ≡ Failed NoMemory → ⊥

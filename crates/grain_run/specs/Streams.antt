@@ -5,9 +5,13 @@ use Rattle.grain_run.specs.declared.sources.Read.TheVariants.{Got, End, Failed}
 use Rattle.grain_run.specs.declared.sinks.Put.{Put}
 use Rattle.grain_run.specs.declared.sinks.Put.TheVariants as put
 
--- the count rose, or stands at its type's end
+-- one more, up to the greatest number of its type
+abbrev pub one_more : ℕ → ℕ
+one_more n = min (n + 1) (2 ^ 64 - 1)
+
+-- the count rose, or stands at the greatest number of its type
 abbrev pub Rose : ℕ → ℕ → Type 0
-Rose before now = min (before + 1) (2 ^ 64 - 1) ≤ now
+Rose before now = one_more before ≤ now
 
 -- where the source tells what is left, that is nothing
 abbrev pub IsSpent : Option (List ℕ) → Type 0

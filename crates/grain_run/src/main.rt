@@ -1,40 +1,33 @@
 //! The program: it reads a listing from standard input, verifies it, runs it and writes how the run ended.
 #![tactic(auto)]
 
-ghost use Rattle.std.specs.Prelude.{◌≡◌, ◌<◌, map, string_bytes};
-ghost use Rattle.grain_run.specs.Replies.{Ended};
+ghost use Rattle.std.specs.Prelude.{◌≡◌, ◌<◌, ◌≤◌, false, IfOk, drop, map, string_bytes};
+ghost use Rattle.std.specs.Vec.Iter.{into_iter_items};
+ghost use Rattle.grain_run.specs.Replies.{is_run, Ended};
+ghost use Rattle.grain_run.specs.Statuses.{Beside, Completes, IsReadThrough};
 ghost use Rattle.grain_run.specs.Streams.{TakenWithin};
 
-mod draft;
-mod labels;
-mod lines;
+mod laws;
 mod memory;
-mod numerals;
-mod operands;
-mod reading;
-mod reasons;
 mod replies;
 mod reports;
 mod runs;
-mod setups;
 mod sinks;
 mod sources;
 mod standard;
 mod status;
-mod table;
-mod taking;
 #[cfg(test)]
 mod tests;
 mod top;
 mod transfers;
-mod words;
 
 use grain_vm::Steps;
 use sinks::Sink;
 use sources::Source;
 use standard::{StdSink, StdSource};
 use status::Status;
-use std::alloc::Global;
+use std::alloc::{AllocError, Global};
+use std::env::Args;
 use std::marker::Brand;
 use std::process::ExitCode;
 use std::rt::Env;
@@ -45,15 +38,21 @@ use top::run_words;
 /// The status of a program that is not given its words.
 const NO_WORDS: u8 = 9;
 
+/// Into how many shares the counts of instructions and marks can be split: two of each are held, and each run splits one
+/// off for a moment.
+const SHARES: u64 = 8;
+
+/// The words behind the first.
+fn behind_first(alloc: Global, mut words: Args) -> Result<Vec<String>, AllocError>
+    ensures { IfOk result (λ behind. behind.items ≡ drop 1 (into_iter_items words)) }
+{
+    words.next();
+    Vec::from_iter(alloc, words)
+}
+
 /// The words after the program's name.
 fn words_behind_name<R: Env + AllocGlobal>(rt: &R) -> io::Result<Vec<String>> {
-    let mut words = Vec::new(rt.alloc());
-    for word in env::args(rt)?.skip(1) {
-        if words.push(word).is_err() {
-            return Err(io::Error::from(io::ErrorKind::OutOfMemory));
-        }
-    }
-    Ok(words)
+    Ok(behind_first(rt.alloc(), env::args(rt)?)?)
 }
 
 /// Does what the words say, with counts that begin at 0.
@@ -68,7 +67,18 @@ fn run_counted<S: Source, K: Sink, L: Ledger>(
     requires parts { blank.parts ≡ L.parts }
     requires enough { 5 < blank.parts }
     ensures bounded { TakenWithin 16777217 (S.left source.old) (S.left source.new) }
+    // a source whose run ended was read to its end, and words that are no command read nothing
+    ensures through { IsReadThrough result.number (S.left source.new) }
+    ensures idle { is_run (map string_bytes words.now.items) ≡ false → source.new ≡ source.old }
+    ensures counted { (S.faults source.old ≤ S.faults source.new) × (K.faults sink.old ≤ K.faults sink.new) }
+    // the answer, and whether it was written
     ensures ended { Ended (map string_bytes words.now.items) (S.left source.old) (K.written sink.old) (K.written sink.new)
+        (record { source_before = S.faults source.old; source_now = S.faults source.new; sink_before = K.faults sink.old; sink_now = K.faults sink.new }) result.number }
+    // what stands beside each status
+    ensures beside { Beside (map string_bytes words.now.items) (S.left source.old) (K.written sink.old) (K.written sink.new)
+        (record { source_before = S.faults source.old; source_now = S.faults source.new; sink_before = K.faults sink.old; sink_now = K.faults sink.new }) result.number }
+    // which status is due
+    ensures complete { Completes (map string_bytes words.now.items) (S.left source.old) (K.written sink.old) (K.written sink.new)
         (record { source_before = S.faults source.old; source_now = S.faults source.new; sink_before = K.faults sink.old; sink_now = K.faults sink.new }) result.number }
 {
     let mut steps = Steps::<L>::new(blank);
@@ -86,7 +96,7 @@ fn main(rt: HostRuntime) -> ExitCode {
         &words,
         &mut source,
         &mut sink,
-        Blank::new(8),
+        Blank::new(SHARES),
     );
     ExitCode::from(status.number)
 }

@@ -3,6 +3,7 @@
 ghost use Rattle.std.specs.Prelude.{◌≡◌, ◌==◌, ◌≤◌, ◌<◌, ◌+◌, ◌^◌, ◌++◌, ◌∷◌, [], length, min, take, drop, Some, is_ok, if◌then◌else◌, IfOk, slice_get};
 ghost use Rattle.std.specs.Option.{option_copied};
 ghost use Rattle.std.specs.List.{list_any};
+ghost use Rattle.std.specs.Vec.{vec_capacity};
 
 use crate::sinks::{Put, Sink};
 use crate::sources::{Read, Source};
@@ -71,7 +72,8 @@ impl CallNumbers {
     }
 }
 
-/// A source that holds its bytes. It fills as much of a slice as its bytes allow.
+/// A source that holds its bytes. A read fills as much of the slice as the bytes allow, and fails where its number is
+/// among those that are to fail. It takes no memory.
 #[derive(Drop)]
 pub struct MemorySource {
     bytes: Blob,
@@ -95,7 +97,7 @@ fn copy_front(from: &[u8], into: &mut [u8]) -> usize
 impl MemorySource {
     ghost use Rattle.grain_run.specs.Memory.{bytes_left};
 
-    /// A source of these bytes, whose calls with these numbers fail.
+    /// A source of these bytes, whose reads with these numbers fail. It takes no memory.
     pub fn new(bytes: Blob, failing: CallNumbers) -> MemorySource
         ensures left { bytes_left result ≡ bytes }
         ensures failing { result.failing ≡ failing }
@@ -121,8 +123,8 @@ impl MemorySource {
 }
 
 impl Source for MemorySource {
-    ghost use Rattle.grain_run.specs.Memory.{bytes_left, next_read};
-    ghost use Rattle.grain_run.specs.Streams.{WasRead, CountsRead};
+    ghost use Rattle.grain_run.specs.Memory.{bytes_left, next_read, read_failed, faults_after};
+    ghost use Rattle.grain_run.specs.Streams.{WasRead, CountsRead, one_more};
 
     ghost left = { λ s. Some (drop s.place s.bytes) };
 
@@ -131,7 +133,11 @@ impl Source for MemorySource {
     fn read(&mut self, buffer: &mut [u8]) -> Read
         ensures bytes { WasRead result (Some (bytes_left self.old)) (Some (bytes_left self.new)) buffer.new }
         ensures count { CountsRead result self.old.failures self.new.failures }
+        // which answer
         ensures exact { result ≡ next_read self.old (length buffer.old) }
+        ensures calls { self.new.calls ≡ one_more self.old.calls }
+        ensures failures { self.new.failures ≡ faults_after (read_failed result) self.old.failures }
+        ensures failing { self.new.failing ≡ self.old.failing }
     {
         self.calls = self.calls.saturating_add(1);
         if self.failing.contains(self.calls) {
@@ -148,26 +154,46 @@ impl Source for MemorySource {
     }
 }
 
-/// A sink that keeps what is written, up to a room that it reserves when it is made.
+/// A sink that keeps what is written, up to a room in bytes that it reserves when it is made. A put takes as many bytes
+/// as still fit. It fails where its number is among those that are to fail, and where the piece has bytes and no room is
+/// left. It takes no memory.
 #[derive(Drop)]
 pub struct MemorySink {
-    taken: Blob,
+    taken: Vec<u8>,
+    room: usize,
     failing: CallNumbers,
     calls: u64,
     failures: u64,
+    ghost reserved: { length taken.items + room ≤ vec_capacity taken },
+}
+
+/// Puts as many bytes as the room allows behind those that were taken, and says how many. It takes no memory.
+fn take_front(taken: &mut Vec<u8>, room: usize, piece: &[u8]) -> usize
+    requires { length taken.old.items + room ≤ vec_capacity taken.old }
+    ensures count { result ≡ min room (length piece.now) }
+    ensures taken { taken.new.items ≡ taken.old.items ++ take result piece.now }
+    ensures capacity { vec_capacity taken.old ≤ vec_capacity taken.new }
+{
+    let count = room.min(piece.len());
+    match taken.extend_from_slice(&piece[..count]) {
+        Ok(()) => count,
+        Err(_) => unreachable!(),
+    }
 }
 
 impl MemorySink {
-    /// A sink with room for this many bytes, whose calls with these numbers fail.
+    /// A sink with room for this many bytes, whose puts with these numbers fail.
     pub fn new(alloc: Global, room: usize, failing: CallNumbers) -> Result<MemorySink, OutOfMemory>
-        ensures empty { IfOk result (λ s. s.taken ≡ []) }
+        ensures empty { IfOk result (λ s. s.taken.items ≡ []) }
+        ensures room { IfOk result (λ s. s.room ≡ room) }
         ensures failing { IfOk result (λ s. s.failing ≡ failing) }
         ensures calls { IfOk result (λ s. s.calls ≡ 0) }
         ensures faults { IfOk result (λ s. s.failures ≡ 0) }
     {
-        let taken = Blob::with_room(alloc, room)?;
+        let taken = Vec::with_capacity(alloc, room)?;
         Ok(MemorySink {
             taken,
+            room,
             failing,
             calls: 0,
             failures: 0,
@@ -175,30 +201,38 @@ impl MemorySink {
     }
 
     /// What was written.
-    pub fn bytes(&self) -> &Blob
-        ensures { result.now ≡ self.now.taken }
+    pub fn bytes(&self) -> &[u8]
+        ensures { result.now ≡ self.now.taken.items }
     {
-        &self.taken
+        self.taken.as_slice()
     }
 }
 
 impl Sink for MemorySink {
-    ghost use Rattle.grain_run.specs.Memory.{is_failing};
-    ghost use Rattle.grain_run.specs.Streams.{WasPut, CountsPut};
+    ghost use Rattle.grain_run.specs.Memory.{next_put, put_failed, bytes_taken, faults_after};
+    ghost use Rattle.grain_run.specs.Streams.{WasPut, CountsPut, one_more};
 
-    ghost written = { λ s. Some s.taken };
+    ghost written = { λ s. Some s.taken.items };
 
     ghost faults = { λ s. s.failures };
 
-    fn put(&mut self, bytes: &[u8]) -> Put {
+    fn put(&mut self, bytes: &[u8]) -> Put
+        ensures bytes { WasPut result (Some self.old.taken.items) (Some self.new.taken.items) bytes.now }
+        ensures count { CountsPut result self.old.failures self.new.failures }
+        // which answer
+        ensures exact { result ≡ next_put self.old (length bytes.now) }
+        ensures room { self.new.room + bytes_taken result ≡ self.old.room }
+        ensures calls { self.new.calls ≡ one_more self.old.calls }
+        ensures failures { self.new.failures ≡ faults_after (put_failed result) self.old.failures }
+        ensures failing { self.new.failing ≡ self.old.failing }
+    {
         self.calls = self.calls.saturating_add(1);
-        if !self.failing.contains(self.calls) {
-            let count = self.taken.put_within(bytes);
-            if count > 0 || bytes.is_empty() {
-                return Put::Took(count);
-            }
+        if self.failing.contains(self.calls) || (!bytes.is_empty() && self.room == 0) {
+            self.failures = self.failures.saturating_add(1);
+            return Put::Failed;
         }
-        self.failures = self.failures.saturating_add(1);
-        Put::Failed
+        let count = take_front(&mut self.taken, self.room, bytes);
+        self.room -= count;
+        Put::Took(count)
     }
 }

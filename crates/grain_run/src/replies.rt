@@ -3,15 +3,13 @@
 ghost use Rattle.std.specs.Prelude.{◌≡◌, ◌≢◌, ◌++◌, Ok, IfOk, map, string_bytes};
 ghost use Rattle.std.specs.Fmt.{decimal};
 ghost use Rattle.grain_program.specs.declared.refusals.Refusal.TheVariants as refusals;
-ghost use Rattle.grain_run.specs.Reading.{reads};
+ghost use Rattle.grain_listing.specs.Reading.{reads};
 ghost use Rattle.grain_run.specs.Reports.{line_end};
-ghost use Rattle.grain_run.specs.Replies.{is_run, usage_text, reason_text, refusal_address, refusal_name, refusal_text, Replies};
-ghost use Rattle.grain_run.specs.SetUpView.{set_up_of, IsReady};
+ghost use Rattle.grain_run.specs.Replies.{is_run, usage_text, bad_line_text, refusal_name, refusal_text, Replies};
+ghost use Rattle.grain_listing.specs.SetUpView.{set_up_of, IsReady};
 
-use crate::reading::read;
-use crate::reasons::Reason;
 use crate::runs::run_program;
-use crate::setups::Setup;
+use grain_listing::{BadLine, Setup, read};
 use grain_program::{Refusal, verify};
 use grain_value::{OutOfMemory, Text};
 use grain_vm::Steps;
@@ -44,31 +42,35 @@ pub fn usage(alloc: Global) -> Result<Reply, OutOfMemory>
     Ok(Reply { status: 2, text })
 }
 
-fn no_listing(alloc: Global, reason: Reason) -> Result<Reply, OutOfMemory>
-    ensures status { IfOk result (λ r. r.status ≡ 3) }
-    ensures text { IfOk result (λ r. r.text ≡ reason_text reason) }
+fn push_line(
+    out: &mut Text,
+    lead: &str,
+    number: usize,
+    colon: &str,
+    name: &str,
+) -> Result<(), OutOfMemory>
+    ensures { IfOk result (λ _. out.new ≡ out.old ++ (lead.now ++ decimal number ++ colon.now ++ name.now ++ line_end)) }
 {
-    match reason {
-        Reason::NotBuilt => {
-            let text = Text::copy_of(alloc, "listing line 0: not built\n")?;
-            Ok(Reply { status: 3, text })
-        }
-    }
+    out.push_str(lead)?;
+    out.push_number(number as u64)?;
+    out.push_str(colon)?;
+    out.push_str(name)?;
+    out.push_str("\n")
 }
 
-fn refusal_address(refusal: Refusal) -> usize
-    ensures { result ≡ refusal_address refusal }
+fn no_listing(alloc: Global, bad: BadLine) -> Result<Reply, OutOfMemory>
+    ensures status { IfOk result (λ r. r.status ≡ 3) }
+    ensures text { IfOk result (λ r. r.text ≡ bad_line_text bad) }
 {
-    match refusal {
-        Refusal::Undecodable(address) => address,
-        Refusal::PoolIndex(address) => address,
-        Refusal::JumpTarget(address) => address,
-        Refusal::FallsOff(address) => address,
-        Refusal::HeightDisagrees(address) => address,
-        Refusal::TooDeep(address) => address,
-        Refusal::Underflow(address) => address,
-        Refusal::Memory => 0,
-    }
+    let mut text = Text::new(alloc);
+    push_line(
+        &mut text,
+        "listing line ",
+        bad.line,
+        ": ",
+        bad.reason.text(),
+    )?;
+    Ok(Reply { status: 3, text })
 }
 
 fn refusal_name(refusal: Refusal) -> &'static str
@@ -82,24 +84,9 @@ fn refusal_name(refusal: Refusal) -> &'static str
         Refusal::HeightDisagrees(_) => "HeightDisagrees",
         Refusal::TooDeep(_) => "TooDeep",
         Refusal::Underflow(_) => "Underflow",
+        Refusal::Capability(_) => "Capability",
         Refusal::Memory => "Memory",
     }
-}
-
-fn push_line(
-    out: &mut Text,
-    lead: &str,
-    address: usize,
-    colon: &str,
-    name: &str,
-) -> Result<(), OutOfMemory>
-    ensures { IfOk result (λ _. out.new ≡ out.old ++ (lead.now ++ decimal address ++ colon.now ++ name.now ++ line_end)) }
-{
-    out.push_str(lead)?;
-    out.push_number(address as u64)?;
-    out.push_str(colon)?;
-    out.push_str(name)?;
-    out.push_str("\n")
 }
 
 fn refused(alloc: Global, refusal: Refusal) -> Result<Reply, OutOfMemory>
@@ -114,7 +101,7 @@ fn refused(alloc: Global, refusal: Refusal) -> Result<Reply, OutOfMemory>
     push_line(
         &mut text,
         "refused at ",
-        refusal_address(refusal),
+        refusal.address(),
         ": ",
         refusal_name(refusal),
     )?;
@@ -130,10 +117,14 @@ fn run_set_up<L: Ledger>(
     requires { IsReady setup }
     ensures { IfOk result (λ r. Replies (Ok (set_up_of setup)) r.status r.text) }
 {
-    let Setup { parts, limits } = setup;
+    let Setup {
+        parts,
+        limits,
+        scope,
+    } = setup;
     match verify(alloc, parts) {
         Err(refusal) => refused(alloc, refusal),
-        Ok(program) => run_program(alloc, &program, limits, steps),
+        Ok(program) => run_program(alloc, &program, limits, scope, steps),
     }
 }
 
@@ -146,7 +137,7 @@ pub fn run_listing<L: Ledger>(
     ensures { IfOk result (λ r. Replies (reads bytes.now) r.status r.text) }
 {
     match read(alloc, bytes)? {
-        Err(reason) => no_listing(alloc, reason),
+        Err(bad) => no_listing(alloc, bad),
         Ok(setup) => run_set_up(alloc, setup, steps),
     }
 }

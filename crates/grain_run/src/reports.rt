@@ -20,6 +20,7 @@ pub fn report_value(alloc: Global, value: &Dynamic) -> Result<Text, OutOfMemory>
     Ok(out)
 }
 
+/// The slot of a chain's step, behind a colon, where there is one.
 fn push_slot(out: &mut Text, slot: Option<u32>) -> Result<(), OutOfMemory>
     ensures { IfOk result (λ _. out.new ≡ out.old ++ slot_text slot) }
 {
@@ -32,6 +33,7 @@ fn push_slot(out: &mut Text, slot: Option<u32>) -> Result<(), OutOfMemory>
     }
 }
 
+/// An entry of the trace, with a space before it.
 fn push_entry(out: &mut Text, entry: Fault) -> Result<(), OutOfMemory>
     ensures { IfOk result (λ _. out.new ≡ out.old ++ entry_text entry) }
 {
@@ -40,6 +42,7 @@ fn push_entry(out: &mut Text, entry: Fault) -> Result<(), OutOfMemory>
     push_slot(out, entry.slot)
 }
 
+/// All entries of the trace.
 fn push_entries(out: &mut Text, entries: &[Fault]) -> Result<(), OutOfMemory>
     ensures { IfOk result (λ _. out.new ≡ out.old ++ entries_text entries.now) }
 {
@@ -49,6 +52,7 @@ fn push_entries(out: &mut Text, entries: &[Fault]) -> Result<(), OutOfMemory>
     Ok(())
 }
 
+/// A fault's first line: its name.
 fn push_name(out: &mut Text, fault: &EvalAltResult) -> Result<(), OutOfMemory>
     ensures { IfOk result (λ _. out.new ≡ out.old ++ (codes "fault " ++ fault_name (problem_of fault.now) ++ line_end)) }
 {
@@ -57,6 +61,7 @@ fn push_name(out: &mut Text, fault: &EvalAltResult) -> Result<(), OutOfMemory>
     out.push_str("\n")
 }
 
+/// A fault's second line: its text.
 fn push_text(out: &mut Text, fault: &EvalAltResult) -> Result<(), OutOfMemory>
     ensures { IfOk result (λ _. out.new ≡ out.old ++ (fault_text (problem_of fault.now) ++ line_end)) }
 {
@@ -64,6 +69,7 @@ fn push_text(out: &mut Text, fault: &EvalAltResult) -> Result<(), OutOfMemory>
     out.push_str("\n")
 }
 
+/// A fault's third line: where the frames stopped that it left.
 fn push_trace(out: &mut Text, trace: &[Fault]) -> Result<(), OutOfMemory>
     ensures { IfOk result (λ _. out.new ≡ out.old ++ (codes "trace" ++ entries_text trace.now ++ line_end)) }
 {

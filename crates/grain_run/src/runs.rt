@@ -15,6 +15,7 @@ use grain_vm::{Engine, Steps, Vm};
 use std::alloc::Global;
 use std::sync::ledger::Ledger;
 
+/// The reply to a run that ended in a value: 0 and its report.
 fn value_reply(alloc: Global, value: &Dynamic) -> Result<Reply, OutOfMemory>
     ensures status { IfOk result (λ r. r.status ≡ 0) }
     ensures text { IfOk result (λ r. r.text ≡ report_value value.now) }
@@ -23,6 +24,7 @@ fn value_reply(alloc: Global, value: &Dynamic) -> Result<Reply, OutOfMemory>
     Ok(Reply { status: 0, text })
 }
 
+/// The reply to a run that ended in a fault: 1 and its report. Where the fault is want of memory, there is none.
 fn fault_reply(alloc: Global, fault: &EvalAltResult, trace: &[Fault]) -> Result<Reply, OutOfMemory>
     ensures status { IfOk result (λ r. r.status ≡ 1) }
     ensures text { IfOk result (λ r. r.text ≡ report_fault (problem_of fault.now) trace.now) }
@@ -35,19 +37,20 @@ fn fault_reply(alloc: Global, fault: &EvalAltResult, trace: &[Fault]) -> Result<
     Ok(Reply { status: 1, text })
 }
 
-/// Runs the program on an empty scope, and tells the end. At least one operation is allowed.
+/// Runs the program on the scope, and tells the end. At least one operation is allowed.
 pub fn run_program<L: Ledger>(
     alloc: Global,
     program: &Program,
     limits: Limits,
+    scope: Scope,
     steps: &mut Steps<L>,
 ) -> Result<Reply, OutOfMemory>
     requires { 0 < limits.operations }
-    ensures { IfOk result (λ r. Reported program.now limits r.status r.text) }
+    ensures { IfOk result (λ r. Reported program.now limits scope r.status r.text) }
 {
     let engine = Engine::new(alloc, limits);
     let mut vm = Vm::new(alloc, &engine)?;
-    let mut scope = Scope::new(alloc);
+    let mut scope = scope;
     match vm.eval_with_callbacks(alloc, &mut scope, program, steps) {
         Ok(value) => value_reply(alloc, &value),
         Err(fault) => fault_reply(alloc, &fault, vm.fault_trace()),

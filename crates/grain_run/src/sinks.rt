@@ -12,13 +12,14 @@ pub enum Put {
     Failed,
 }
 
-/// A sink of bytes. It counts its faults, and it may tell which bytes were written.
+/// A sink of bytes. It counts its faults, and it may tell which bytes were written. The count never falls.
 pub trait Sink {
     ghost written: { Self → Option (List ℕ) };
 
     ghost faults: { Self → ℕ };
 
-    /// Writes bytes from the front of the piece.
+    /// Writes bytes from the front of the piece, and says how many. It fails only where its count of faults rises, and
+    /// writes none then.
     fn put(&mut self, bytes: &[u8]) -> Put
         ensures bytes { WasPut result (written self.old) (written self.new) bytes.now }
         ensures count { CountsPut result (faults self.old) (faults self.new) };

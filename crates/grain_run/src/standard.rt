@@ -1,12 +1,12 @@
 //! The standard streams: the trusted edge, where bytes come from and go to.
 
-ghost use Rattle.std.specs.Prelude.{None};
+ghost use Rattle.std.specs.Prelude.{◌≡◌, None};
 
 use crate::sinks::{Put, Sink};
 use crate::sources::{Read, Source};
 use std::io::{Read as StreamRead, Stdin, Stdout, Write};
 
-/// Standard input. It tells no bytes.
+/// Standard input. It tells no bytes. A read that fails adds one to its count of faults.
 #[derive(Drop)]
 pub struct StdSource {
     stdin: Stdin,
@@ -15,7 +15,9 @@ pub struct StdSource {
 
 impl StdSource {
     /// The source over standard input, with no faults so far.
-    pub fn new(stdin: Stdin) -> StdSource {
+    pub fn new(stdin: Stdin) -> StdSource
+        ensures { result.failures ≡ 0 }
+    {
         StdSource { stdin, failures: 0 }
     }
 }
@@ -37,7 +39,8 @@ impl Source for StdSource {
     }
 }
 
-/// Standard output. It tells no bytes.
+/// Standard output. It tells no bytes. A write that fails, or takes none of a piece that has bytes, adds one to its
+/// count of faults.
 #[derive(Drop)]
 pub struct StdSink {
     stdout: Stdout,
@@ -46,7 +49,9 @@ pub struct StdSink {
 
 impl StdSink {
     /// The sink over standard output, with no faults so far.
-    pub fn new(stdout: Stdout) -> StdSink {
+    pub fn new(stdout: Stdout) -> StdSink
+        ensures { result.failures ≡ 0 }
+    {
         StdSink {
             stdout,
             failures: 0,

@@ -1,5 +1,9 @@
 //! Whole calls, over sources and sinks in memory.
 
+mod calls;
+mod memory;
+mod streams;
+
 use crate::memory::{CallNumbers, MemorySink, MemorySource};
 use crate::run_counted;
 use grain_value::{Blob, OutOfMemory};
@@ -11,22 +15,43 @@ use std::sync::ledger::Blank;
 const SUM: &str =
     "grain 1\nconst 0\nconst 1\nconst 10\nname \"s\"\nname \"i\"\nname \"+=\"\nname \"+\"\nname \"<=\"\nop \"+=\"\nop \"+\"\nop \"<=\"\nassign 0 2 1 3\nmain 2\nload_const 0\ndeclare_local 0\nload_const 1\ndeclare_local 1\ntop:\nload_local 1\nload_const 2\ncall_op 4 2 2\njump_if_false done\nload_local 1\nassign_local_op 0 0 0\nload_const 1\nassign_local_op 1 1 0\njump top\ndone:\nload_local 0\nreturn\nend\n";
 
-/// The status of a call with one word, whose source holds the listing and fails at the call of that number, and what
-/// its sink of that room took.
+/// The calls at which a source and a sink fail, and the sink's room.
+#[derive(Clone, Copy)]
+struct StreamFaults<'a> {
+    source_fails: &'a [u64],
+    sink_fails: &'a [u64],
+    room: usize,
+}
+
+/// StreamFaults that do not fail.
+const SOUND: StreamFaults<'static> = StreamFaults {
+    source_fails: &[],
+    sink_fails: &[],
+    room: 1000,
+};
+
+fn numbers(alloc: Global, all: &[u64]) -> Result<CallNumbers, OutOfMemory> {
+    let mut numbers = CallNumbers::new(alloc);
+    for number in all {
+        numbers.push(*number)?;
+    }
+    Ok(numbers)
+}
+
+/// The status of a call with one word, whose source holds the listing, and its sink.
 fn call(
     alloc: Global,
     word: &str,
     listing: &str,
-    failing: u64,
-    room: usize,
+    streams: StreamFaults,
 ) -> Result<(u8, MemorySink), OutOfMemory> {
     let mut words = Vec::new(alloc);
     words.push(String::from_str(alloc, word)?)?;
-    let mut numbers = CallNumbers::new(alloc);
-    numbers.push(failing)?;
     let bytes = Vec::from_slice(alloc, listing.as_bytes())?;
-    let mut source = MemorySource::new(Blob::from_vec(bytes), numbers);
-    let mut sink = MemorySink::new(alloc, room, CallNumbers::new(alloc))?;
+    let source_fails = numbers(alloc, streams.source_fails)?;
+    let mut source = MemorySource::new(Blob::from_vec(bytes), source_fails);
+    let sink_fails = numbers(alloc, streams.sink_fails)?;
+    let mut sink = MemorySink::new(alloc, streams.room, sink_fails)?;
     let status = run_counted::<MemorySource, MemorySink, Brand>(
         alloc,
         &words,
@@ -35,6 +60,22 @@ fn call(
         Blank::new(8),
     );
     Ok((status.number, sink))
+}
+
+/// Compares the status of a call over these streams, and what it writes.
+fn check_over(
+    rt: &impl Abort,
+    alloc: Global,
+    word: &str,
+    listing: &str,
+    streams: StreamFaults,
+    status: u8,
+    text: &str,
+) -> Result<(), OutOfMemory> {
+    let (number, sink) = call(alloc, word, listing, streams)?;
+    assert_eq!(rt; number, status);
+    assert_eq!(rt; sink.bytes(), text.as_bytes());
+    Ok(())
 }
 
 /// Compares the status of a call whose source and sink do not fail, and what it writes.
@@ -46,10 +87,7 @@ fn check(
     status: u8,
     text: &str,
 ) -> Result<(), OutOfMemory> {
-    let (number, sink) = call(alloc, word, listing, 0, 1000)?;
-    assert_eq!(rt; number, status);
-    assert_eq!(rt; sink.bytes().as_slice(), text.as_bytes());
-    Ok(())
+    check_over(rt, alloc, word, listing, SOUND, status, text)
 }
 
 #[test]
@@ -102,55 +140,48 @@ fn operations_are_limited(rt: HostRuntime) -> Result<(), OutOfMemory> {
 
 #[test]
 fn no_listings(rt: HostRuntime) -> Result<(), OutOfMemory> {
-    let listings = [
-        "",
-        "grain 2\nmain 1\nreturn\nend\n",
-        "grain 1\nmain 1\nuni",
-        "grain 1\nmain 1\nreturn",
-        "grain 1\n",
-        "grain 1\nmain 1\nreturn\nend\nreturn\n",
-        "grain 1\nmain 1\nreturn ; done\nend\n",
-        "grain 1\nmain 1\nreturn\r\nend\n",
-        "grain 1\nmain\t1\nreturn\nend\n",
-        "grain 1\nmain 1\nreturn @1:1\nend\n",
-        "grain 1\nmain 01\nreturn\nend\n",
-        "grain 1\nmain 65536\nreturn\nend\n",
-        "grain 1\nconst 9223372036854775808\nmain 1\nreturn\nend\n",
-        "grain 1\nconst\nmain 1\nreturn\nend\n",
-        "grain 1\nconst True\nmain 1\nreturn\nend\n",
-        "grain 1\nname \"a\"b\nmain 1\nreturn\nend\n",
-        "grain 1\nname \"\\u{d800}\"\nmain 1\nreturn\nend\n",
-        "grain 1\nname \"\\u{110000}\"\nmain 1\nreturn\nend\n",
-        "grain 1\nop \"/\"\nmain 1\nreturn\nend\n",
-        "grain 1\nassign 0 0 0 0\nmain 1\nreturn\nend\n",
-        "grain 1\nlimit operations 0\nmain 1\nreturn\nend\n",
-        "grain 1\nlimit operations 1\nlimit operations 1\nmain 1\nreturn\nend\n",
-        "grain 1\nmain 1\na:\na:\nreturn\nend\n",
-        "grain 1\nmain 1\njump a\nreturn\nend\n",
+    let rows = [
+        ("", "listing line 1: missing header\n"),
+        ("grain 1\nmain 1\nuni", "listing line 3: unknown word\n"),
+        (
+            "grain 1\nmain 1\nunit",
+            "listing line 3: unfinished chunk\n",
+        ),
+        ("grain 1\n\n", "listing line 2: missing main\n"),
+        (
+            "grain 1\nmain 1\njump a\nend\n",
+            "listing line 3: unknown label\n",
+        ),
+        ("grain 1\nsource \"x\"\n", "listing line 2: not built\n"),
     ];
-    for listing in listings {
-        check(
-            &rt,
-            rt.alloc(),
-            "run",
-            listing,
-            3,
-            "listing line 0: not built\n",
-        )?;
+    for (listing, text) in rows {
+        check(&rt, rt.alloc(), "run", listing, 3, text)?;
     }
     Ok(())
 }
 
 #[test]
-fn words_and_streams_fail(rt: HostRuntime) -> Result<(), OutOfMemory> {
-    let usage = "usage: run, check, list or self N\n";
-    check(&rt, rt.alloc(), "check", SUM, 2, usage)?;
-    let (number, sink) = call(rt.alloc(), "run", SUM, 2, 1000)?;
-    assert_eq!(rt; number, 5);
-    assert!(rt; sink.bytes().is_empty());
-    let (number, sink) = call(rt.alloc(), "run", SUM, 0, 3)?;
-    assert_eq!(rt; number, 6);
-    assert_eq!(rt; sink.bytes().as_slice(), b"val".as_slice());
+fn runs_begin_on_the_scope(rt: HostRuntime) -> Result<(), OutOfMemory> {
+    let rows = [
+        (
+            "grain 1\nscope const \"x\" 5\nmain 1\nload_local 0 @3:4\nreturn\nend\n",
+            1,
+            "fault Malformed\nMalformed program: slot 1 past a scope of 1 (line 3, position 4)\ntrace 0\n",
+        ),
+        (
+            "grain 1\nlimit variables 1\nname \"x\"\nscope \"x\" 5\nmain 1\ntrue\ndeclare_local 0 @7:0\nload_local 0\nreturn\nend\n",
+            1,
+            "fault ErrorTooManyVariables\nToo many variables defined (line 7)\ntrace 1\n",
+        ),
+        (
+            "grain 1\nlimit variables 2\nname \"x\"\nscope \"x\" 5\nmain 1\ntrue\ndeclare_local 0 @7:0\nload_local 0\nreturn\nend\n",
+            0,
+            "value true\n",
+        ),
+    ];
+    for (listing, status, text) in rows {
+        check(&rt, rt.alloc(), "run", listing, status, text)?;
+    }
     Ok(())
 }
 
@@ -204,13 +235,6 @@ fn faults_of_programs_are_reported(rt: HostRuntime) -> Result<(), OutOfMemory> {
         check(&rt, rt.alloc(), "run", listing, 1, text)?;
     }
     Ok(())
-}
-
-#[test]
-fn an_unknown_command_is_told_the_usage(rt: HostRuntime) -> Result<(), OutOfMemory> {
-    let usage = "usage: run, check, list or self N\n";
-    check(&rt, rt.alloc(), "walk", SUM, 2, usage)?;
-    check(&rt, rt.alloc(), "", SUM, 2, usage)
 }
 
 #[test]

@@ -3,9 +3,9 @@
 ghost use Rattle.std.specs.Prelude.{◌≡◌, ◌≤◌, ◌++◌, length, option_map, IfOk, OnErr, OnOk};
 ghost use Rattle.grain_run.specs.Streams.{Rose, IsSpent, TakenWithin, added, PartAdded};
 
-use crate::reading::MOST_BYTES;
 use crate::sinks::{Put, Sink};
 use crate::sources::{Read, Source};
+use grain_listing::MOST_BYTES;
 use grain_value::OutOfMemory;
 use std::alloc::Global;
 

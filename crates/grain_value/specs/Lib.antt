@@ -1,3 +1,5 @@
+pub mod Quoting
+pub mod Looking
 pub mod Writing
 pub mod Operators
 pub mod Scopes

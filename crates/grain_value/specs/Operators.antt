@@ -17,5 +17,6 @@ token_in t =
     else (if bytes_eq t (codes "+=") then Some token.PlusAssign
     else (if bytes_eq t (codes "-=") then Some token.MinusAssign
     else (if bytes_eq t (codes "*=") then Some token.MultiplyAssign
+    else (if bytes_eq t (codes "neg") then Some token.UnaryMinus
     else (if bytes_eq t (codes "other") then Some token.Other
-    else None))))))))))))
+    else None)))))))))))))

@@ -1,5 +1,5 @@
 -- Scopes as lists of entries.
-use Rattle.std.specs.Prelude.{◌≡◌, false, All, ℕ, zero, suc, ◌+◌, List, [], ◌∷◌, Option, Some, None, bytes_eq, option_map, if◌then◌else◌}
+use Rattle.std.specs.Prelude.{ℕ, zero, suc, ◌+◌, List, [], ◌∷◌, Option, Some, None, bytes_eq, option_map, if◌then◌else◌}
 use Rattle.std.specs.Option.{option_or}
 use Rattle.grain_value.specs.declared.scopes.Entry.{Entry}
 use Rattle.grain_value.specs.declared.values.Held.{Held}
@@ -17,7 +17,3 @@ set_held (e ∷ es) (suc i) held = e ∷ set_held es i held
 abbrev pub last_of : List ℕ → List Entry → Option ℕ
 last_of name [] = None
 last_of name (e ∷ es) = option_or (option_map (λ i. i + 1) (last_of name es)) (if bytes_eq e.name name then Some 0 else None)
-
--- no entry is read-only
-abbrev pub IsWritable : List Entry → Type 0
-IsWritable scope = All (λ e. e.held.read_only ≡ false) scope

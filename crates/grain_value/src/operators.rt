@@ -30,6 +30,8 @@ pub enum Token {
     MinusAssign,
     /// `*=`
     MultiplyAssign,
+    /// `neg`, which is `-` on one value.
+    UnaryMinus,
     /// `other`, which has no built-in.
     Other,
 }
@@ -63,6 +65,8 @@ impl Token {
             Some(Token::MinusAssign)
         } else if syntax == "*=" {
             Some(Token::MultiplyAssign)
+        } else if syntax == "neg" {
+            Some(Token::UnaryMinus)
         } else if syntax == "other" {
             Some(Token::Other)
         } else {

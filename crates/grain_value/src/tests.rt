@@ -45,6 +45,20 @@ fn values_are_told(rt: HostRuntime) -> Result<(), OutOfMemory> {
 }
 
 #[test]
+fn texts_are_told(rt: HostRuntime) -> Result<(), OutOfMemory> {
+    let value = Dynamic::Text(Text::copy_of(rt.alloc(), "é \"\\\n\r\t'\u{7}")?);
+    assert_eq!(rt; value.kind(), 4);
+    assert_eq!(rt; value.type_name(rt.alloc())?.as_str(), "string");
+    let mut text = Text::new(rt.alloc());
+    value.copy(rt.alloc())?.write_plain(&mut text)?;
+    assert_eq!(rt; text.as_str(), "é \"\\\n\r\t'\u{7}");
+    let mut text = Text::new(rt.alloc());
+    value.write_quoted(&mut text)?;
+    assert_eq!(rt; text.as_str(), "\"é \\\"\\\\\\n\\r\\t'\u{7}\"");
+    Ok(())
+}
+
+#[test]
 fn lists_grow(rt: HostRuntime) -> Result<(), OutOfMemory> {
     let mut blob = Blob::new(rt.alloc());
     blob.push(3)?;

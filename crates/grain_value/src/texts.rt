@@ -4,6 +4,8 @@ ghost use Rattle.std.specs.Prelude.{◌≡◌, ◌==◌, ◌++◌, [], length, S
 ghost use Rattle.std.specs.Char.{encode_utf8};
 ghost use Rattle.std.specs.Str.{chars};
 ghost use Rattle.std.specs.Fmt.{decimal, signed_decimal};
+ghost use Rattle.std.specs.List.{flat_map};
+ghost use Rattle.grain_value.specs.Quoting.{escaped, quoted_text};
 
 use crate::memory::OutOfMemory;
 use std::alloc::Global;
@@ -115,6 +117,38 @@ impl Text {
     {
         write!(self.text, "{integer}")?;
         Ok(())
+    }
+
+    /// Puts a character at the end as it stands between quotes.
+    fn push_escaped(&mut self, character: char) -> Result<(), OutOfMemory>
+        ensures { IfOk result (λ _. self.new ≡ self.old ++ escaped character) }
+    {
+        match character {
+            '"' => self.push_str("\\\""),
+            '\\' => self.push_str("\\\\"),
+            '\n' => self.push_str("\\n"),
+            '\r' => self.push_str("\\r"),
+            '\t' => self.push_str("\\t"),
+            character => self.push(character),
+        }
+    }
+
+    fn push_all_escaped(&mut self, s: &str) -> Result<(), OutOfMemory>
+        ensures { IfOk result (λ _. self.new ≡ self.old ++ flat_map escaped (chars s.now)) }
+    {
+        for character in s.chars() {
+            self.push_escaped(character)?;
+        }
+        Ok(())
+    }
+
+    /// Puts these characters at the end between quotes, with the escapes `\"`, `\\`, `\n`, `\r` and `\t`.
+    pub fn push_quoted(&mut self, s: &str) -> Result<(), OutOfMemory>
+        ensures { IfOk result (λ _. self.new ≡ self.old ++ quoted_text s.now) }
+    {
+        self.push_str("\"")?;
+        self.push_all_escaped(s)?;
+        self.push_str("\"")
     }
 
     /// Puts at the end what `{}` prints of a value.

@@ -1,11 +1,13 @@
 //! Script values, held values, and the limits of a run.
 
-ghost use Rattle.std.specs.Prelude.{◌≡◌, ◌++◌, IfOk, false};
+ghost use Rattle.std.specs.Prelude.{◌≡◌, ◌++◌, IfOk, Some, false};
+ghost use Rattle.grain_value.specs.Looking.{is_unit, truth_of, integer_of};
 ghost use Rattle.grain_value.specs.Writing.{kind_of, type_name_of, plain, quoted};
 
 use crate::memory::OutOfMemory;
 use crate::texts::Text;
 use std::alloc::Global;
+use std::fmt;
 
 /// A script value.
 #[derive(Drop)]
@@ -16,6 +18,8 @@ pub enum Dynamic {
     Bool(bool),
     /// An integer.
     Int(i64),
+    /// A text.
+    Text(Text),
 }
 
 /// A value in an operand or a scope entry. One that is read-only may not be assigned to.
@@ -49,15 +53,51 @@ impl Dynamic {
     pub fn copy(&self, alloc: Global) -> Result<Dynamic, OutOfMemory>
         ensures { IfOk result (λ value. value ≡ self.now) }
     {
-        let _alloc = alloc;
         match self {
             Dynamic::Unit => Ok(Dynamic::Unit),
             Dynamic::Bool(truth) => Ok(Dynamic::Bool(*truth)),
             Dynamic::Int(integer) => Ok(Dynamic::Int(*integer)),
+            Dynamic::Text(text) => Ok(Dynamic::Text(text.copy(alloc)?)),
         }
     }
 
-    /// The number of the value's kind: 0 unit, 1 bool, 2 integer.
+    /// Whether the value is unit.
+    pub fn is_unit(&self) -> bool
+        ensures { result ≡ is_unit self.now }
+    {
+        match self {
+            Dynamic::Unit => true,
+            Dynamic::Bool(_) => false,
+            Dynamic::Int(_) => false,
+            Dynamic::Text(_) => false,
+        }
+    }
+
+    /// The truth value, where the value is one.
+    pub fn as_bool(&self) -> Option<bool>
+        ensures { result ≡ truth_of self.now }
+    {
+        match self {
+            Dynamic::Unit => None,
+            Dynamic::Bool(truth) => Some(*truth),
+            Dynamic::Int(_) => None,
+            Dynamic::Text(_) => None,
+        }
+    }
+
+    /// The integer, where the value is one.
+    pub fn as_int(&self) -> Option<i64>
+        ensures { result ≡ integer_of self.now }
+    {
+        match self {
+            Dynamic::Unit => None,
+            Dynamic::Bool(_) => None,
+            Dynamic::Int(integer) => Some(*integer),
+            Dynamic::Text(_) => None,
+        }
+    }
+
+    /// The number of the value's kind: 0 unit, 1 bool, 2 integer, 4 text.
     pub fn kind(&self) -> u32
         ensures { result ≡ kind_of self.now }
     {
@@ -65,10 +105,11 @@ impl Dynamic {
             Dynamic::Unit => 0,
             Dynamic::Bool(_) => 1,
             Dynamic::Int(_) => 2,
+            Dynamic::Text(_) => 4,
         }
     }
 
-    /// The name of the value's type: `()`, `bool` or `i64`.
+    /// The name of the value's type: `()`, `bool`, `i64` or `string`.
     pub fn type_name(&self, alloc: Global) -> Result<Text, OutOfMemory>
         ensures { IfOk result (λ name. name ≡ type_name_of self.now) }
     {
@@ -76,21 +117,19 @@ impl Dynamic {
             Dynamic::Unit => Text::copy_of(alloc, "()"),
             Dynamic::Bool(_) => Text::copy_of(alloc, "bool"),
             Dynamic::Int(_) => Text::copy_of(alloc, "i64"),
+            Dynamic::Text(_) => Text::copy_of(alloc, "string"),
         }
     }
 
-    /// Puts the value's plain text at the end: unit is empty, every other value is as it is quoted.
+    /// Puts the value's plain text at the end, as `{}` prints it: unit is empty, a text is as it stands, and every
+    /// other value is as it is quoted.
     pub fn write_plain(&self, out: &mut Text) -> Result<(), OutOfMemory>
         ensures { IfOk result (λ _. out.new ≡ out.old ++ plain self.now) }
     {
-        match self {
-            Dynamic::Unit => Ok(()),
-            Dynamic::Bool(_) => self.write_quoted(out),
-            Dynamic::Int(_) => self.write_quoted(out),
-        }
+        out.push_display(self)
     }
 
-    /// Puts the value's quoted text at the end, which is as a listing has it.
+    /// Puts the value's quoted text at the end, which is as a listing has it: a text stands between quotes, with escapes.
     pub fn write_quoted(&self, out: &mut Text) -> Result<(), OutOfMemory>
         ensures { IfOk result (λ _. out.new ≡ out.old ++ quoted self.now) }
     {
@@ -104,6 +143,27 @@ impl Dynamic {
                 }
             }
             Dynamic::Int(integer) => out.push_integer(*integer),
+            Dynamic::Text(text) => out.push_quoted(text.as_str()),
+        }
+    }
+}
+
+/// The plain text: unit is empty, and a text is as it stands.
+impl fmt::Display for Dynamic {
+    ghost output = { λ v. Some (plain v) };
+
+    fn fmt<W: fmt::Write>(&self, f: &mut fmt::Formatter<W>) -> fmt::Result {
+        match self {
+            Dynamic::Unit => Ok(()),
+            Dynamic::Bool(truth) => {
+                if *truth {
+                    write!(f, "true")
+                } else {
+                    write!(f, "false")
+                }
+            }
+            Dynamic::Int(integer) => write!(f, "{integer}"),
+            Dynamic::Text(text) => write!(f, "{text}"),
         }
     }
 }

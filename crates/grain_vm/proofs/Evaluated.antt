@@ -1,15 +1,17 @@
 -- What a whole call answers is what the program means.
-use Rattle.std.proofs.Common.{ℕ, List, [], Option, Some, None, true, false, Result, Ok, Err, refl, arith}
+use Rattle.std.proofs.Common.{◌≡◌, ℕ, List, [], Option, Some, None, true, false, Result, Ok, Err, refl, subst, length, arith}
 use Rattle.grain_value.specs.declared.memory.OutOfMemory.{OutOfMemory}
 use Rattle.grain_value.specs.declared.values.Dynamic.{Dynamic}
 use Rattle.grain_value.specs.declared.scopes.Entry.{Entry}
+use Rattle.grain_fault.specs.Problems.{problem_of}
 use Rattle.grain_fault.specs.declared.traces.Fault.{Fault}
 use Rattle.grain_fault.specs.declared.faults.EvalAltResult.{EvalAltResult}
 use Rattle.grain_fault.specs.declared.faults.EvalAltResult.TheVariants as fault
 use Rattle.grain_program.specs.View.{View}
 use Rattle.grain_vm.specs.declared.global.Engine.{Engine}
-use Rattle.grain_vm.specs.means.Acts.{Answer, called}
+use Rattle.grain_vm.specs.means.Acts.{Answer, Failed, called}
 use Rattle.grain_vm.specs.means.Goes.{InHand, Goes, Clear, Halts, world, nothing}
+use Rattle.grain_vm.specs.means.Leavings.{Leaves, Cuts}
 use Rattle.grain_vm.specs.means.Causes.{Caused, HasCause}
 use Rattle.grain_vm.specs.means.Means.{Begin, Finish, setup, Runs, Evaluates}
 use Rattle.grain_vm.specs.frame.Hand.{is_out, over, answer_of}
@@ -42,6 +44,9 @@ module _ (p : View) (e : Engine) (b : Begin) (trace : List Fault) (scope : List 
   evaluated (Ok (Err (fault.ErrorFunctionNotFound s q))) h = runs (Ok (Err (fault.ErrorFunctionNotFound s q))) h None (never_clear 0 passed) tt
   evaluated (Ok (Err (fault.ErrorMismatchDataType s t q))) h = runs (Ok (Err (fault.ErrorMismatchDataType s t q))) h None (never_clear 0 passed) tt
   evaluated (Ok (Err (fault.ErrorAssignmentToConstant s q))) h = runs (Ok (Err (fault.ErrorAssignmentToConstant s q))) h None (never_clear 0 passed) tt
+  evaluated (Ok (Err (fault.ErrorInFunctionCall' f s b x q))) h = runs (Ok (Err (fault.ErrorInFunctionCall' f s b x q))) h None (never_clear 0 passed) tt
+  evaluated (Ok (Err (fault.ErrorRuntime v q))) h = runs (Ok (Err (fault.ErrorRuntime v q))) h None (never_clear 0 passed) tt
+  evaluated (Ok (Err (fault.ErrorStackOverflow q))) h = runs (Ok (Err (fault.ErrorStackOverflow q))) h None (never_clear 0 passed) tt
   evaluated (Ok (Err (fault.ErrorArithmetic s q))) h = runs (Ok (Err (fault.ErrorArithmetic s q))) h None (never_clear 0 passed) tt
   evaluated (Ok (Err (fault.ErrorTooManyOperations q))) h = runs (Ok (Err (fault.ErrorTooManyOperations q))) h None (never_clear 0 passed) tt
   evaluated (Ok (Err (fault.ErrorTooManyVariables q))) h = runs (Ok (Err (fault.ErrorTooManyVariables q))) h None (never_clear 0 passed) tt
@@ -52,7 +57,24 @@ module _ (p : View) (e : Engine) (b : Begin) (trace : List Fault) (scope : List 
   caused : (x : EvalAltResult) → Goes (setup p e) at_first (λ m place w. called m place w) false at_last (over (Ok (Err x))) → Caused (setup p e) (answer_of (Ok (Err x))) (world at_last nothing)
   caused x h =
       let run = whole h refl None (never_clear 0 passed) tt nothing in
-      (called_counts (setup p e) None (world at_first nothing) (world at_last nothing) (answer_of (Ok (Err x))) run).2
+      (called_counts (setup p e) None (world at_first nothing) (world at_last nothing) (answer_of (Ok (Err x))) run).5
+
+  -- the level is what it was, also where memory was out
+  pub same_level : (back : Result (Result Dynamic EvalAltResult) OutOfMemory) → Goes (setup p e) at_first (λ m place w. called m place w) (is_out back) at_last (over back) → level ≡ b.level
+  same_level back h =
+      let run = whole h refl (Some passed) (clear_before 0 passed) (halts_there (is_out back) passed) nothing in
+      (called_counts (record (setup p e) { stop = Some passed }) None (world at_first nothing) (world at_last nothing) (answer_of back) run).2
+
+  -- what is left of the scope
+  pub leaves : (back : Result (Result Dynamic EvalAltResult) OutOfMemory) → Goes (setup p e) at_first (λ m place w. called m place w) (is_out back) at_last (over back) → Leaves p b.scope (answered back) scope
+  leaves back h =
+      let run = whole h refl (Some passed) (clear_before 0 passed) (halts_there (is_out back) passed) nothing in
+      let counts = called_counts (record (setup p e) { stop = Some passed }) None (world at_first nothing) (world at_last nothing) (answer_of back) run in
+      record { keeps = counts.3; cuts = λ x is. cut back x is counts.4 } where
+        cut : (back : Result (Result Dynamic EvalAltResult) OutOfMemory) (x : EvalAltResult) → answered back ≡ Err x → Cuts p (length b.scope) (answer_of back) scope → Cuts p (length b.scope) (Failed (problem_of x)) scope
+        cut (Ok (Ok v)) x is c = absurd cc
+        cut (Ok (Err y)) x is c = let same : y ≡ x = cc in subst (λ (z : EvalAltResult). Cuts p (length b.scope) (Failed (problem_of z)) scope) same c
+        cut (Err m) x is c = let same : fault.Memory ≡ x = cc in subst (λ (z : EvalAltResult). Cuts p (length b.scope) (Failed (problem_of z)) scope) same tt
 
   pub has_cause : (back : Result (Result Dynamic EvalAltResult) OutOfMemory) → Goes (setup p e) at_first (λ m place w. called m place w) (is_out back) at_last (over back) →
       HasCause p e count (answered back)
@@ -61,6 +83,9 @@ module _ (p : View) (e : Engine) (b : Begin) (trace : List Fault) (scope : List 
   has_cause (Ok (Err (fault.ErrorFunctionNotFound s q))) h = caused (fault.ErrorFunctionNotFound s q) h
   has_cause (Ok (Err (fault.ErrorMismatchDataType s t q))) h = caused (fault.ErrorMismatchDataType s t q) h
   has_cause (Ok (Err (fault.ErrorAssignmentToConstant s q))) h = caused (fault.ErrorAssignmentToConstant s q) h
+  has_cause (Ok (Err (fault.ErrorInFunctionCall' f s b x q))) h = caused (fault.ErrorInFunctionCall' f s b x q) h
+  has_cause (Ok (Err (fault.ErrorRuntime v q))) h = caused (fault.ErrorRuntime v q) h
+  has_cause (Ok (Err (fault.ErrorStackOverflow q))) h = caused (fault.ErrorStackOverflow q) h
   has_cause (Ok (Err (fault.ErrorArithmetic s q))) h = caused (fault.ErrorArithmetic s q) h
   has_cause (Ok (Err (fault.ErrorTooManyOperations q))) h = caused (fault.ErrorTooManyOperations q) h
   has_cause (Ok (Err (fault.ErrorTooManyVariables q))) h = caused (fault.ErrorTooManyVariables q) h

@@ -8,6 +8,7 @@ use Rattle.grain_program.specs.declared.input.Chunk.{Chunk}
 use Rattle.grain_program.specs.Effects.{takes_of, gives_of, leads_of}
 use Rattle.grain_program.specs.Typing.{In, IsProgram}
 use Rattle.grain_program.specs.Fits.{Fits, Foreseen, begins}
+use Rattle.grain_vm.specs.means.Acts.{frame_at}
 use Rattle.grain_vm.specs.frame.Hand.{own, frame_in, Kept, Lands, GoesOn}
 use Rattle.grain_vm.specs.declared.global.Engine.{Engine}
 use Rattle.grain_vm.specs.declared.stack.Stacks.{Stacks}
@@ -28,7 +29,7 @@ goes_on p engine s s' f f' At height depth o width (Ok On) foreseen kept lands l
     let same : depth - takes_of o + gives_of o ≡ length (own s'.stacks f'.bottom) = sym e ∙ sym lands.1 in
     let inside = foreseen.inside in
     let wide = foreseen.wide in
-    (subst (λ (c : Chunk). Fits p c f'.address (length (own s'.stacks f'.bottom))) (sym kept.0) (subst (λ (n : ℕ). Fits p f.chunk f'.address n) same fits), lands.2, omega (arith, inside, wide))
+    (subst (λ (c : Chunk). Fits p c f'.address (length (own s'.stacks f'.bottom))) (sym kept.chunk) (subst (λ (n : ℕ). Fits p f.chunk f'.address n) same fits), lands.2, omega (arith, inside, wide))
 goes_on p engine s s' f f' At height depth o width (Ok Over) foreseen kept lands leads e = tt
 goes_on p engine s s' f f' At height depth o width (Err m) foreseen kept lands leads e = tt
 
@@ -77,3 +78,15 @@ pub fresh_frame : (p : View) (s : State) (chunk : Chunk) (bottom scope : ℕ) (f
     frame_in f s ≡ record { address = p.main.entry; operands = []; base = length s.scope; floor = length s.scope }
 fresh_frame p s chunk bottom scope f is all low e =
     rw (e, is, all, low, nothing_above s.stacks.operands.items) refl
+
+-- a frame at a function's entry fits, and has no operands
+pub entered_fits : (p : View) (s : Stacks) (chunk : Chunk) (bottom : ℕ) (f : Activation) → Fits p chunk chunk.entry 0 → bottom ≡ length s.operands.items →
+    f ≡ record { chunk = chunk; address = chunk.entry; bottom = bottom; base = 0; floor = 0 } → Fits p f.chunk f.address (length (own s f.bottom))
+entered_fits p s chunk bottom f fits all e =
+    let none : length (drop bottom s.operands.items) ≡ 0 = omega (arith, length-drop bottom s.operands.items, all) in
+    subst (λ (g : Activation). Fits p g.chunk g.address (length (own s g.bottom))) (sym e) (subst (λ (n : ℕ). Fits p chunk chunk.entry n) (sym none) fits)
+
+pub entered_frame : (s : State) (chunk : Chunk) (bottom : ℕ) (f : Activation) → bottom ≡ length s.stacks.operands.items →
+    f ≡ record { chunk = chunk; address = chunk.entry; bottom = bottom; base = 0; floor = 0 } → frame_in f s ≡ frame_at chunk 0
+entered_frame s chunk bottom f all e =
+    rw (e, all, nothing_above s.stacks.operands.items) refl

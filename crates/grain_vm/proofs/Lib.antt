@@ -1,11 +1,13 @@
 mod Above
-mod Arguments
 mod Landing
 mod Roots
 mod Stretches
 mod Turns
+mod Measure
+mod Calls
 mod Mains
 mod Determined
 mod Reasons
+mod Kept
 mod Tally
 mod Evaluated

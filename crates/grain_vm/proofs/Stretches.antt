@@ -66,6 +66,16 @@ module _ {m : Setup} where
     leads = λ stop clear halts u place bound. let k = h.leads stop clear halts u place bound in (k.0, λ a w run. begins (stopped m stop) place (world old u) w a (k.1 a w run));
   }
 
+  -- a run where there is no `this`
+  pub alone : {old : InHand} {first : Start} {out : Bool} {new : InHand} {b : Answer} → old.this ≡ None → Goes m old first out new (λ n place w. End b w) → Goes m old (λ n place w. first n None w) out new (λ n place w. End b w)
+  alone {old} {first} {out} {new} {b} none h = record {
+    order = h.order;
+    leads = λ stop clear halts u place bound. at stop clear halts u place bound;
+  } where
+    at : (stop : Option ℕ) → Clear stop old.passed new.passed → Halts out stop new.passed → Leads (stopped m stop) old (λ n place w. first n None w) new (λ n place w. End b w)
+    at stop clear halts u None bound = h.leads stop clear halts u None bound
+    at stop clear halts u (Some p) bound = absurd (subst (Binds u.roots (Some p)) none bound)
+
   -- a run that is over, and what follows it
   pub continued : {old : InHand} {first : Start} {out : Bool} {new : InHand} {b : Answer} (rest : Setup → Option Place → Answer → World → Act) →
       Goes m old first out new (λ n place w. End b w) → Goes m old (λ n place w. Then (first n place w) (rest n place)) out new (λ n place w. rest n place b w)

@@ -5,3 +5,4 @@ pub mod Length
 pub mod Goes
 pub mod Means
 pub mod Causes
+pub mod Leavings

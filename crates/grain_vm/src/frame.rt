@@ -1,7 +1,12 @@
 //! Frames: how one runs, instruction by instruction.
 
 pub mod activations;
-pub mod instructions;
+pub mod calling;
+pub mod contexts;
+pub mod faults;
+pub mod locals;
+pub mod operands;
 pub mod runs;
 pub mod states;
 pub mod steps;
+pub mod transfers;

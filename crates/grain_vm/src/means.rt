@@ -1,9 +1,10 @@
 //! Laws of the meaning alone.
 
-ghost use Rattle.std.specs.Prelude.{◌≡◌, ◌+◌, ℕ, Option, Some};
+ghost use Rattle.std.specs.Prelude.{◌≡◌, ◌+◌, length, ℕ, Option, Some};
 ghost use Rattle.grain_vm.specs.means.Acts.{Act, Answer, World, Setup, Place, called};
 ghost use Rattle.grain_vm.specs.means.Causes.{Caused};
 ghost use Rattle.grain_vm.specs.means.Ends.{Ends};
+ghost use Rattle.grain_vm.specs.means.Leavings.{names, Keeps, Cuts};
 ghost use Rattle.grain_vm.specs.means.Length.{run_length};
 ghost use Rattle.grain_vm.specs.means.Means.{Begin, Finish, Means, Over, slowly};
 ghost use Rattle.grain_vm.specs.declared.global.Engine.{Engine};
@@ -19,9 +20,10 @@ pub fn slow_end()
     ensures { (m : Setup) (n : ℕ) (act : Act) (e : Over) → slowly m n act ≡ Some e → Ends m act e.answer e.world }
 {}
 
-/// A call counts exactly the instructions that it begins, leaves the tokens that were out, and ends with a cause.
+/// A call counts exactly the instructions that it begins, leaves the tokens that were out, the level and the entries of
+/// its scope, which a fault cuts to their number, and ends with a cause.
 pub fn counted()
-    ensures { (m : Setup) (this : Option Place) (w v : World) (a : Answer) (run : Ends m (called m this w) a v) → (v.ran ≡ w.ran + run_length run) × (v.tokens ≡ w.tokens) × Caused m a v }
+    ensures { (m : Setup) (this : Option Place) (w v : World) (a : Answer) (run : Ends m (called m this w) a v) → (v.ran ≡ w.ran + run_length run) × (v.tokens ≡ w.tokens) × (v.level ≡ w.level) × Keeps (length w.scope) (names w.scope) v.scope × Cuts m.program (length w.scope) a v.scope × Caused m a v }
 {}
 
 /// A program has at most one meaning at a beginning: one end, after one number of instructions.

@@ -2,7 +2,8 @@
 
 ghost use Rattle.std.specs.Prelude.{◌≡◌, ◌++◌, ◌∷◌, ◌≤◌, [], true, false, IfOk, MatchOption, length, map};
 ghost use Rattle.grain_value.specs.declared.values.Dynamic.TheVariants as dynamic;
-ghost use Rattle.grain_vm.specs.means.Operators.{Gave, fits64, exact, calculated, integers, binary, assigned_integers, assignment, operation, where_fast, overflow_lead, sign_between, overflow_text, types_text, signature_text};
+ghost use Rattle.grain_value.specs.Looking.{integer_of};
+ghost use Rattle.grain_vm.specs.means.Operators.{Gave, fits64, exact, calculated, integers, integer, negated, unary, binary, assigned_integers, assignment, operation, where_fast, overflow_lead, sign_between, overflow_text, types_text, signature_text};
 ghost use Rattle.grain_vm.specs.means.Acts.{value_in, arguments};
 ghost use Rattle.grain_vm.specs.frame.Hand.{outcome_of};
 
@@ -61,12 +62,35 @@ pub enum OpAnswer {
     Done(Dynamic),
     /// The result of these two integers does not fit.
     Overflow(Calculation, i64, i64),
+    /// The negation of an integer does not fit.
+    NegationOverflow,
 }
 
 fn truth(holds: bool) -> OpAnswer
     ensures { outcome_of result ≡ Gave (dynamic.Bool holds) }
 {
     OpAnswer::Done(Dynamic::Bool(holds))
+}
+
+// An operator on an integer.
+fn integer(token: Token, x: i64) -> OpAnswer
+    ensures { outcome_of result ≡ integer token x }
+{
+    match token {
+        Token::Minus => negate(x),
+        Token::UnaryMinus => negate(x),
+        _ => OpAnswer::NotBuiltIn,
+    }
+}
+
+// The negation, or that it does not fit.
+fn negate(x: i64) -> OpAnswer
+    ensures { outcome_of result ≡ negated x }
+{
+    match x.checked_neg() {
+        Some(z) => OpAnswer::Done(Dynamic::Int(z)),
+        None => OpAnswer::NegationOverflow,
+    }
 }
 
 // An operator on two integers.
@@ -83,25 +107,41 @@ fn integers(token: Token, x: i64, y: i64) -> OpAnswer
         Token::LessThanEqualsTo => truth(x <= y),
         Token::GreaterThan => truth(x > y),
         Token::GreaterThanEqualsTo => truth(x >= y),
-        Token::PlusAssign => OpAnswer::NotBuiltIn,
-        Token::MinusAssign => OpAnswer::NotBuiltIn,
-        Token::MultiplyAssign => OpAnswer::NotBuiltIn,
-        Token::Other => OpAnswer::NotBuiltIn,
+        _ => OpAnswer::NotBuiltIn,
+    }
+}
+
+// An operator on a value.
+fn unary(token: Token, value: &Dynamic) -> OpAnswer
+    ensures { outcome_of result ≡ unary token (integer_of value.now) }
+{
+    match value.as_int() {
+        Some(x) => integer(token, x),
+        None => OpAnswer::NotBuiltIn,
     }
 }
 
 // An operator on two values.
 fn binary(token: Token, lhs: &Dynamic, rhs: &Dynamic) -> OpAnswer
-    ensures { outcome_of result ≡ binary token lhs.now rhs.now }
+    ensures { outcome_of result ≡ binary token (integer_of lhs.now) (integer_of rhs.now) }
 {
-    match lhs {
-        Dynamic::Int(x) => match rhs {
-            Dynamic::Int(y) => integers(token, *x, *y),
-            Dynamic::Bool(_) => OpAnswer::NotBuiltIn,
-            Dynamic::Unit => OpAnswer::NotBuiltIn,
+    match lhs.as_int() {
+        Some(x) => match rhs.as_int() {
+            Some(y) => integers(token, x, y),
+            None => OpAnswer::NotBuiltIn,
         },
-        Dynamic::Bool(_) => OpAnswer::NotBuiltIn,
-        Dynamic::Unit => OpAnswer::NotBuiltIn,
+        None => OpAnswer::NotBuiltIn,
+    }
+}
+
+// An operator on these operands.
+fn operation(token: Token, operands: &[Held]) -> OpAnswer
+    ensures { outcome_of result ≡ operation token (map value_in operands.now) }
+{
+    match operands {
+        [x] => unary(token, &x.value),
+        [x, y] => binary(token, &x.value, &y.value),
+        _ => OpAnswer::NotBuiltIn,
     }
 }
 
@@ -110,18 +150,11 @@ pub fn operate(fast: bool, token: Token, operands: &[Held], count: usize) -> OpA
     requires { count ≤ length operands.now }
     ensures { outcome_of result ≡ where_fast fast (operation token (arguments count operands.now)) }
 {
-    if !fast {
-        return OpAnswer::NotBuiltIn;
+    if fast {
+        operation(token, &operands[operands.len() - count..])
+    } else {
+        OpAnswer::NotBuiltIn
     }
-    if count != 2 {
-        return OpAnswer::NotBuiltIn;
-    }
-    let height = operands.len();
-    binary(
-        token,
-        &operands[height - 2].value,
-        &operands[height - 1].value,
-    )
 }
 
 /// What an op-assignment makes of its target, where operators are `fast`.
@@ -140,19 +173,10 @@ fn assigned_integers(token: Token, x: i64, y: i64) -> OpAnswer
     ensures { outcome_of result ≡ assigned_integers token x y }
 {
     match token {
-        Token::Plus => OpAnswer::NotBuiltIn,
-        Token::Minus => OpAnswer::NotBuiltIn,
-        Token::Multiply => OpAnswer::NotBuiltIn,
-        Token::EqualsTo => OpAnswer::NotBuiltIn,
-        Token::NotEqualsTo => OpAnswer::NotBuiltIn,
-        Token::LessThan => OpAnswer::NotBuiltIn,
-        Token::LessThanEqualsTo => OpAnswer::NotBuiltIn,
-        Token::GreaterThan => OpAnswer::NotBuiltIn,
-        Token::GreaterThanEqualsTo => OpAnswer::NotBuiltIn,
         Token::PlusAssign => calculate(Calculation::Addition, x, y),
         Token::MinusAssign => calculate(Calculation::Subtraction, x, y),
         Token::MultiplyAssign => calculate(Calculation::Multiplication, x, y),
-        Token::Other => OpAnswer::NotBuiltIn,
+        _ => OpAnswer::NotBuiltIn,
     }
 }
 
@@ -160,14 +184,12 @@ fn assigned_integers(token: Token, x: i64, y: i64) -> OpAnswer
 fn built_in_assignment(token: Token, target: &Dynamic, value: &Dynamic) -> OpAnswer
     ensures { outcome_of result ≡ assignment token target.now value.now }
 {
-    match target {
-        Dynamic::Int(x) => match value {
-            Dynamic::Int(y) => assigned_integers(token, *x, *y),
-            Dynamic::Bool(_) => OpAnswer::NotBuiltIn,
-            Dynamic::Unit => OpAnswer::NotBuiltIn,
+    match target.as_int() {
+        Some(x) => match value.as_int() {
+            Some(y) => assigned_integers(token, x, y),
+            None => OpAnswer::NotBuiltIn,
         },
-        Dynamic::Bool(_) => OpAnswer::NotBuiltIn,
-        Dynamic::Unit => OpAnswer::NotBuiltIn,
+        None => OpAnswer::NotBuiltIn,
     }
 }
 

@@ -1,19 +1,23 @@
 //! The operand stack that all frames share, and the trace of a fault.
 
-ghost use Rattle.std.specs.Prelude.{◌≡◌, ◌<◌, ◌≤◌, ◌+◌, ◌-◌, ◌++◌, ◌∷◌, [], length, take, drop, OnOk, None, false};
+ghost use Rattle.std.specs.Prelude.{◌≡◌, ◌<◌, ◌≤◌, ◌+◌, ◌-◌, ◌++◌, ◌∷◌, [], length, take, drop, slice_index_or, slice_set, OnOk, is_ok, if◌then◌else◌, None, false};
 ghost use Rattle.std.specs.Vec.{vec_capacity};
-ghost use Rattle.grain_vm.specs.means.Acts.{top, below, under};
-ghost use Rattle.grain_vm.specs.frame.Hand.{own, AsWas};
+ghost use Rattle.grain_value.specs.declared.values.Dynamic.TheVariants as Dynamic;
+ghost use Rattle.grain_vm.specs.means.Acts.{top, below, under, rotated, read_write, value_in};
+ghost use Rattle.grain_vm.specs.frame.Hand.{own, AsWas, Roomy};
 
 use grain_fault::Fault;
 use grain_value::{Dynamic, Held, OutOfMemory};
 use std::alloc::Global;
+use std::mem;
 
-/// The operands of all frames, one frame's above the other's, and the trace.
+/// The operands of all frames, one frame's above the other's, the trace, and how many frames were entered and not
+/// left.
 #[derive(Drop)]
 pub struct Stacks {
     pub operands: Vec<Held>,
     pub trace: Vec<Fault>,
+    pub frames: usize,
 }
 
 impl Stacks {
@@ -21,22 +25,31 @@ impl Stacks {
     pub fn new(alloc: Global) -> Stacks
         ensures operands { result.operands.items ≡ [] }
         ensures trace { result.trace.items ≡ [] }
+        ensures frames { result.frames ≡ 0 }
     {
         Stacks {
             operands: Vec::new(alloc),
             trace: Vec::new(alloc),
+            frames: 0,
         }
     }
 
-    /// Makes room for a frame's operands, at most so many, and for one entry of the trace.
+    /// Enters a frame: makes room for its operands, at most so many, and for an entry of the trace for each frame.
     pub fn enter(&mut self, operands: u16) -> Result<(), OutOfMemory>
         ensures operands { self.new.operands.items ≡ self.old.operands.items }
         ensures trace { self.new.trace.items ≡ self.old.trace.items }
+        ensures capacity { vec_capacity self.old.operands ≤ vec_capacity self.new.operands }
+        ensures notes { vec_capacity self.old.trace ≤ vec_capacity self.new.trace }
         ensures room { OnOk result (length self.old.operands.items + operands ≤ vec_capacity self.new.operands) }
-        ensures note { OnOk result (length self.old.trace.items + 1 ≤ vec_capacity self.new.trace) }
+        ensures roomy { OnOk result (Roomy self.new) }
+        ensures frames { self.new.frames ≡ (if is_ok result then self.old.frames + 1 else self.old.frames) }
     {
+        let Some(frames) = self.frames.checked_add(1) else {
+            return Err(OutOfMemory);
+        };
         self.operands.reserve(usize::from(operands))?;
-        self.trace.reserve(1)?;
+        self.trace.reserve(frames)?;
+        self.frames = frames;
         Ok(())
     }
 
@@ -74,6 +87,25 @@ impl Stacks {
         }
     }
 
+    /// The last operand of a frame, whose operands begin at `bottom`.
+    pub fn top(&self, bottom: usize) -> &Dynamic
+        requires there { bottom < length self.now.operands.items }
+        ensures { result.now ≡ top (own self.now bottom) }
+    {
+        &self.operands[self.operands.len() - 1].value
+    }
+
+    /// Takes the operand at a place of the stack, which then holds unit.
+    pub fn take_at(&mut self, place: usize) -> Dynamic
+        requires there { place < length self.old.operands.items }
+        ensures value { result ≡ value_in (slice_index_or self.old.operands.items place (read_write Dynamic.Unit)) }
+        ensures operands { self.new.operands.items ≡ slice_set self.old.operands.items place (read_write Dynamic.Unit) }
+        ensures rest { AsWas self.old self.new }
+    {
+        let held = mem::replace(&mut self.operands[place], Held::read_write(Dynamic::Unit));
+        held.value
+    }
+
     /// Takes the last operand of a frame, or gives unit where it has none.
     pub fn pop_or_unit(&mut self, bottom: usize) -> Dynamic
         requires { bottom ≤ length self.old.operands.items }
@@ -100,19 +132,38 @@ impl Stacks {
         self.operands.truncate(self.operands.len() - count);
     }
 
-    /// Ends a frame: its operands go.
-    pub fn leave(&mut self, bottom: usize)
-        ensures operands { self.new.operands.items ≡ take bottom self.old.operands.items }
+    /// Puts the last operand of a frame under so many others.
+    pub fn rotate(&mut self, bottom: usize, under: usize)
+        requires there { bottom + under < length self.old.operands.items }
+        ensures own { own self.new bottom ≡ rotated under (own self.old bottom) }
+        ensures kept { take bottom self.new.operands.items ≡ take bottom self.old.operands.items }
+        ensures height { length self.new.operands.items ≡ length self.old.operands.items }
         ensures rest { AsWas self.old self.new }
     {
+        let first = self.operands.len() - (under + 1);
+        let (_, others) = self.operands.split_at_mut(first);
+        others.rotate_right(1);
+    }
+
+    /// Leaves a frame: its operands go.
+    pub fn leave(&mut self, bottom: usize)
+        requires entered { 0 < self.old.frames }
+        ensures operands { self.new.operands.items ≡ take bottom self.old.operands.items }
+        ensures trace { self.new.trace ≡ self.old.trace }
+        ensures frames { self.new.frames + 1 ≡ self.old.frames }
+        ensures capacity { vec_capacity self.old.operands ≤ vec_capacity self.new.operands }
+    {
         self.operands.truncate(bottom);
+        self.frames -= 1;
     }
 
     /// Notes where a frame stopped, for which there has to be room.
     pub fn note(&mut self, address: usize)
         requires room { length self.old.trace.items < vec_capacity self.old.trace }
         ensures trace { self.new.trace.items ≡ self.old.trace.items ++ record { address = address; slot = None } ∷ [] }
-        ensures operands { self.new.operands.items ≡ self.old.operands.items }
+        ensures operands { self.new.operands ≡ self.old.operands }
+        ensures frames { self.new.frames ≡ self.old.frames }
+        ensures capacity { vec_capacity self.old.trace ≤ vec_capacity self.new.trace }
     {
         match self.trace.push(Fault {
             address,
@@ -126,7 +177,8 @@ impl Stacks {
     /// Forgets the trace.
     pub fn clear_trace(&mut self)
         ensures trace { self.new.trace.items ≡ [] }
-        ensures operands { self.new.operands.items ≡ self.old.operands.items }
+        ensures operands { self.new.operands ≡ self.old.operands }
+        ensures frames { self.new.frames ≡ self.old.frames }
     {
         self.trace.clear();
     }

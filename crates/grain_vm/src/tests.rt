@@ -7,11 +7,12 @@ ghost use Rattle.grain_program.specs.Recorded.{HasOrder};
 use crate::frame::steps::Steps;
 use crate::global::Engine;
 use crate::vms::Vm;
-use grain_fault::{EvalAltResult, Position};
+use grain_fault::{EvalAltResult, Fault, Position};
 use grain_program::{
-    AssignOps, Chunk, Names, Op, Parts, Positions, Program, Tokens, assemble, verify,
+    AssignOps, Caps, Chunk, Function, Functions, Indices, Names, Op, Parts, Positions, Program,
+    Tokens, assemble, verify,
 };
-use grain_value::{Array, Dynamic, Limits, OutOfMemory, Scope};
+use grain_value::{Array, Dynamic, Limits, OutOfMemory, Scope, Text};
 use std::alloc::Global;
 use std::marker::Brand;
 use std::process::Abort;
@@ -28,22 +29,40 @@ const LIMITS: Limits = Limits {
     map: 0,
 };
 
-// Parts of these instructions, with the constant 7.
+// Parts of these instructions, with the constant 7 and the name `f`. What lies behind main's end is a function of that
+// name.
 fn parts_of(alloc: Global, ops: &[Op], end: u32) -> Result<Parts, OutOfMemory>
     ensures { IfOk result (λ parts. HasOrder (view_of parts)) }
 {
     let code = assemble(alloc, ops)?;
     let mut consts = Array::new(alloc);
     consts.push(Dynamic::Int(7))?;
+    let mut names = Names::new(alloc);
+    names.push(Text::copy_of(alloc, "f")?)?;
+    let mut functions = Functions::new(alloc);
+    let whole = u32::try_from(code.len()).unwrap_or(end);
+    if whole > end {
+        functions.push(Function {
+            name: 0,
+            params: Indices::new(alloc),
+            chunk: Chunk {
+                entry: end,
+                end: whole,
+                max_stack: 1,
+            },
+        })?;
+    }
     Ok(Parts {
+        caps: Caps::all(),
         code,
         main: Chunk {
             entry: 0,
             end,
             max_stack: 1,
         },
+        functions,
         consts,
-        names: Names::new(alloc),
+        names,
         tokens: Tokens::new(alloc),
         assign_ops: AssignOps::new(alloc),
         positions: Positions::new(alloc),
@@ -95,6 +114,82 @@ fn stops_at_the_limit<L: Ledger>(rt: &impl Abort, alloc: Global, blank: Blank) -
     assert_eq!(rt; vm.fault_pc(), Some(0));
     assert_eq!(rt; vm.into_global_state().num_operations(), 3);
     Ok(())
+}
+
+fn wraps_what_a_function_throws<L: Ledger>(
+    rt: &impl Abort,
+    alloc: Global,
+    blank: Blank,
+) -> Result<(), Fail>
+    requires name { blank.name ≡ L.name }
+    requires parts { blank.parts ≡ L.parts }
+    requires enough { 5 < blank.parts }
+{
+    let ops = [Op::Call(0, 0), Op::Return, Op::LoadConst(0), Op::Throw];
+    let program = program_of(alloc, &ops, 5).ok_or("refused")?;
+    let engine = Engine::new(alloc, LIMITS);
+    let mut vm = Vm::new(alloc, &engine)?;
+    let mut scope = Scope::new(alloc);
+    let mut steps = Steps::<L>::new(blank);
+    let answer = vm.eval_with_callbacks(alloc, &mut scope, &program, &mut steps);
+    let Err(fault) = answer else {
+        return Err("no fault".into());
+    };
+    assert_eq!(rt; fault.name(), "ErrorInFunctionCall");
+    assert_eq!(rt; fault.unwrap_inner().name(), "ErrorRuntime");
+    let thrown = Fault {
+        address: 8,
+        slot: None,
+    };
+    let called = Fault {
+        address: 0,
+        slot: None,
+    };
+    let trace = [thrown, called];
+    assert_eq!(rt; vm.fault_trace(), trace.as_slice());
+    let global = vm.into_global_state();
+    assert_eq!(rt; global.num_operations(), 1);
+    assert_eq!(rt; global.level, 0);
+    Ok(())
+}
+
+fn stops_at_the_level<L: Ledger>(rt: &impl Abort, alloc: Global, blank: Blank) -> Result<(), Fail>
+    requires name { blank.name ≡ L.name }
+    requires parts { blank.parts ≡ L.parts }
+    requires enough { 5 < blank.parts }
+{
+    let ops = [Op::Call(0, 0), Op::Return, Op::Return];
+    let program = program_of(alloc, &ops, 5).ok_or("refused")?;
+    let limits = Limits {
+        levels: 0,
+        ..LIMITS
+    };
+    let engine = Engine::new(alloc, limits);
+    let global = engine.new_global_runtime_state(alloc)?;
+    let mut vm = Vm::with_global_state(alloc, &engine, global);
+    let mut scope = Scope::new(alloc);
+    let mut steps = Steps::<L>::new(blank);
+    let answer = vm.eval_with_callbacks(alloc, &mut scope, &program, &mut steps);
+    assert!(rt;
+        matches!(
+            answer,
+            Err(EvalAltResult::ErrorStackOverflow(Position::NONE))
+        )
+    );
+    assert_eq!(rt; vm.fault_trace().len(), 1);
+    assert_eq!(rt; vm.fault_pc(), Some(0));
+    assert_eq!(rt; vm.into_global_state().num_operations(), 1);
+    Ok(())
+}
+
+#[test]
+fn a_thrown_value_is_wrapped_by_the_call(rt: HostRuntime) -> Result<(), Fail> {
+    wraps_what_a_function_throws::<Brand>(&rt, rt.alloc(), Blank::new(6))
+}
+
+#[test]
+fn a_call_without_a_level_overflows(rt: HostRuntime) -> Result<(), Fail> {
+    stops_at_the_level::<Brand>(&rt, rt.alloc(), Blank::new(6))
 }
 
 #[test]

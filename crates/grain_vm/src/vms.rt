@@ -2,10 +2,12 @@
 
 ghost use Rattle.std.specs.Prelude.{◌≡◌, ◌+◌, ◌<◌, ℕ, [], false, IfOk, option_map, slice_get};
 ghost use Rattle.grain_vm.specs.means.Causes.{HasCause};
+ghost use Rattle.grain_vm.specs.means.Leavings.{Leaves};
 ghost use Rattle.grain_vm.specs.means.Means.{Evaluates};
 ghost use Rattle.grain_vm.specs.frame.Counts.{instructions};
 ghost use Rattle.grain_vm.specs.Machines.{begin, finish, answered};
 
+use crate::frame::contexts::Context;
 use crate::frame::states::State;
 use crate::frame::steps::Steps;
 use crate::global::{Engine, GlobalRuntimeState};
@@ -35,7 +37,7 @@ impl<'e> Model for Vm<'e> {
 
     ghost view = { λ v. record { engine = v.engine.now; global = v.global; trace = v.stacks.trace.items } };
 
-    ghost invariant = { λ v. v.stacks.operands.items ≡ [] };
+    ghost invariant = { λ v. (v.stacks.operands.items ≡ []) × (v.stacks.frames ≡ 0) };
 }
 
 impl<'e> Vm<'e> {
@@ -88,7 +90,7 @@ impl<'e> Vm<'e> {
 
     /// Runs a program's main on a scope. The operations that are charged count on from the state's, and the entries
     /// that main declares stay after a value; a fault cuts the scope back to its length. Where memory runs out, the
-    /// run is the one that is stopped at a mark.
+    /// run is the one that is stopped at a mark. The scope's entries keep their names and order, whatever the end is.
     pub fn eval_with_callbacks<L: Ledger>(
         &mut self,
         alloc: Global,
@@ -99,19 +101,27 @@ impl<'e> Vm<'e> {
         requires positive { 0 < self.old.engine.limits.operations }
         ensures evaluates { (ran : ℕ) × (Evaluates program.now self.old.engine (begin scope.old self.old.global) result (finish scope.new self.new) ran × (instructions steps.new ≡ instructions steps.old + ran)) }
         ensures causes { HasCause program.now self.old.engine self.new.global.num_operations result }
+        ensures leaves { Leaves program.now scope.old result scope.new }
+        ensures level { self.new.global.level ≡ self.old.global.level }
         ensures engine { self.new.engine ≡ self.old.engine }
     {
         steps.start();
         self.stacks.clear_trace();
+        let context = Context {
+            engine: self.engine,
+            program,
+        };
         let mut state = State {
+            alloc,
             stacks: mem::replace(&mut self.stacks, Stacks::new(alloc)),
             scope: mem::replace(scope, Scope::new(alloc)),
             count: self.global.num_operations,
             level: self.global.level,
             outcome: Ok(Dynamic::Unit),
         };
-        let back = state.run_main(alloc, self.engine, program, steps);
+        let back = state.run_main(context, steps);
         let State {
+            alloc: _,
             stacks,
             scope: after,
             count,

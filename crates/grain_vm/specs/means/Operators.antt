@@ -1,5 +1,5 @@
 -- The operators that are built in, and the fault where none is found.
-use Rattle.std.specs.Prelude.{ℕ, ℤ, pos, negsuc, ◌^◌, ◌+ℤ◌, ◌-ℤ◌, ◌*ℤ◌, int_lt, Bool, not, List, [], ◌∷◌, ◌++◌, codes, ◌&&◌, if◌then◌else◌}
+use Rattle.std.specs.Prelude.{ℕ, ℤ, pos, negsuc, ◌^◌, ◌+ℤ◌, ◌-ℤ◌, ◌*ℤ◌, neg_ℤ, int_lt, Bool, not, Option, Some, None, List, [], ◌∷◌, ◌++◌, codes, ◌&&◌, if◌then◌else◌}
 use Rattle.std.specs.Ordering.{int_eq}
 use Rattle.std.specs.Fmt.{signed_decimal}
 use Rattle.grain_value.specs.declared.values.Dynamic.{Dynamic}
@@ -8,6 +8,7 @@ use Rattle.grain_value.specs.declared.operators.Token.{Token}
 use Rattle.grain_value.specs.declared.operators.Token.TheVariants as token
 use Rattle.grain_vm.specs.declared.operators.Calculation.{Calculation}
 use Rattle.grain_vm.specs.declared.operators.Calculation.TheVariants as calculation
+use Rattle.grain_value.specs.Looking.{integer_of}
 use Rattle.grain_value.specs.Writing.{type_name_of}
 
 -- what a built-in says: there is none, a value, or the text of an arithmetic fault
@@ -43,6 +44,16 @@ overflow_text c x y = overflow_lead c ++ signed_decimal x ++ sign_between c ++ s
 abbrev pub calculated : Calculation → ℤ → ℤ → Outcome
 calculated c x y = if fits64 (exact c x y) then Gave (dynamic.Int (exact c x y)) else Overflowed (overflow_text c x y)
 
+-- the negation
+abbrev pub negated : ℤ → Outcome
+negated x = if fits64 (neg_ℤ x) then Gave (dynamic.Int (neg_ℤ x)) else Overflowed (codes "integer overflow")
+
+-- an operator on an integer
+abbrev pub integer : Token → ℤ → Outcome
+integer token.Minus x = negated x
+integer token.UnaryMinus x = negated x
+integer t x = NotBuiltIn
+
 -- an operator on two integers
 abbrev pub integers : Token → ℤ → ℤ → Outcome
 integers token.Plus x y = calculated calculation.Addition x y
@@ -54,21 +65,21 @@ integers token.LessThan x y = Gave (dynamic.Bool (int_lt x y))
 integers token.LessThanEqualsTo x y = Gave (dynamic.Bool (not (int_lt y x)))
 integers token.GreaterThan x y = Gave (dynamic.Bool (int_lt y x))
 integers token.GreaterThanEqualsTo x y = Gave (dynamic.Bool (not (int_lt x y)))
-integers token.PlusAssign x y = NotBuiltIn
-integers token.MinusAssign x y = NotBuiltIn
-integers token.MultiplyAssign x y = NotBuiltIn
-integers token.Other x y = NotBuiltIn
+integers t x y = NotBuiltIn
 
-abbrev pub binary : Token → Dynamic → Dynamic → Outcome
-binary t (dynamic.Int x) (dynamic.Int y) = integers t x y
-binary t (dynamic.Int x) (dynamic.Bool b) = NotBuiltIn
-binary t (dynamic.Int x) dynamic.Unit = NotBuiltIn
-binary t (dynamic.Bool b) v = NotBuiltIn
-binary t dynamic.Unit v = NotBuiltIn
+abbrev pub unary : Token → Option ℤ → Outcome
+unary t (Some x) = integer t x
+unary t None = NotBuiltIn
 
--- an operator on its arguments: only two of them have a built-in so far
+abbrev pub binary : Token → Option ℤ → Option ℤ → Outcome
+binary t (Some x) (Some y) = integers t x y
+binary t (Some x) None = NotBuiltIn
+binary t None y = NotBuiltIn
+
+-- an operator on its arguments
 abbrev pub operation : Token → List Dynamic → Outcome
-operation t (x ∷ y ∷ []) = binary t x y
+operation t (x ∷ []) = unary t (integer_of x)
+operation t (x ∷ y ∷ []) = binary t (integer_of x) (integer_of y)
 operation t args = NotBuiltIn
 
 -- an op-assignment to two integers
@@ -76,24 +87,16 @@ abbrev pub assigned_integers : Token → ℤ → ℤ → Outcome
 assigned_integers token.PlusAssign x y = calculated calculation.Addition x y
 assigned_integers token.MinusAssign x y = calculated calculation.Subtraction x y
 assigned_integers token.MultiplyAssign x y = calculated calculation.Multiplication x y
-assigned_integers token.Plus x y = NotBuiltIn
-assigned_integers token.Minus x y = NotBuiltIn
-assigned_integers token.Multiply x y = NotBuiltIn
-assigned_integers token.EqualsTo x y = NotBuiltIn
-assigned_integers token.NotEqualsTo x y = NotBuiltIn
-assigned_integers token.LessThan x y = NotBuiltIn
-assigned_integers token.LessThanEqualsTo x y = NotBuiltIn
-assigned_integers token.GreaterThan x y = NotBuiltIn
-assigned_integers token.GreaterThanEqualsTo x y = NotBuiltIn
-assigned_integers token.Other x y = NotBuiltIn
+assigned_integers t x y = NotBuiltIn
 
--- an op-assignment to a target of a value
+-- an op-assignment to a target, of a value
+abbrev pub assignment_to : Token → Option ℤ → Option ℤ → Outcome
+assignment_to t (Some x) (Some y) = assigned_integers t x y
+assignment_to t (Some x) None = NotBuiltIn
+assignment_to t None y = NotBuiltIn
+
 abbrev pub assignment : Token → Dynamic → Dynamic → Outcome
-assignment t (dynamic.Int x) (dynamic.Int y) = assigned_integers t x y
-assignment t (dynamic.Int x) (dynamic.Bool b) = NotBuiltIn
-assignment t (dynamic.Int x) dynamic.Unit = NotBuiltIn
-assignment t (dynamic.Bool b) v = NotBuiltIn
-assignment t dynamic.Unit v = NotBuiltIn
+assignment t target value = assignment_to t (integer_of target) (integer_of value)
 
 -- only where operators are fast is a built-in asked
 abbrev pub where_fast : Bool → Outcome → Outcome

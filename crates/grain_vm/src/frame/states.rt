@@ -1,17 +1,21 @@
-//! What a run changes, but for its frame.
+//! What a run has in its hands, but for its frame.
 
 ghost use Rattle.std.specs.Prelude.{◌≡◌, ◌<◌, ◌+◌, nat_lt, true, if◌then◌else◌, Ok, Err};
 
+use crate::frame::steps::Steps;
 use crate::global::Engine;
 use crate::stack::Stacks;
 use grain_fault::{EvalAltResult, RhaiResult};
 use grain_value::{Dynamic, Scope};
+use std::alloc::Global;
 use std::mem;
+use std::sync::ledger::Ledger;
 
-/// What a run changes, but for its frame: the operands of all frames and the trace, the scope of the running frame,
+/// What a run has in its hands, but for its frame: where it takes memory from, the operands of all frames and the trace, the scope of the running frame,
 /// the operations and the level, and what came out of a frame that is over, until it is taken up.
 #[derive(Drop)]
 pub struct State {
+    pub alloc: Global,
     pub stacks: Stacks,
     pub scope: Scope,
     pub count: u64,
@@ -51,14 +55,25 @@ impl State {
         Flow::Over
     }
 
-    /// A fault is raised in the frame.
+    /// A fault leaves the frame.
     #[cold]
-    pub fn raise(&mut self, fault: EvalAltResult) -> Flow
+    pub fn depart(&mut self, fault: EvalAltResult) -> Flow
         ensures flow { result ≡ Flow.Over }
         ensures after { self.new ≡ record self.old { outcome = Err fault } }
     {
         self.outcome = Err(fault);
         Flow::Over
+    }
+
+    /// A fault is raised in the frame, and leaves it.
+    #[cold]
+    pub fn raise<L: Ledger>(&mut self, steps: &mut Steps<L>, fault: EvalAltResult) -> Flow
+        ensures flow { result ≡ Flow.Over }
+        ensures after { self.new ≡ record self.old { outcome = Err fault } }
+        ensures marked { steps.new ≡ record steps.old { passed = steps.old.passed + 1 } }
+    {
+        steps.mark();
+        self.depart(fault)
     }
 
     /// What came out of the frame that is over.

@@ -1,12 +1,11 @@
--- The search has come so far.
-use Rattle.std.proofs.Common.{◌+◌, length}
-use Rattle.grain_program.specs.View.{view_of}
-use Rattle.grain_program.proofs.Cells.{free}
-use Rattle.grain_program.proofs.Loops.{Walked}
+-- What is left of the search gives what all of it gives.
+use Rattle.std.proofs.Common.{◌≡◌, drop, length, []}
+use Rattle.grain_program.specs.Typing.{survey_from, survey}
 use Rattle.grain_program.proofs.late.late.Given as goal
 
-abbrev pub invariant-loop-address : goal.invariant-loop-address
-invariant-loop-address l = Walked (view_of l.parts) l.chunks l.survey
-
-abbrev pub decreases-loop-address : goal.decreases-loop-address
-decreases-loop-address l = free l.survey.shapes + length l.survey.waiting
+abbrev pub invariant-loop-chunk : goal.invariant-loop-chunk
+invariant-loop-chunk l = record {
+  is : survey_from l.parts.code (drop l.chunk-index l.chunks) l.survey ≡ survey l.parts.code l.chunks;
+  long : length l.survey.shapes ≡ length l.parts.code;
+  none : l.survey.waiting ≡ [];
+}

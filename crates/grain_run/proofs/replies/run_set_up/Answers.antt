@@ -1,6 +1,6 @@
 use Rattle.std.proofs.Common.{◌≡◌, rules}
 use Rattle.grain_program.specs.View.{view_of}
-use Rattle.grain_run.specs.SetUpView.{set_up_of}
+use Rattle.grain_listing.specs.SetUpView.{set_up_of}
 use Rattle.grain_run.proofs.Answering.{answers_refusal, answers_end}
 use Rattle.grain_run.proofs.replies.run_set_up.Goals as goal
 
@@ -11,5 +11,5 @@ returns-in-Err g c =
 pub returns-in-Ok : goal.returns-in-Ok
 returns-in-Ok g c =
     let program : c.in-Ok.program ≡ view_of c.args.setup.parts = search rules in
-    let told = rw (program, c.requires.limits) at c.run_program.ensures in
+    let told = rw program at c.run_program.ensures in
     answers_end (set_up_of c.args.setup) c.run_program.result c.in-Ok.ensures.sound told

@@ -1,7 +1,6 @@
-use Rattle.std.proofs.Common.{◌≡◌, ◌<◌, ◌∙◌, ℕ, ◌+◌, List, [], ◌∷◌, ◌++◌, length, map, drop, get_or, false, refl, ap, add-one, append_assoc}
+use Rattle.std.proofs.Common.{◌≡◌, ◌<◌, ◌∙◌, ℕ, ◌+◌, List, [], ◌∷◌, ◌++◌, length, map, drop, get_or, refl, ap, add-one, append_assoc}
 use Rattle.std.specs.Prelude.{codes}
 use Rattle.std.proofs.Math.Seq.{drop-cons}
-use Rattle.grain_value.specs.declared.values.Dynamic.TheVariants as dynamic
 use Rattle.grain_value.specs.declared.values.Held.{Held}
 use Rattle.grain_value.specs.Writing.{type_name_of}
 use Rattle.grain_vm.specs.means.Operators.{types_text}
@@ -17,6 +16,7 @@ pub loop-held-preserved : goal.loop-held-preserved
 unfolding lib.Utf8.encode
 loop-held-preserved c = (
   (44 ∷ 32 ∷ [], (refl, refl)),
-  next_type c.args.values.now c.loop-held.held-index (record { value = dynamic.Unit; read_only = false }) c.loop-held.lead.now c.loop-held.out c.push_str.new.self c.push_str-in-loop-held.new.self
-      c.loop-held-test.true c.in_ok-push_str.ensures (c.in_ok-push_str-2.ensures ∙ ap (λ t. c.push_str.new.self ++ t) (c.as_str-in-loop-held.ensures ∙ c.in_ok-type_name.ensures)) ∙ c.loop-held.invariant.1,
+  next_type c.args.values.now c.loop-held.held-index c.held-item.result c.loop-held.lead.now c.loop-held.out c.push_str.new.self c.push_str-in-loop-held.new.self
+      c.loop-held-test.true c.in_ok-push_str.ensures
+      (c.in_ok-push_str-2.ensures ∙ (ap (λ t. c.push_str.new.self ++ t) (c.as_str-in-loop-held.ensures ∙ c.in_ok-type_name.ensures) ∙ ap (λ (k : Held). c.push_str.new.self ++ type_name_of k.value) c.held-item.is)) ∙ c.loop-held.invariant.1,
 )

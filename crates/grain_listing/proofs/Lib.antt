@@ -1,0 +1,11 @@
+pub mod LineEnds
+pub mod Fronts
+pub mod Digits
+pub mod LabelMaps
+pub mod Colons
+pub mod Beyond
+pub mod Texts
+pub mod Spelled
+pub mod SpotColons
+pub mod Ascending
+pub mod Onward

@@ -1,0 +1,78 @@
+-- What the format has and nothing reads so far.
+use Rattle.std.specs.Prelude.{ℕ, Bool, false, ◌||◌, List, [], ◌∷◌, codes, bytes_eq, nat_eq}
+use Rattle.std.specs.List.{starts_with}
+
+abbrev pub is_among : List (List ℕ) → List ℕ → Bool
+is_among [] w = false
+is_among (t ∷ ts) w = bytes_eq t w || is_among ts w
+
+abbrev pub begins_among : List (List ℕ) → List ℕ → Bool
+begins_among [] w = false
+begins_among (t ∷ ts) w = starts_with nat_eq w t || begins_among ts w
+
+-- lines and blocks
+abbrev pub later_lines : List (List ℕ)
+later_lines =
+    codes "source" ∷ codes "flag" ∷ codes "chain" ∷ codes "step" ∷ codes "switch" ∷ codes "case" ∷ codes "range" ∷ codes "range=" ∷ codes "site" ∷ codes "input" ∷
+    codes "fragment" ∷ codes "module" ∷ codes "item" ∷ codes "var" ∷ codes "answer" ∷ codes "forbid" ∷ codes "fail" ∷ codes "stop" ∷ codes "chunk" ∷ []
+
+-- instructions that read and write variables
+abbrev pub later_variables : List (List ℕ)
+later_variables =
+    codes "store_shared" ∷ codes "load_named" ∷ codes "load_shared_named" ∷ codes "assign_named" ∷ codes "assign_named_op" ∷
+    codes "declare_global_const" ∷ codes "load_this" ∷ codes "load_this_shared" ∷ codes "require_this" ∷ codes "assign_this" ∷
+    codes "assign_this_op" ∷ codes "load_shared" ∷ codes "share" ∷ codes "share_named" ∷ codes "is_shared" ∷ []
+
+-- instructions that call and make what is called
+abbrev pub later_calls : List (List ℕ)
+later_calls =
+    codes "call_local_ref" ∷ codes "call_named_ref" ∷ codes "call_this_ref" ∷ codes "make_closure" ∷ codes "make_fn_ptr" ∷ codes "curry" ∷
+    codes "call_fn_ptr" ∷ codes "call_fn_ptr_capture" ∷ codes "call_fn_ptr_method" ∷ codes "call_fn_ptr_on_local" ∷ codes "call_fn_ptr_on_named" ∷
+    codes "call_fn_ptr_on_this" ∷ []
+
+-- the other instructions
+abbrev pub later_others : List (List ℕ)
+later_others =
+    codes "make_array" ∷ codes "make_map" ∷ codes "check_array_size" ∷ codes "check_map_size" ∷ codes "interpolate_start" ∷
+    codes "interpolate_append" ∷ codes "interpolate_end" ∷ codes "push_handler" ∷ codes "push_handler_var" ∷ codes "pop_handler" ∷
+    codes "iter_init" ∷ codes "iter_drop" ∷ codes "iter_next" ∷ codes "iter_next_indexed" ∷ codes "export_local" ∷ codes "export_named" ∷
+    codes "import" ∷ codes "custom_syntax" ∷ codes "eval_ast" ∷ codes "eval_ast_keep" ∷ []
+
+-- the words of `limit`
+abbrev pub later_limits : List (List ℕ)
+later_limits = codes "modules" ∷ codes "text" ∷ codes "array" ∷ codes "map" ∷ []
+
+-- the texts of `op`
+abbrev pub later_operators : List (List ℕ)
+later_operators =
+    codes "/" ∷ codes "%" ∷ codes "**" ∷ codes "<<" ∷ codes ">>" ∷ codes "&" ∷ codes "|" ∷ codes "^" ∷ codes ".." ∷ codes "..=" ∷
+    codes "!" ∷ codes "/=" ∷ codes "%=" ∷ codes "**=" ∷ codes "<<=" ∷ codes ">>=" ∷ codes "&=" ∷ codes "|=" ∷ codes "^=" ∷ []
+
+-- how values begin
+abbrev pub later_values : List (List ℕ)
+later_values = codes "[" ∷ codes "#{" ∷ codes "blob(" ∷ codes "fn(" ∷ codes "range(" ∷ codes "range=(" ∷ codes "foreign(" ∷ []
+
+unfoldable pub is_later_line : List ℕ → Bool
+is_later_line w = is_among later_lines w
+
+unfoldable pub is_later_variable : List ℕ → Bool
+is_later_variable w = is_among later_variables w
+
+unfoldable pub is_later_call : List ℕ → Bool
+is_later_call w = is_among later_calls w
+
+unfoldable pub is_later_other : List ℕ → Bool
+is_later_other w = is_among later_others w
+
+-- a line or an instruction
+unfoldable pub is_later : List ℕ → Bool
+is_later w = is_later_line w || (is_later_variable w || (is_later_call w || is_later_other w))
+
+unfoldable pub is_later_limit : List ℕ → Bool
+is_later_limit w = is_among later_limits w
+
+unfoldable pub is_later_operator : List ℕ → Bool
+is_later_operator t = is_among later_operators t
+
+unfoldable pub is_later_value : List ℕ → Bool
+is_later_value w = begins_among later_values w

@@ -1,0 +1,24 @@
+-- What was read, as the definition has it.
+use Rattle.std.specs.Prelude.{◌<◌, ℕ, List, Result, Ok, Err}
+use Rattle.grain_program.specs.View.{view_of}
+use Rattle.grain_program.specs.Recorded.{HasOrder}
+use Rattle.grain_listing.specs.Reading.{SetUp}
+use Rattle.grain_listing.specs.declared.setups.Setup.{Setup}
+use Rattle.grain_listing.specs.declared.reasons.BadLine.{BadLine}
+
+abbrev pub set_up_of : Setup → SetUp
+set_up_of s = record { parts = view_of s.parts; limits = s.limits; scope = s.scope }
+
+-- the set-up may be verified and run: positions are in order, and at least one operation is allowed
+pub record IsReady (s : Setup) : Type 0 where
+  pub ordered : HasOrder (view_of s.parts)
+  pub allowed : 0 < s.limits.operations
+
+abbrev pub outcome : Result Setup BadLine → Result SetUp BadLine
+outcome (Ok s) = Ok (set_up_of s)
+outcome (Err e) = Err e
+
+-- a step on the code, with what it left where it was not refused
+abbrev pub left : {A E : Type 0} → Result A E → List ℕ → Result (List ℕ) E
+left (Ok x) code = Ok code
+left (Err e) code = Err e

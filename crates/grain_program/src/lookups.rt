@@ -1,0 +1,53 @@
+//! Which function a name and a number of arguments mean.
+
+ghost use Rattle.std.specs.Prelude.{◌≡◌, IfOk};
+ghost use Rattle.std.specs.List.{position_from};
+ghost use Rattle.grain_program.specs.Lookups.{has_text, IsIndex};
+
+use crate::functions::Function;
+use crate::pools::Names;
+use grain_value::OutOfMemory;
+use std::alloc::Global;
+use std::collections::BTreeMap;
+
+/// The number of the first function of each name, by its index, with each number of parameters.
+pub type Firsts = BTreeMap<(u32, usize), usize>;
+
+/// The first of these functions, by name and number of parameters.
+pub fn firsts_of(alloc: Global, functions: &[Function]) -> Result<Firsts, OutOfMemory>
+    ensures { IfOk result (λ firsts. IsIndex functions.now firsts) }
+{
+    let mut firsts = BTreeMap::new(alloc);
+    for number in (0..functions.len()).rev() {
+        let function = &functions[number];
+        firsts.insert((function.name, function.params.len()), number)?;
+    }
+    Ok(firsts)
+}
+
+/// Whether the function has a name of this text, and so many parameters.
+fn has_text(names: &Names, text: &str, count: usize, function: &Function) -> bool
+    ensures { result ≡ has_text names.now text.now count function.now }
+{
+    match names.get(function.name as usize) {
+        Some(name) => name.as_str() == text && function.params.len() == count,
+        None => false,
+    }
+}
+
+/// The number of the first function that has a name of this text, with so many parameters.
+pub fn first_by_text(
+    names: &Names,
+    functions: &[Function],
+    text: &str,
+    count: usize,
+) -> Option<usize>
+    ensures { result ≡ position_from (has_text names.now text.now count) 0 functions.now }
+{
+    for (number, function) in functions.iter().enumerate() {
+        if has_text(names, text, count, function) {
+            return Some(number);
+        }
+    }
+    None
+}

@@ -1,0 +1,24 @@
+-- What a value is looked at as.
+use Rattle.std.specs.Prelude.{ℤ, Bool, true, false, Option, Some, None}
+use Rattle.grain_value.specs.declared.values.Dynamic.{Dynamic}
+use Rattle.grain_value.specs.declared.values.Dynamic.TheVariants as dynamic
+
+abbrev pub is_unit : Dynamic → Bool
+is_unit dynamic.Unit = true
+is_unit (dynamic.Bool b) = false
+is_unit (dynamic.Int n) = false
+is_unit (dynamic.Text t) = false
+
+-- the truth value, where it is one
+abbrev pub truth_of : Dynamic → Option Bool
+truth_of dynamic.Unit = None
+truth_of (dynamic.Bool b) = Some b
+truth_of (dynamic.Int n) = None
+truth_of (dynamic.Text t) = None
+
+-- the integer, where it is one
+abbrev pub integer_of : Dynamic → Option ℤ
+integer_of dynamic.Unit = None
+integer_of (dynamic.Bool b) = None
+integer_of (dynamic.Int n) = Some n
+integer_of (dynamic.Text t) = None

@@ -1,0 +1,298 @@
+//! Instructions on the scope's entries.
+
+ghost use Rattle.std.specs.Prelude.{◌≡◌, ◌<◌, ◌≤◌, ◌+◌, ◌-◌, length, Ok};
+ghost use Rattle.std.specs.Vec.{vec_capacity};
+ghost use Rattle.grain_program.specs.View.{name_of, assign_op_of};
+ghost use Rattle.grain_program.specs.declared.instructions.Op.TheVariants as op;
+ghost use Rattle.grain_vm.specs.means.Acts.{instr, kept, declared, held_at};
+ghost use Rattle.grain_vm.specs.frame.Hand.{own, frame_in, Does, Kept, Stands, Lands};
+
+use crate::frame::activations::Activation;
+use crate::frame::contexts::Context;
+use crate::frame::faults::{
+    constant, negation_overflowed, overflowed, too_many_variables, unknown_pair,
+};
+use crate::frame::states::{Flow, State};
+use crate::frame::steps::Steps;
+use crate::operators;
+use crate::operators::OpAnswer;
+use grain_fault::{EvalAltResult, MalformedKind};
+use grain_value::{Held, OutOfMemory};
+use std::sync::ledger::Ledger;
+
+impl State {
+    // `load_local`: a copy of what the entry holds.
+    pub(crate) fn load_local<L: Ledger>(
+        &mut self,
+        context: Context<'_>,
+        steps: &mut Steps<L>,
+        frame: &mut Activation,
+        slot: u16,
+        next: usize,
+    ) -> Result<Flow, OutOfMemory>
+        requires stands { Stands frame.old self.old }
+        requires room { length self.old.stacks.operands.items < vec_capacity self.old.stacks.operands }
+        requires ahead { frame.old.address < next }
+        ensures same { Does context.entry.program.now context.entry.engine.now self.old steps.old
+            (λ m place w. instr m (op.LoadLocal slot) next (frame_in frame.old self.old) place w)
+            result self.new steps.new frame.new }
+        ensures kept { Kept frame.old self.old frame.new self.new }
+        ensures lands { Lands context.entry.engine.now self.old frame.old self.new frame.new (λ a. a ≡ next) (length (own self.old.stacks frame.old.bottom) + 1) result }
+        ensures before { steps.new.before ≡ steps.old.before }
+    {
+        let index = self.slot_index(frame, slot);
+        match self.scope.get(index) {
+            Some(held) => {
+                let value = held.value.copy(self.alloc)?;
+                Ok(self.push_on(context, steps, frame, value, next))
+            }
+            None => {
+                let fault = self.misplaced(context, frame, index);
+                Ok(self.raise(steps, fault))
+            }
+        }
+    }
+
+    // `store_local` and `store_const`: the frame's last operand into the entry, which can be written afterwards or can
+    // only be read.
+    #[tactic(auto, using(crate::proofs::Above::length_set_held))]
+    pub(crate) fn store<L: Ledger>(
+        &mut self,
+        context: Context<'_>,
+        steps: &mut Steps<L>,
+        frame: &mut Activation,
+        slot: u16,
+        read_only: bool,
+        next: usize,
+    ) -> Flow
+        requires stands { Stands frame.old self.old }
+        requires operand { frame.old.bottom < length self.old.stacks.operands.items }
+        requires ahead { frame.old.address < next }
+        ensures same { Does context.entry.program.now context.entry.engine.now self.old steps.old
+            (λ m place w. kept m (held_at w.scope (frame.old.base + slot)) read_only (frame_in frame.old self.old) slot next place w)
+            (Ok result) self.new steps.new frame.new }
+        ensures kept { Kept frame.old self.old frame.new self.new }
+        ensures lands { Lands context.entry.engine.now self.old frame.old self.new frame.new (λ a. a ≡ next) (length (own self.old.stacks frame.old.bottom) - 1) (Ok result) }
+        ensures before { steps.new.before ≡ steps.old.before }
+    {
+        let index = self.slot_index(frame, slot);
+        let value = self.stacks.pop(frame.bottom);
+        match self.scope.get(index) {
+            Some(_) => {
+                self.scope.set(index, Held { value, read_only });
+                steps.mark();
+                frame.address = next;
+                steps.mark();
+                Flow::On
+            }
+            None => {
+                let fault = self.misplaced(context, frame, index);
+                self.raise(steps, fault)
+            }
+        }
+    }
+
+    // `declare_local` and `declare_const`: one entry more, with the frame's last operand, which can be written or can only
+    // be read.
+    pub(crate) fn declare<L: Ledger>(
+        &mut self,
+        context: Context<'_>,
+        steps: &mut Steps<L>,
+        frame: &mut Activation,
+        name: u16,
+        read_only: bool,
+        next: usize,
+    ) -> Result<Flow, OutOfMemory>
+        requires stands { Stands frame.old self.old }
+        requires operand { frame.old.bottom < length self.old.stacks.operands.items }
+        requires pool { name < length context.program.now.names }
+        requires ahead { frame.old.address < next }
+        ensures same { Does context.entry.program.now context.entry.engine.now self.old steps.old
+            (λ m place w. declared m read_only (name_of m.program name) (frame_in frame.old self.old) next place w)
+            result self.new steps.new frame.new }
+        ensures kept { Kept frame.old self.old frame.new self.new }
+        ensures lands { Lands context.entry.engine.now self.old frame.old self.new frame.new (λ a. a ≡ next) (length (own self.old.stacks frame.old.bottom) - 1) result }
+        ensures before { steps.new.before ≡ steps.old.before }
+    {
+        if self.scope.len() >= context.engine.limits.variables {
+            return Ok(self.raise(steps, too_many_variables(context, frame)));
+        }
+        let name = context.program.name(u32::from(name)).copy(self.alloc)?;
+        let value = self.stacks.pop(frame.bottom);
+        self.scope.push(name, Held { value, read_only })?;
+        steps.mark();
+        frame.address = next;
+        steps.mark();
+        Ok(Flow::On)
+    }
+
+    // `assign_local`: an assignment to an entry.
+    #[tactic(auto, using(crate::proofs::Above::length_set_held))]
+    pub(crate) fn assign_local<L: Ledger>(
+        &mut self,
+        context: Context<'_>,
+        steps: &mut Steps<L>,
+        frame: &mut Activation,
+        slot: u16,
+        name: u16,
+        next: usize,
+    ) -> Result<Flow, OutOfMemory>
+        requires stands { Stands frame.old self.old }
+        requires operand { frame.old.bottom < length self.old.stacks.operands.items }
+        requires pool { name < length context.program.now.names }
+        requires ahead { frame.old.address < next }
+        ensures same { Does context.entry.program.now context.entry.engine.now self.old steps.old
+            (λ m place w. instr m (op.AssignLocal slot name) next (frame_in frame.old self.old) place w)
+            result self.new steps.new frame.new }
+        ensures kept { Kept frame.old self.old frame.new self.new }
+        ensures lands { Lands context.entry.engine.now self.old frame.old self.new frame.new (λ a. a ≡ next) (length (own self.old.stacks frame.old.bottom) - 1) result }
+        ensures before { steps.new.before ≡ steps.old.before }
+    {
+        let index = self.slot_index(frame, slot);
+        let value = self.stacks.pop(frame.bottom);
+        match self.scope.get(index) {
+            Some(held) => {
+                let read_only = held.read_only;
+                if read_only {
+                    let fault = constant(self.alloc, context, frame, name)?;
+                    return Ok(self.raise(steps, fault));
+                }
+                self.scope.set(index, Held { value, read_only });
+                steps.mark();
+                frame.address = next;
+                steps.mark();
+                Ok(Flow::On)
+            }
+            None => {
+                let fault = self.misplaced(context, frame, index);
+                Ok(self.raise(steps, fault))
+            }
+        }
+    }
+
+    // `assign_local_op`: an op-assignment to an entry.
+    #[tactic(auto, using(crate::proofs::Above::length_set_held))]
+    pub(crate) fn assign_local_op<L: Ledger>(
+        &mut self,
+        context: Context<'_>,
+        steps: &mut Steps<L>,
+        frame: &mut Activation,
+        slot: u16,
+        name: u16,
+        assign_op: u16,
+        next: usize,
+    ) -> Result<Flow, OutOfMemory>
+        requires stands { Stands frame.old self.old }
+        requires operand { frame.old.bottom < length self.old.stacks.operands.items }
+        requires pool { name < length context.program.now.names }
+        requires records { assign_op < length context.program.now.assign_ops }
+        requires named { (assign_op_of context.program.now assign_op).op_name < length context.program.now.names }
+        requires ahead { frame.old.address < next }
+        ensures same { Does context.entry.program.now context.entry.engine.now self.old steps.old
+            (λ m place w. instr m (op.AssignLocalOp slot name assign_op) next (frame_in frame.old self.old) place w)
+            result self.new steps.new frame.new }
+        ensures kept { Kept frame.old self.old frame.new self.new }
+        ensures lands { Lands context.entry.engine.now self.old frame.old self.new frame.new (λ a. a ≡ next) (length (own self.old.stacks frame.old.bottom) - 1) result }
+        ensures before { steps.new.before ≡ steps.old.before }
+    {
+        let index = self.slot_index(frame, slot);
+        let value = self.stacks.pop(frame.bottom);
+        let assign_op = context.program.assign_op(u32::from(assign_op));
+        let fast = context.engine.fast_operators;
+        let Some(held) = self.scope.get(index) else {
+            let fault = self.misplaced(context, frame, index);
+            return Ok(self.raise(steps, fault));
+        };
+        let read_only = held.read_only;
+        if read_only {
+            let fault = constant(self.alloc, context, frame, name)?;
+            return Ok(self.raise(steps, fault));
+        }
+        match operators::assign(fast, assign_op.op_assign, &held.value, &value) {
+            OpAnswer::Done(value) => {
+                self.scope.set(index, Held { value, read_only });
+                steps.mark();
+                frame.address = next;
+                steps.mark();
+                Ok(Flow::On)
+            }
+            OpAnswer::Overflow(calculation, x, y) => {
+                let fault = overflowed(self.alloc, context, frame, calculation, x, y)?;
+                Ok(self.raise(steps, fault))
+            }
+            OpAnswer::NegationOverflow => {
+                let fault = negation_overflowed(self.alloc, context, frame)?;
+                Ok(self.raise(steps, fault))
+            }
+            OpAnswer::NotBuiltIn => {
+                let op_name = assign_op.op_name;
+                let fault = unknown_pair(self.alloc, context, frame, op_name, &held.value, &value)?;
+                Ok(self.raise(steps, fault))
+            }
+        }
+    }
+
+    // `unwind_to`: the scope is cut to so many entries above the frame's base.
+    pub(crate) fn unwind_to<L: Ledger>(
+        &mut self,
+        context: Context<'_>,
+        steps: &mut Steps<L>,
+        frame: &mut Activation,
+        depth: u16,
+        next: usize,
+    ) -> Flow
+        requires stands { Stands frame.old self.old }
+        requires ahead { frame.old.address < next }
+        ensures same { Does context.entry.program.now context.entry.engine.now self.old steps.old
+            (λ m place w. instr m (op.UnwindTo depth) next (frame_in frame.old self.old) place w)
+            (Ok result) self.new steps.new frame.new }
+        ensures kept { Kept frame.old self.old frame.new self.new }
+        ensures lands { Lands context.entry.engine.now self.old frame.old self.new frame.new (λ a. a ≡ next) (length (own self.old.stacks frame.old.bottom)) (Ok result) }
+        ensures before { steps.new.before ≡ steps.old.before }
+    {
+        let length = self.scope.len();
+        let target = frame.base + usize::from(depth);
+        if target > length {
+            let kind = MalformedKind::UnwindPastScope { target, length };
+            let position = context.program.position(frame.address);
+            return self.raise(steps, EvalAltResult::Malformed(kind, position));
+        }
+        self.scope.rewind(target);
+        frame.address = next;
+        steps.mark();
+        Flow::On
+    }
+
+    // `checkpoint`: a fault cuts the scope no further than to its present length.
+    pub(crate) fn checkpoint<L: Ledger>(
+        &mut self,
+        context: Context<'_>,
+        steps: &mut Steps<L>,
+        frame: &mut Activation,
+        next: usize,
+    ) -> Flow
+        requires stands { Stands frame.old self.old }
+        requires ahead { frame.old.address < next }
+        ensures same { Does context.entry.program.now context.entry.engine.now self.old steps.old
+            (λ m place w. instr m op.Checkpoint next (frame_in frame.old self.old) place w)
+            (Ok result) self.new steps.new frame.new }
+        ensures kept { Kept frame.old self.old frame.new self.new }
+        ensures lands { Lands context.entry.engine.now self.old frame.old self.new frame.new (λ a. a ≡ next) (length (own self.old.stacks frame.old.bottom)) (Ok result) }
+        ensures before { steps.new.before ≡ steps.old.before }
+    {
+        let _context = context;
+        frame.floor = self.scope.len();
+        frame.address = next;
+        steps.mark();
+        Flow::On
+    }
+
+    // The place of a slot in the scope.
+    fn slot_index(&self, frame: &Activation, slot: u16) -> usize
+        requires { frame.now.base ≤ length self.now.scope }
+        ensures { result ≡ frame.now.base + slot }
+    {
+        let _length = self.scope.len();
+        frame.base + usize::from(slot)
+    }
+}

@@ -1,0 +1,185 @@
+//! Instructions on operands alone.
+
+ghost use Rattle.std.specs.Prelude.{◌≡◌, ◌<◌, ◌≤◌, ◌+◌, ◌-◌, length, Ok, IfOk};
+ghost use Rattle.std.specs.Vec.{vec_capacity};
+ghost use Rattle.grain_program.specs.View.{position_of, name_of, token_of};
+ghost use Rattle.grain_program.specs.declared.instructions.Op.TheVariants as op;
+ghost use Rattle.grain_vm.specs.means.Operators.{where_fast, operation};
+ghost use Rattle.grain_vm.specs.means.Acts.{pushed, instr, arguments};
+ghost use Rattle.grain_vm.specs.frame.Hand.{own, frame_in, outcome_of, Does, Kept, Stands, Lands};
+
+use crate::frame::activations::Activation;
+use crate::frame::contexts::Context;
+use crate::frame::faults::{negation_overflowed, overflowed};
+use crate::frame::states::{Flow, State};
+use crate::frame::steps::Steps;
+use crate::operators;
+use crate::operators::OpAnswer;
+use grain_value::{Dynamic, OutOfMemory};
+use std::sync::ledger::Ledger;
+
+impl State {
+    // Gives a value, as the frame's last operand, and goes on at the address behind the instruction.
+    pub(crate) fn push_on<L: Ledger>(
+        &mut self,
+        context: Context<'_>,
+        steps: &mut Steps<L>,
+        frame: &mut Activation,
+        value: Dynamic,
+        next: usize,
+    ) -> Flow
+        requires stands { Stands frame.old self.old }
+        requires room { length self.old.stacks.operands.items < vec_capacity self.old.stacks.operands }
+        requires ahead { frame.old.address < next }
+        ensures same { Does context.entry.program.now context.entry.engine.now self.old steps.old
+            (λ m place w. pushed m (frame_in frame.old self.old) next (own self.old.stacks frame.old.bottom) value place w)
+            (Ok result) self.new steps.new frame.new }
+        ensures kept { Kept frame.old self.old frame.new self.new }
+        ensures lands { Lands context.entry.engine.now self.old frame.old self.new frame.new (λ a. a ≡ next) (length (own self.old.stacks frame.old.bottom) + 1) (Ok result) }
+        ensures before { steps.new.before ≡ steps.old.before }
+    {
+        let _context = context;
+        self.stacks.push(value);
+        frame.address = next;
+        steps.mark();
+        Flow::On
+    }
+
+    // `load_const`: a copy of the constant.
+    pub(crate) fn load_const<L: Ledger>(
+        &mut self,
+        context: Context<'_>,
+        steps: &mut Steps<L>,
+        frame: &mut Activation,
+        constant: u16,
+        next: usize,
+    ) -> Result<Flow, OutOfMemory>
+        requires stands { Stands frame.old self.old }
+        requires room { length self.old.stacks.operands.items < vec_capacity self.old.stacks.operands }
+        requires pool { constant < length context.program.now.consts }
+        requires ahead { frame.old.address < next }
+        ensures same { Does context.entry.program.now context.entry.engine.now self.old steps.old
+            (λ m place w. instr m (op.LoadConst constant) next (frame_in frame.old self.old) place w)
+            result self.new steps.new frame.new }
+        ensures kept { Kept frame.old self.old frame.new self.new }
+        ensures lands { Lands context.entry.engine.now self.old frame.old self.new frame.new (λ a. a ≡ next) (length (own self.old.stacks frame.old.bottom) + 1) result }
+        ensures before { steps.new.before ≡ steps.old.before }
+    {
+        let constant = context.program.constant(u32::from(constant));
+        let value = constant.copy(self.alloc)?;
+        Ok(self.push_on(context, steps, frame, value, next))
+    }
+
+    // `pop`: the frame's last operand goes.
+    pub(crate) fn pop_on<L: Ledger>(
+        &mut self,
+        context: Context<'_>,
+        steps: &mut Steps<L>,
+        frame: &mut Activation,
+        next: usize,
+    ) -> Flow
+        requires stands { Stands frame.old self.old }
+        requires operand { frame.old.bottom < length self.old.stacks.operands.items }
+        requires ahead { frame.old.address < next }
+        ensures same { Does context.entry.program.now context.entry.engine.now self.old steps.old
+            (λ m place w. instr m op.Pop next (frame_in frame.old self.old) place w)
+            (Ok result) self.new steps.new frame.new }
+        ensures kept { Kept frame.old self.old frame.new self.new }
+        ensures lands { Lands context.entry.engine.now self.old frame.old self.new frame.new (λ a. a ≡ next) (length (own self.old.stacks frame.old.bottom) - 1) (Ok result) }
+        ensures before { steps.new.before ≡ steps.old.before }
+    {
+        let _context = context;
+        let _value = self.stacks.pop(frame.bottom);
+        frame.address = next;
+        steps.mark();
+        Flow::On
+    }
+
+    // `rotate`: the frame's last operand goes under so many others.
+    pub(crate) fn rotate<L: Ledger>(
+        &mut self,
+        context: Context<'_>,
+        steps: &mut Steps<L>,
+        frame: &mut Activation,
+        under: u8,
+        next: usize,
+    ) -> Flow
+        requires stands { Stands frame.old self.old }
+        requires operands { frame.old.bottom + under < length self.old.stacks.operands.items }
+        requires ahead { frame.old.address < next }
+        ensures same { Does context.entry.program.now context.entry.engine.now self.old steps.old
+            (λ m place w. instr m (op.Rotate under) next (frame_in frame.old self.old) place w)
+            (Ok result) self.new steps.new frame.new }
+        ensures kept { Kept frame.old self.old frame.new self.new }
+        ensures lands { Lands context.entry.engine.now self.old frame.old self.new frame.new (λ a. a ≡ next) (length (own self.old.stacks frame.old.bottom)) (Ok result) }
+        ensures before { steps.new.before ≡ steps.old.before }
+    {
+        let _context = context;
+        self.stacks.rotate(frame.bottom, usize::from(under));
+        frame.address = next;
+        steps.mark();
+        Flow::On
+    }
+
+    // `call_op`: an operator on the frame's last operands.
+    pub(crate) fn call_op<L: Ledger>(
+        &mut self,
+        context: Context<'_>,
+        steps: &mut Steps<L>,
+        frame: &mut Activation,
+        name: u16,
+        count: u8,
+        token: u16,
+        next: usize,
+    ) -> Result<Flow, OutOfMemory>
+        requires stands { Stands frame.old self.old }
+        requires operands { frame.old.bottom + count ≤ length self.old.stacks.operands.items }
+        requires room { length self.old.stacks.operands.items < vec_capacity self.old.stacks.operands + count }
+        requires pool { name < length context.program.now.names }
+        requires token { token < length context.program.now.tokens }
+        requires ahead { frame.old.address < next }
+        ensures same { Does context.entry.program.now context.entry.engine.now self.old steps.old
+            (λ m place w. instr m (op.CallOp name count token) next (frame_in frame.old self.old) place w)
+            result self.new steps.new frame.new }
+        ensures kept { Kept frame.old self.old frame.new self.new }
+        ensures lands { Lands context.entry.engine.now self.old frame.old self.new frame.new (λ a. a ≡ next) (length (own self.old.stacks frame.old.bottom) - count + 1) result }
+        ensures before { steps.new.before ≡ steps.old.before }
+    {
+        let count = usize::from(count);
+        match self.operate(context, frame, token, count) {
+            OpAnswer::Done(value) => {
+                self.stacks.drop_last(frame.bottom, count);
+                Ok(self.push_on(context, steps, frame, value, next))
+            }
+            OpAnswer::Overflow(calculation, x, y) => {
+                let fault = overflowed(self.alloc, context, frame, calculation, x, y)?;
+                Ok(self.raise(steps, fault))
+            }
+            OpAnswer::NegationOverflow => {
+                let fault = negation_overflowed(self.alloc, context, frame)?;
+                Ok(self.raise(steps, fault))
+            }
+            OpAnswer::NotBuiltIn => {
+                let fault = self.unknown(context, frame, name, count)?;
+                Ok(self.raise(steps, fault))
+            }
+        }
+    }
+
+    // What an operator says to the frame's last operands, so many.
+    fn operate(
+        &self,
+        context: Context<'_>,
+        frame: &Activation,
+        token: u16,
+        count: usize,
+    ) -> OpAnswer
+        requires operands { frame.now.bottom + count ≤ length self.now.stacks.operands.items }
+        requires pool { token < length context.program.now.tokens }
+        ensures { outcome_of result ≡ where_fast context.entry.engine.now.fast_operators (operation (token_of context.entry.program.now token) (arguments count (own self.now.stacks frame.now.bottom))) }
+    {
+        let token = context.program.token(u32::from(token));
+        let operands = &self.stacks.operands[frame.bottom..];
+        operators::operate(context.engine.fast_operators, token, operands, count)
+    }
+}
