@@ -65,11 +65,8 @@ short len chunks e = at (nat_lt 16777216 len) refl e where
   at false h e = ltb-false 16777216 len h
 
 -- an instruction is there
-pub is_there : (p : View) → IsProgram p → (c : Chunk) (at depth : ℕ) → Fits p c at depth → op_at p.code at ≡ None → ⊥
-is_there p v c at depth f e =
-    let o = v.splits.obeys f.number c at f.is f.start in
-    let bad : None ≡ Some o.read = sym e ∙ o.whole.is in
-    cc
+pub stands : (p : View) → IsProgram p → (c : Chunk) (at depth : ℕ) → Fits p c at depth → (x : Op × ℕ) × (op_at p.code at ≡ Some x)
+stands p v c at depth f = let o = v.splits.obeys f.number c at f.is f.start in (o.read, o.whole.is)
 
 -- what validity says of the instruction
 pub foreseen : (p : View) → IsProgram p → (c : Chunk) (at depth : ℕ) → Fits p c at depth → (r : Op × ℕ) → op_at p.code at ≡ Some r → Foreseen p c at depth r.0 r.1

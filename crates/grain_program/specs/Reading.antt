@@ -91,6 +91,14 @@ by_rows (r ∷ rs) tag rest = if tag == r.tag then made r (numbers_at r.operands
 unfoldable pub by_tag : ℕ → List ℕ → Option (Op × ℕ)
 by_tag tag rest = by_rows rows tag rest
 
+-- how wide an instruction of the tag is, or 0 where there is none
+abbrev pub width_in : List Row → ℕ → ℕ
+width_in [] tag = 0
+width_in (r ∷ rs) tag = if tag == r.tag then 1 + span r.operands else width_in rs tag
+
+unfoldable pub width_of : ℕ → ℕ
+width_of tag = width_in rows tag
+
 -- the instruction that the bytes begin with, and its width
 unfoldable pub op_in : List ℕ → Option (Op × ℕ)
 op_in [] = None

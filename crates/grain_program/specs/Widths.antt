@@ -1,8 +1,9 @@
 -- An instruction that is read is at least a byte wide, and lies within the code.
-use Rattle.std.specs.Prelude.{ℕ, suc, ◌+◌, ◌≡◌, ◌≤◌, Bool, true, false, cond, List, [], ◌∷◌, length, drop, Option, Some, None, ◌==◌, IfSome}
-use Rattle.std.proofs.Common.{arith, length-drop, refl}
+use Rattle.std.specs.Prelude.{ℕ, suc, ◌+◌, ◌≡◌, ◌≤◌, Bool, true, false, cond, List, [], ◌∷◌, length, drop, slice_index_or, Option, Some, None, ◌==◌, IfSome}
+use Rattle.std.proofs.Common.{arith, length-drop, refl, ap, ◌∙◌, ◌<◌, sym}
+use Rattle.std.proofs.Math.Seq.{drop-cons}
 use Rattle.grain_program.specs.declared.instructions.Op.{Op}
-use Rattle.grain_program.specs.Reading.{Operand, one, two, four, bytes_of, number_at, joined, numbers_at, span, Row, rows, made, by_rows, by_tag, op_in, op_at}
+use Rattle.grain_program.specs.Reading.{Operand, one, two, four, bytes_of, number_at, joined, numbers_at, span, Row, rows, made, by_rows, by_tag, width_in, width_of, op_in, op_at}
 
 number_within : (o : Operand) (bytes : List ℕ) (n : ℕ) → number_at o bytes ≡ Some n → bytes_of o ≤ length bytes
 number_within one [] n e = absurd cc
@@ -57,3 +58,41 @@ op_at_within code address x e =
 pub op_at_inside : (code : List ℕ) (address : ℕ) (o : Option (Op × ℕ)) → op_at code address ≡ o → IfSome o (λ x. (1 ≤ x.1) × (address + x.1 ≤ length code))
 op_at_inside code address None e = tt
 op_at_inside code address (Some x) e = op_at_within code address x e
+
+made_width : (r : Row) (o : Option (List ℕ)) (x : Op × ℕ) → made r o ≡ Some x → 1 + span r.operands ≡ x.1
+made_width r None x e = absurd cc
+made_width r (Some ns) x e = cc
+
+by_rows_width : (rs : List Row) (tag : ℕ) (rest : List ℕ) (x : Op × ℕ) → by_rows rs tag rest ≡ Some x → width_in rs tag ≡ x.1
+by_rows_width [] tag rest x e = absurd cc
+by_rows_width (r ∷ rs) tag rest x e = at (tag == r.tag) (λ f. by_rows_width rs tag rest x f) e where
+  at : (b : Bool) → (by_rows rs tag rest ≡ Some x → width_in rs tag ≡ x.1) → cond b (made r (numbers_at r.operands rest)) (by_rows rs tag rest) ≡ Some x → cond b (1 + span r.operands) (width_in rs tag) ≡ x.1
+  at true more e = made_width r (numbers_at r.operands rest) x e
+  at false more e = more e
+
+-- an instruction is read from its tag and what lies behind
+pub op_at_tag : (code : List ℕ) (address : ℕ) → address < length code → op_at code address ≡ by_tag (slice_index_or code address 0) (drop (address + 1) code)
+unfolding op_at op_in
+op_at_tag code address lt =
+    let next : suc address ≡ address + 1 = omega arith in
+    ap op_in (drop-cons code address 0 lt) ∙ ap (λ (n : ℕ). by_tag (slice_index_or code address 0) (drop n code)) next
+
+by_tag_width : (tag : ℕ) (rest : List ℕ) (x : Op × ℕ) → by_tag tag rest ≡ Some x → width_of tag ≡ x.1
+unfolding by_tag width_of
+by_tag_width tag rest x e = by_rows_width rows tag rest x e
+
+-- where an instruction stands, its tag and its operands are there
+pub op_at_there : (code : List ℕ) (address : ℕ) (x : Op × ℕ) → op_at code address ≡ Some x →
+    (address < length code) × (0 < width_of (slice_index_or code address 0)) × (address + width_of (slice_index_or code address 0) ≤ length code)
+op_at_there code address x e =
+    let w = op_at_within code address x e in
+    let lt : address < length code = omega (arith, w.0, w.1) in
+    let is = by_tag_width (slice_index_or code address 0) (drop (address + 1) code) x (sym (op_at_tag code address lt) ∙ e) in
+    (lt, omega (arith, w.0, is), omega (arith, w.1, is))
+
+-- where the address lies past the code, or the tag is none, or its operands pass the code's end, no instruction stands
+pub op_at_none : (code : List ℕ) (address : ℕ) → ((address < length code) → (0 < width_of (slice_index_or code address 0)) → (address + width_of (slice_index_or code address 0) ≤ length code) → ⊥) → None ≡ op_at code address
+op_at_none code address not = at (op_at code address) refl where
+  at : (o : Option (Op × ℕ)) → op_at code address ≡ o → None ≡ op_at code address
+  at None e = sym e
+  at (Some x) e = let t = op_at_there code address x e in absurd (not t.0 t.1 t.2)

@@ -1,119 +1,207 @@
 //! Instructions as bytes.
 
-ghost use Rattle.std.specs.Prelude.{◌≡◌, ◌≤◌, ◌+◌, ◌++◌, ◌∷◌, [], List, ℕ, length, IfOk, IfSome, Some, option_map};
+ghost use Rattle.std.specs.Prelude.{◌≡◌, ◌<◌, ◌≤◌, ◌+◌, ◌++◌, ◌∷◌, [], List, ℕ, length, slice_index_or, IfOk, IfSome, Some, option_map};
 ghost use Rattle.std.specs.List.{flat_map};
 ghost use Rattle.grain_program.specs.declared.instructions.Op.{Op};
-ghost use Rattle.grain_program.specs.Reading.{one, two, four, number_at, numbers_at, by_tag, op_at};
+ghost use Rattle.grain_program.specs.Reading.{one, two, four, number_at, numbers_at, by_tag, width_of, op_at};
 ghost use Rattle.grain_program.specs.Spelling.{spelling, OpFits};
 
 use crate::instructions::Op;
 use grain_value::{Blob, OutOfMemory};
 use std::alloc::Global;
 
-fn two_bytes(bytes: &[u8]) -> Option<u16>
-    ensures { result ≡ number_at two bytes.now }
+fn one_there(bytes: &[u8]) -> u8
+    requires { 1 ≤ length bytes.now }
+    ensures { number_at one bytes.now ≡ Some result }
 {
-    match bytes {
-        [a, b, ..] => Some(u16::from_le_bytes([*a, *b])),
-        _ => None,
-    }
+    bytes[0]
 }
 
-fn four_bytes(bytes: &[u8]) -> Option<u32>
-    ensures { result ≡ number_at four bytes.now }
+fn two_there(bytes: &[u8]) -> u16
+    requires { 2 ≤ length bytes.now }
+    ensures { number_at two bytes.now ≡ Some result }
 {
-    match bytes {
-        [a, b, c, d, ..] => Some(u32::from_le_bytes([*a, *b, *c, *d])),
-        _ => None,
-    }
+    u16::from_le_bytes([bytes[0], bytes[1]])
 }
 
-/// The instruction of the tag, with its operands from the bytes behind it, and its width.
+fn four_there(bytes: &[u8]) -> u32
+    requires { 4 ≤ length bytes.now }
+    ensures { number_at four bytes.now ≡ Some result }
+{
+    u32::from_le_bytes([bytes[0], bytes[1], bytes[2], bytes[3]])
+}
+
+// The instruction of a tag, with its operands from the bytes behind it, which are there, into `op`, and its width. It is
+// written where it is wanted, and not handed on as a part of larger values: so the compiler sees which instruction each
+// tag gives, and a match on what was read needs no second jump.
 #[inline(always)]
-#[tactic(auto, unfolding(crate::specs::Reading::by_tag))]
-fn tagged(tag: u8, rest: &[u8]) -> Option<(Op, usize)>
-    ensures { result ≡ by_tag tag rest.now }
+#[tactic(auto, unfolding(crate::specs::Reading::by_tag, crate::specs::Reading::width_of))]
+fn tagged_there(tag: u8, rest: &[u8], op: &mut Op) -> usize
+    requires known { 0 < width_of tag }
+    requires long { width_of tag ≤ length rest.now + 1 }
+    ensures { by_tag tag rest.now ≡ Some (op.new, result) }
 {
     match tag {
-        0x01 => Some((Op::LoadConst(two_bytes(rest)?), 3)),
-        0x02 => Some((Op::Unit, 1)),
-        0x03 => Some((Op::False, 1)),
-        0x04 => Some((Op::True, 1)),
-        0x05 => Some((Op::LoadLocal(two_bytes(rest)?), 3)),
-        0x06 => Some((Op::StoreLocal(two_bytes(rest)?), 3)),
-        0x07 => Some((Op::StoreConst(two_bytes(rest)?), 3)),
-        0x0d => Some((Op::DeclareLocal(two_bytes(rest)?), 3)),
-        0x0e => Some((Op::DeclareConst(two_bytes(rest)?), 3)),
-        0x10 => match rest {
-            [a, b, c, d, ..] => {
-                let slot = u16::from_le_bytes([*a, *b]);
-                let name = u16::from_le_bytes([*c, *d]);
-                Some((Op::AssignLocal(slot, name), 5))
-            }
-            _ => None,
-        },
-        0x11 => match rest {
-            [a, b, c, d, e, f, ..] => {
-                let slot = u16::from_le_bytes([*a, *b]);
-                let name = u16::from_le_bytes([*c, *d]);
-                let assign = u16::from_le_bytes([*e, *f]);
-                Some((Op::AssignLocalOp(slot, name, assign), 7))
-            }
-            _ => None,
-        },
-        0x1b => Some((Op::Pop, 1)),
-        0x1c => match rest {
-            [under, ..] => Some((Op::Rotate(*under), 2)),
-            [] => None,
-        },
-        0x1d => Some((Op::Jump(four_bytes(rest)?), 5)),
-        0x1e => Some((Op::JumpIfFalse(four_bytes(rest)?), 5)),
-        0x1f => Some((Op::JumpIfTrue(four_bytes(rest)?), 5)),
-        0x20 => Some((Op::SkipIfNotUnit(four_bytes(rest)?), 5)),
-        0x22 => match rest {
-            [a, b, count, ..] => Some((Op::Call(u16::from_le_bytes([*a, *b]), *count), 4)),
-            _ => None,
-        },
-        0x23 => match rest {
-            [a, b, count, c, d, ..] => {
-                let name = u16::from_le_bytes([*a, *b]);
-                let token = u16::from_le_bytes([*c, *d]);
-                Some((Op::CallOp(name, *count, token), 6))
-            }
-            _ => None,
-        },
-        0x38 => Some((Op::UnwindTo(two_bytes(rest)?), 3)),
-        0x39 => Some((Op::Tick, 1)),
-        0x3a => Some((Op::Checkpoint, 1)),
-        0x3b => Some((Op::Statement(two_bytes(rest)?), 3)),
-        0x49 => Some((Op::Throw, 1)),
-        0x4a => Some((Op::Return, 1)),
-        _ => None,
+        0x01 => {
+            *op = Op::LoadConst(two_there(rest));
+            3
+        }
+        0x02 => {
+            *op = Op::Unit;
+            1
+        }
+        0x03 => {
+            *op = Op::False;
+            1
+        }
+        0x04 => {
+            *op = Op::True;
+            1
+        }
+        0x05 => {
+            *op = Op::LoadLocal(two_there(rest));
+            3
+        }
+        0x06 => {
+            *op = Op::StoreLocal(two_there(rest));
+            3
+        }
+        0x07 => {
+            *op = Op::StoreConst(two_there(rest));
+            3
+        }
+        0x0d => {
+            *op = Op::DeclareLocal(two_there(rest));
+            3
+        }
+        0x0e => {
+            *op = Op::DeclareConst(two_there(rest));
+            3
+        }
+        0x10 => {
+            let name = &rest[2..];
+            *op = Op::AssignLocal(two_there(rest), two_there(name));
+            5
+        }
+        0x11 => {
+            let name = &rest[2..];
+            let assign = &name[2..];
+            *op = Op::AssignLocalOp(two_there(rest), two_there(name), two_there(assign));
+            7
+        }
+        0x1b => {
+            *op = Op::Pop;
+            1
+        }
+        0x1c => {
+            *op = Op::Rotate(one_there(rest));
+            2
+        }
+        0x1d => {
+            *op = Op::Jump(four_there(rest));
+            5
+        }
+        0x1e => {
+            *op = Op::JumpIfFalse(four_there(rest));
+            5
+        }
+        0x1f => {
+            *op = Op::JumpIfTrue(four_there(rest));
+            5
+        }
+        0x20 => {
+            *op = Op::SkipIfNotUnit(four_there(rest));
+            5
+        }
+        0x22 => {
+            let count = &rest[2..];
+            *op = Op::Call(two_there(rest), one_there(count));
+            4
+        }
+        0x23 => {
+            let count = &rest[2..];
+            let token = &count[1..];
+            *op = Op::CallOp(two_there(rest), one_there(count), two_there(token));
+            6
+        }
+        0x38 => {
+            *op = Op::UnwindTo(two_there(rest));
+            3
+        }
+        0x39 => {
+            *op = Op::Tick;
+            1
+        }
+        0x3a => {
+            *op = Op::Checkpoint;
+            1
+        }
+        0x3b => {
+            *op = Op::Statement(two_there(rest));
+            3
+        }
+        0x49 => {
+            *op = Op::Throw;
+            1
+        }
+        0x4a => {
+            *op = Op::Return;
+            1
+        }
+        _ => unreachable!(),
     }
 }
 
+/// The instruction that stands at the address, into `op`, and its width in bytes.
 #[inline(always)]
-#[tactic(auto, unfolding(crate::specs::Reading::op_at, crate::specs::Reading::op_in))]
-fn read(code: &[u8], address: usize) -> Option<(Op, usize)>
-    ensures { result ≡ op_at code.now address }
+pub(crate) fn read_there(code: &Blob, address: usize, op: &mut Op) -> usize
+    requires there { address < length code.now }
+    requires known { 0 < width_of (slice_index_or code.now address 0) }
+    requires long { address + width_of (slice_index_or code.now address 0) ≤ length code.now }
+    ensures { op_at code.now address ≡ Some (op.new, result) }
 {
-    if address >= code.len() {
-        return None;
-    }
-    match &code[address..] {
-        [tag, rest @ ..] => tagged(*tag, rest),
-        [] => None,
+    let code = code.as_slice();
+    let (_, rest) = code.split_at(address + 1);
+    tagged_there(code[address], rest, op)
+}
+
+// How wide an instruction of the tag is in bytes, or 0 where there is none.
+#[tactic(auto, unfolding(crate::specs::Reading::width_of))]
+fn width_of(tag: u8) -> usize
+    ensures { result ≡ width_of tag }
+{
+    match tag {
+        0x02 | 0x03 | 0x04 | 0x1b | 0x39 | 0x3a | 0x49 | 0x4a => 1,
+        0x1c => 2,
+        0x01 | 0x05 | 0x06 | 0x07 | 0x0d | 0x0e | 0x38 | 0x3b => 3,
+        0x22 => 4,
+        0x10 | 0x1d | 0x1e | 0x1f | 0x20 => 5,
+        0x23 => 6,
+        0x11 => 7,
+        _ => 0,
     }
 }
 
 /// The instruction at the address, and its width in bytes. There is none exactly where the address is at or past the
 /// code's end, the byte there is no tag, or the operands pass the code's end.
-#[inline(always)]
 pub fn decode(code: &Blob, address: usize) -> Option<(Op, usize)>
     ensures exact { result ≡ op_at code.now address }
     ensures within { IfSome result (λ r. (1 ≤ r.1) × (address + r.1 ≤ length code.now)) }
 {
-    read(code.as_slice(), address)
+    let bytes = code.as_slice();
+    if address >= bytes.len() {
+        return None;
+    }
+    let wide = width_of(bytes[address]);
+    if wide == 0 {
+        return None;
+    }
+    if wide > bytes.len() - address {
+        return None;
+    }
+    let mut op = Op::Return;
+    let width = read_there(code, address, &mut op);
+    Some((op, width))
 }
 
 fn spell(code: &mut Vec<u8>, op: Op) -> Result<(), OutOfMemory>

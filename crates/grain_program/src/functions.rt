@@ -1,6 +1,6 @@
 //! Functions, and where they stand among a program's parts.
 
-ghost use Rattle.std.specs.Prelude.{◌≡◌, ◌==◌, ◌++◌, ◌∷◌, [], length, is_ok, if◌then◌else◌, slice_get};
+ghost use Rattle.std.specs.Prelude.{◌≡◌, ◌==◌, ◌<◌, ◌++◌, ◌∷◌, [], length, Some, is_ok, if◌then◌else◌, slice_get};
 ghost use Rattle.std.specs.Option.{option_copied};
 
 use crate::input::Chunk;
@@ -128,6 +128,14 @@ impl Functions {
         ensures { result.now ≡ self.now }
     {
         &self.entries
+    }
+
+    /// The entry at an index of the list.
+    pub fn at(&self, index: usize) -> &Function
+        requires { index < length self.now }
+        ensures { slice_get self.now index ≡ Some result.now }
+    {
+        &self.entries[index]
     }
 
     /// Puts an entry at the end. Where memory is out, the list is as it was.

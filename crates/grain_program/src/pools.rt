@@ -1,6 +1,6 @@
 //! The pools of a program, and the positions of its instructions.
 
-ghost use Rattle.std.specs.Prelude.{◌≡◌, ◌==◌, ◌++◌, ◌∷◌, [], length, is_ok, if◌then◌else◌, slice_get};
+ghost use Rattle.std.specs.Prelude.{◌≡◌, ◌==◌, ◌<◌, ◌++◌, ◌∷◌, [], length, Some, is_ok, if◌then◌else◌, slice_get};
 ghost use Rattle.std.specs.Option.{option_copied};
 
 use crate::input::{AssignOp, PositionEntry};
@@ -51,6 +51,14 @@ impl Names {
         ensures { option_copied result ≡ slice_get self.now index }
     {
         self.entries.get(index)
+    }
+
+    /// The entry at an index of the list.
+    pub fn at(&self, index: usize) -> &Text
+        requires { index < length self.now }
+        ensures { slice_get self.now index ≡ Some result.now }
+    {
+        &self.entries[index]
     }
 
     /// Puts an entry at the end. Where memory is out, the list is as it was.
@@ -108,6 +116,14 @@ impl Tokens {
         self.entries.get(index)
     }
 
+    /// The entry at an index of the list.
+    pub fn at(&self, index: usize) -> &Token
+        requires { index < length self.now }
+        ensures { slice_get self.now index ≡ Some result.now }
+    {
+        &self.entries[index]
+    }
+
     /// Puts an entry at the end. Where memory is out, the list is as it was.
     pub fn push(&mut self, entry: Token) -> Result<(), OutOfMemory>
         ensures { self.new ≡ (if is_ok result then self.old ++ entry ∷ [] else self.old) }
@@ -161,6 +177,14 @@ impl AssignOps {
         ensures { option_copied result ≡ slice_get self.now index }
     {
         self.entries.get(index)
+    }
+
+    /// The entry at an index of the list.
+    pub fn at(&self, index: usize) -> &AssignOp
+        requires { index < length self.now }
+        ensures { slice_get self.now index ≡ Some result.now }
+    {
+        &self.entries[index]
     }
 
     /// Puts an entry at the end. Where memory is out, the list is as it was.

@@ -13,7 +13,7 @@ ghost use Rattle.grain_program.specs.declared.input.Chunk.{Chunk};
 ghost use Rattle.grain_program.specs.declared.refusals.Refusal.{Refusal};
 ghost use Rattle.grain_program.specs.declared.refusals.Refusal.TheVariants.{Memory};
 
-use crate::bytes::decode;
+use crate::bytes::read_there;
 use crate::early::early;
 use crate::functions::{Function, Functions};
 use crate::input::{AssignOp, Chunk, Parts, PositionEntry};
@@ -178,13 +178,9 @@ impl Program {
         ensures named { IsNamed self.now result.now }
         ensures small { result.now.chunk.max_stack < 2 ^ 16 }
     {
-        match self.parts.functions.get(number) {
-            Some(function) => {
-                let _ = bounded(function.chunk.max_stack);
-                function
-            }
-            None => unreachable!(),
-        }
+        let function = self.parts.functions.at(number);
+        let _ = bounded(function.chunk.max_stack);
+        function
     }
 
     /// The number of the first function of this name, by its index, with so many parameters.
@@ -226,10 +222,7 @@ impl Program {
         requires { index < length self.now.consts }
         ensures { result.now ≡ const_of self.now index }
     {
-        match self.parts.consts.get(index as usize) {
-            Some(constant) => constant,
-            None => unreachable!(),
-        }
+        self.parts.consts.at(index as usize)
     }
 
     /// The name at the index.
@@ -237,10 +230,7 @@ impl Program {
         requires { index < length self.now.names }
         ensures { result.now ≡ name_of self.now index }
     {
-        match self.parts.names.get(index as usize) {
-            Some(name) => name,
-            None => unreachable!(),
-        }
+        self.parts.names.at(index as usize)
     }
 
     /// The operator token at the index.
@@ -248,10 +238,7 @@ impl Program {
         requires { index < length self.now.tokens }
         ensures { result ≡ token_of self.now index }
     {
-        match self.parts.tokens.get(index as usize) {
-            Some(token) => *token,
-            None => unreachable!(),
-        }
+        *self.parts.tokens.at(index as usize)
     }
 
     /// The op-assignment at the index.
@@ -259,10 +246,7 @@ impl Program {
         requires { index < length self.now.assign_ops }
         ensures { result.now ≡ assign_op_of self.now index }
     {
-        match self.parts.assign_ops.get(index as usize) {
-            Some(assign_op) => assign_op,
-            None => unreachable!(),
-        }
+        self.parts.assign_ops.at(index as usize)
     }
 
     /// The instruction at which a frame of the chunk stands with so many operands, and its width in bytes.
@@ -274,10 +258,9 @@ impl Program {
     {
         let _ = chunk;
         let _ = depth;
-        match decode(&self.parts.code, address) {
-            Some(read) => read,
-            None => unreachable!(),
-        }
+        let mut op = Op::Return;
+        let width = read_there(&self.parts.code, address, &mut op);
+        (op, width)
     }
 
     /// The position of the instruction at the address, or none where none is recorded.

@@ -1,6 +1,6 @@
 //! Lists of script values.
 
-ghost use Rattle.std.specs.Prelude.{◌≡◌, ◌==◌, ◌++◌, ◌∷◌, [], length, is_ok, if◌then◌else◌, option_copied, slice_get};
+ghost use Rattle.std.specs.Prelude.{◌≡◌, ◌==◌, ◌<◌, ◌++◌, ◌∷◌, [], length, Some, is_ok, if◌then◌else◌, option_copied, slice_get};
 
 use crate::memory::OutOfMemory;
 use crate::values::Dynamic;
@@ -51,6 +51,14 @@ impl Array {
         ensures { option_copied result ≡ slice_get self.now index }
     {
         self.values.get(index)
+    }
+
+    /// The value at an index of the list.
+    pub fn at(&self, index: usize) -> &Dynamic
+        requires { index < length self.now }
+        ensures { slice_get self.now index ≡ Some result.now }
+    {
+        &self.values[index]
     }
 
     /// Puts a value at the end. Where memory is out, the list is as it was.

@@ -1,10 +1,11 @@
 //! Scopes: the variables of a run, the newest last.
 
-ghost use Rattle.std.specs.Prelude.{◌≡◌, ◌==◌, ◌<◌, ◌^◌, ◌+◌, ◌++◌, ◌∷◌, [], length, is_ok, is_some, if◌then◌else◌, slice_get, take, drop, option_map};
+ghost use Rattle.std.specs.Prelude.{◌≡◌, ◌==◌, ◌<◌, ◌^◌, ◌+◌, ◌++◌, ◌∷◌, [], length, is_ok, is_some, if◌then◌else◌, false, slice_get, take, drop, option_map};
 ghost use Rattle.std.specs.Option.{option_copied};
 ghost use Rattle.std.specs.Borrow.{sem};
 ghost use Rattle.grain_value.specs.Scopes.{held_of, set_held, last_of};
 ghost use Rattle.grain_value.specs.declared.scopes.Entry.{Entry};
+ghost use Rattle.grain_value.specs.declared.values.Dynamic.TheVariants as dynamic;
 
 use crate::memory::OutOfMemory;
 use crate::texts::Text;
@@ -129,6 +130,17 @@ impl Scope {
         ensures { self.new ≡ set_held self.old index held }
     {
         self.entries[index].held = held;
+    }
+
+    /// Writes an integer into what the entry at the index holds, which can be written afterwards.
+    #[inline(always)]
+    pub fn set_int(&mut self, index: usize, integer: i64)
+        requires { index < length self.old }
+        ensures { self.new ≡ set_held self.old index (record { value = dynamic.Int integer; read_only = false }) }
+    {
+        let held = &mut self.entries[index].held;
+        held.value.set_int(integer);
+        held.read_only = false;
     }
 
     ghost use Rattle.grain_value.specs.Lending.{LendsHeld};

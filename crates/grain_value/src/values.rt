@@ -3,6 +3,7 @@
 ghost use Rattle.std.specs.Prelude.{◌≡◌, ◌++◌, IfOk, Some, false};
 ghost use Rattle.grain_value.specs.Looking.{is_unit, truth_of, integer_of};
 ghost use Rattle.grain_value.specs.Writing.{kind_of, type_name_of, plain, quoted};
+ghost use Rattle.grain_value.specs.declared.values.Dynamic.TheVariants as dynamic;
 
 use crate::memory::OutOfMemory;
 use crate::texts::Text;
@@ -94,6 +95,17 @@ impl Dynamic {
             Dynamic::Bool(_) => None,
             Dynamic::Int(integer) => Some(*integer),
             Dynamic::Text(_) => None,
+        }
+    }
+
+    /// Becomes an integer: where it is one, its number alone is written.
+    #[inline(always)]
+    pub fn set_int(&mut self, integer: i64)
+        ensures { self.new ≡ dynamic.Int integer }
+    {
+        match self {
+            Dynamic::Int(place) => *place = integer,
+            _ => *self = Dynamic::Int(integer),
         }
     }
 

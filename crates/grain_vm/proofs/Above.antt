@@ -5,7 +5,7 @@ use Rattle.std.proofs.lemmas.List.{drop-append-le, drop-take}
 use Rattle.grain_value.specs.declared.values.Held.{Held}
 use Rattle.grain_value.specs.declared.scopes.Entry.{Entry}
 use Rattle.grain_value.specs.Scopes.{set_held}
-use Rattle.grain_vm.specs.means.Acts.{top, under}
+use Rattle.grain_vm.specs.means.Acts.{top, below, under}
 
 -- the last operand
 pub top-snoc : (xs : List Held) (h : Held) → top (xs ++ h ∷ []) ≡ h.value
@@ -53,6 +53,35 @@ pub same_cut : (b n f : ℕ) (xs ys : List Held) → f ≡ length ys - n → b +
 same_cut b n f xs ys ef le long e =
     sym (cut_own b n f xs (take f xs) (omega (arith, ef, long)) (omega (arith, le, long)) refl) ∙
     (ap (λ (l : List Held). drop b l) e ∙ cut_own b n f ys (take f ys) ef le refl)
+
+below_set : (xs : List Held) (k : ℕ) (h : Held) → length xs ≡ k + 2 → take (suc k) (slice_set xs k h) ≡ take k xs ++ h ∷ []
+below_set [] k h e = absurd (omega (arith, e))
+below_set (x ∷ xs) zero h e = refl
+below_set (x ∷ xs) (suc k) h e = ap (λ (l : List Held). x ∷ l) (below_set xs k h (omega (arith, e)))
+
+drop_set : (b k n : ℕ) (xs : List Held) (h : Held) → n ≡ b + k → drop b (slice_set xs n h) ≡ slice_set (drop b xs) k h
+drop_set zero k n xs h e = ap (λ (i : ℕ). slice_set xs i h) (omega (arith, e))
+drop_set (suc b) k zero xs h e = absurd (omega (arith, e))
+drop_set (suc b) k (suc n) [] h e = refl
+drop_set (suc b) k (suc n) (x ∷ xs) h e = drop_set b k n xs h (omega (arith, e))
+
+set_length : (xs : List Held) (n : ℕ) (h : Held) → length (slice_set xs n h) ≡ length xs
+set_length [] n h = refl
+set_length (x ∷ xs) zero h = refl
+set_length (x ∷ xs) (suc n) h = ap (λ (m : ℕ). suc m) (set_length xs n h)
+
+-- a frame's operands, once the last but one was overwritten and the last one was taken
+pub set_own : (b n : ℕ) (xs ys : List Held) (h : Held) → n ≡ length xs - 2 → b + 2 ≤ length xs → drop b ys ≡ below (drop b (slice_set xs n h)) → drop b ys ≡ under 2 (drop b xs) ++ h ∷ []
+set_own b n xs ys h en le e =
+    let long : length (drop b xs) ≡ (n - b) + 2 = omega (arith, en, le, length-drop b xs) in
+    let set : drop b (slice_set xs n h) ≡ slice_set (drop b xs) (n - b) h = drop_set b (n - b) n xs h (omega (arith, en, le)) in
+    let last : length (drop b (slice_set xs n h)) - 1 ≡ suc (n - b) = omega (arith, long, ap length set, set_length (drop b xs) (n - b) h) in
+    let place : n - b ≡ length (drop b xs) - 2 = omega (arith, long) in
+    e ∙
+    (ap (λ (m : ℕ). take m (drop b (slice_set xs n h))) last ∙
+    (ap (take (suc (n - b))) set ∙
+    (below_set (drop b xs) (n - b) h long ∙
+    ap (λ (m : ℕ). take m (drop b xs) ++ h ∷ []) place)))
 
 last_is : (xs : List Held) (i : ℕ) (h : Held) → i + 1 ≡ length xs → h ≡ get_or xs i h → h.value ≡ top xs
 last_is [] i h el e = absurd (omega (arith, el))

@@ -1,5 +1,5 @@
 -- What a whole call answers is what the program means.
-use Rattle.std.proofs.Common.{◌≡◌, ℕ, List, [], Option, Some, None, true, false, Result, Ok, Err, refl, subst, length, arith}
+use Rattle.std.proofs.Common.{◌≡◌, inl, inr, ℕ, List, [], Option, Some, None, true, Result, Ok, Err, refl, subst, arith}
 use Rattle.grain_value.specs.declared.memory.OutOfMemory.{OutOfMemory}
 use Rattle.grain_value.specs.declared.values.Dynamic.{Dynamic}
 use Rattle.grain_value.specs.declared.scopes.Entry.{Entry}
@@ -10,8 +10,9 @@ use Rattle.grain_fault.specs.declared.faults.EvalAltResult.TheVariants as fault
 use Rattle.grain_program.specs.View.{View}
 use Rattle.grain_vm.specs.declared.global.Engine.{Engine}
 use Rattle.grain_vm.specs.means.Acts.{Answer, Failed, called}
+use Rattle.grain_vm.specs.means.Ends.{Ends}
 use Rattle.grain_vm.specs.means.Goes.{InHand, Goes, Clear, Halts, world, nothing}
-use Rattle.grain_vm.specs.means.Leavings.{Leaves, Cuts}
+use Rattle.grain_vm.specs.means.Leavings.{Leaves, IsCut}
 use Rattle.grain_vm.specs.means.Causes.{Caused, HasCause}
 use Rattle.grain_vm.specs.means.Means.{Begin, Finish, setup, Runs, Evaluates}
 use Rattle.grain_vm.specs.frame.Hand.{is_out, over, answer_of}
@@ -53,41 +54,41 @@ module _ (p : View) (e : Engine) (b : Begin) (trace : List Fault) (scope : List 
   evaluated (Ok (Err (fault.Malformed k q))) h = runs (Ok (Err (fault.Malformed k q))) h None (never_clear 0 passed) tt
   evaluated (Err m) h = (passed, runs (Err m) h (Some passed) (clear_before 0 passed) (halts_there true passed))
 
-  -- why a run that is not stopped ends in this fault
-  caused : (x : EvalAltResult) → Goes (setup p e) at_first (λ m place w. called m place w) false at_last (over (Ok (Err x))) → Caused (setup p e) (answer_of (Ok (Err x))) (world at_last nothing)
-  caused x h =
-      let run = whole h refl None (never_clear 0 passed) tt nothing in
-      (called_counts (setup p e) None (world at_first nothing) (world at_last nothing) (answer_of (Ok (Err x))) run).5
-
   -- the level is what it was, also where memory was out
   pub same_level : (back : Result (Result Dynamic EvalAltResult) OutOfMemory) → Goes (setup p e) at_first (λ m place w. called m place w) (is_out back) at_last (over back) → level ≡ b.level
   same_level back h =
       let run = whole h refl (Some passed) (clear_before 0 passed) (halts_there (is_out back) passed) nothing in
       (called_counts (record (setup p e) { stop = Some passed }) None (world at_first nothing) (world at_last nothing) (answer_of back) run).2
 
-  -- what is left of the scope
-  pub leaves : (back : Result (Result Dynamic EvalAltResult) OutOfMemory) → Goes (setup p e) at_first (λ m place w. called m place w) (is_out back) at_last (over back) → Leaves p b.scope (answered back) scope
-  leaves back h =
-      let run = whole h refl (Some passed) (clear_before 0 passed) (halts_there (is_out back) passed) nothing in
-      let counts = called_counts (record (setup p e) { stop = Some passed }) None (world at_first nothing) (world at_last nothing) (answer_of back) run in
-      record { keeps = counts.3; cuts = λ x is. cut back x is counts.4 } where
-        cut : (back : Result (Result Dynamic EvalAltResult) OutOfMemory) (x : EvalAltResult) → answered back ≡ Err x → Cuts p (length b.scope) (answer_of back) scope → Cuts p (length b.scope) (Failed (problem_of x)) scope
-        cut (Ok (Ok v)) x is c = absurd cc
-        cut (Ok (Err y)) x is c = let same : y ≡ x = cc in subst (λ (z : EvalAltResult). Cuts p (length b.scope) (Failed (problem_of z)) scope) same c
-        cut (Err m) x is c = let same : fault.Memory ≡ x = cc in subst (λ (z : EvalAltResult). Cuts p (length b.scope) (Failed (problem_of z)) scope) same tt
+  -- the run as it is stopped at a mark, or not
+  at_stop : (back : Result (Result Dynamic EvalAltResult) OutOfMemory) → Goes (setup p e) at_first (λ m place w. called m place w) (is_out back) at_last (over back) →
+      (stop : Option ℕ) → Clear stop 0 passed → Halts (is_out back) stop passed → Ends (record (setup p e) { stop = stop }) (called (record (setup p e) { stop = stop }) None (world at_first nothing)) (answer_of back) (world at_last nothing)
+  at_stop back h stop clear halts = whole h refl stop clear halts nothing
 
-  pub has_cause : (back : Result (Result Dynamic EvalAltResult) OutOfMemory) → Goes (setup p e) at_first (λ m place w. called m place w) (is_out back) at_last (over back) →
-      HasCause p e count (answered back)
+  -- what is left of the scope
+  pub leaves : (back : Result (Result Dynamic EvalAltResult) OutOfMemory) → Goes (setup p e) at_first (λ m place w. called m place w) (is_out back) at_last (over back) → Leaves p e b (answered back) scope trace
+  leaves back h =
+      let run = at_stop back h (Some passed) (clear_before 0 passed) (halts_there (is_out back) passed) in
+      let counts = called_counts (record (setup p e) { stop = Some passed }) None (world at_first nothing) (world at_last nothing) (answer_of back) run in
+      record { keeps = counts.3; cuts = λ x is. cut back h x is } where
+        cut : (back : Result (Result Dynamic EvalAltResult) OutOfMemory) → Goes (setup p e) at_first (λ m place w. called m place w) (is_out back) at_last (over back) → (x : EvalAltResult) → answered back ≡ Err x → IsCut p e b (problem_of x) scope trace
+        cut (Ok (Ok v)) h x is = absurd cc
+        cut (Ok (Err y)) h x is =
+            let same : y ≡ x = cc in
+            let run = at_stop (Ok (Err y)) h None (never_clear 0 passed) tt in
+            subst (λ (z : EvalAltResult). IsCut p e b (problem_of z) scope trace) same (None, inl refl, (called_counts (setup p e) None (world at_first nothing) (world at_last nothing) (answer_of (Ok (Err y))) run).4)
+        cut (Err o) h x is =
+            let same : fault.Memory ≡ x = cc in
+            let run = at_stop (Err o) h (Some passed) (clear_before 0 passed) (halts_there true passed) in
+            subst (λ (z : EvalAltResult). IsCut p e b (problem_of z) scope trace) same (Some passed, inr refl, (called_counts (record (setup p e) { stop = Some passed }) None (world at_first nothing) (world at_last nothing) (answer_of (Err o)) run).4)
+
+  -- each fault has its cause: the run that is not stopped never wants memory
+  pub has_cause : (back : Result (Result Dynamic EvalAltResult) OutOfMemory) → Goes (setup p e) at_first (λ m place w. called m place w) (is_out back) at_last (over back) → HasCause p e b (answered back)
   has_cause (Ok (Ok v)) h = tt
-  has_cause (Ok (Err fault.Memory)) h = tt
-  has_cause (Ok (Err (fault.ErrorFunctionNotFound s q))) h = caused (fault.ErrorFunctionNotFound s q) h
-  has_cause (Ok (Err (fault.ErrorMismatchDataType s t q))) h = caused (fault.ErrorMismatchDataType s t q) h
-  has_cause (Ok (Err (fault.ErrorAssignmentToConstant s q))) h = caused (fault.ErrorAssignmentToConstant s q) h
-  has_cause (Ok (Err (fault.ErrorInFunctionCall' f s b x q))) h = caused (fault.ErrorInFunctionCall' f s b x q) h
-  has_cause (Ok (Err (fault.ErrorRuntime v q))) h = caused (fault.ErrorRuntime v q) h
-  has_cause (Ok (Err (fault.ErrorStackOverflow q))) h = caused (fault.ErrorStackOverflow q) h
-  has_cause (Ok (Err (fault.ErrorArithmetic s q))) h = caused (fault.ErrorArithmetic s q) h
-  has_cause (Ok (Err (fault.ErrorTooManyOperations q))) h = caused (fault.ErrorTooManyOperations q) h
-  has_cause (Ok (Err (fault.ErrorTooManyVariables q))) h = caused (fault.ErrorTooManyVariables q) h
-  has_cause (Ok (Err (fault.Malformed k q))) h = caused (fault.Malformed k q) h
-  has_cause (Err m) h = tt
+  has_cause (Ok (Err x)) h =
+      let run = at_stop (Ok (Err x)) h None (never_clear 0 passed) tt in
+      at (called_counts (setup p e) None (world at_first nothing) (world at_last nothing) (answer_of (Ok (Err x))) run).5 where
+        at : Caused (setup p e) (called (setup p e) None (world at_first nothing)) b.level (Failed (problem_of x)) (world at_last nothing) → HasCause p e b (Err x)
+        at (inl s) = absurd cc
+        at (inr c) = inr c
+  has_cause (Err o) h = inl refl

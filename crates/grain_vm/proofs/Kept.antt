@@ -1,15 +1,11 @@
 -- What is kept of a scope: the names below a base, whatever is written, pushed or cut above it.
-use Rattle.std.proofs.Common.{◌≡◌, ◌⊎◌, ◌≤◌, ◌∙◌, ℕ, zero, suc, List, [], ◌∷◌, ◌++◌, length, take, refl, ap, inl, inr, arith}
+use Rattle.std.proofs.Common.{◌≡◌, ◌≤◌, ◌∙◌, ℕ, zero, suc, List, [], ◌∷◌, ◌++◌, length, take, refl, ap, arith}
 use Rattle.std.proofs.lemmas.List.{take-append-le, length-take, length-append}
 use Rattle.std.proofs.Math.Seq.{take-length}
 use Rattle.grain_value.specs.declared.values.Held.{Held}
 use Rattle.grain_value.specs.declared.scopes.Entry.{Entry}
 use Rattle.grain_value.specs.Scopes.{set_held}
-use Rattle.grain_fault.specs.Problems.{Problem, NoMemory}
-use Rattle.grain_fault.specs.Problems as problem
-use Rattle.grain_program.specs.View.{View}
-use Rattle.grain_vm.specs.means.Acts.{Failed}
-use Rattle.grain_vm.specs.means.Leavings.{names, Keeps, HasCheckpoint, IsCut, Cuts}
+use Rattle.grain_vm.specs.means.Leavings.{names, Keeps}
 use Rattle.grain_vm.proofs.Above.{length_set_held}
 
 pub keeps_all : (scope : List Entry) → Keeps (length scope) (names scope) scope
@@ -38,21 +34,3 @@ names_set (suc b) (e ∷ es) (suc i) h = ap (λ (l : List (List ℕ)). e.name �
 
 pub keeps_set : (b : ℕ) (ns : List (List ℕ)) (scope : List Entry) (i : ℕ) (h : Held) → Keeps b ns scope → Keeps b ns (set_held scope i h)
 keeps_set b ns scope i h k = record { there = omega (arith, k.there, length_set_held scope i h); named = names_set b scope i h ∙ k.named }
-
--- a scope that is cut to the floor
-pub cut_to : {p : View} (b floor : ℕ) (scope : List Entry) → (floor ≡ b) ⊎ HasCheckpoint p → IsCut p b (take floor scope)
-cut_to b floor scope (inl e) = inl (omega (arith, e, length-take floor scope))
-cut_to b floor scope (inr c) = inr c
-
-pub cuts_failed : (p : View) (b : ℕ) (x : Problem) (scope : List Entry) → IsCut p b scope → Cuts p b (Failed x) scope
-cuts_failed p b (problem.FunctionNotFound s q) scope cut = cut
-cuts_failed p b (problem.MismatchDataType r a q) scope cut = cut
-cuts_failed p b (problem.InFunctionCall s t x q) scope cut = cut
-cuts_failed p b (problem.AssignmentToConstant s q) scope cut = cut
-cuts_failed p b (problem.Arithmetic s q) scope cut = cut
-cuts_failed p b (problem.Runtime v q) scope cut = cut
-cuts_failed p b (problem.TooManyOperations q) scope cut = cut
-cuts_failed p b (problem.TooManyVariables q) scope cut = cut
-cuts_failed p b (problem.StackOverflow q) scope cut = cut
-cuts_failed p b (problem.Malformed k q) scope cut = cut
-cuts_failed p b NoMemory scope cut = tt

@@ -9,13 +9,18 @@ use Rattle.grain_program.specs.Effects.{takes_of, gives_of, leads_of}
 use Rattle.grain_program.specs.Typing.{In, IsProgram}
 use Rattle.grain_program.specs.Fits.{Fits, Foreseen, begins}
 use Rattle.grain_vm.specs.means.Acts.{frame_at}
-use Rattle.grain_vm.specs.frame.Hand.{own, frame_in, Kept, Lands, GoesOn}
+use Rattle.grain_vm.specs.frame.Hand.{own, frame_in, Kept, Lands, GoesOn, OnTrue}
 use Rattle.grain_vm.specs.declared.global.Engine.{Engine}
 use Rattle.grain_vm.specs.declared.stack.Stacks.{Stacks}
 use Rattle.grain_vm.specs.declared.frame.activations.Activation.{Activation}
 use Rattle.grain_vm.specs.declared.frame.states.State.{State}
 use Rattle.grain_vm.specs.declared.frame.states.Flow.{Flow}
 use Rattle.grain_vm.specs.declared.frame.states.Flow.TheVariants.{On, Over}
+
+-- what follows where a try did what it tried
+pub both : {K L G : Type 0} (b : Bool) → OnTrue b K → OnTrue b L → (K → L → G) → OnTrue b G
+both true k l f = f k l
+both false k l f = tt
 
 -- how many operands a frame has
 pub depth_own : (n depth height : ℕ) (xs : List Held) → height ≡ length xs → depth ≡ height - n → depth ≡ length (drop n xs)

@@ -7,7 +7,8 @@ mod Measure
 mod Calls
 mod Mains
 mod Determined
-mod Reasons
+mod Lengths
+mod Standing
 mod Kept
 mod Tally
 mod Evaluated

@@ -1,14 +1,18 @@
--- One walk over the rules for all that holds of every run: `ran` counts the instructions that are begun, the tokens that are out are those that were, the level is what it was, the entries below the base keep their names, a fault cuts the scope, and each fault has its cause.
-use Rattle.std.proofs.Common.{◌≡◌, ◌⊎◌, ◌≤◌, ℕ, ◌+◌, List, [], ◌∷◌, ◌++◌, Option, Some, None, Bool, true, false, refl, sym, subst, ◌∙◌, inl, inr, arith, length, take, if◌then◌else◌, nat_lt, nat_le}
+-- One walk over the rules for all that holds of every run: `ran` counts the instructions that are begun, the tokens that are out are those that were, the level is what it was, the entries below the base keep their names, a fault cuts the scope, each fault has its cause, and in a valid program an instruction with its operands stands at each frame.
+use Rattle.std.proofs.Common.{◌≡◌, ◌≤◌, ◌<◌, ℕ, ◌+◌, ◌-◌, List, [], ◌∷◌, ◌++◌, Option, Some, None, Bool, true, false, refl, sym, subst, ap, ◌∙◌, inl, inr, arith, length, take, if◌then◌else◌, nat_lt, nat_le}
+use Rattle.std.specs.Prelude.{codes}
 use Rattle.std.proofs.lemmas.Bool.{ltb-true, ltb-false, leb-true}
 use Rattle.grain_value.specs.declared.values.Dynamic.{Dynamic}
+use Rattle.grain_value.specs.declared.values.Dynamic.TheVariants as dynamic
 use Rattle.grain_value.specs.declared.values.Held.{Held}
 use Rattle.grain_value.specs.declared.scopes.Entry.{Entry}
 use Rattle.grain_value.specs.Scopes.{set_held}
 use Rattle.grain_value.specs.Looking.{truth_of, is_unit}
+use Rattle.grain_value.specs.Writing.{type_name_of}
 use Rattle.grain_fault.specs.Classes.{system_exception}
-use Rattle.grain_fault.specs.Positions.{at_position}
+use Rattle.grain_fault.specs.Positions.{at_position, position_of_problem}
 use Rattle.grain_fault.specs.declared.places.Position.{Position}
+use Rattle.grain_fault.specs.declared.traces.Fault.{Fault}
 use Rattle.grain_fault.specs.declared.faults.MalformedKind.TheVariants as kind
 use Rattle.grain_fault.specs.Problems.{Problem, NoMemory, InFunctionCall, AssignmentToConstant, TooManyOperations, TooManyVariables, StackOverflow}
 use Rattle.grain_fault.specs.Problems as problem
@@ -16,28 +20,45 @@ use Rattle.grain_program.specs.declared.input.AssignOp.{AssignOp}
 use Rattle.grain_program.specs.declared.functions.Function.{Function}
 use Rattle.grain_program.specs.declared.instructions.Op.{Op}
 use Rattle.grain_program.specs.declared.instructions.Op.TheVariants as op
+use Rattle.grain_program.specs.Effects.{takes_of, gives_of, leads_of}
+use Rattle.grain_program.specs.Typing.{In, IsProgram}
 use Rattle.grain_program.specs.Reading.{op_at}
-use Rattle.grain_program.specs.View.{View, name_of, token_of, assign_op_of}
-use Rattle.grain_vm.specs.means.Operators.{Outcome, NotBuiltIn, Gave, Overflowed, operation, assignment, where_fast}
-use Rattle.grain_vm.specs.means.Acts.{Act, Go, End, Then, Answer, Came, Failed, World, Setup, Frame, InFrame, Place, top, below, under, without, arguments, bound, function_found, frame_at, held_at, noted, stepped, is_full, is_stop, or_return, left, marked, raised, charged, onward, jumped, misplaced, loaded, declared, answered, refused, put, kept, stored, assigned, assigned_op, agrees, branched, tested, skipped, unwound, escaped, settled, entered, calls, instr, begun, next, passing, closed, called, main_frame, position}
+use Rattle.grain_program.specs.View.{name_of, const_of, token_of, assign_op_of}
+use Rattle.grain_vm.specs.means.Operators.{Outcome, NotBuiltIn, Gave, Overflowed, operation, assignment, where_fast, signature_text}
+use Rattle.grain_vm.specs.means.Acts.{Act, Go, End, Then, Answer, Came, Failed, World, Setup, Frame, InFrame, Todo, Place, top, below, under, read_write, without, arguments, bound, function_found, frame_at, held_at, noted, stepped, is_full, is_stop, or_return, left, marked, raised, charged, onward, jumped, misplaced, loaded, declared, answered, refused, put, kept, stored, assigned, assigned_op, agrees, branched, tested, skipped, unwound, escaped, settled, entered, calls, instr, begun, next, passing, closed, called, main_frame, position}
 use Rattle.grain_vm.specs.means.Ends.{Ends, ended, went, joined}
-use Rattle.grain_vm.specs.means.Leavings.{names, Keeps, HasCheckpoint, Cuts}
+use Rattle.grain_vm.specs.means.Comes.{Spot, Comes, here, further, within, behind, Meets, Stands}
+use Rattle.grain_vm.specs.means.Leavings.{names, Keeps, Cut, Cuts}
 use Rattle.grain_vm.specs.means.Length.{run_length}
-use Rattle.grain_vm.specs.means.Causes.{RaisedAt, Operates, Seeks, Tests, Charges, Grows, Unwinds, Throws, Calls, CallsOf, UsesSlot, Assigns, NoResult, Left, Cause, Caused}
-use Rattle.grain_vm.proofs.Kept.{keeps_all, keeps_nothing, keeps_cut, keeps_push, keeps_set, cut_to, cuts_failed}
-use Rattle.grain_vm.proofs.Reasons.{operator_overflows, assignment_overflows, past_scope}
+use Rattle.grain_vm.specs.means.Causes.{Calls, Charges, Overfills, UsesEntry, Unwinds, Tests, Holds, AssignsConstant, Operates, CallsOn, Enters, LeftCall, Tells, Row, Cause, Caused}
+use Rattle.grain_vm.proofs.Kept.{keeps_all, keeps_nothing, keeps_cut, keeps_push, keeps_set}
+use Rattle.grain_vm.proofs.Landing.{of_two}
+use Rattle.grain_vm.proofs.Lengths.{past_scope, cut_short, length_under, length_pushed, length_rotated}
+use Rattle.grain_vm.proofs.Standing.{Fitting, fits_main, fits_function, fits_next, fits_stand}
 
--- where a frame sits on a scope whose entries below the base have these names
-abbrev Sits : View → ℕ → List (List ℕ) → Frame → List Entry → Type 0
-Sits p b ns f scope = (f.base ≡ b) × (b ≤ f.floor) × ((f.floor ≡ b) ⊎ HasCheckpoint p) × Keeps b ns scope
+-- what a run keeps: the tokens that are out, the level, the trace until a fault leaves a frame, and the names of the entries below a base
+record Footing : Type 0 where
+  tokens : Option (List ℕ)
+  level : ℕ
+  trace : List Fault
+  base : ℕ
+  names : List (List ℕ)
 
--- what is left to do begins after so many instructions, keeps these tokens out, this level and the entries below a base, and ends with a cause and the scope cut
-abbrev pub Tally : Setup → ℕ → Option (List ℕ) → ℕ → ℕ → List (List ℕ) → Act → Type 0
-Tally m r ts l b ns (Go (InFrame f this) w) = (w.ran ≡ r) × (w.tokens ≡ ts) × (w.level ≡ l) × Sits m.program b ns f w.scope
-Tally m r ts l b ns (End a w) = (w.ran ≡ r) × (w.tokens ≡ ts) × (w.level ≡ l) × Keeps b ns w.scope × Cuts m.program b a w.scope × Caused m a w
-Tally m r ts l b ns (Then first rest) =
-    (us : Option (List ℕ)) × (k : ℕ) × (c : ℕ) × (ms : List (List ℕ)) × Tally m r us k c ms first ×
-    ((x : Answer) (w : World) → w.tokens ≡ us → w.level ≡ k → Keeps c ms w.scope → Cuts m.program c x w.scope → Caused m x w → Tally m w.ran ts l b ns (rest x w))
+-- what the first act comes to, the second comes to
+abbrev Onto : Setup → Act → Act → Type 0
+Onto m first act = (t : Todo) (w : World) → Comes m t w first → Comes m t w act
+
+-- a frame on this footing, which in a valid program fits
+abbrev Sits : Setup → Footing → Frame → Type 0
+Sits m k f = (f.base ≡ k.base) × (k.base ≤ f.floor) × (IsProgram m.program → Fitting m.program f)
+
+-- what is left to do of a run, and of its instruction, begins after so many instructions, keeps its footing, and ends with a cause and the scope cut
+abbrev Tally : Setup → Act → Act → ℕ → Footing → Act → Type 0
+Tally m root turn r k (Go (InFrame f this) w) = (w.ran ≡ r) × (w.tokens ≡ k.tokens) × (w.level ≡ k.level) × (w.trace ≡ k.trace) × Keeps k.base k.names w.scope × Sits m k f
+Tally m root turn r k (End a w) = (w.ran ≡ r) × (w.tokens ≡ k.tokens) × (w.level ≡ k.level) × Keeps k.base k.names w.scope × Cuts m root k.level k.base k.trace a w × Caused m root k.level a w
+Tally m root turn r k (Then first rest) =
+    (j : Footing) × Tally m first first r j first ×
+    (Onto m first root → Onto m first turn → (x : Answer) (w : World) → w.tokens ≡ j.tokens → w.level ≡ j.level → Keeps j.base j.names w.scope → Cuts m first j.level j.base j.trace x w → Caused m first j.level x w → Tally m root turn w.ran k (rest x w))
 
 by_test : (P : Act → Type 0) (b : Bool) (x y : Act) → (b ≡ true → P x) → (b ≡ false → P y) → P (if b then x else y)
 by_test P true x y p q = p refl
@@ -49,299 +70,371 @@ true-false p q = cc
 is_false : {A : Type 0} → false ≡ true → A
 is_false p = cc
 
-is_true : {A : Type 0} → true ≡ false → A
-is_true p = cc
-
--- the instruction that raised it first
-raised_first : {program : View} {Raised : Position → Type 0} {p : Position} → Left program Raised p → (q : Position) × Raised q
-raised_first {p = p} (inl r) = (p, r)
-raised_first (inr c) = c.1
-
--- it leaves a call
-leaves : {program : View} {Raised : Position → Type 0} {p here : Position} → RaisedAt program here Calls → Left program Raised p → Left program Raised here
-leaves call l = inr (call, raised_first l)
+-- a truth value that agrees is the one that is wanted
+agreed : (wanted t : Bool) → agrees wanted t ≡ true → t ≡ wanted
+agreed true true e = refl
+agreed true false e = is_false e
+agreed false true e = is_false e
+agreed false false e = refl
 
 module _ (m : Setup) where
-  -- the act does no more and no less than the world says
-  abbrev Even : ℕ → List (List ℕ) → World → Act → Type 0
-  Even b ns w act = Tally m w.ran w.tokens w.level b ns act
+  -- a system exception that leaves a call tells the call's position, and its cause is the same
+  moved : (p : Position) (x : Problem) (s : Spot) → system_exception x ≡ true → Row m x s → (position_of_problem (at_position p x) ≡ p) × (system_exception (at_position p x) ≡ true) × Row m (at_position p x) s
+  moved p (problem.FunctionNotFound t q) s system row = is_false system
+  moved p (problem.MismatchDataType r a q) s system row = is_false system
+  moved p (problem.InFunctionCall t u x q) s system row = is_false system
+  moved p (problem.AssignmentToConstant t q) s system row = is_false system
+  moved p (problem.Arithmetic t q) s system row = is_false system
+  moved p (problem.Runtime v q) s system row = is_false system
+  moved p (problem.TooManyOperations q) s system row = (refl, refl, row)
+  moved p (problem.TooManyVariables q) s system row = (refl, refl, row)
+  moved p (problem.StackOverflow q) s system row = (refl, refl, row)
+  moved p (problem.Malformed (kind.SlotPastScope i n) q) s system row = (refl, refl, row)
+  moved p (problem.Malformed (kind.UnwindPastScope t n) q) s system row = (refl, refl, row)
+  moved p NoMemory s system row = absurd row
 
-  -- the cause does not look at the scope, the level or the trace
-  moved : (x : Problem) (w v : World) → v.count ≡ w.count → v.passed ≡ w.passed → Caused m (Failed x) w → Caused m (Failed x) v
-  moved NoMemory w v c p cause = rw p cause
-  moved (problem.FunctionNotFound s q) w v c p cause = subst (λ (n : ℕ). Cause m.program m.engine n (problem.FunctionNotFound s q)) (sym c) cause
-  moved (problem.MismatchDataType r a q) w v c p cause = subst (λ (n : ℕ). Cause m.program m.engine n (problem.MismatchDataType r a q)) (sym c) cause
-  moved (problem.InFunctionCall s t x q) w v c p cause = subst (λ (n : ℕ). Cause m.program m.engine n (problem.InFunctionCall s t x q)) (sym c) cause
-  moved (problem.AssignmentToConstant s q) w v c p cause = subst (λ (n : ℕ). Cause m.program m.engine n (problem.AssignmentToConstant s q)) (sym c) cause
-  moved (problem.Arithmetic s q) w v c p cause = subst (λ (n : ℕ). Cause m.program m.engine n (problem.Arithmetic s q)) (sym c) cause
-  moved (problem.Runtime u q) w v c p cause = subst (λ (n : ℕ). Cause m.program m.engine n (problem.Runtime u q)) (sym c) cause
-  moved (problem.TooManyOperations q) w v c p cause = subst (λ (n : ℕ). Cause m.program m.engine n (problem.TooManyOperations q)) (sym c) cause
-  moved (problem.TooManyVariables q) w v c p cause = subst (λ (n : ℕ). Cause m.program m.engine n (problem.TooManyVariables q)) (sym c) cause
-  moved (problem.StackOverflow q) w v c p cause = subst (λ (n : ℕ). Cause m.program m.engine n (problem.StackOverflow q)) (sym c) cause
-  moved (problem.Malformed k q) w v c p cause = subst (λ (n : ℕ). Cause m.program m.engine n (problem.Malformed k q)) (sym c) cause
+  module _ (first root : Act) (onto : Onto m first root) where
+    -- what the first act meets, and why it ends so, as the second has it
+    meets : (s : Spot) → Meets m s first → Meets m s root
+    meets s h = record { comes = onto (InFrame s.frame s.this) s.world h.comes; width = h.width; stands = h.stands }
 
-  module _ (b : ℕ) (ns : List (List ℕ)) where
+    told : (level : ℕ) (at : Spot) (x : Problem) → Tells m first level at x → Tells m root level at x
+    told level at x (inl own) = inl own
+    told level at x (inr (s, l)) = inr (s, record { call = l.call; met = meets l.call l.met; own = l.own; function = l.function; enters = l.enters; position = l.position })
+
+    caused : (level : ℕ) (a : Answer) (w v : World) → (is_stop m.stop w.passed ≡ true → is_stop m.stop v.passed ≡ true) → Caused m first level a w → Caused m root level a v
+    caused level (Came u) w v stops c = tt
+    caused level (Failed x) w v stops (inl s) = inl (s.0, stops s.1)
+    caused level (Failed x) w v stops (inr c) = inr (record { spot = c.spot; met = meets c.spot c.met; why = c.why; tells = told level c.spot x c.tells })
+
+    -- a system exception goes on at a call
+    cause_at : (p : Position) (inside level : ℕ) (x : Problem) → system_exception x ≡ true → (c : Cause m first inside x) → LeftCall m root level c.spot p → Cause m root level (at_position p x)
+    cause_at p inside level x system c call =
+        let k = moved p x c.spot system c.why in
+        record { spot = c.spot; met = meets c.spot c.met; why = k.2; tells = inr (k.1, subst (LeftCall m root level c.spot) (sym k.0) call) }
+
+    cut_of : (level base : ℕ) (scope : List Entry) (trace : List Fault) → Cut m first level base scope trace → Cut m root level base scope trace
+    cut_of level base scope trace c = record { frame = c.frame; this = c.this; world = c.world; comes = onto (InFrame c.frame c.this) c.world c.comes; own = c.own; based = c.based; inner = c.inner; last = c.last; short = c.short }
+
+  -- the run of a root, on a footing, at an instruction of a frame
+  module _ (root : Act) (k : Footing) (f : Frame) (this : Option Place) (now : World) (comes : Comes m (InFrame f this) now root) (tokens : now.tokens ≡ k.tokens) (level : now.level ≡ k.level) (trace : now.trace ≡ k.trace) (keeps : Keeps k.base k.names now.scope) (sits : Sits m k f) where
+    abbrev Even : ℕ → Act → Type 0
+    Even r act = Tally m root (Go (InFrame f this) now) r k act
+
+    -- the world stands on the footing
+    abbrev Steady : ℕ → World → Type 0
+    Steady r w = (w.ran ≡ r) × (w.tokens ≡ k.tokens) × (w.level ≡ k.level) × Keeps k.base k.names w.scope
+
+    -- the world in which the instruction begins
+    abbrev start : World
+    start = record now { ran = now.ran + 1; passed = now.passed + 1 }
+
+    steady : Steady (now.ran + 1) start
+    steady = (refl, tokens, level, keeps)
+
     -- a fault leaves the frame
-    even_left : (f : Frame) (x : Problem) (w v : World) → v.ran ≡ w.ran → v.tokens ≡ w.tokens → v.level ≡ w.level → Sits m.program b ns f v.scope → Caused m (Failed x) v → Even b ns w (left m f x v)
-    even_left f x w v r t l s cause =
-        let there : Keeps b ns (take f.floor v.scope) = keeps_cut b f.floor ns v.scope s.1 s.3 in
-        (r, t, l, there, cuts_failed m.program b x (take f.floor v.scope) (cut_to b f.floor v.scope s.2), moved x v (record v { scope = take f.floor v.scope; trace = v.trace ++ noted f.address ∷ [] }) refl refl cause)
+    even_left : (r : ℕ) (x : Problem) (w : World) → Steady r w → Caused m root k.level (Failed x) w → Even r (left m f x w)
+    even_left r x w s cause =
+        let cut : Cut m root k.level k.base (take f.floor w.scope) (w.trace ++ noted f.address ∷ []) = record { frame = f; this = this; world = now; comes = comes; own = level; based = sits.0; inner = w.trace; last = refl; short = cut_short f.floor w.scope } in
+        (s.0, s.1, s.2, keeps_cut k.base f.floor k.names w.scope sits.1 s.3, inl cut, cause)
 
-    even_marked : (f : Frame) (w : World) → Sits m.program b ns f w.scope → (go : World → Act) → Even b ns w (go (record w { passed = w.passed + 1 })) → Even b ns w (marked m f w go)
-    even_marked f w s go h = by_test (Even b ns w) (is_stop m.stop w.passed) (left m f NoMemory w) (go (record w { passed = w.passed + 1 })) (λ stop. even_left f NoMemory w w refl refl refl s stop) (λ _. h)
+    even_marked : (r : ℕ) (w : World) → Steady r w → (go : World → Act) → Even r (go (record w { passed = w.passed + 1 })) → Even r (marked m f w go)
+    even_marked r w s go h = by_test (Even r) (is_stop m.stop w.passed) (left m f NoMemory w) (go (record w { passed = w.passed + 1 })) (λ stop. even_left r NoMemory w s (inl (refl, stop))) (λ _. h)
 
-    even_raised : (f : Frame) (x : Problem) (w : World) → Sits m.program b ns f w.scope → Caused m (Failed x) (record w { passed = w.passed + 1 }) → Even b ns w (raised m f x w)
-    even_raised f x w s cause = even_marked f w s (left m f x) (even_left f x w (record w { passed = w.passed + 1 }) refl refl refl s cause)
+    even_raised : (r : ℕ) (x : Problem) (w : World) → Steady r w → Cause m root k.level x → Even r (raised m f x w)
+    even_raised r x w s cause = even_marked r w s (left m f x) (even_left r x (record w { passed = w.passed + 1 }) s (inr cause))
 
-    even_onward : (f g : Frame) (this : Option Place) (w v : World) → v.ran ≡ w.ran → v.tokens ≡ w.tokens → v.level ≡ w.level → Sits m.program b ns f v.scope → Sits m.program b ns g v.scope → Even b ns w (onward m f g this v)
-    even_onward f g this w v r t l s s' =
-        by_test (Even b ns w) (is_stop m.stop v.passed) (left m f NoMemory v) (Go (InFrame g this) (record v { passed = v.passed + 1 })) (λ stop. even_left f NoMemory w v r t l s stop) (λ _. (r, t, l, s'))
-
-    -- on, and nothing else
-    even_on : (f g : Frame) (this : Option Place) (w : World) → Sits m.program b ns f w.scope → Sits m.program b ns g w.scope → Even b ns w (onward m f g this w)
-    even_on f g this w s s' = even_onward f g this w w refl refl refl s s'
+    even_onward : (r : ℕ) (g : Frame) (w : World) → Steady r w → w.trace ≡ k.trace → Sits m k g → Even r (onward m f g this w)
+    even_onward r g w s t u = even_marked r w s (Go (InFrame g this)) (s.0, s.1, s.2, t, s.3, u)
 
     -- a write of the scope, and on
-    even_written : (f g : Frame) (this : Option Place) (w : World) (write : List Entry → List Entry) → Sits m.program b ns f w.scope → Sits m.program b ns f (write w.scope) → Sits m.program b ns g (write w.scope) →
-        Even b ns w (marked m f w (λ w1. onward m f g this (record w1 { scope = write w1.scope })))
-    even_written f g this w write s t u =
-        even_marked f w s (λ w1. onward m f g this (record w1 { scope = write w1.scope })) (even_onward f g this w (record w { passed = w.passed + 1; scope = write w.scope }) refl refl refl t u)
+    even_written : (g : Frame) (write : List Entry → List Entry) → Keeps k.base k.names (write now.scope) → Sits m k g → Even (now.ran + 1) (marked m f start (λ w1. onward m f g this (record w1 { scope = write w1.scope })))
+    even_written g write there u =
+        even_marked (now.ran + 1) start steady (λ w1. onward m f g this (record w1 { scope = write w1.scope }))
+        (even_onward (now.ran + 1) g (record start { passed = start.passed + 1; scope = write start.scope }) (refl, tokens, level, there) trace u)
+
+    -- one operand less, and one more
+    one_less : length (below f.operands) ≡ length f.operands - 1 + 0
+    one_less = omega (arith, length_under 1 f.operands)
+
+    one_more : (v : Dynamic) → length (f.operands ++ read_write v ∷ []) ≡ length f.operands - 0 + 1
+    one_more v = omega (arith, length_pushed f.operands v)
 
     -- the rules of an instruction that stands where the frame does
-    module _ (f : Frame) (o : Op) (width : ℕ) (stands : op_at m.program.code f.address ≡ Some (o, width)) where
-      here : (Kind : ℕ → Op → Type 0) → Kind f.address o → RaisedAt m.program (position m f) Kind
-      here Kind kind = record { address = f.address; width = width; instruction = o; stands = stands; kind = kind; position = refl }
+    module _ (o : Op) (width : ℕ) (stands : op_at m.program.code f.address ≡ Some (o, width)) where
+      abbrev behind_it : ℕ
+      behind_it = f.address + width
+
+      -- where the run stands
+      abbrev spot : Spot
+      spot = record { instruction = o; frame = f; this = this; world = now }
+
+      met : Meets m spot root
+      met = record { comes = comes; width = width; stands = stands }
+
+      -- why the instruction raises this fault
+      why : (x : Problem) → position_of_problem x ≡ position m f → Row m x spot → Cause m root k.level x
+      why x p row = record { spot = spot; met = met; why = row; tells = inl (level, p) }
+
+      -- the frame goes on at an address to which the instruction leads, with as many operands as it leaves
+      sits_at : (a : ℕ) (operands : List Held) → In a (leads_of o (f.address + width)) → (takes_of o ≤ length f.operands → length operands ≡ length f.operands - takes_of o + gives_of o) → Sits m k (stepped f a operands)
+      sits_at a operands to many = (sits.0, sits.1, λ valid. fits_next m.program valid f o width stands (stepped f a operands) to many (sits.2 valid))
+
+      even_on : (g : Frame) → Sits m k g → Even (now.ran + 1) (onward m f g this start)
+      even_on g u = even_onward (now.ran + 1) g start steady trace u
 
       -- an operation, and then what the first rule says
-      even_charged : (w : World) → Sits m.program b ns f w.scope → (go : World → Act) → Charges f.address o → Even b ns w (go (record w { passed = w.passed + 1; count = w.count + 1 })) → Even b ns w (charged m f w go)
-      even_charged w s go back h =
-          by_test (Even b ns w) (nat_lt w.count m.engine.limits.operations) (marked m f w (λ w1. go (record w1 { count = w1.count + 1 }))) (raised m f (TooManyOperations (position m f)) w)
-          (λ _. even_marked f w s (λ w1. go (record w1 { count = w1.count + 1 })) h) (λ full. even_raised f (TooManyOperations (position m f)) w s (ltb-false w.count m.engine.limits.operations full, inl (here Charges back)))
+      even_charged : (go : World → Act) → Charges m.program o f → (now.count < m.engine.limits.operations → Even (now.ran + 1) (go (record start { passed = start.passed + 1; count = start.count + 1 }))) → Even (now.ran + 1) (charged m f start go)
+      even_charged go charges h =
+          by_test (Even (now.ran + 1)) (nat_lt now.count m.engine.limits.operations) (marked m f start (λ w1. go (record w1 { count = w1.count + 1 }))) (raised m f (TooManyOperations (position m f)) start)
+          (λ fits. even_marked (now.ran + 1) start steady (λ w1. go (record w1 { count = w1.count + 1 })) (h (ltb-true now.count m.engine.limits.operations fits)))
+          (λ full. even_raised (now.ran + 1) (TooManyOperations (position m f)) start steady (why (TooManyOperations (position m f)) refl (ltb-false now.count m.engine.limits.operations full, charges)))
 
-      even_charged_on : (g : Frame) (this : Option Place) (w : World) → Sits m.program b ns f w.scope → Sits m.program b ns g w.scope → Charges f.address o → Even b ns w (charged m f w (onward m f g this))
-      even_charged_on g this w s u back = even_charged w s (onward m f g this) back (even_onward f g this w (record w { passed = w.passed + 1; count = w.count + 1 }) refl refl refl s u)
+      even_charged_on : (g : Frame) → Sits m k g → Charges m.program o f → Even (now.ran + 1) (charged m f start (onward m f g this))
+      even_charged_on g u charges = even_charged (onward m f g this) charges (λ _. even_onward (now.ran + 1) g (record start { passed = start.passed + 1; count = start.count + 1 }) steady trace u)
 
-      even_jumped : (g : Frame) (this : Option Place) (w : World) → Sits m.program b ns f w.scope → Sits m.program b ns g w.scope → (g.address ≤ f.address → Charges f.address o) → Even b ns w (jumped m f g this w)
-      even_jumped g this w s u back =
-          by_test (Even b ns w) (nat_le g.address f.address) (charged m f w (onward m f g this)) (onward m f g this w) (λ le. even_charged_on g this w s u (back (leb-true g.address f.address le))) (λ _. even_on f g this w s u)
+      even_jumped : (g : Frame) → Sits m k g → (g.address ≤ f.address → Charges m.program o f) → Even (now.ran + 1) (jumped m f g this start)
+      even_jumped g u back =
+          by_test (Even (now.ran + 1)) (nat_le g.address f.address) (charged m f start (onward m f g this)) (onward m f g this start) (λ le. even_charged_on g u (back (leb-true g.address f.address le))) (λ _. even_on g u)
 
-      even_misplaced : (slot : ℕ) (w : World) → Sits m.program b ns f w.scope → UsesSlot f.address o → held_at w.scope (f.base + slot) ≡ None → Even b ns w (misplaced m f (f.base + slot) w)
-      even_misplaced slot w s kind e = even_raised f _ w s (past_scope w.scope (f.base + slot) e, inl (here UsesSlot kind))
+      even_misplaced : (slot : ℕ) → UsesEntry (f.base + slot) o f → held_at now.scope (f.base + slot) ≡ None → Even (now.ran + 1) (misplaced m f (f.base + slot) start)
+      even_misplaced slot uses e =
+          let x = problem.Malformed (kind.SlotPastScope (f.base + slot) (length now.scope)) (position m f) in
+          even_raised (now.ran + 1) x start steady (why x refl (refl, past_scope now.scope (f.base + slot) e, uses))
 
-      even_loaded : (slot next : ℕ) (this : Option Place) (w : World) → Sits m.program b ns f w.scope → UsesSlot f.address o → (h : Option Held) → held_at w.scope (f.base + slot) ≡ h → Even b ns w (loaded m h f slot next this w)
-      even_loaded slot next this w s kind None e = even_misplaced slot w s kind e
-      even_loaded slot next this w s kind (Some h) e = even_on f _ this w s s
+      even_loaded : (slot : ℕ) → ((v : Dynamic) → Sits m k (stepped f behind_it (f.operands ++ read_write v ∷ []))) → UsesEntry (f.base + slot) o f → (h : Option Held) → held_at now.scope (f.base + slot) ≡ h → Even (now.ran + 1) (loaded m h f slot behind_it this start)
+      even_loaded slot u uses None e = even_misplaced slot uses e
+      even_loaded slot u uses (Some h) e = even_on _ (u h.value)
 
-      even_declared : (read_only : Bool) (name : List ℕ) (next : ℕ) (this : Option Place) (w : World) → Sits m.program b ns f w.scope → Grows f.address o → Even b ns w (declared m read_only name f next this w)
-      even_declared read_only name next this w s kind =
-          by_test (Even b ns w) (is_full m.engine.limits.variables w.scope) _ _ (λ _. even_raised f (TooManyVariables (position m f)) w s (inl (here Grows kind)))
-          (λ _.
-          let t : Sits m.program b ns f (w.scope ++ record { name = name; held = record { value = top f.operands; read_only = read_only } } ∷ []) = (s.0, s.1, s.2, keeps_push b ns w.scope (record { name = name; held = record { value = top f.operands; read_only = read_only } }) s.3) in
-          even_written f (stepped f next (below f.operands)) this w (λ scope. scope ++ record { name = name; held = record { value = top f.operands; read_only = read_only } } ∷ []) s t t)
+      even_declared : (read_only : Bool) (name : List ℕ) → Sits m k (stepped f behind_it (below f.operands)) → (m.engine.limits.variables ≤ length now.scope → Overfills m.program m.engine.limits.variables o now) → Even (now.ran + 1) (declared m read_only name f behind_it this start)
+      even_declared read_only name u fills =
+          let entry : Entry = record { name = name; held = record { value = top f.operands; read_only = read_only } } in
+          by_test (Even (now.ran + 1)) (is_full m.engine.limits.variables now.scope) _ _
+          (λ full. even_raised (now.ran + 1) (TooManyVariables (position m f)) start steady (why (TooManyVariables (position m f)) refl (fills (leb-true m.engine.limits.variables (length now.scope) full))))
+          (λ _. even_written (stepped f behind_it (below f.operands)) (λ scope. scope ++ entry ∷ []) (keeps_push k.base k.names now.scope entry keeps) u)
 
-      even_answered : (name : List ℕ) (args : List Dynamic) (next : ℕ) (operands : List Held) (this : Option Place) (w : World) → Sits m.program b ns f w.scope → Operates f.address o → Seeks f.address o → (outcome : Outcome) → ((text : List ℕ) → outcome ≡ Overflowed text → NoResult text) →
-          Even b ns w (answered m outcome name args f next operands this w)
-      even_answered name args next operands this w s kind seeks NotBuiltIn over = even_raised f _ w s (here Seeks seeks)
-      even_answered name args next operands this w s kind seeks (Gave v) over = even_on f _ this w s s
-      even_answered name args next operands this w s kind seeks (Overflowed t) over = even_raised f _ w s (over t refl, here Operates kind)
+      even_answered : (name : List ℕ) (args : List Dynamic) (operands : List Held) → ((v : Dynamic) → Sits m k (stepped f behind_it (operands ++ read_write v ∷ []))) → (outcome : Outcome) → Operates m outcome name args o f now → Even (now.ran + 1) (answered m outcome name args f behind_it operands this start)
+      even_answered name args operands u NotBuiltIn says = even_raised (now.ran + 1) _ start steady (why (problem.FunctionNotFound (signature_text name args) (position m f)) refl (name, args, refl, inr says))
+      even_answered name args operands u (Gave v) says = even_on _ (u v)
+      even_answered name args operands u (Overflowed t) says = even_raised (now.ran + 1) _ start steady (why (problem.Arithmetic t (position m f)) refl (name, args, says))
 
-      even_refused : (n : ℕ) (w : World) → Sits m.program b ns f w.scope → Assigns m.program (name_of m.program n) f.address o → Even b ns w (refused m n f w)
-      even_refused n w s kind = even_raised f (AssignmentToConstant (name_of m.program n) (position m f)) w s (here (Assigns m.program (name_of m.program n)) kind)
+      even_refused : (n : ℕ) → AssignsConstant m.program (name_of m.program n) o f now → Even (now.ran + 1) (refused m n f start)
+      even_refused n constant = even_raised (now.ran + 1) _ start steady (why (AssignmentToConstant (name_of m.program n) (position m f)) refl constant)
 
-      even_put : (h : Held) (slot next : ℕ) (this : Option Place) (w : World) → Sits m.program b ns f w.scope → Even b ns w (put m h f slot next this w)
-      even_put h slot next this w s =
-          let t : Sits m.program b ns f (set_held w.scope (f.base + slot) h) = (s.0, s.1, s.2, keeps_set b ns w.scope (f.base + slot) h s.3) in
-          even_written f (stepped f next (below f.operands)) this w (λ scope. set_held scope (f.base + slot) h) s t t
+      even_put : (h : Held) (slot : ℕ) → Sits m k (stepped f behind_it (below f.operands)) → Even (now.ran + 1) (put m h f slot behind_it this start)
+      even_put h slot u = even_written (stepped f behind_it (below f.operands)) (λ scope. set_held scope (f.base + slot) h) (keeps_set k.base k.names now.scope (f.base + slot) h keeps) u
 
-      even_kept : (read_only : Bool) (slot next : ℕ) (this : Option Place) (w : World) → Sits m.program b ns f w.scope → UsesSlot f.address o → (h : Option Held) → held_at w.scope (f.base + slot) ≡ h → Even b ns w (kept m h read_only f slot next this w)
-      even_kept read_only slot next this w s kind None e = even_misplaced slot w s kind e
-      even_kept read_only slot next this w s kind (Some h) e = even_put (record { value = top f.operands; read_only = read_only }) slot next this w s
+      even_kept : (read_only : Bool) (slot : ℕ) → Sits m k (stepped f behind_it (below f.operands)) → UsesEntry (f.base + slot) o f → (h : Option Held) → held_at now.scope (f.base + slot) ≡ h → Even (now.ran + 1) (kept m h read_only f slot behind_it this start)
+      even_kept read_only slot u uses None e = even_misplaced slot uses e
+      even_kept read_only slot u uses (Some h) e = even_put (record { value = top f.operands; read_only = read_only }) slot u
 
-      even_assigned : (n slot next : ℕ) (this : Option Place) (w : World) → Sits m.program b ns f w.scope → UsesSlot f.address o → Assigns m.program (name_of m.program n) f.address o → (h : Option Held) → held_at w.scope (f.base + slot) ≡ h → Even b ns w (assigned m h n f slot next this w)
-      even_assigned n slot next this w s uses names None e = even_misplaced slot w s uses e
-      even_assigned n slot next this w s uses names (Some h) e =
-          by_test (Even b ns w) h.read_only (refused m n f w) (put m (record h { value = top f.operands }) f slot next this w) (λ _. even_refused n w s names) (λ _. even_put (record h { value = top f.operands }) slot next this w s)
+      even_assigned : (n slot : ℕ) → Sits m k (stepped f behind_it (below f.operands)) → UsesEntry (f.base + slot) o f → ((h : Held) → Holds now (f.base + slot) true h → AssignsConstant m.program (name_of m.program n) o f now) →
+          (h : Option Held) → held_at now.scope (f.base + slot) ≡ h → Even (now.ran + 1) (assigned m h n f slot behind_it this start)
+      even_assigned n slot u uses constant None e = even_misplaced slot uses e
+      even_assigned n slot u uses constant (Some h) e =
+          by_test (Even (now.ran + 1)) h.read_only (refused m n f start) (put m (record h { value = top f.operands }) f slot behind_it this start)
+          (λ yes. even_refused n (constant h (e, yes))) (λ _. even_put (record h { value = top f.operands }) slot u)
 
-      even_stored : (name : List ℕ) (h : Held) (slot next : ℕ) (this : Option Place) (w : World) → Sits m.program b ns f w.scope → Operates f.address o → Seeks f.address o → (outcome : Outcome) → ((text : List ℕ) → outcome ≡ Overflowed text → NoResult text) →
-          Even b ns w (stored m outcome name h f slot next this w)
-      even_stored name h slot next this w s kind seeks NotBuiltIn over = even_raised f _ w s (here Seeks seeks)
-      even_stored name h slot next this w s kind seeks (Gave v) over = even_put (record h { value = v }) slot next this w s
-      even_stored name h slot next this w s kind seeks (Overflowed t) over = even_raised f _ w s (over t refl, here Operates kind)
+      even_stored : (name : List ℕ) (h : Held) (slot : ℕ) → Sits m k (stepped f behind_it (below f.operands)) → (outcome : Outcome) → Operates m outcome name (h.value ∷ top f.operands ∷ []) o f now → Even (now.ran + 1) (stored m outcome name h f slot behind_it this start)
+      even_stored name h slot u NotBuiltIn says = even_raised (now.ran + 1) _ start steady (why (problem.FunctionNotFound (signature_text name (h.value ∷ top f.operands ∷ [])) (position m f)) refl (name, h.value ∷ top f.operands ∷ [], refl, inr says))
+      even_stored name h slot u (Gave v) says = even_put (record h { value = v }) slot u
+      even_stored name h slot u (Overflowed t) says = even_raised (now.ran + 1) _ start steady (why (problem.Arithmetic t (position m f)) refl (name, h.value ∷ top f.operands ∷ [], says))
 
-      even_assigned_op : (n : ℕ) (a : AssignOp) (slot next : ℕ) (this : Option Place) (w : World) → Sits m.program b ns f w.scope → Operates f.address o → Seeks f.address o → UsesSlot f.address o → Assigns m.program (name_of m.program n) f.address o → (h : Option Held) → held_at w.scope (f.base + slot) ≡ h →
-          Even b ns w (assigned_op m h n a f slot next this w)
-      even_assigned_op n a slot next this w s kind seeks uses names None e = even_misplaced slot w s uses e
-      even_assigned_op n a slot next this w s kind seeks uses names (Some h) e =
+      even_assigned_op : (n : ℕ) (a : AssignOp) (slot : ℕ) → Sits m k (stepped f behind_it (below f.operands)) → UsesEntry (f.base + slot) o f → ((h : Held) → Holds now (f.base + slot) true h → AssignsConstant m.program (name_of m.program n) o f now) →
+          ((h : Held) → Holds now (f.base + slot) false h → Operates m (where_fast m.engine.fast_operators (assignment a.op_assign h.value (top f.operands))) (name_of m.program a.op_name) (h.value ∷ top f.operands ∷ []) o f now) →
+          (h : Option Held) → held_at now.scope (f.base + slot) ≡ h → Even (now.ran + 1) (assigned_op m h n a f slot behind_it this start)
+      even_assigned_op n a slot u uses constant says None e = even_misplaced slot uses e
+      even_assigned_op n a slot u uses constant says (Some h) e =
           let said : Outcome = where_fast m.engine.fast_operators (assignment a.op_assign h.value (top f.operands)) in
-          by_test (Even b ns w) h.read_only (refused m n f w) (stored m said (name_of m.program a.op_name) h f slot next this w) (λ _. even_refused n w s names)
-          (λ _. even_stored (name_of m.program a.op_name) h slot next this w s kind seeks said (λ text over. assignment_overflows m.engine.fast_operators a.op_assign h.value (top f.operands) text over))
+          by_test (Even (now.ran + 1)) h.read_only (refused m n f start) (stored m said (name_of m.program a.op_name) h f slot behind_it this start)
+          (λ yes. even_refused n (constant h (e, yes))) (λ no. even_stored (name_of m.program a.op_name) h slot u said (says h (e, no)))
 
-      even_branched : (taken : Bool) (target next : ℕ) (this : Option Place) (w : World) → Sits m.program b ns f w.scope → (target ≤ f.address → Charges f.address o) → Even b ns w (branched m taken f target next this w)
-      even_branched true target next this w s back = even_jumped (stepped f target (below f.operands)) this w s s back
-      even_branched false target next this w s back = even_on f _ this w s s
+      even_branched : (taken : Bool) (target : ℕ) → Sits m k (stepped f target (below f.operands)) → Sits m k (stepped f behind_it (below f.operands)) → (taken ≡ true → target ≤ f.address → Charges m.program o f) → Even (now.ran + 1) (branched m taken f target behind_it this start)
+      even_branched true target there u back = even_jumped (stepped f target (below f.operands)) there (back refl)
+      even_branched false target there u back = even_on _ u
 
-      even_tested : (wanted : Bool) (target next : ℕ) (this : Option Place) (w : World) → Sits m.program b ns f w.scope → Tests f.address o → (target ≤ f.address → Charges f.address o) → (truth : Option Bool) → Even b ns w (tested m wanted truth f target next this w)
-      even_tested wanted target next this w s kind back (Some t) = even_branched (agrees wanted t) target next this w s back
-      even_tested wanted target next this w s kind back None = even_raised f _ w s (refl, here Tests kind)
+      even_tested : (wanted : Bool) (target : ℕ) → Sits m k (stepped f target (below f.operands)) → Sits m k (stepped f behind_it (below f.operands)) → Tests o → (target ≤ f.address → truth_of (top f.operands) ≡ Some wanted → Charges m.program o f) →
+          (truth : Option Bool) → truth_of (top f.operands) ≡ truth → Even (now.ran + 1) (tested m wanted truth f target behind_it this start)
+      even_tested wanted target there u tests back (Some t) e = even_branched (agrees wanted t) target there u (λ yes le. back le (subst (λ (b : Bool). truth_of (top f.operands) ≡ Some b) (agreed wanted t yes) e))
+      even_tested wanted target there u tests back None e = even_raised (now.ran + 1) _ start steady (why (problem.MismatchDataType (codes "bool") (type_name_of (top f.operands)) (position m f)) refl (refl, refl, e, tests))
 
-      even_skipped : (unit : Bool) (target next : ℕ) (this : Option Place) (w : World) → Sits m.program b ns f w.scope → (target ≤ f.address → Charges f.address o) → Even b ns w (skipped m unit f target next this w)
-      even_skipped true target next this w s back = even_on f _ this w s s
-      even_skipped false target next this w s back = even_jumped (stepped f target f.operands) this w s s back
+      even_skipped : (target : ℕ) → Sits m k (stepped f target f.operands) → Sits m k (stepped f behind_it f.operands) → (unit : Bool) → (unit ≡ false → target ≤ f.address → Charges m.program o f) → Even (now.ran + 1) (skipped m unit f target behind_it this start)
+      even_skipped target there u true back = even_on _ u
+      even_skipped target there u false back = even_jumped (stepped f target f.operands) there (back refl)
 
-      even_unwound : (target next : ℕ) (this : Option Place) (w : World) → Sits m.program b ns f w.scope → b ≤ target → Unwinds f.address o → Even b ns w (unwound m target f next this w)
-      even_unwound target next this w s le kind =
-          by_test (Even b ns w) (nat_lt (length w.scope) target) _ _ (λ past. even_raised f _ w s (ltb-true (length w.scope) target past, inl (here Unwinds kind)))
-          (λ _.
-          let t : Sits m.program b ns f (take target w.scope) = (s.0, s.1, s.2, keeps_cut b target ns w.scope le s.3) in
-          even_onward f (stepped f next f.operands) this w (record w { scope = take target w.scope }) refl refl refl t t)
+      even_unwound : (target : ℕ) → Sits m k (stepped f behind_it f.operands) → k.base ≤ target → Unwinds target o f → Even (now.ran + 1) (unwound m target f behind_it this start)
+      even_unwound target u le unwinds =
+          let x = problem.Malformed (kind.UnwindPastScope target (length now.scope)) (position m f) in
+          by_test (Even (now.ran + 1)) (nat_lt (length now.scope) target) _ _ (λ past. even_raised (now.ran + 1) x start steady (why x refl (refl, ltb-true (length now.scope) target past, unwinds)))
+          (λ _. even_onward (now.ran + 1) (stepped f behind_it f.operands) (record start { scope = take target start.scope }) (refl, tokens, level, keeps_cut k.base target k.names now.scope le keeps) trace u)
 
-      module _ (calls : Calls f.address o) (g : Function) (of : CallsOf m.program (name_of m.program g.name) f.address o) where
-        -- a system exception goes on at the call
-        cause_on : (x : Problem) (w : World) → system_exception x ≡ true → Caused m (Failed x) w → Caused m (Failed (at_position (position m f) x)) w
-        cause_on (problem.FunctionNotFound s p) w system cause = is_false system
-        cause_on (problem.MismatchDataType r a p) w system cause = is_false system
-        cause_on (problem.InFunctionCall s t x p) w system cause = is_false system
-        cause_on (problem.AssignmentToConstant s p) w system cause = is_false system
-        cause_on (problem.Arithmetic s p) w system cause = is_false system
-        cause_on (problem.Runtime v p) w system cause = is_false system
-        cause_on (problem.TooManyOperations p) w system cause = (cause.0, leaves (here Calls calls) cause.1)
-        cause_on (problem.TooManyVariables p) w system cause = leaves (here Calls calls) cause
-        cause_on (problem.StackOverflow p) w system cause = here Calls calls
-        cause_on (problem.Malformed (kind.SlotPastScope i n) p) w system cause = (cause.0, leaves (here Calls calls) cause.1)
-        cause_on (problem.Malformed (kind.UnwindPastScope t n) p) w system cause = (cause.0, leaves (here Calls calls) cause.1)
-        cause_on NoMemory w system cause = cause
+      -- a call of a function, whose body is run on a scope of its own
+      module _ (g : Function) (is_call : Calls m.program o) where
+        -- what came out of the body
+        module _ (body : Act) (onto : Onto m body root) (inside : ℕ) (up : inside ≡ now.level + 1) (enters : (Runs : Act → Type 0) → Runs body → Enters m g Runs spot) where
+          -- a system exception goes on at the call
+          cause_on : (x : Problem) (w : World) → system_exception x ≡ true → Caused m body inside (Failed x) w → Caused m root k.level (Failed (at_position (position m f) x)) w
+          cause_on x w system (inl s) = inl (ap (at_position (position m f)) s.0, s.1)
+          cause_on x w system (inr c) = inr (cause_at body root onto (position m f) inside k.level x system c (record { call = spot; met = met; own = level; function = g; enters = enters (Meets m c.spot) c.met; position = refl }))
 
-        -- any other fault is wrapped
-        cause_in : (x : Problem) (w : World) → system_exception x ≡ false → Caused m (Failed x) w → Cause m.program m.engine w.count x
-        cause_in (problem.FunctionNotFound s p) w system cause = cause
-        cause_in (problem.MismatchDataType r a p) w system cause = cause
-        cause_in (problem.InFunctionCall s t x p) w system cause = cause
-        cause_in (problem.AssignmentToConstant s p) w system cause = cause
-        cause_in (problem.Arithmetic s p) w system cause = cause
-        cause_in (problem.Runtime v p) w system cause = cause
-        cause_in (problem.TooManyOperations p) w system cause = is_true system
-        cause_in (problem.TooManyVariables p) w system cause = is_true system
-        cause_in (problem.StackOverflow p) w system cause = is_true system
-        cause_in (problem.Malformed k p) w system cause = is_true system
-        cause_in NoMemory w system cause = is_true system
+          -- any other fault is wrapped
+          cause_in : (x : Problem) (w : World) → system_exception x ≡ false → Caused m body inside (Failed x) w → Cause m body inside x
+          cause_in x w other (inl s) = true-false (ap system_exception s.0) other
+          cause_in x w other (inr c) = c
 
-        even_escaped : (x : Problem) (w : World) → Sits m.program b ns f w.scope → Caused m (Failed x) w → Even b ns w (escaped m g f x w)
-        even_escaped x w s cause =
-            by_test (Even b ns w) (system_exception x) (left m f (at_position (position m f) x) w) (marked m f w (left m f (InFunctionCall (name_of m.program g.name) [] x (position m f))))
-            (λ system. even_left f (at_position (position m f) x) w w refl refl refl s (cause_on x w system cause))
-            (λ other. even_marked f w s (left m f (InFunctionCall (name_of m.program g.name) [] x (position m f)))
-            (even_left f (InFunctionCall (name_of m.program g.name) [] x (position m f)) w (record w { passed = w.passed + 1 }) refl refl refl s (cause_in x w other cause, here (CallsOf m.program (name_of m.program g.name)) of)))
+          even_escaped : (r : ℕ) (x : Problem) (w : World) → Steady r w → Caused m body inside (Failed x) w → Even r (escaped m g f x w)
+          even_escaped r x w s cause =
+              let wrapped = InFunctionCall (name_of m.program g.name) [] x (position m f) in
+              by_test (Even r) (system_exception x) (left m f (at_position (position m f) x) w) (marked m f w (left m f wrapped)) (λ system. even_left r (at_position (position m f) x) w s (cause_on x w system cause))
+              (λ other. even_marked r w s (left m f wrapped) (even_left r wrapped (record w { passed = w.passed + 1 }) s
+              (inr (why wrapped refl (refl, other, (g, refl, enters (λ act. Cause m act (now.level + 1) x) (subst (λ (n : ℕ). Cause m body n x) up (cause_in x w other cause))))))))
 
-        even_settled : (next : ℕ) (this : Option Place) (x : Answer) (v w : World) → Sits m.program b ns f w.scope → w.count ≡ v.count → w.passed ≡ v.passed → Caused m x v → Even b ns w (settled m g f next this x w)
-        even_settled next this (Came u) v w s c p cause = even_on f _ this w s s
-        even_settled next this (Failed x) v w s c p cause = even_escaped x w s (moved x v w c p cause)
+          even_settled : (operands : List Held) → ((v : Dynamic) → Sits m k (stepped f behind_it (operands ++ read_write v ∷ []))) → (x : Answer) (u : World) → u.tokens ≡ k.tokens → (j : Footing) → j.trace ≡ k.trace → Cuts m body j.level j.base j.trace x u → Caused m body inside x u →
+              Even u.ran (settled m g (record f { operands = operands }) behind_it this x (record u { scope = now.scope; level = now.level }))
+          even_settled operands on (Came v) u t j e cut cause = even_onward u.ran _ (record u { scope = now.scope; level = now.level }) (refl, t, level, keeps) (cut ∙ e) (on v)
+          even_settled operands on (Failed x) u t j e cut cause = even_escaped u.ran x (record u { scope = now.scope; level = now.level }) (refl, t, level, keeps) cause
 
-        even_entered : (args : List Dynamic) (next : ℕ) (this : Option Place) (w : World) → Sits m.program b ns f w.scope → Charges f.address o → Grows f.address o → Even b ns w (entered m g args f next this w)
-        even_entered args next this w s charges grows =
-            let rest : Answer → World → Act = λ a w3. settled m g f next this a (record w3 { scope = w.scope; level = w.level }) in
+        even_entered : (args : List Dynamic) (operands : List Held) → ((v : Dynamic) → Sits m k (stepped f behind_it (operands ++ read_write v ∷ []))) → Charges m.program o f → (m.engine.limits.variables < length g.params → Overfills m.program m.engine.limits.variables o now) → (IsProgram m.program → Fitting m.program (frame_at g.chunk 0)) → CallsOn m.program g args o f →
+            Even (now.ran + 1) (entered m g args (record f { operands = operands }) behind_it this start)
+        even_entered args operands u charges fills fits calls_on =
+            let r : ℕ = now.ran + 1 in
+            let rest : Answer → World → Act = λ a w3. settled m g (record f { operands = operands }) behind_it this a (record w3 { scope = now.scope; level = now.level }) in
             let body : World → Act = λ w2. Then (Go (InFrame (frame_at g.chunk 0) None) (record w2 { scope = bound m.program g.params args; level = w2.level + 1 })) rest in
-            let w1 : World = record w { passed = w.passed + 1; count = w.count + 1 } in
-            even_charged w s (λ v. if nat_le m.engine.limits.levels v.level then raised m f (StackOverflow (position m f)) v else if nat_lt m.engine.limits.variables (length g.params) then raised m f (TooManyVariables (position m f)) v else marked m f v body) charges
-            (by_test (Even b ns w) (nat_le m.engine.limits.levels w.level) (raised m f (StackOverflow (position m f)) w1) _ (λ _. even_raised f (StackOverflow (position m f)) w1 s (here Calls calls))
-            (λ _. by_test (Even b ns w) (nat_lt m.engine.limits.variables (length g.params)) (raised m f (TooManyVariables (position m f)) w1) (marked m f w1 body) (λ _. even_raised f (TooManyVariables (position m f)) w1 s (inl (here Grows grows)))
-            (λ _. even_marked f w1 s body (
-              w.tokens,
-              w.level + 1,
-              0,
-              [],
-              (refl, refl, refl, (refl, omega arith, inl refl, keeps_nothing (bound m.program g.params args))),
-              λ x v t l keeps cut cause. subst (λ (ts : Option (List ℕ)). Tally m v.ran ts w.level b ns (rest x v)) t (even_settled next this x v (record v { scope = w.scope; level = w.level }) s refl refl cause),
+            let w1 : World = record start { passed = start.passed + 1; count = start.count + 1 } in
+            let inside : World = record w1 { passed = w1.passed + 1; scope = bound m.program g.params args; level = w1.level + 1 } in
+            let j : Footing = record { tokens = now.tokens; level = now.level + 1; trace = now.trace; base = 0; names = [] } in
+            even_charged (λ v. if nat_le m.engine.limits.levels v.level then raised m f (StackOverflow (position m f)) v else if nat_lt m.engine.limits.variables (length g.params) then raised m f (TooManyVariables (position m f)) v else marked m f v body) charges
+            (λ allowed. by_test (Even r) (nat_le m.engine.limits.levels now.level) (raised m f (StackOverflow (position m f)) w1) _
+            (λ high. even_raised r (StackOverflow (position m f)) w1 steady (why (StackOverflow (position m f)) refl (allowed, leb-true m.engine.limits.levels now.level high, is_call)))
+            (λ _. by_test (Even r) (nat_lt m.engine.limits.variables (length g.params)) (raised m f (TooManyVariables (position m f)) w1) (marked m f w1 body)
+            (λ many. even_raised r (TooManyVariables (position m f)) w1 steady (why (TooManyVariables (position m f)) refl (fills (ltb-true m.engine.limits.variables (length g.params) many))))
+            (λ _. even_marked r w1 steady body (
+              j,
+              (refl, refl, refl, refl, keeps_nothing (bound m.program g.params args), (refl, omega arith, fits)),
+              λ onto mine x w t l there cut cause. even_settled (Go (InFrame (frame_at g.chunk 0) None) inside) onto (now.level + 1) refl
+                  (λ Runs runs. record { arguments = args; calls = calls_on; inside = inside; comes = mine (InFrame (frame_at g.chunk 0) None) inside here; scope = refl; level = refl; runs = runs }) operands u x w (t ∙ tokens) j trace cut cause,
             ))))
 
-      even_calls : (name : List ℕ) (args : List Dynamic) (next : ℕ) (this : Option Place) (w : World) → Sits m.program b ns f w.scope → Seeks f.address o → Calls f.address o → Charges f.address o → Grows f.address o → (found : Option Function) →
-          ((g : Function) → found ≡ Some g → CallsOf m.program (name_of m.program g.name) f.address o) → Even b ns w (calls m found name args f next this w)
-      even_calls name args next this w s seeks is charges grows None of = even_raised f _ w s (here Seeks seeks)
-      even_calls name args next this w s seeks is charges grows (Some g) of = even_entered is g (of g refl) args next this w s charges grows
+    even_call : (n count width : ℕ) (stands : op_at m.program.code f.address ≡ Some (op.Call n count, width)) → ((v : Dynamic) → Sits m k (stepped f (f.address + width) (under count f.operands ++ read_write v ∷ []))) → (found : Option Function) → function_found m.program n count ≡ found →
+        Even (now.ran + 1) (calls m found (name_of m.program n) (arguments count f.operands) (without count f) (f.address + width) this start)
+    even_call n count width stands u None e =
+        let name : List ℕ = name_of m.program n in
+        let args : List Dynamic = arguments count f.operands in
+        let x = problem.FunctionNotFound (signature_text name args) (position m f) in
+        even_raised (now.ran + 1) x start steady (why (op.Call n count) width stands x refl (name, args, refl, inl (refl, refl, e)))
+    even_call n count width stands u (Some g) e =
+        even_entered (op.Call n count) width stands g (g, e) (arguments count f.operands) (under count f.operands) u (g, e) (λ many. (g, e, many)) (λ valid. fits_function m.program valid n count g 0 e) (e, refl)
 
-    even_instr : (f : Frame) (o : Op) (width : ℕ) → op_at m.program.code f.address ≡ Some (o, width) → (next : ℕ) (this : Option Place) (w : World) → Sits m.program b ns f w.scope → Even b ns w (instr m o next f this w)
-    even_instr f (op.LoadConst c) width at next this w s = even_on f _ this w s s
-    even_instr f op.Unit width at next this w s = even_on f _ this w s s
-    even_instr f op.False width at next this w s = even_on f _ this w s s
-    even_instr f op.True width at next this w s = even_on f _ this w s s
-    even_instr f (op.LoadLocal slot) width at next this w s = even_loaded f (op.LoadLocal slot) width at slot next this w s tt (held_at w.scope (f.base + slot)) refl
-    even_instr f (op.StoreLocal slot) width at next this w s = even_kept f (op.StoreLocal slot) width at false slot next this w s tt (held_at w.scope (f.base + slot)) refl
-    even_instr f (op.StoreConst slot) width at next this w s = even_kept f (op.StoreConst slot) width at true slot next this w s tt (held_at w.scope (f.base + slot)) refl
-    even_instr f (op.DeclareLocal n) width at next this w s = even_declared f (op.DeclareLocal n) width at false (name_of m.program n) next this w s tt
-    even_instr f (op.DeclareConst n) width at next this w s = even_declared f (op.DeclareConst n) width at true (name_of m.program n) next this w s tt
-    even_instr f (op.AssignLocal slot n) width at next this w s = even_assigned f (op.AssignLocal slot n) width at n slot next this w s tt refl (held_at w.scope (f.base + slot)) refl
-    even_instr f (op.AssignLocalOp slot n a) width at next this w s = even_assigned_op f (op.AssignLocalOp slot n a) width at n (assign_op_of m.program a) slot next this w s tt tt tt refl (held_at w.scope (f.base + slot)) refl
-    even_instr f op.Pop width at next this w s = even_on f _ this w s s
-    even_instr f (op.Rotate n) width at next this w s = even_on f _ this w s s
-    even_instr f (op.Jump target) width at next this w s = even_jumped f (op.Jump target) width at (stepped f target f.operands) this w s s (λ le. le)
-    even_instr f (op.JumpIfFalse target) width at next this w s = even_tested f (op.JumpIfFalse target) width at false target next this w s tt (λ le. le) (truth_of (top f.operands))
-    even_instr f (op.JumpIfTrue target) width at next this w s = even_tested f (op.JumpIfTrue target) width at true target next this w s tt (λ le. le) (truth_of (top f.operands))
-    even_instr f (op.SkipIfNotUnit target) width at next this w s = even_skipped f (op.SkipIfNotUnit target) width at (is_unit (top f.operands)) target next this w s (λ le. le)
-    even_instr f (op.Call n count) width at next this w s =
-        even_calls (without count f) (op.Call n count) width at (name_of m.program n) (arguments count f.operands) next this w s tt tt tt tt (function_found m.program n count) (λ g found. (g, found, refl))
-    even_instr f (op.CallOp n count o) width at next this w s =
-        even_answered f (op.CallOp n count o) width at (name_of m.program n) (arguments count f.operands) next (under count f.operands) this w s tt tt
-        (where_fast m.engine.fast_operators (operation (token_of m.program o) (arguments count f.operands)))
-        (λ text over. operator_overflows m.engine.fast_operators (token_of m.program o) (arguments count f.operands) text over)
-    even_instr f (op.UnwindTo depth) width at next this w s = even_unwound f (op.UnwindTo depth) width at (f.base + depth) next this w s (omega (arith, s.0)) tt
-    even_instr f op.Tick width at next this w s = even_charged_on f op.Tick width at (stepped f next f.operands) this w s s tt
-    even_instr f op.Checkpoint width at next this w s = even_on f (record f { address = next; floor = length w.scope }) this w s (s.0, s.3.there, inr (record { address = f.address; width = width; stands = at }), s.3)
-    even_instr f (op.Statement depth) width at next this w s = even_on f _ this w s s
-    even_instr f op.Throw width at next this w s = even_raised f _ w s (here f op.Throw width at Throws tt)
-    even_instr f op.Return width at next this w s = even_marked f w s (End (Came (top f.operands))) (refl, refl, refl, s.3, tt, tt)
+    even_instr : (o : Op) (width : ℕ) → op_at m.program.code f.address ≡ Some (o, width) → Even (now.ran + 1) (instr m o (f.address + width) f this start)
+    even_instr (op.LoadConst c) width at = even_on (op.LoadConst c) width at _ (sits_at (op.LoadConst c) width at _ _ (inl refl) (λ _. one_more (const_of m.program c)))
+    even_instr op.Unit width at = even_on op.Unit width at _ (sits_at op.Unit width at _ _ (inl refl) (λ _. one_more dynamic.Unit))
+    even_instr op.False width at = even_on op.False width at _ (sits_at op.False width at _ _ (inl refl) (λ _. one_more (dynamic.Bool false)))
+    even_instr op.True width at = even_on op.True width at _ (sits_at op.True width at _ _ (inl refl) (λ _. one_more (dynamic.Bool true)))
+    even_instr (op.LoadLocal slot) width at = even_loaded (op.LoadLocal slot) width at slot (λ v. sits_at (op.LoadLocal slot) width at _ _ (inl refl) (λ _. one_more v)) refl (held_at now.scope (f.base + slot)) refl
+    even_instr (op.StoreLocal slot) width at = even_kept (op.StoreLocal slot) width at false slot (sits_at (op.StoreLocal slot) width at _ _ (inl refl) (λ _. one_less)) refl (held_at now.scope (f.base + slot)) refl
+    even_instr (op.StoreConst slot) width at = even_kept (op.StoreConst slot) width at true slot (sits_at (op.StoreConst slot) width at _ _ (inl refl) (λ _. one_less)) refl (held_at now.scope (f.base + slot)) refl
+    even_instr (op.DeclareLocal n) width at = even_declared (op.DeclareLocal n) width at false (name_of m.program n) (sits_at (op.DeclareLocal n) width at _ _ (inl refl) (λ _. one_less)) (λ full. full)
+    even_instr (op.DeclareConst n) width at = even_declared (op.DeclareConst n) width at true (name_of m.program n) (sits_at (op.DeclareConst n) width at _ _ (inl refl) (λ _. one_less)) (λ full. full)
+    even_instr (op.AssignLocal slot n) width at = even_assigned (op.AssignLocal slot n) width at n slot (sits_at (op.AssignLocal slot n) width at _ _ (inl refl) (λ _. one_less)) refl (λ h held. (refl, (h, held))) (held_at now.scope (f.base + slot)) refl
+    even_instr (op.AssignLocalOp slot n a) width at =
+        even_assigned_op (op.AssignLocalOp slot n a) width at n (assign_op_of m.program a) slot (sits_at (op.AssignLocalOp slot n a) width at _ _ (inl refl) (λ _. one_less)) refl (λ h held. (refl, (h, held))) (λ h held. (refl, (h, held, refl, refl))) (held_at now.scope (f.base + slot)) refl
+    even_instr op.Pop width at = even_on op.Pop width at _ (sits_at op.Pop width at _ _ (inl refl) (λ _. one_less))
+    even_instr (op.Rotate n) width at = even_on (op.Rotate n) width at _ (sits_at (op.Rotate n) width at _ _ (inl refl) (λ enough. omega (arith, length_rotated n f.operands, enough)))
+    even_instr (op.Jump target) width at = even_jumped (op.Jump target) width at (stepped f target f.operands) (sits_at (op.Jump target) width at target f.operands (inl refl) (λ _. omega arith)) (λ le. le)
+    even_instr (op.JumpIfFalse target) width at =
+        even_tested (op.JumpIfFalse target) width at false target (sits_at (op.JumpIfFalse target) width at target _ (of_two target (f.address + width) target (inl refl)) (λ _. one_less)) (sits_at (op.JumpIfFalse target) width at _ _ (of_two target (f.address + width) (f.address + width) (inr refl)) (λ _. one_less)) tt (λ le is. (le, is)) (truth_of (top f.operands)) refl
+    even_instr (op.JumpIfTrue target) width at =
+        even_tested (op.JumpIfTrue target) width at true target (sits_at (op.JumpIfTrue target) width at target _ (of_two target (f.address + width) target (inl refl)) (λ _. one_less)) (sits_at (op.JumpIfTrue target) width at _ _ (of_two target (f.address + width) (f.address + width) (inr refl)) (λ _. one_less)) tt (λ le is. (le, is)) (truth_of (top f.operands)) refl
+    even_instr (op.SkipIfNotUnit target) width at =
+        even_skipped (op.SkipIfNotUnit target) width at target (sits_at (op.SkipIfNotUnit target) width at target f.operands (of_two target (f.address + width) target (inl refl)) (λ enough. omega (arith, enough))) (sits_at (op.SkipIfNotUnit target) width at _ f.operands (of_two target (f.address + width) (f.address + width) (inr refl)) (λ enough. omega (arith, enough)))
+        (is_unit (top f.operands)) (λ is le. (le, is))
+    even_instr (op.Call n count) width at =
+        even_call n count width at (λ v. sits_at (op.Call n count) width at _ _ (inl refl) (λ _. omega (arith, length_pushed (under count f.operands) v, length_under count f.operands))) (function_found m.program n count) refl
+    even_instr (op.CallOp n count o) width at =
+        even_answered (op.CallOp n count o) width at (name_of m.program n) (arguments count f.operands) (under count f.operands) (λ v. sits_at (op.CallOp n count o) width at _ _ (inl refl) (λ _. omega (arith, length_pushed (under count f.operands) v, length_under count f.operands)))
+        (where_fast m.engine.fast_operators (operation (token_of m.program o) (arguments count f.operands))) (refl, refl, refl)
+    even_instr (op.UnwindTo depth) width at = even_unwound (op.UnwindTo depth) width at (f.base + depth) (sits_at (op.UnwindTo depth) width at _ f.operands (inl refl) (λ _. omega arith)) (omega (arith, sits.0)) refl
+    even_instr op.Tick width at = even_charged_on op.Tick width at (stepped f (f.address + width) f.operands) (sits_at op.Tick width at _ f.operands (inl refl) (λ _. omega arith)) tt
+    even_instr op.Checkpoint width at =
+        let on = sits_at op.Checkpoint width at (f.address + width) f.operands (inl refl) (λ _. omega arith) in
+        even_on op.Checkpoint width at (record f { address = f.address + width; floor = length now.scope }) (sits.0, keeps.there, on.2)
+    even_instr (op.Statement depth) width at = even_on (op.Statement depth) width at _ (sits_at (op.Statement depth) width at _ f.operands (inl refl) (λ _. omega arith))
+    even_instr op.Throw width at = even_raised (now.ran + 1) _ start steady (why op.Throw width at (problem.Runtime (top f.operands) (position m f)) refl (refl, tt))
+    even_instr op.Return width at = even_marked (now.ran + 1) start steady (End (Came (top f.operands))) (refl, tokens, level, keeps, trace, tt)
 
-    even_begun : (f : Frame) (this : Option Place) (w : World) (x : Option (Op × ℕ)) → op_at m.program.code f.address ≡ x → Sits m.program b ns f w.scope → Even b ns w (begun m (or_return x) f this w)
-    even_begun f this w None e s =
-        even_marked f w s (instr m op.Return (f.address + 1) f this) (even_marked f (record w { passed = w.passed + 1 }) s (End (Came (top f.operands))) (refl, refl, refl, s.3, tt, tt))
-    even_begun f this w (Some r) e s = even_marked f w s (instr m r.0 (f.address + r.1) f this) (even_instr f r.0 r.1 e (f.address + r.1) this (record w { passed = w.passed + 1 }) s)
+    even_begun : (x : Option (Op × ℕ)) → op_at m.program.code f.address ≡ x → Even (now.ran + 1) (begun m (or_return x) f this (record now { ran = now.ran + 1 }))
+    even_begun None e =
+        even_marked (now.ran + 1) (record now { ran = now.ran + 1 }) steady (instr m op.Return (f.address + 1) f this) (even_marked (now.ran + 1) start steady (End (Came (top f.operands))) (refl, tokens, level, keeps, trace, tt))
+    even_begun (Some r) e = even_marked (now.ran + 1) (record now { ran = now.ran + 1 }) steady (instr m r.0 (f.address + r.1) f this) (even_instr r.0 r.1 e)
 
-    even_next : (f : Frame) (this : Option Place) (w : World) → Sits m.program b ns f w.scope → Tally m (w.ran + 1) w.tokens w.level b ns (next m (InFrame f this) w)
-    even_next f this w s = even_begun f this (record w { ran = w.ran + 1 }) (op_at m.program.code f.address) refl s
+    even_next : Even (now.ran + 1) (next m (InFrame f this) now)
+    even_next = even_begun (op_at m.program.code f.address) refl
 
   -- what is counted, the tokens, the level, the scope, and the cause
-  pub tallied : {act : Act} {a : Answer} {v : World} (d : Ends m act a v) (r : ℕ) (ts : Option (List ℕ)) (l b : ℕ) (ns : List (List ℕ)) → Tally m r ts l b ns act →
-      (v.ran ≡ r + run_length d) × (v.tokens ≡ ts) × (v.level ≡ l) × Keeps b ns v.scope × Cuts m.program b a v.scope × Caused m a v
-  tallied ended r ts l b ns h = (omega (arith, h.0), h.1, h.2, h.3, h.4, h.5)
-  tallied (went {t = InFrame f this} {w = w} d) r ts l b ns h =
-      let k = tallied d (w.ran + 1) w.tokens w.level b ns (even_next b ns f this w h.3) in
-      (omega (arith, h.0, k.0), k.1 ∙ h.1, k.2 ∙ h.2, k.3, k.4, k.5)
-  tallied (joined {rest = rest} {b = x} {w = w} d e) r ts l b ns h =
-      let k = tallied d r h.0 h.1 h.2 h.3 h.4 in
-      let i = tallied e w.ran ts l b ns (h.5 x w k.1 k.2 k.3 k.4 k.5) in
-      (omega (arith, k.0, i.0), i.1, i.2, i.3, i.4, i.5)
+  tallied : {act : Act} {a : Answer} {v : World} (d : Ends m act a v) (root turn : Act) (r : ℕ) (k : Footing) → Onto m act root → Onto m act turn → Tally m root turn r k act →
+      (v.ran ≡ r + run_length d) × (v.tokens ≡ k.tokens) × (v.level ≡ k.level) × Keeps k.base k.names v.scope × Cuts m root k.level k.base k.trace a v × Caused m root k.level a v
+  tallied ended root turn r k onto mine h = (omega (arith, h.0), h.1, h.2, h.3, h.4, h.5)
+  tallied (went {t = InFrame f this} {w = w} d) root turn r k onto mine h =
+      let i = tallied d root (Go (InFrame f this) w) (w.ran + 1) k (λ g u c. onto g u (further c)) (λ g u c. further c) (even_next root k f this w (onto (InFrame f this) w here) h.1 h.2 h.3 h.4 h.5) in
+      (omega (arith, h.0, i.0), i.1, i.2, i.3, i.4, i.5)
+  tallied (joined {first = first} {rest = rest} {b = x} {w = w} d e) root turn r k onto mine h =
+      let j = h.0 in
+      let i = tallied d first first r j (λ g u c. c) (λ g u c. c) h.1 in
+      let l = tallied e root turn w.ran k (λ g u c. onto g u (behind d c)) (λ g u c. mine g u (behind d c)) (h.2 (λ g u c. onto g u (within c)) (λ g u c. mine g u (within c)) x w i.1 i.2 i.3 i.4 i.5) in
+      (omega (arith, i.0, l.0), l.1, l.2, l.3, l.4, l.5)
 
-  even_passing : (b : ℕ) (ns : List (List ℕ)) (w v : World) (go : World → Act) → v.ran ≡ w.ran → v.tokens ≡ w.tokens → v.level ≡ w.level → Keeps b ns v.scope → Even b ns w (go (record v { passed = v.passed + 1 })) → Even b ns w (passing m v go)
-  even_passing b ns w v go r t l k h = by_test (Even b ns w) (is_stop m.stop v.passed) (End (Failed NoMemory) v) (go (record v { passed = v.passed + 1 })) (λ stop. (r, t, l, k, tt, stop)) (λ _. h)
+  -- in a valid program each frame to which a run comes fits
+  sitting : {f : Frame} {place : Option Place} {w : World} {act : Act} → Comes m (InFrame f place) w act → (root turn : Act) (r : ℕ) (k : Footing) → Onto m act root → Onto m act turn → Tally m root turn r k act → IsProgram m.program → Fitting m.program f
+  sitting here root turn r k onto mine h = h.5.2
+  sitting (further {u = InFrame g this} {v = v} c) root turn r k onto mine h =
+      sitting c root (Go (InFrame g this) v) (v.ran + 1) k (λ g u c. onto g u (further c)) (λ g u c. further c) (even_next root k g this v (onto (InFrame g this) v here) h.1 h.2 h.3 h.4 h.5)
+  sitting (within {first = first} c) root turn r k onto mine h = sitting c first first r h.0 (λ g u c. c) (λ g u c. c) h.1
+  sitting (behind {first = first} {rest = rest} {a = x} {v = v} d c) root turn r k onto mine h =
+      let i = tallied d first first r h.0 (λ g u c. c) (λ g u c. c) h.1 in
+      sitting c root turn v.ran k (λ g u c. onto g u (behind d c)) (λ g u c. mine g u (behind d c)) (h.2 (λ g u c. onto g u (within c)) (λ g u c. mine g u (within c)) x v i.1 i.2 i.3 i.4 i.5)
 
-  -- a later mark changes no cause but that of want of memory
-  later : (a : Answer) (u : World) → is_stop m.stop u.passed ≡ false → Caused m a u → Caused m a (record u { passed = u.passed + 1 })
-  later (Came v) u clear cause = tt
-  later (Failed NoMemory) u clear cause = true-false cause clear
-  later (Failed (problem.FunctionNotFound s p)) u clear cause = cause
-  later (Failed (problem.MismatchDataType r a p)) u clear cause = cause
-  later (Failed (problem.InFunctionCall s t x p)) u clear cause = cause
-  later (Failed (problem.AssignmentToConstant s p)) u clear cause = cause
-  later (Failed (problem.Arithmetic s p)) u clear cause = cause
-  later (Failed (problem.Runtime v p)) u clear cause = cause
-  later (Failed (problem.TooManyOperations p)) u clear cause = cause
-  later (Failed (problem.TooManyVariables p)) u clear cause = cause
-  later (Failed (problem.StackOverflow p)) u clear cause = cause
-  later (Failed (problem.Malformed k p)) u clear cause = cause
+  even_passing : (root : Act) (k : Footing) (w v : World) (go : World → Act) → v.ran ≡ w.ran → v.tokens ≡ k.tokens → v.level ≡ k.level → v.trace ≡ k.trace → Keeps k.base k.names v.scope → Tally m root root w.ran k (go (record v { passed = v.passed + 1 })) → Tally m root root w.ran k (passing m v go)
+  even_passing root k w v go r t l e there h =
+      by_test (Tally m root root w.ran k) (is_stop m.stop v.passed) (End (Failed NoMemory) v) (go (record v { passed = v.passed + 1 })) (λ stop. (r, t, l, there, inr (refl, e), inl (refl, stop))) (λ _. h)
 
-  even_closed : (ts : Option (List ℕ)) (l b : ℕ) (ns : List (List ℕ)) (x : Answer) (u : World) → u.tokens ≡ ts → u.level ≡ l → Keeps b ns u.scope → Cuts m.program b x u.scope → Caused m x u → Tally m u.ran ts l b ns (closed m x u)
-  even_closed ts l b ns x u e k keeps cut cause =
-      by_test (Tally m u.ran ts l b ns) (is_stop m.stop u.passed) (End (Failed NoMemory) u) (End x (record u { passed = u.passed + 1 })) (λ stop. (refl, e, k, keeps, tt, stop)) (λ clear. (refl, e, k, keeps, cut, later x u clear cause))
+  module _ (first root : Act) (onto : Onto m first root) (k : Footing) where
+    cuts_of : (x : Answer) (u : World) → Cuts m first k.level k.base k.trace x u → Cuts m root k.level k.base k.trace x (record u { passed = u.passed + 1 })
+    cuts_of (Came v) u cut = cut
+    cuts_of (Failed x) u (inl c) = inl (cut_of first root onto k.level k.base u.scope u.trace c)
+    cuts_of (Failed x) u (inr e) = inr e
 
-  even_called : (this : Option Place) (w : World) → Even (length w.scope) (names w.scope) w (called m this w)
+    -- memory is out when a call is over
+    cuts_late : (x : Answer) (u : World) → Cuts m first k.level k.base k.trace x u → Cuts m root k.level k.base k.trace (Failed NoMemory) u
+    cuts_late (Came v) u cut = inr (refl, cut)
+    cuts_late (Failed x) u (inl c) = inl (cut_of first root onto k.level k.base u.scope u.trace c)
+    cuts_late (Failed x) u (inr e) = inr (refl, e.1)
+
+    even_closed : (x : Answer) (u : World) → u.tokens ≡ k.tokens → u.level ≡ k.level → Keeps k.base k.names u.scope → Cuts m first k.level k.base k.trace x u → Caused m first k.level x u → Tally m root root u.ran k (closed m x u)
+    even_closed x u t l there cut cause =
+        by_test (Tally m root root u.ran k) (is_stop m.stop u.passed) (End (Failed NoMemory) u) (End x (record u { passed = u.passed + 1 })) (λ stop. (refl, t, l, there, cuts_late x u cut, inl (refl, stop)))
+        (λ clear. (refl, t, l, there, cuts_of x u cut, caused first root onto k.level x u (record u { passed = u.passed + 1 }) (λ stop. true-false stop clear) cause))
+
+  -- the footing on which a call stands
+  abbrev footing : World → Footing
+  footing w = record { tokens = w.tokens; level = w.level; trace = w.trace; base = length w.scope; names = names w.scope }
+
+  even_called : (this : Option Place) (w : World) → Tally m (called m this w) (called m this w) w.ran (footing w) (called m this w)
   even_called this w =
-      let b = length w.scope in
-      let ns = names w.scope in
-      let keeps : Keeps b ns w.scope = keeps_all w.scope in
+      let k = footing w in
+      let root = called m this w in
+      let there : Keeps (length w.scope) (names w.scope) w.scope = keeps_all w.scope in
+      let inside : World = record w { passed = w.passed + 1 + 1 } in
+      let main : Act = Go (InFrame (main_frame m w.scope) this) inside in
       let enters : World → Act = λ v. Then (Go (InFrame (main_frame m v.scope) this) v) (closed m) in
-      even_passing b ns w w (λ v. passing m v enters) refl refl refl keeps
-      (even_passing b ns w (record w { passed = w.passed + 1 }) enters refl refl refl keeps
-      (w.tokens, w.level, b, ns, (refl, refl, refl, (refl, omega arith, inl refl, keeps)), even_closed w.tokens w.level b ns))
+      even_passing root k w w (λ v. passing m v enters) refl refl refl refl there
+      (even_passing root k w (record w { passed = w.passed + 1 }) enters refl refl refl refl there
+      (k, (refl, refl, refl, refl, there, (refl, omega arith, λ valid. fits_main m.program valid (length w.scope))), λ onto mine. even_closed main root onto k))
 
   -- a whole call's count, tokens, level, scope and cause
   pub called_counts : (this : Option Place) (w v : World) (a : Answer) (d : Ends m (called m this w) a v) →
-      (v.ran ≡ w.ran + run_length d) × (v.tokens ≡ w.tokens) × (v.level ≡ w.level) × Keeps (length w.scope) (names w.scope) v.scope × Cuts m.program (length w.scope) a v.scope × Caused m a v
-  called_counts this w v a d = tallied d w.ran w.tokens w.level (length w.scope) (names w.scope) (even_called this w)
+      (v.ran ≡ w.ran + run_length d) × (v.tokens ≡ w.tokens) × (v.level ≡ w.level) × Keeps (length w.scope) (names w.scope) v.scope × Cuts m (called m this w) w.level (length w.scope) w.trace a v × Caused m (called m this w) w.level a v
+  called_counts this w v a d = tallied d (called m this w) (called m this w) w.ran (footing w) (λ g u c. c) (λ g u c. c) (even_called this w)
+
+  -- where a call of a valid program comes to a frame, an instruction stands with its operands
+  pub called_stands : IsProgram m.program → (this : Option Place) (w v : World) (f : Frame) (place : Option Place) → Comes m (InFrame f place) v (called m this w) → Stands m.program f
+  called_stands valid this w v f place c = fits_stand m.program valid f (sitting c (called m this w) (called m this w) w.ran (footing w) (λ g u c. c) (λ g u c. c) (even_called this w) valid)

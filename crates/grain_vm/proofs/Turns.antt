@@ -8,9 +8,23 @@ use Rattle.grain_program.specs.Reading.{op_at}
 use Rattle.grain_vm.specs.means.Acts.{Go, End, Failed, Setup, Frame, InFrame, or_return, begun, instr, left, noted}
 use Rattle.grain_vm.specs.means.Ends.{went}
 use Rattle.grain_vm.specs.means.Goes.{InHand, Start, Goes, Same, Carries}
-use Rattle.grain_vm.specs.frame.Hand.{performed, led, came_out}
+use Rattle.grain_vm.specs.frame.Hand.{performed, led, came_out, OnTrue, OnFalse}
 use Rattle.grain_vm.specs.declared.frame.states.Flow.{Flow}
+use Rattle.grain_vm.specs.declared.frame.states.State.{State}
+use Rattle.grain_vm.specs.declared.frame.activations.Activation.{Activation}
+use Rattle.grain_vm.specs.frame.Counts.{Counts}
 use Rattle.grain_vm.proofs.Stretches.{same, compose, before}
+
+-- what a try did
+pub done : {T : Type 0} (b : Bool) → b ≡ true → OnTrue b T → T
+done true e t = t
+done false e t = absurd cc
+
+-- where a try did nothing, what holds of the state that it left holds of the one before
+pub unmoved : (P : State → Activation → Counts → Type 0) {s s' : State} {f f' : Activation} {n n' : Counts} (b : Bool) → b ≡ false → OnFalse b ((s' ≡ s) × (f' ≡ f) × (n' ≡ n)) → P s' f' n' → P s f n
+unmoved P true e u h = absurd cc
+unmoved P {s} {s'} {f} {f'} {n} {n'} false e u h =
+    subst (λ (k : Counts). P s f k) u.2 (subst (λ (a : Activation). P s a n') u.1 (subst (λ (t : State). P t f' n') u.0 h))
 
 module _ {m : Setup} where
   -- an instruction begins: it is counted, and a mark is passed

@@ -4,5 +4,6 @@ pub mod Ends
 pub mod Length
 pub mod Goes
 pub mod Means
+pub mod Comes
 pub mod Causes
 pub mod Leavings

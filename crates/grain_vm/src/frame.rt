@@ -6,6 +6,7 @@ pub mod contexts;
 pub mod faults;
 pub mod locals;
 pub mod operands;
+pub mod quick;
 pub mod runs;
 pub mod states;
 pub mod steps;

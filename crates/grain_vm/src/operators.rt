@@ -1,6 +1,6 @@
 //! The operators that are built in.
 
-ghost use Rattle.std.specs.Prelude.{◌≡◌, ◌++◌, ◌∷◌, ◌≤◌, [], true, false, IfOk, MatchOption, length, map};
+ghost use Rattle.std.specs.Prelude.{◌≡◌, ◌++◌, ◌∷◌, ◌≤◌, [], true, false, IfOk, IfSome, MatchOption, length, map};
 ghost use Rattle.grain_value.specs.declared.values.Dynamic.TheVariants as dynamic;
 ghost use Rattle.grain_value.specs.Looking.{integer_of};
 ghost use Rattle.grain_vm.specs.means.Operators.{Gave, fits64, exact, calculated, integers, integer, negated, unary, binary, assigned_integers, assignment, operation, where_fast, overflow_lead, sign_between, overflow_text, types_text, signature_text};
@@ -20,6 +20,7 @@ pub enum Calculation {
 
 impl Calculation {
     // The exact result, where it fits.
+    #[inline(always)]
     fn of(self, x: i64, y: i64) -> Option<i64>
         ensures { MatchOption result (fits64 (exact self x y) ≡ false) (λ z. (z ≡ exact self x y) × (fits64 (exact self x y) ≡ true)) }
     {
@@ -200,6 +201,124 @@ fn calculate(calculation: Calculation, x: i64, y: i64) -> OpAnswer
     match calculation.of(x, y) {
         Some(z) => OpAnswer::Done(Dynamic::Int(z)),
         None => OpAnswer::Overflow(calculation, x, y),
+    }
+}
+
+/// The integer that a built-in makes of the last operands, so many, where they are two integers, operators are `fast` and
+/// the result fits. It says nothing of all else, of which `operate` tells.
+#[inline(always)]
+pub fn quick_number(fast: bool, token: Token, operands: &[Held], count: usize) -> Option<i64>
+    requires { count ≤ length operands.now }
+    ensures { IfSome result (λ z. (count ≡ 2) × (where_fast fast (operation token (arguments count operands.now)) ≡ Gave (dynamic.Int z))) }
+{
+    if fast && count == 2 {
+        match &operands[operands.len() - count..] {
+            [x, y] => binary_number(token, &x.value, &y.value),
+            _ => None,
+        }
+    } else {
+        None
+    }
+}
+
+#[inline(always)]
+fn binary_number(token: Token, lhs: &Dynamic, rhs: &Dynamic) -> Option<i64>
+    ensures { IfSome result (λ z. binary token (integer_of lhs.now) (integer_of rhs.now) ≡ Gave (dynamic.Int z)) }
+{
+    match lhs.as_int() {
+        Some(x) => match rhs.as_int() {
+            Some(y) => integers_number(token, x, y),
+            None => None,
+        },
+        None => None,
+    }
+}
+
+#[inline(always)]
+fn integers_number(token: Token, x: i64, y: i64) -> Option<i64>
+    ensures { IfSome result (λ z. integers token x y ≡ Gave (dynamic.Int z)) }
+{
+    match token {
+        Token::Plus => Calculation::Addition.of(x, y),
+        Token::Minus => Calculation::Subtraction.of(x, y),
+        Token::Multiply => Calculation::Multiplication.of(x, y),
+        _ => None,
+    }
+}
+
+/// The truth value that a built-in makes of the last operands, so many, where they are two integers and operators are
+/// `fast`. It says nothing of all else, of which `operate` tells.
+#[inline(always)]
+pub fn quick_truth(fast: bool, token: Token, operands: &[Held], count: usize) -> Option<bool>
+    requires { count ≤ length operands.now }
+    ensures { IfSome result (λ b. (count ≡ 2) × (where_fast fast (operation token (arguments count operands.now)) ≡ Gave (dynamic.Bool b))) }
+{
+    if fast && count == 2 {
+        match &operands[operands.len() - count..] {
+            [x, y] => binary_truth(token, &x.value, &y.value),
+            _ => None,
+        }
+    } else {
+        None
+    }
+}
+
+#[inline(always)]
+fn binary_truth(token: Token, lhs: &Dynamic, rhs: &Dynamic) -> Option<bool>
+    ensures { IfSome result (λ b. binary token (integer_of lhs.now) (integer_of rhs.now) ≡ Gave (dynamic.Bool b)) }
+{
+    match lhs.as_int() {
+        Some(x) => match rhs.as_int() {
+            Some(y) => integers_truth(token, x, y),
+            None => None,
+        },
+        None => None,
+    }
+}
+
+#[inline(always)]
+fn integers_truth(token: Token, x: i64, y: i64) -> Option<bool>
+    ensures { IfSome result (λ b. integers token x y ≡ Gave (dynamic.Bool b)) }
+{
+    match token {
+        Token::EqualsTo => Some(x == y),
+        Token::NotEqualsTo => Some(x != y),
+        Token::LessThan => Some(x < y),
+        Token::LessThanEqualsTo => Some(x <= y),
+        Token::GreaterThan => Some(x > y),
+        Token::GreaterThanEqualsTo => Some(x >= y),
+        _ => None,
+    }
+}
+
+/// The integer that an op-assignment makes of its target, where that and the value are integers, operators are `fast`
+/// and the result fits. It says nothing of all else, of which `assign` tells.
+#[inline(always)]
+pub fn quick_assigned(fast: bool, token: Token, target: &Dynamic, value: &Dynamic) -> Option<i64>
+    ensures { IfSome result (λ z. where_fast fast (assignment token target.now value.now) ≡ Gave (dynamic.Int z)) }
+{
+    if fast {
+        match target.as_int() {
+            Some(x) => match value.as_int() {
+                Some(y) => assigned_number(token, x, y),
+                None => None,
+            },
+            None => None,
+        }
+    } else {
+        None
+    }
+}
+
+#[inline(always)]
+fn assigned_number(token: Token, x: i64, y: i64) -> Option<i64>
+    ensures { IfSome result (λ z. assigned_integers token x y ≡ Gave (dynamic.Int z)) }
+{
+    match token {
+        Token::PlusAssign => Calculation::Addition.of(x, y),
+        Token::MinusAssign => Calculation::Subtraction.of(x, y),
+        Token::MultiplyAssign => Calculation::Multiplication.of(x, y),
+        _ => None,
     }
 }
 

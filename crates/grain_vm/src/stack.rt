@@ -7,17 +7,18 @@ ghost use Rattle.grain_vm.specs.means.Acts.{top, below, under, rotated, read_wri
 ghost use Rattle.grain_vm.specs.frame.Hand.{own, AsWas, Roomy};
 
 use grain_fault::Fault;
-use grain_value::{Dynamic, Held, OutOfMemory};
+use grain_value::{Dynamic, Held, OutOfMemory, Scope};
 use std::alloc::Global;
 use std::mem;
 
-/// The operands of all frames, one frame's above the other's, the trace, and how many frames were entered and not
-/// left.
+/// The operands of all frames, one frame's above the other's, the trace, how many frames were entered and not left, and
+/// scopes of frames that were left, whose memory the next ones take over.
 #[derive(Drop)]
 pub struct Stacks {
     pub operands: Vec<Held>,
     pub trace: Vec<Fault>,
     pub frames: usize,
+    spares: Vec<Scope>,
 }
 
 impl Stacks {
@@ -31,7 +32,36 @@ impl Stacks {
             operands: Vec::new(alloc),
             trace: Vec::new(alloc),
             frames: 0,
+            spares: Vec::new(alloc),
         }
+    }
+
+    /// An empty scope, in the memory of one that was kept, where there is one.
+    pub fn fresh_scope(&mut self, alloc: Global) -> Scope
+        ensures scope { result ≡ [] }
+        ensures operands { self.new.operands ≡ self.old.operands }
+        ensures trace { self.new.trace ≡ self.old.trace }
+        ensures frames { self.new.frames ≡ self.old.frames }
+    {
+        match self.spares.pop() {
+            Some(spare) => {
+                let mut scope = spare;
+                scope.rewind(0);
+                scope
+            }
+            None => Scope::new(alloc),
+        }
+    }
+
+    /// Keeps the memory of a scope that is over, where there is memory to note it.
+    pub fn keep_scope(&mut self, scope: Scope)
+        ensures operands { self.new.operands ≡ self.old.operands }
+        ensures trace { self.new.trace ≡ self.old.trace }
+        ensures frames { self.new.frames ≡ self.old.frames }
+    {
+        let mut spare = scope;
+        spare.rewind(0);
+        let _ = self.spares.push(spare);
     }
 
     /// Enters a frame: makes room for its operands, at most so many, and for an entry of the trace for each frame.
@@ -54,6 +84,7 @@ impl Stacks {
     }
 
     /// One operand more, for which there has to be room.
+    #[inline(always)]
     pub fn push(&mut self, value: Dynamic)
         requires room { length self.old.operands.items < vec_capacity self.old.operands }
         ensures operands { self.new.operands.items ≡ self.old.operands.items ++ record { value = value; read_only = false } ∷ [] }
@@ -65,6 +96,64 @@ impl Stacks {
         }
     }
 
+    /// One operand more, a copy of a value, for which there has to be room.
+    #[inline(always)]
+    pub fn push_copy(&mut self, alloc: Global, value: &Dynamic) -> Result<(), OutOfMemory>
+        requires room { length self.old.operands.items < vec_capacity self.old.operands }
+        ensures operands { self.new.operands.items ≡ (if is_ok result then self.old.operands.items ++ record { value = value.now; read_only = false } ∷ [] else self.old.operands.items) }
+        ensures rest { AsWas self.old self.new }
+    {
+        match value {
+            Dynamic::Int(integer) => {
+                self.push(Dynamic::Int(*integer));
+                Ok(())
+            }
+            _ => self.push_other(alloc, value),
+        }
+    }
+
+    // One operand more, a copy of a value that may own memory.
+    #[inline(never)]
+    fn push_other(&mut self, alloc: Global, value: &Dynamic) -> Result<(), OutOfMemory>
+        requires room { length self.old.operands.items < vec_capacity self.old.operands }
+        ensures operands { self.new.operands.items ≡ (if is_ok result then self.old.operands.items ++ record { value = value.now; read_only = false } ∷ [] else self.old.operands.items) }
+        ensures rest { AsWas self.old self.new }
+    {
+        let copy = value.copy(alloc)?;
+        self.push(copy);
+        Ok(())
+    }
+
+    /// Puts an integer in the place of a frame's last two operands.
+    #[inline(always)]
+    pub fn answer_int(&mut self, bottom: usize, integer: i64)
+        requires there { bottom + 2 ≤ length self.old.operands.items }
+        ensures own { own self.new bottom ≡ under 2 (own self.old bottom) ++ record { value = Dynamic.Int integer; read_only = false } ∷ [] }
+        ensures kept { take bottom self.new.operands.items ≡ take bottom self.old.operands.items }
+        ensures height { length self.new.operands.items + 1 ≡ length self.old.operands.items }
+        ensures rest { AsWas self.old self.new }
+    {
+        let place = self.operands.len() - 2;
+        let held = &mut self.operands[place];
+        held.value.set_int(integer);
+        held.read_only = false;
+        let _last = self.pop(bottom);
+    }
+
+    /// Puts a value in the place of a frame's last two operands.
+    #[inline(always)]
+    pub fn answer(&mut self, bottom: usize, value: Dynamic)
+        requires there { bottom + 2 ≤ length self.old.operands.items }
+        ensures own { own self.new bottom ≡ under 2 (own self.old bottom) ++ record { value = value; read_only = false } ∷ [] }
+        ensures kept { take bottom self.new.operands.items ≡ take bottom self.old.operands.items }
+        ensures height { length self.new.operands.items + 1 ≡ length self.old.operands.items }
+        ensures rest { AsWas self.old self.new }
+    {
+        let place = self.operands.len() - 2;
+        self.operands[place] = Held::read_write(value);
+        let _last = self.pop(bottom);
+    }
+
     /// How many operands there are.
     pub fn height(&self) -> usize
         ensures { result ≡ length self.now.operands.items }
@@ -73,6 +162,7 @@ impl Stacks {
     }
 
     /// Takes the last operand of a frame, whose operands begin at `bottom`.
+    #[inline(always)]
     pub fn pop(&mut self, bottom: usize) -> Dynamic
         requires there { bottom < length self.old.operands.items }
         ensures value { result ≡ top (own self.old bottom) }
@@ -88,6 +178,7 @@ impl Stacks {
     }
 
     /// The last operand of a frame, whose operands begin at `bottom`.
+    #[inline(always)]
     pub fn top(&self, bottom: usize) -> &Dynamic
         requires there { bottom < length self.now.operands.items }
         ensures { result.now ≡ top (own self.now bottom) }

@@ -2,6 +2,7 @@
 
 ghost use Rattle.std.specs.Prelude.{◌≡◌, ◌+◌, ◌<◌, ℕ, [], false, IfOk, option_map, slice_get};
 ghost use Rattle.grain_vm.specs.means.Causes.{HasCause};
+ghost use Rattle.grain_vm.specs.means.Comes.{Provided};
 ghost use Rattle.grain_vm.specs.means.Leavings.{Leaves};
 ghost use Rattle.grain_vm.specs.means.Means.{Evaluates};
 ghost use Rattle.grain_vm.specs.frame.Counts.{instructions};
@@ -100,8 +101,9 @@ impl<'e> Vm<'e> {
     ) -> RhaiResult
         requires positive { 0 < self.old.engine.limits.operations }
         ensures evaluates { (ran : ℕ) × (Evaluates program.now self.old.engine (begin scope.old self.old.global) result (finish scope.new self.new) ran × (instructions steps.new ≡ instructions steps.old + ran)) }
-        ensures causes { HasCause program.now self.old.engine self.new.global.num_operations result }
-        ensures leaves { Leaves program.now scope.old result scope.new }
+        ensures causes { HasCause program.now self.old.engine (begin scope.old self.old.global) result }
+        ensures provided { Provided program.now self.old.engine (begin scope.old self.old.global) }
+        ensures leaves { Leaves program.now self.old.engine (begin scope.old self.old.global) result scope.new self.new.trace }
         ensures level { self.new.global.level ≡ self.old.global.level }
         ensures engine { self.new.engine ≡ self.old.engine }
     {

@@ -69,6 +69,20 @@ led (Err e) outcome f m this w = left m f NoMemory w
 abbrev pub Does : View → Engine → State → Counts → Start → Result Flow OutOfMemory → State → Counts → Activation → Type 0
 Does program engine s n start result s' n' f' = Same (setup program engine) (hand s n) start (is_out result) (hand s' n') (led result s'.outcome (frame_in f' s'))
 
+-- a fault is raised, unless memory is out
+abbrev pub Raises : State → Counts → EvalAltResult → Result Flow OutOfMemory → State → Counts → Type 0
+Raises s n x (Ok flow) s' n' = (flow ≡ Over) × (s' ≡ record s { outcome = Err x }) × (n' ≡ record n { passed = n.passed + 1 })
+Raises s n x (Err e) s' n' = (s' ≡ s) × (n' ≡ n)
+
+-- where a try did what it tried, and where it did not
+abbrev pub OnTrue : Bool → Type 0 → Type 0
+OnTrue true T = T
+OnTrue false T = Unit {0}
+
+abbrev pub OnFalse : Bool → Type 0 → Type 0
+OnFalse true T = Unit {0}
+OnFalse false T = T
+
 -- a frame's operands and slots are in their lists
 abbrev pub Stands : Activation → State → Type 0
 Stands f s = (f.bottom ≤ length s.stacks.operands.items) × (f.base ≤ length s.scope)

@@ -1,144 +1,158 @@
--- Why a run ends in a fault: each fault comes from an instruction that can raise it, at its position, and only where the numbers that it tells are so.
-use Rattle.std.specs.Prelude.{◌≡◌, ◌⊎◌, ◌<◌, ◌≤◌, ℕ, ℤ, neg_ℤ, List, Some, true, false, codes, Result, Ok, Err}
+-- Why a run ends in a fault: it came to a frame at an instruction that raises the fault on what the frame and the world then have.
+use Rattle.std.specs.Prelude.{◌≡◌, ◌⊎◌, ◌<◌, ◌≤◌, ◌+◌, ℕ, List, [], ◌∷◌, Some, None, Bool, true, false, length, codes, Result, Ok, Err}
 use Rattle.grain_value.specs.declared.values.Dynamic.{Dynamic}
+use Rattle.grain_value.specs.declared.values.Held.{Held}
+use Rattle.grain_value.specs.Looking.{truth_of, is_unit}
+use Rattle.grain_value.specs.Writing.{type_name_of}
+use Rattle.grain_fault.specs.Classes.{system_exception}
+use Rattle.grain_fault.specs.Positions.{position_of_problem}
 use Rattle.grain_fault.specs.declared.places.Position.{Position}
 use Rattle.grain_fault.specs.declared.faults.MalformedKind.TheVariants as kind
 use Rattle.grain_fault.specs.declared.faults.EvalAltResult.{EvalAltResult}
+use Rattle.grain_fault.specs.declared.faults.EvalAltResult.TheVariants as fault
 use Rattle.grain_fault.specs.Problems.{Problem, FunctionNotFound, MismatchDataType, InFunctionCall, AssignmentToConstant, Arithmetic, Runtime, TooManyOperations, TooManyVariables, StackOverflow, Malformed, NoMemory, problem_of}
 use Rattle.grain_program.specs.declared.instructions.Op.{Op}
 use Rattle.grain_program.specs.declared.instructions.Op.TheVariants as op
 use Rattle.grain_program.specs.declared.functions.Function.{Function}
-use Rattle.grain_program.specs.View.{View, name_of, position_of}
-use Rattle.grain_program.specs.Reading.{op_at}
+use Rattle.grain_program.specs.View.{View, name_of, token_of, assign_op_of}
 use Rattle.grain_vm.specs.declared.global.Engine.{Engine}
-use Rattle.grain_vm.specs.declared.operators.Calculation.{Calculation}
-use Rattle.grain_vm.specs.means.Operators.{fits64, exact, overflow_text}
-use Rattle.grain_vm.specs.means.Acts.{Answer, Came, Failed, World, Setup, is_stop, function_found}
+use Rattle.grain_vm.specs.means.Operators.{Outcome, NotBuiltIn, Overflowed, operation, assignment, where_fast, signature_text}
+use Rattle.grain_vm.specs.means.Acts.{Act, Go, Answer, Came, Failed, World, Setup, Frame, InFrame, top, arguments, bound, frame_at, held_at, function_found, is_stop, position, main}
+use Rattle.grain_vm.specs.means.Means.{Begin, setup, first_world}
+use Rattle.grain_vm.specs.means.Comes.{Spot, Comes, Meets}
 
--- an instruction of the program has this position and is of this kind
-pub record RaisedAt (program : View) (p : Position) (Kind : ℕ → Op → Type 0) : Type 0 where
-  pub address : ℕ
-  pub width : ℕ
-  pub instruction : Op
-  pub stands : op_at program.code address ≡ Some (instruction, width)
-  pub kind : Kind address instruction
-  pub position : p ≡ position_of program address
+-- a call of a function that exists
+abbrev pub Calls : View → Op → Type 0
+Calls program (op.Call n k) = (g : Function) × (function_found program n k ≡ Some g)
+Calls program o = ⊥
 
--- an operator or an op-assignment
-abbrev pub Operates : ℕ → Op → Type 0
-Operates a (op.CallOp n k o) = Unit {0}
-Operates a (op.AssignLocalOp s n o) = Unit {0}
-Operates a o = ⊥
+-- it costs an operation: a transfer that is taken to a target that does not lie ahead, a call of a function that exists, or a tick
+abbrev pub Charges : View → Op → Frame → Type 0
+Charges program (op.Jump t) f = t ≤ f.address
+Charges program (op.JumpIfFalse t) f = (t ≤ f.address) × (truth_of (top f.operands) ≡ Some false)
+Charges program (op.JumpIfTrue t) f = (t ≤ f.address) × (truth_of (top f.operands) ≡ Some true)
+Charges program (op.SkipIfNotUnit t) f = (t ≤ f.address) × (is_unit (top f.operands) ≡ false)
+Charges program (op.Call n k) f = Calls program (op.Call n k)
+Charges program op.Tick f = Unit {0}
+Charges program o f = ⊥
 
--- what looks a function up: an operator, an op-assignment or a call
-abbrev pub Seeks : ℕ → Op → Type 0
-Seeks a (op.CallOp n k o) = Unit {0}
-Seeks a (op.AssignLocalOp s n o) = Unit {0}
-Seeks a (op.Call n k) = Unit {0}
-Seeks a o = ⊥
+-- a declaration finds the scope full, or the parameters of a function that is called pass the limit
+abbrev pub Overfills : View → ℕ → Op → World → Type 0
+Overfills program limit (op.DeclareLocal n) w = limit ≤ length w.scope
+Overfills program limit (op.DeclareConst n) w = limit ≤ length w.scope
+Overfills program limit (op.Call n k) w = (g : Function) × (function_found program n k ≡ Some g) × (limit < length g.params)
+Overfills program limit o w = ⊥
 
--- a test of a truth value
-abbrev pub Tests : ℕ → Op → Type 0
-Tests a (op.JumpIfFalse t) = Unit {0}
-Tests a (op.JumpIfTrue t) = Unit {0}
-Tests a o = ⊥
+-- it reads or writes the entry at this index, by its slot
+abbrev pub UsesEntry : ℕ → Op → Frame → Type 0
+UsesEntry i (op.LoadLocal s) f = i ≡ f.base + s
+UsesEntry i (op.StoreLocal s) f = i ≡ f.base + s
+UsesEntry i (op.StoreConst s) f = i ≡ f.base + s
+UsesEntry i (op.AssignLocal s n) f = i ≡ f.base + s
+UsesEntry i (op.AssignLocalOp s n a) f = i ≡ f.base + s
+UsesEntry i o f = ⊥
 
--- what costs an operation: a transfer whose target does not lie ahead, a call, or a tick
-abbrev pub Charges : ℕ → Op → Type 0
-Charges a (op.Jump t) = t ≤ a
-Charges a (op.JumpIfFalse t) = t ≤ a
-Charges a (op.JumpIfTrue t) = t ≤ a
-Charges a (op.SkipIfNotUnit t) = t ≤ a
-Charges a (op.Call n k) = Unit {0}
-Charges a op.Tick = Unit {0}
-Charges a o = ⊥
+-- it cuts the scope to so many entries
+abbrev pub Unwinds : ℕ → Op → Frame → Type 0
+Unwinds t (op.UnwindTo d) f = t ≡ f.base + d
+Unwinds t o f = ⊥
 
--- an access to an entry by its slot
-abbrev pub UsesSlot : ℕ → Op → Type 0
-UsesSlot a (op.LoadLocal s) = Unit {0}
-UsesSlot a (op.StoreLocal s) = Unit {0}
-UsesSlot a (op.StoreConst s) = Unit {0}
-UsesSlot a (op.AssignLocal s n) = Unit {0}
-UsesSlot a (op.AssignLocalOp s n o) = Unit {0}
-UsesSlot a o = ⊥
+-- it asks for a truth value
+abbrev pub Tests : Op → Type 0
+Tests (op.JumpIfFalse t) = Unit {0}
+Tests (op.JumpIfTrue t) = Unit {0}
+Tests o = ⊥
 
--- the scope is cut to so many entries above a base
-abbrev pub Unwinds : ℕ → Op → Type 0
-Unwinds a (op.UnwindTo d) = Unit {0}
-Unwinds a o = ⊥
+-- it throws the last operand
+abbrev pub Throws : Op → Type 0
+Throws op.Throw = Unit {0}
+Throws o = ⊥
 
--- the last operand is thrown
-abbrev pub Throws : ℕ → Op → Type 0
-Throws a op.Throw = Unit {0}
-Throws a o = ⊥
+-- the entry at this index holds this, which can only be read where the flag says so
+abbrev pub Holds : World → ℕ → Bool → Held → Type 0
+Holds w i read_only h = (held_at w.scope i ≡ Some h) × (h.read_only ≡ read_only)
 
--- a function is called
-abbrev pub Calls : ℕ → Op → Type 0
-Calls a (op.Call n k) = Unit {0}
-Calls a o = ⊥
+-- it assigns to an entry that can only be read, and tells this name
+abbrev pub AssignsConstant : View → List ℕ → Op → Frame → World → Type 0
+AssignsConstant program s (op.AssignLocal slot n) f w = (s ≡ name_of program n) × ((h : Held) × Holds w (f.base + slot) true h)
+AssignsConstant program s (op.AssignLocalOp slot n a) f w = (s ≡ name_of program n) × ((h : Held) × Holds w (f.base + slot) true h)
+AssignsConstant program s o f w = ⊥
 
--- a function of this name is called: the first of the call's name with so many parameters
-abbrev pub CallsOf : View → List ℕ → ℕ → Op → Type 0
-CallsOf program name a (op.Call n k) = (g : Function) × (function_found program n k ≡ Some g) × (name ≡ name_of program g.name)
-CallsOf program name a o = ⊥
+-- a call looks for a function of this name with these arguments, and there is none
+abbrev pub Misses : View → List ℕ → List Dynamic → Op → Frame → Type 0
+Misses program name args (op.Call n k) f = (name ≡ name_of program n) × (args ≡ arguments k f.operands) × (function_found program n k ≡ None)
+Misses program name args o f = ⊥
 
--- a declaration, or the entry into a function
-abbrev pub Grows : ℕ → Op → Type 0
-Grows a (op.DeclareLocal n) = Unit {0}
-Grows a (op.DeclareConst n) = Unit {0}
-Grows a (op.Call n k) = Unit {0}
-Grows a o = ⊥
+-- an operator or an op-assignment of this name asks the built-in of these operands, which says this
+abbrev pub Operates : Setup → Outcome → List ℕ → List Dynamic → Op → Frame → World → Type 0
+Operates m said name args (op.CallOp n k t) f w = (name ≡ name_of m.program n) × (args ≡ arguments k f.operands) × (where_fast m.engine.fast_operators (operation (token_of m.program t) args) ≡ said)
+Operates m said name args (op.AssignLocalOp slot n a) f w =
+    (name ≡ name_of m.program (assign_op_of m.program a).op_name) ×
+    ((h : Held) × Holds w (f.base + slot) false h × (args ≡ h.value ∷ top f.operands ∷ []) × (where_fast m.engine.fast_operators (assignment (assign_op_of m.program a).op_assign h.value (top f.operands)) ≡ said))
+Operates m said name args o f w = ⊥
 
--- an assignment to an entry, of which the instruction tells this name
-abbrev pub Assigns : View → List ℕ → ℕ → Op → Type 0
-Assigns program name a (op.AssignLocal s n) = name ≡ name_of program n
-Assigns program name a (op.AssignLocalOp s n o) = name ≡ name_of program n
-Assigns program name a o = ⊥
+-- it calls this function with these arguments
+abbrev pub CallsOn : View → Function → List Dynamic → Op → Frame → Type 0
+CallsOn program g args (op.Call n k) f = (function_found program n k ≡ Some g) × (args ≡ arguments k f.operands)
+CallsOn program g args o f = ⊥
 
--- two integers of which a calculation's result does not fit
-pub record Overflows (text : List ℕ) : Type 0 where
-  pub calculation : Calculation
-  pub left : ℤ
-  pub right : ℤ
-  pub past : fits64 (exact calculation left right) ≡ false
-  pub told : text ≡ overflow_text calculation left right
+-- the instruction at the spot calls this function; its run comes to the function's body, on its arguments and one level up, and of the run of the body this holds
+pub record Enters (m : Setup) (g : Function) (Runs : Act → Type 0) (at : Spot) : Type 0 where
+  pub arguments : List Dynamic
+  pub calls : CallsOn m.program g arguments at.instruction at.frame
+  pub inside : World
+  pub comes : Comes m (InFrame (frame_at g.chunk 0) None) inside (Go (InFrame at.frame at.this) at.world)
+  pub scope : inside.scope ≡ bound m.program g.params arguments
+  pub level : inside.level ≡ at.world.level + 1
+  pub runs : Runs (Go (InFrame (frame_at g.chunk 0) None) inside)
 
--- an integer whose negation does not fit
-pub record NegationOverflows (text : List ℕ) : Type 0 where
-  pub operand : ℤ
-  pub past : fits64 (neg_ℤ operand) ≡ false
-  pub told : text ≡ codes "integer overflow"
+-- the run of an act comes to a call in a frame of this level, which has this position, and from the call's body it comes to the spot
+pub record LeftCall (m : Setup) (act : Act) (level : ℕ) (inner : Spot) (p : Position) : Type 0 where
+  pub call : Spot
+  pub met : Meets m call act
+  pub own : call.world.level ≡ level
+  pub function : Function
+  pub enters : Enters m function (Meets m inner) call
+  pub position : p ≡ position m call.frame
 
--- there is no result that fits
-abbrev pub NoResult : List ℕ → Type 0
-NoResult text = Overflows text ⊎ NegationOverflows text
+-- the fault tells the position of the instruction that raised it in a frame of this level; or a system exception that of a call there
+abbrev pub Tells : Setup → Act → ℕ → Spot → Problem → Type 0
+Tells m act level at x = ((at.world.level ≡ level) × (position_of_problem x ≡ position m at.frame)) ⊎ ((system_exception x ≡ true) × LeftCall m act level at (position_of_problem x))
 
--- a system exception tells the position where it was raised, or of a call through which it left a function
-abbrev pub Left : View → (Position → Type 0) → Position → Type 0
-Left program Raised p = Raised p ⊎ (RaisedAt program p Calls × ((q : Position) × Raised q))
+-- the run of an act comes to a spot where this holds, and the fault tells a position of a frame of this level
+pub record Raised (m : Setup) (act : Act) (level : ℕ) (x : Problem) (Why : Spot → Type 0) : Type 0 where
+  pub spot : Spot
+  pub met : Meets m spot act
+  pub why : Why spot
+  pub tells : Tells m act level spot x
 
--- why there is this fault, after so many operations
-abbrev pub Cause : View → Engine → ℕ → Problem → Type 0
-Cause program engine count (FunctionNotFound s p) = RaisedAt program p Seeks
-Cause program engine count (MismatchDataType r a p) = (r ≡ codes "bool") × RaisedAt program p Tests
-Cause program engine count (InFunctionCall f s x p) = Cause program engine count x × RaisedAt program p (CallsOf program f)
-Cause program engine count (AssignmentToConstant s p) = RaisedAt program p (Assigns program s)
-Cause program engine count (Arithmetic s p) = NoResult s × RaisedAt program p Operates
-Cause program engine count (Runtime v p) = RaisedAt program p Throws
-Cause program engine count (TooManyOperations p) = (engine.limits.operations ≤ count) × Left program (λ q. RaisedAt program q Charges) p
-Cause program engine count (TooManyVariables p) = Left program (λ q. RaisedAt program q Grows) p
-Cause program engine count (StackOverflow p) = RaisedAt program p Calls
-Cause program engine count (Malformed (kind.SlotPastScope i n) p) = (n ≤ i) × Left program (λ q. RaisedAt program q UsesSlot) p
-Cause program engine count (Malformed (kind.UnwindPastScope t n) p) = (n < t) × Left program (λ q. RaisedAt program q Unwinds) p
-Cause program engine count NoMemory = Unit {0}
+-- where an instruction raises this fault, or a fault leaves the call that the instruction is
+abbrev pub Row : Setup → Problem → Spot → Type 0
+Row m (FunctionNotFound s p) at =
+    (name : List ℕ) × (args : List Dynamic) × (s ≡ signature_text name args) × (Misses m.program name args at.instruction at.frame ⊎ Operates m NotBuiltIn name args at.instruction at.frame at.world)
+Row m (MismatchDataType r a p) at = (r ≡ codes "bool") × (a ≡ type_name_of (top at.frame.operands)) × (truth_of (top at.frame.operands) ≡ None) × Tests at.instruction
+Row m (InFunctionCall s source x p) at =
+    (source ≡ []) × (system_exception x ≡ false) × ((g : Function) × (s ≡ name_of m.program g.name) × Enters m g (λ body. Raised m body (at.world.level + 1) x (Row m x)) at)
+Row m (AssignmentToConstant s p) at = AssignsConstant m.program s at.instruction at.frame at.world
+Row m (Arithmetic s p) at = (name : List ℕ) × (args : List Dynamic) × Operates m (Overflowed s) name args at.instruction at.frame at.world
+Row m (Runtime v p) at = (v ≡ top at.frame.operands) × Throws at.instruction
+Row m (TooManyOperations p) at = (m.engine.limits.operations ≤ at.world.count) × Charges m.program at.instruction at.frame
+Row m (TooManyVariables p) at = Overfills m.program m.engine.limits.variables at.instruction at.world
+Row m (StackOverflow p) at = (at.world.count < m.engine.limits.operations) × (m.engine.limits.levels ≤ at.world.level) × Calls m.program at.instruction
+Row m (Malformed (kind.SlotPastScope i n) p) at = (n ≡ length at.world.scope) × (n ≤ i) × UsesEntry i at.instruction at.frame
+Row m (Malformed (kind.UnwindPastScope t n) p) at = (n ≡ length at.world.scope) × (n < t) × Unwinds t at.instruction at.frame
+Row m NoMemory at = ⊥
 
--- why a run ends so: memory is out only where it is stopped
-abbrev pub Caused : Setup → Answer → World → Type 0
-Caused m (Came v) w = Unit {0}
-Caused m (Failed NoMemory) w = is_stop m.stop w.passed ≡ true
-Caused m (Failed x) w = Cause m.program m.engine w.count x
+-- why the run of an act, of this level, ends in this fault
+abbrev pub Cause : Setup → Act → ℕ → Problem → Type 0
+Cause m act level x = Raised m act level x (Row m x)
 
--- each fault of a call has its cause; want of memory is free
-abbrev pub HasCause : View → Engine → ℕ → Result Dynamic EvalAltResult → Type 0
-HasCause program engine count (Ok v) = Unit {0}
-HasCause program engine count (Err x) = Cause program engine count (problem_of x)
+-- why a run ends so: memory is out only where it is stopped, and any other fault has its cause
+abbrev pub Caused : Setup → Act → ℕ → Answer → World → Type 0
+Caused m act level (Came v) w = Unit {0}
+Caused m act level (Failed x) w = ((x ≡ NoMemory) × (is_stop m.stop w.passed ≡ true)) ⊎ Cause m act level x
+
+-- each fault of a call has its cause in the program's run; want of memory is free
+abbrev pub HasCause : View → Engine → Begin → Result Dynamic EvalAltResult → Type 0
+HasCause program engine b (Ok v) = Unit {0}
+HasCause program engine b (Err x) = (x ≡ fault.Memory) ⊎ Cause (setup program engine) (main (setup program engine) (first_world b)) b.level (problem_of x)

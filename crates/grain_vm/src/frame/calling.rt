@@ -11,7 +11,6 @@ ghost use Rattle.grain_vm.specs.frame.Hand.{hand, own, frame_in, is_out, led, an
 
 use crate::frame::activations::Activation;
 use crate::frame::contexts::Context;
-use crate::frame::faults::{too_many_operations, too_many_variables};
 use crate::frame::states::{Flow, State};
 use crate::frame::steps::Steps;
 use grain_fault::{EvalAltResult, RhaiResult};
@@ -47,7 +46,7 @@ impl State {
     {
         let params = function.params.as_slice();
         let first = self.stacks.height() - params.len();
-        let mut scope = Scope::new(self.alloc);
+        let mut scope = self.stacks.fresh_scope(self.alloc);
         'bind: for (index, param) in params.iter().enumerate() {
             let name = context.program.name(*param).copy(self.alloc)?;
             let value = self.stacks.take_at(first + index);
@@ -79,17 +78,16 @@ impl State {
         ensures before { steps.new.before ≡ steps.old.before }
     {
         if !self.charge(context.engine) {
-            self.raise(steps, too_many_operations(context, frame));
+            self.too_many_operations(context, steps, frame);
             return Ok(None);
         }
         steps.mark();
         let Some(level) = deeper(self.level, context.engine.limits.levels) else {
-            let position = context.program.position(frame.address);
-            self.raise(steps, EvalAltResult::ErrorStackOverflow(position));
+            self.too_deep(context, steps, frame);
             return Ok(None);
         };
         if function.params.len() > context.engine.limits.variables {
-            self.raise(steps, too_many_variables(context, frame));
+            self.too_many_variables(context, steps, frame);
             return Ok(None);
         }
         let scope = self.take_arguments(context, frame, function)?;
@@ -113,7 +111,8 @@ impl State {
         ensures others { self.new ≡ record self.old { stacks = self.new.stacks; scope = outer.scope; level = outer.level } }
     {
         self.stacks.leave(bottom);
-        self.scope = outer.scope;
+        let inner = mem::replace(&mut self.scope, outer.scope);
+        self.stacks.keep_scope(inner);
         self.level = outer.level;
     }
 

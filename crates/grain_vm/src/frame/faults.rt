@@ -1,135 +1,208 @@
-//! The faults that instructions raise.
+//! The faults that instructions raise: each is made and raised apart from the instruction, so that an instruction that
+//! raises none pays nothing for it.
 
-ghost use Rattle.std.specs.Prelude.{◌≡◌, ◌<◌, ◌≤◌, ◌+◌, ◌∷◌, [], length, IfOk, codes};
+ghost use Rattle.std.specs.Prelude.{◌≡◌, ◌<◌, ◌≤◌, ◌+◌, ◌∷◌, [], length, codes, Ok, IfOk};
 ghost use Rattle.grain_program.specs.View.{position_of, name_of};
 ghost use Rattle.grain_value.specs.Writing.{type_name_of};
 ghost use Rattle.grain_fault.specs.declared.faults.EvalAltResult.TheVariants as fault;
 ghost use Rattle.grain_fault.specs.declared.faults.MalformedKind.TheVariants as kind;
 ghost use Rattle.grain_vm.specs.means.Operators.{overflow_text, signature_text};
-ghost use Rattle.grain_vm.specs.means.Acts.{arguments};
-ghost use Rattle.grain_vm.specs.frame.Hand.{own};
+ghost use Rattle.grain_vm.specs.means.Acts.{arguments, top};
+ghost use Rattle.grain_vm.specs.frame.Hand.{own, Raises};
 
 use crate::frame::activations::Activation;
 use crate::frame::contexts::Context;
-use crate::frame::states::State;
+use crate::frame::states::{Flow, State};
+use crate::frame::steps::Steps;
 use crate::operators;
 use crate::operators::Calculation;
 use grain_fault::{EvalAltResult, MalformedKind};
 use grain_value::{Dynamic, OutOfMemory, Text};
 use std::alloc::Global;
+use std::sync::ledger::Ledger;
 
 impl State {
-    // The fault of a slot past the scope.
+    // A slot past the scope.
     #[cold]
-    pub(crate) fn misplaced(
-        &self,
+    #[inline(never)]
+    pub(crate) fn misplaced<L: Ledger>(
+        &mut self,
         context: Context<'_>,
+        steps: &mut Steps<L>,
         frame: &Activation,
         index: usize,
-    ) -> EvalAltResult
-        ensures { result ≡ fault.Malformed (kind.SlotPastScope index (length self.now.scope)) (position_of context.entry.program.now frame.now.address) }
+    ) -> Flow
+        ensures { Raises self.old steps.old (fault.Malformed (kind.SlotPastScope index (length self.old.scope)) (position_of context.entry.program.now frame.now.address)) (Ok result) self.new steps.new }
     {
         let kind = MalformedKind::SlotPastScope {
             index,
             length: self.scope.len(),
         };
-        EvalAltResult::Malformed(kind, context.program.position(frame.address))
+        let fault = EvalAltResult::Malformed(kind, context.program.position(frame.address));
+        self.raise(steps, fault)
     }
 
-    // The fault of a function that is not found for the frame's last operands, so many.
+    // An operation too many.
     #[cold]
-    pub(crate) fn unknown(
-        &self,
+    #[inline(never)]
+    pub(crate) fn too_many_operations<L: Ledger>(
+        &mut self,
         context: Context<'_>,
+        steps: &mut Steps<L>,
+        frame: &Activation,
+    ) -> Flow
+        ensures { Raises self.old steps.old (fault.ErrorTooManyOperations (position_of context.entry.program.now frame.now.address)) (Ok result) self.new steps.new }
+    {
+        let position = context.program.position(frame.address);
+        self.raise(steps, EvalAltResult::ErrorTooManyOperations(position))
+    }
+
+    // A variable too many.
+    #[cold]
+    #[inline(never)]
+    pub(crate) fn too_many_variables<L: Ledger>(
+        &mut self,
+        context: Context<'_>,
+        steps: &mut Steps<L>,
+        frame: &Activation,
+    ) -> Flow
+        ensures { Raises self.old steps.old (fault.ErrorTooManyVariables (position_of context.entry.program.now frame.now.address)) (Ok result) self.new steps.new }
+    {
+        let position = context.program.position(frame.address);
+        self.raise(steps, EvalAltResult::ErrorTooManyVariables(position))
+    }
+
+    // A level too many.
+    #[cold]
+    #[inline(never)]
+    pub(crate) fn too_deep<L: Ledger>(
+        &mut self,
+        context: Context<'_>,
+        steps: &mut Steps<L>,
+        frame: &Activation,
+    ) -> Flow
+        ensures { Raises self.old steps.old (fault.ErrorStackOverflow (position_of context.entry.program.now frame.now.address)) (Ok result) self.new steps.new }
+    {
+        let position = context.program.position(frame.address);
+        self.raise(steps, EvalAltResult::ErrorStackOverflow(position))
+    }
+
+    // The scope is to be cut to a length past it.
+    #[cold]
+    #[inline(never)]
+    pub(crate) fn unwound_past<L: Ledger>(
+        &mut self,
+        context: Context<'_>,
+        steps: &mut Steps<L>,
+        frame: &Activation,
+        target: usize,
+    ) -> Flow
+        ensures { Raises self.old steps.old (fault.Malformed (kind.UnwindPastScope target (length self.old.scope)) (position_of context.entry.program.now frame.now.address)) (Ok result) self.new steps.new }
+    {
+        let kind = MalformedKind::UnwindPastScope {
+            target,
+            length: self.scope.len(),
+        };
+        let fault = EvalAltResult::Malformed(kind, context.program.position(frame.address));
+        self.raise(steps, fault)
+    }
+
+    // A function that is not found for the frame's last operands, so many.
+    #[cold]
+    #[inline(never)]
+    pub(crate) fn unknown<L: Ledger>(
+        &mut self,
+        context: Context<'_>,
+        steps: &mut Steps<L>,
         frame: &Activation,
         name: u16,
         count: usize,
-    ) -> Result<EvalAltResult, OutOfMemory>
-        requires operands { frame.now.bottom + count ≤ length self.now.stacks.operands.items }
+    ) -> Result<Flow, OutOfMemory>
+        requires operands { frame.now.bottom + count ≤ length self.old.stacks.operands.items }
         requires pool { name < length context.program.now.names }
-        ensures { IfOk result (λ f. f ≡ fault.ErrorFunctionNotFound (signature_text (name_of context.entry.program.now name) (arguments count (own self.now.stacks frame.now.bottom))) (position_of context.entry.program.now frame.now.address)) }
+        ensures { Raises self.old steps.old (fault.ErrorFunctionNotFound (signature_text (name_of context.entry.program.now name) (arguments count (own self.old.stacks frame.now.bottom))) (position_of context.entry.program.now frame.now.address)) result self.new steps.new }
     {
         let name = context.program.name(u32::from(name));
         let operands = &self.stacks.operands[frame.bottom..];
         let text = operators::signature(self.alloc, name, operands, count)?;
-        Ok(EvalAltResult::ErrorFunctionNotFound(text, context.program.position(frame.address)))
+        let position = context.program.position(frame.address);
+        Ok(self.raise(steps, EvalAltResult::ErrorFunctionNotFound(text, position)))
     }
-}
 
-// The fault of an operation too many.
-#[cold]
-pub(crate) fn too_many_operations(context: Context<'_>, frame: &Activation) -> EvalAltResult
-    ensures { result ≡ fault.ErrorTooManyOperations (position_of context.entry.program.now frame.now.address) }
-{
-    EvalAltResult::ErrorTooManyOperations(context.program.position(frame.address))
-}
+    // An assignment to an entry that can only be read.
+    #[cold]
+    #[inline(never)]
+    pub(crate) fn constant<L: Ledger>(
+        &mut self,
+        context: Context<'_>,
+        steps: &mut Steps<L>,
+        frame: &Activation,
+        name: u16,
+    ) -> Result<Flow, OutOfMemory>
+        requires { name < length context.program.now.names }
+        ensures { Raises self.old steps.old (fault.ErrorAssignmentToConstant (name_of context.entry.program.now name) (position_of context.entry.program.now frame.now.address)) result self.new steps.new }
+    {
+        let name = context.program.name(u32::from(name)).copy(self.alloc)?;
+        let position = context.program.position(frame.address);
+        Ok(self.raise(
+            steps,
+            EvalAltResult::ErrorAssignmentToConstant(name, position),
+        ))
+    }
 
-// The fault of a variable too many.
-#[cold]
-pub(crate) fn too_many_variables(context: Context<'_>, frame: &Activation) -> EvalAltResult
-    ensures { result ≡ fault.ErrorTooManyVariables (position_of context.entry.program.now frame.now.address) }
-{
-    EvalAltResult::ErrorTooManyVariables(context.program.position(frame.address))
-}
+    // A last operand that is no truth value.
+    #[cold]
+    #[inline(never)]
+    pub(crate) fn mistyped<L: Ledger>(
+        &mut self,
+        context: Context<'_>,
+        steps: &mut Steps<L>,
+        frame: &Activation,
+    ) -> Result<Flow, OutOfMemory>
+        requires { frame.now.bottom < length self.old.stacks.operands.items }
+        ensures { Raises self.old steps.old (fault.ErrorMismatchDataType (codes "bool") (type_name_of (top (own self.old.stacks frame.now.bottom))) (position_of context.entry.program.now frame.now.address)) result self.new steps.new }
+    {
+        let requested = Text::copy_of(self.alloc, "bool")?;
+        let actual = self.stacks.top(frame.bottom).type_name(self.alloc)?;
+        let position = context.program.position(frame.address);
+        let fault = EvalAltResult::ErrorMismatchDataType(requested, actual, position);
+        Ok(self.raise(steps, fault))
+    }
 
-// The fault of an assignment to an entry that can only be read.
-#[cold]
-pub(crate) fn constant(
-    alloc: Global,
-    context: Context<'_>,
-    frame: &Activation,
-    name: u16,
-) -> Result<EvalAltResult, OutOfMemory>
-    requires { name < length context.program.now.names }
-    ensures { IfOk result (λ f. f ≡ fault.ErrorAssignmentToConstant (name_of context.entry.program.now name) (position_of context.entry.program.now frame.now.address)) }
-{
-    let name = context.program.name(u32::from(name)).copy(alloc)?;
-    Ok(EvalAltResult::ErrorAssignmentToConstant(name, context.program.position(frame.address)))
-}
+    // A result that does not fit.
+    #[cold]
+    #[inline(never)]
+    pub(crate) fn overflowed<L: Ledger>(
+        &mut self,
+        context: Context<'_>,
+        steps: &mut Steps<L>,
+        frame: &Activation,
+        calculation: Calculation,
+        x: i64,
+        y: i64,
+    ) -> Result<Flow, OutOfMemory>
+        ensures { Raises self.old steps.old (fault.ErrorArithmetic (overflow_text calculation x y) (position_of context.entry.program.now frame.now.address)) result self.new steps.new }
+    {
+        let text = operators::overflow(self.alloc, calculation, x, y)?;
+        let position = context.program.position(frame.address);
+        Ok(self.raise(steps, EvalAltResult::ErrorArithmetic(text, position)))
+    }
 
-// The fault of a value that is no truth value.
-#[cold]
-pub(crate) fn mistyped(
-    alloc: Global,
-    context: Context<'_>,
-    frame: &Activation,
-    value: &Dynamic,
-) -> Result<EvalAltResult, OutOfMemory>
-    ensures { IfOk result (λ f. f ≡ fault.ErrorMismatchDataType (codes "bool") (type_name_of value.now) (position_of context.entry.program.now frame.now.address)) }
-{
-    let requested = Text::copy_of(alloc, "bool")?;
-    let actual = value.type_name(alloc)?;
-    let position = context.program.position(frame.address);
-    Ok(EvalAltResult::ErrorMismatchDataType(requested, actual, position))
-}
-
-// The fault of a result that does not fit.
-#[cold]
-pub(crate) fn overflowed(
-    alloc: Global,
-    context: Context<'_>,
-    frame: &Activation,
-    calculation: Calculation,
-    x: i64,
-    y: i64,
-) -> Result<EvalAltResult, OutOfMemory>
-    ensures { IfOk result (λ f. f ≡ fault.ErrorArithmetic (overflow_text calculation x y) (position_of context.entry.program.now frame.now.address)) }
-{
-    let text = operators::overflow(alloc, calculation, x, y)?;
-    Ok(EvalAltResult::ErrorArithmetic(text, context.program.position(frame.address)))
-}
-
-// The fault of a negation that does not fit.
-#[cold]
-pub(crate) fn negation_overflowed(
-    alloc: Global,
-    context: Context<'_>,
-    frame: &Activation,
-) -> Result<EvalAltResult, OutOfMemory>
-    ensures { IfOk result (λ f. f ≡ fault.ErrorArithmetic (codes "integer overflow") (position_of context.entry.program.now frame.now.address)) }
-{
-    let text = Text::copy_of(alloc, "integer overflow")?;
-    Ok(EvalAltResult::ErrorArithmetic(text, context.program.position(frame.address)))
+    // A negation that does not fit.
+    #[cold]
+    #[inline(never)]
+    pub(crate) fn negation_overflowed<L: Ledger>(
+        &mut self,
+        context: Context<'_>,
+        steps: &mut Steps<L>,
+        frame: &Activation,
+    ) -> Result<Flow, OutOfMemory>
+        ensures { Raises self.old steps.old (fault.ErrorArithmetic (codes "integer overflow") (position_of context.entry.program.now frame.now.address)) result self.new steps.new }
+    {
+        let text = Text::copy_of(self.alloc, "integer overflow")?;
+        let position = context.program.position(frame.address);
+        Ok(self.raise(steps, EvalAltResult::ErrorArithmetic(text, position)))
+    }
 }
 
 // The fault of an op-assignment whose operator is not found for the target and the value.

@@ -9,19 +9,17 @@ ghost use Rattle.grain_vm.specs.frame.Hand.{own, frame_in, Does, Kept, Stands, L
 
 use crate::frame::activations::Activation;
 use crate::frame::contexts::Context;
-use crate::frame::faults::{
-    constant, negation_overflowed, overflowed, too_many_variables, unknown_pair,
-};
+use crate::frame::faults::unknown_pair;
 use crate::frame::states::{Flow, State};
 use crate::frame::steps::Steps;
 use crate::operators;
 use crate::operators::OpAnswer;
-use grain_fault::{EvalAltResult, MalformedKind};
 use grain_value::{Held, OutOfMemory};
 use std::sync::ledger::Ledger;
 
 impl State {
     // `load_local`: a copy of what the entry holds.
+    #[inline(always)]
     pub(crate) fn load_local<L: Ledger>(
         &mut self,
         context: Context<'_>,
@@ -43,13 +41,12 @@ impl State {
         let index = self.slot_index(frame, slot);
         match self.scope.get(index) {
             Some(held) => {
-                let value = held.value.copy(self.alloc)?;
-                Ok(self.push_on(context, steps, frame, value, next))
+                self.stacks.push_copy(self.alloc, &held.value)?;
+                frame.address = next;
+                steps.mark();
+                Ok(Flow::On)
             }
-            None => {
-                let fault = self.misplaced(context, frame, index);
-                Ok(self.raise(steps, fault))
-            }
+            None => { Ok(self.misplaced(context, steps, frame, index)) }
         }
     }
 
@@ -85,10 +82,7 @@ impl State {
                 steps.mark();
                 Flow::On
             }
-            None => {
-                let fault = self.misplaced(context, frame, index);
-                self.raise(steps, fault)
-            }
+            None => { self.misplaced(context, steps, frame, index) }
         }
     }
 
@@ -115,7 +109,7 @@ impl State {
         ensures before { steps.new.before ≡ steps.old.before }
     {
         if self.scope.len() >= context.engine.limits.variables {
-            return Ok(self.raise(steps, too_many_variables(context, frame)));
+            return Ok(self.too_many_variables(context, steps, frame));
         }
         let name = context.program.name(u32::from(name)).copy(self.alloc)?;
         let value = self.stacks.pop(frame.bottom);
@@ -154,8 +148,7 @@ impl State {
             Some(held) => {
                 let read_only = held.read_only;
                 if read_only {
-                    let fault = constant(self.alloc, context, frame, name)?;
-                    return Ok(self.raise(steps, fault));
+                    return Ok(self.constant(context, steps, frame, name)?);
                 }
                 self.scope.set(index, Held { value, read_only });
                 steps.mark();
@@ -163,16 +156,73 @@ impl State {
                 steps.mark();
                 Ok(Flow::On)
             }
-            None => {
-                let fault = self.misplaced(context, frame, index);
-                Ok(self.raise(steps, fault))
-            }
+            None => { Ok(self.misplaced(context, steps, frame, index)) }
         }
     }
 
     // `assign_local_op`: an op-assignment to an entry.
     #[tactic(auto, using(crate::proofs::Above::length_set_held))]
+    #[inline(always)]
     pub(crate) fn assign_local_op<L: Ledger>(
+        &mut self,
+        context: Context<'_>,
+        steps: &mut Steps<L>,
+        frame: &mut Activation,
+        slot: u16,
+        name: u16,
+        assign_op: u16,
+        next: usize,
+    ) -> Result<Flow, OutOfMemory>
+        requires stands { Stands frame.old self.old }
+        requires operand { frame.old.bottom < length self.old.stacks.operands.items }
+        requires pool { name < length context.program.now.names }
+        requires records { assign_op < length context.program.now.assign_ops }
+        requires named { (assign_op_of context.program.now assign_op).op_name < length context.program.now.names }
+        requires ahead { frame.old.address < next }
+        ensures same { Does context.entry.program.now context.entry.engine.now self.old steps.old
+            (λ m place w. instr m (op.AssignLocalOp slot name assign_op) next (frame_in frame.old self.old) place w)
+            result self.new steps.new frame.new }
+        ensures kept { Kept frame.old self.old frame.new self.new }
+        ensures lands { Lands context.entry.engine.now self.old frame.old self.new frame.new (λ a. a ≡ next) (length (own self.old.stacks frame.old.bottom) - 1) result }
+        ensures before { steps.new.before ≡ steps.old.before }
+    {
+        let index = self.slot_index(frame, slot);
+        let token = context.program.assign_op(u32::from(assign_op)).op_assign;
+        let fast = context.engine.fast_operators;
+        match self.scope.get(index) {
+            Some(held) => {
+                if held.read_only {
+                    return self.assign_local_op_at_length(
+                        context, steps, frame, slot, name, assign_op, next,
+                    );
+                }
+                match operators::quick_assigned(
+                    fast,
+                    token,
+                    &held.value,
+                    self.stacks.top(frame.bottom),
+                ) {
+                    Some(z) => {
+                        self.scope.set_int(index, z);
+                        let _value = self.stacks.pop(frame.bottom);
+                        steps.mark();
+                        frame.address = next;
+                        steps.mark();
+                        Ok(Flow::On)
+                    }
+                    None => self.assign_local_op_at_length(
+                        context, steps, frame, slot, name, assign_op, next,
+                    ),
+                }
+            }
+            None => Ok(self.misplaced(context, steps, frame, index)),
+        }
+    }
+
+    // An op-assignment to an entry, whatever it holds.
+    #[inline(never)]
+    #[tactic(auto, using(crate::proofs::Above::length_set_held))]
+    fn assign_local_op_at_length<L: Ledger>(
         &mut self,
         context: Context<'_>,
         steps: &mut Steps<L>,
@@ -200,13 +250,11 @@ impl State {
         let assign_op = context.program.assign_op(u32::from(assign_op));
         let fast = context.engine.fast_operators;
         let Some(held) = self.scope.get(index) else {
-            let fault = self.misplaced(context, frame, index);
-            return Ok(self.raise(steps, fault));
+            return Ok(self.misplaced(context, steps, frame, index));
         };
         let read_only = held.read_only;
         if read_only {
-            let fault = constant(self.alloc, context, frame, name)?;
-            return Ok(self.raise(steps, fault));
+            return Ok(self.constant(context, steps, frame, name)?);
         }
         match operators::assign(fast, assign_op.op_assign, &held.value, &value) {
             OpAnswer::Done(value) => {
@@ -217,13 +265,9 @@ impl State {
                 Ok(Flow::On)
             }
             OpAnswer::Overflow(calculation, x, y) => {
-                let fault = overflowed(self.alloc, context, frame, calculation, x, y)?;
-                Ok(self.raise(steps, fault))
+                Ok(self.overflowed(context, steps, frame, calculation, x, y)?)
             }
-            OpAnswer::NegationOverflow => {
-                let fault = negation_overflowed(self.alloc, context, frame)?;
-                Ok(self.raise(steps, fault))
-            }
+            OpAnswer::NegationOverflow => { Ok(self.negation_overflowed(context, steps, frame)?) }
             OpAnswer::NotBuiltIn => {
                 let op_name = assign_op.op_name;
                 let fault = unknown_pair(self.alloc, context, frame, op_name, &held.value, &value)?;
@@ -253,9 +297,7 @@ impl State {
         let length = self.scope.len();
         let target = frame.base + usize::from(depth);
         if target > length {
-            let kind = MalformedKind::UnwindPastScope { target, length };
-            let position = context.program.position(frame.address);
-            return self.raise(steps, EvalAltResult::Malformed(kind, position));
+            return self.unwound_past(context, steps, frame, target);
         }
         self.scope.rewind(target);
         frame.address = next;
@@ -288,7 +330,7 @@ impl State {
     }
 
     // The place of a slot in the scope.
-    fn slot_index(&self, frame: &Activation, slot: u16) -> usize
+    pub(crate) fn slot_index(&self, frame: &Activation, slot: u16) -> usize
         requires { frame.now.base ≤ length self.now.scope }
         ensures { result ≡ frame.now.base + slot }
     {

@@ -1,13 +1,14 @@
 //! How a frame runs, how functions are called, and how main is entered and left.
 
-ghost use Rattle.std.specs.Prelude.{◌≡◌, ◌<◌, ◌≤◌, ◌+◌, ◌-◌, ◌++◌, ◌∷◌, [], length, take, None};
+ghost use Rattle.std.specs.Prelude.{◌≡◌, ◌<◌, ◌≤◌, ◌+◌, ◌-◌, ◌++◌, ◌∷◌, [], length, take, None, Ok, false};
 ghost use Rattle.std.specs.Vec.{vec_capacity};
 ghost use Rattle.grain_program.specs.Fits.{Fits};
+ghost use Rattle.grain_program.specs.Typing.{IsProgram};
 ghost use Rattle.grain_program.specs.declared.instructions.Op.TheVariants as op;
 ghost use Rattle.grain_vm.specs.means.Acts.{Go, InFrame, called, closed, instr};
 ghost use Rattle.grain_vm.specs.means.Goes.{Goes, Same, Carries};
 ghost use Rattle.grain_vm.specs.means.Means.{setup};
-ghost use Rattle.grain_vm.specs.frame.Hand.{hand, own, frame_in, is_out, led, over, answer_of, performed, GoesOn, Kept, Stands, Lands, Roomy};
+ghost use Rattle.grain_vm.specs.frame.Hand.{hand, own, frame_in, is_out, led, over, answer_of, performed, GoesOn, Kept, Stands, Lands, Roomy, OnTrue, OnFalse};
 
 use crate::frame::activations::Activation;
 use crate::frame::contexts::Context;
@@ -19,8 +20,52 @@ use grain_value::{Dynamic, OutOfMemory};
 use std::sync::ledger::Ledger;
 
 impl State {
+    // The instruction at which the frame stands, where it is one that is soon done. Else all is as it was.
+    #[inline(always)]
+    fn quick<L: Ledger>(
+        &mut self,
+        context: Context<'_>,
+        steps: &mut Steps<L>,
+        frame: &mut Activation,
+    ) -> bool
+        requires stands { Stands frame.old self.old }
+        requires fits { Fits context.program.now frame.old.chunk frame.old.address (length (own self.old.stacks frame.old.bottom)) }
+        requires room { frame.old.bottom + frame.old.chunk.max_stack ≤ vec_capacity self.old.stacks.operands }
+        ensures goes { OnTrue result (Goes (setup context.entry.program.now context.entry.engine.now) (hand self.old steps.old) (performed (frame_in frame.old self.old)) false (hand self.new steps.new) (led (Ok Flow.On) self.new.outcome (frame_in frame.new self.new))) }
+        ensures kept { OnTrue result (Kept frame.old self.old frame.new self.new) }
+        ensures goes_on { OnTrue result (GoesOn context.entry.program.now context.entry.engine.now self.old frame.old self.new frame.new (Ok Flow.On)) }
+        ensures before { steps.new.before ≡ steps.old.before }
+        ensures undone { OnFalse result ((self.new ≡ self.old) × (frame.new ≡ frame.old) × (steps.new ≡ steps.old)) }
+    {
+        let address = frame.address;
+        let depth = self.stacks.height() - frame.bottom;
+        match context.program.fetch(frame.chunk, address, depth) {
+            (Op::LoadConst(constant), width) => {
+                self.quick_const(context, steps, frame, constant, address + width)
+            }
+            (Op::LoadLocal(slot), width) => {
+                self.quick_local(context, steps, frame, slot, address + width)
+            }
+            (Op::AssignLocalOp(slot, name, op), width) => {
+                self.quick_assign(context, steps, frame, slot, name, op, address + width)
+            }
+            (Op::Jump(target), _) => self.quick_jump(context, steps, frame, target as usize),
+            (Op::JumpIfFalse(target), width) => {
+                self.quick_jump_if(context, steps, frame, false, target, address + width)
+            }
+            (Op::JumpIfTrue(target), width) => {
+                self.quick_jump_if(context, steps, frame, true, target, address + width)
+            }
+            (Op::CallOp(name, count, token), width) => {
+                self.quick_op(context, steps, frame, name, count, token, address + width)
+            }
+            (_, _) => false,
+        }
+    }
+
     // One instruction.
     #[cycle(run)]
+    #[inline(never)]
     fn step<L: Ledger>(
         &mut self,
         context: Context<'_>,
@@ -127,8 +172,7 @@ impl State {
     {
         let count = usize::from(count);
         let Some(number) = context.program.function(u32::from(name), count) else {
-            let fault = self.unknown(context, frame, name, count)?;
-            return Ok(self.raise(steps, fault));
+            return Ok(self.unknown(context, steps, frame, name, count)?);
         };
         let function = context.program.function_at(number);
         match self.begin(context, steps, frame, function) {
@@ -186,6 +230,9 @@ impl State {
         'turn: loop {
             steps.tick();
             steps.mark();
+            if self.quick(context, steps, frame) {
+                continue 'turn;
+            }
             match self.step(context, steps, frame) {
                 Err(e) => {
                     self.leave(frame);
@@ -215,6 +262,7 @@ impl State {
         ensures operands { self.new.stacks.operands.items ≡ self.old.stacks.operands.items }
         ensures frames { self.new.stacks.frames ≡ self.old.stacks.frames }
         ensures before { steps.new.before ≡ steps.old.before }
+        ensures valid { IsProgram context.entry.program.now }
     {
         steps.mark();
         let chunk = context.program.main();

@@ -8,7 +8,6 @@ ghost use Rattle.grain_vm.specs.frame.Hand.{own, frame_in, Does, Kept, Stands, L
 
 use crate::frame::activations::Activation;
 use crate::frame::contexts::Context;
-use crate::frame::faults::{mistyped, too_many_operations};
 use crate::frame::states::{Flow, State};
 use crate::frame::steps::Steps;
 use grain_fault::EvalAltResult;
@@ -17,6 +16,7 @@ use std::sync::ledger::Ledger;
 
 impl State {
     // Goes on at the address behind the instruction, with the operands that there are.
+    #[inline(always)]
     pub(crate) fn go_on<L: Ledger>(
         &mut self,
         context: Context<'_>,
@@ -40,6 +40,7 @@ impl State {
     }
 
     // `jump`: goes on at an address. A transfer to one that does not lie ahead costs an operation.
+    #[inline(always)]
     pub(crate) fn jump_to<L: Ledger>(
         &mut self,
         context: Context<'_>,
@@ -65,7 +66,7 @@ impl State {
             steps.mark();
             Flow::On
         } else {
-            self.raise(steps, too_many_operations(context, frame))
+            self.too_many_operations(context, steps, frame)
         }
     }
 
@@ -92,11 +93,12 @@ impl State {
             steps.mark();
             Flow::On
         } else {
-            self.raise(steps, too_many_operations(context, frame))
+            self.too_many_operations(context, steps, frame)
         }
     }
 
     // `jump_if_false` and `jump_if_true`: a transfer where the frame's last operand is the truth value that is wanted.
+    #[inline(always)]
     pub(crate) fn jump_if<L: Ledger>(
         &mut self,
         context: Context<'_>,
@@ -116,9 +118,9 @@ impl State {
         ensures lands { Lands context.entry.engine.now self.old frame.old self.new frame.new (λ a. (a ≡ target) ⊎ (a ≡ next)) (length (own self.old.stacks frame.old.bottom) - 1) result }
         ensures before { steps.new.before ≡ steps.old.before }
     {
-        let value = self.stacks.pop(frame.bottom);
-        match value.as_bool() {
+        match self.stacks.top(frame.bottom).as_bool() {
             Some(truth) => {
+                let _value = self.stacks.pop(frame.bottom);
                 if agrees(wanted, truth) {
                     Ok(self.jump_to(context, steps, frame, target as usize))
                 } else {
@@ -127,10 +129,7 @@ impl State {
                     Ok(Flow::On)
                 }
             }
-            None => {
-                let fault = mistyped(self.alloc, context, frame, &value)?;
-                Ok(self.raise(steps, fault))
-            }
+            None => { Ok(self.mistyped(context, steps, frame)?) }
         }
     }
 
@@ -206,7 +205,7 @@ impl State {
 }
 
 // Whether a truth value is the one that is wanted.
-fn agrees(wanted: bool, truth: bool) -> bool
+pub(crate) fn agrees(wanted: bool, truth: bool) -> bool
     ensures { result ≡ agrees wanted truth }
 {
     if wanted { truth } else { !truth }

@@ -1,16 +1,19 @@
-use Rattle.std.proofs.Common.{◌∙◌, ◌≡◌, ◌+◌, ◌-◌, ℕ, Some, Ok, length, take, refl, ap, sym, subst, arith}
+use Rattle.std.proofs.Common.{◌∙◌, ◌≡◌, ◌+◌, ◌-◌, ℕ, true, false, Some, Ok, Err, length, take, refl, ap, sym, subst, arith}
 use Rattle.grain_program.specs.declared.input.Chunk.{Chunk}
 use Rattle.grain_program.specs.declared.instructions.Op.{Op}
 use Rattle.grain_program.specs.declared.instructions.Op.TheVariants as op
 use Rattle.grain_vm.specs.means.Acts.{without}
 use Rattle.grain_vm.specs.frame.Counts.{Counts}
-use Rattle.grain_vm.specs.frame.Hand.{hand, own, frame_in, GoesOn}
+use Rattle.grain_vm.specs.frame.Hand.{hand, own, frame_in, performed, led, Kept, GoesOn}
+use Rattle.grain_vm.specs.means.Goes.{Goes}
+use Rattle.grain_vm.specs.means.Means.{setup}
+use Rattle.grain_vm.specs.declared.frame.states.State.{State}
 use Rattle.grain_vm.specs.declared.frame.activations.Activation.{Activation}
 use Rattle.grain_vm.specs.declared.frame.states.Flow.{Flow}
 use Rattle.grain_vm.proofs.Calls.{call_over, call_ran, unbegun, has_begun, begins_with, call_kept, came_alike, found_is, params_are, there_is, outer_is}
 use Rattle.grain_vm.proofs.Landing.{goes_next, goes_either, entered_frame}
 use Rattle.grain_vm.proofs.Measure.{falls}
-use Rattle.grain_vm.proofs.Turns.{turn, performs, flowed, came, left_out}
+use Rattle.grain_vm.proofs.Turns.{done, unmoved, turn, performs, flowed, came, left_out}
 use Rattle.grain_vm.proofs.frame.states.State.+run.Goals as goal
 
 pub call-returns-in-Err-clause-goes : goal.call-returns-in-Err-clause-goes
@@ -60,13 +63,13 @@ pub run_frame-returns-in-Err-clause-goes : goal.run_frame-returns-in-Err-clause-
 run_frame-returns-in-Err-clause-goes g t c =
     left_out (hand c.step.new.self c.step.new.steps) (hand c.leave.new.self c.step.new.steps) (frame_in c.step.new.frame c.step.new.self)
     (rw (c.leave.ensures.scope, c.leave.ensures.trace, c.leave.ensures.count, c.leave.ensures.level) refl)
-    (turn (hand c.turn.self c.turn.steps) (rw (c.mark.ensures, c.tick.ensures) refl) c.turn.invariant.goes c.in-Err.ensures.goes)
+    (turn (hand c.turn.self c.turn.steps) (rw (c.mark.ensures, c.tick.ensures) refl) c.turn.invariant.goes (unmoved (λ (s : State) (f : Activation) (n : Counts). Goes (setup c.args.context.program.now c.args.context.engine.now) (hand s n) (performed (frame_in f s)) true (hand c.step.new.self c.step.new.steps) (led (Err c.in-Err.e) c.step.new.self.outcome (frame_in c.step.new.frame c.step.new.self))) c.quick.result c.if-quick.false c.quick.ensures.undone c.in-Err.ensures.goes))
 
 pub run_frame-returns-in-Ok-take_outcome-clause-goes : goal.run_frame-returns-in-Ok-take_outcome-clause-goes
 run_frame-returns-in-Ok-take_outcome-clause-goes g t c =
     let at = frame_in c.step.new.frame c.step.new.self in
     rw c.take_outcome.ensures.after
-    (came at (sym c.in-Ok-take_outcome.ensures.value) (flowed at c.step.new.self.outcome c.in-Over.is (turn (hand c.turn.self c.turn.steps) (rw (c.mark.ensures, c.tick.ensures) refl) c.turn.invariant.goes c.in-Ok.ensures.goes)))
+    (came at (sym c.in-Ok-take_outcome.ensures.value) (flowed at c.step.new.self.outcome c.in-Over.is (turn (hand c.turn.self c.turn.steps) (rw (c.mark.ensures, c.tick.ensures) refl) c.turn.invariant.goes (unmoved (λ (s : State) (f : Activation) (n : Counts). Goes (setup c.args.context.program.now c.args.context.engine.now) (hand s n) (performed (frame_in f s)) false (hand c.step.new.self c.step.new.steps) (led (Ok c.in-Ok.flow) c.step.new.self.outcome (frame_in c.step.new.frame c.step.new.self))) c.quick.result c.if-quick.false c.quick.ensures.undone c.in-Ok.ensures.goes))))
 
 pub run_frame-returns-in-Err-take_outcome-clause-goes : goal.run_frame-returns-in-Err-take_outcome-clause-goes
 run_frame-returns-in-Err-take_outcome-clause-goes g t c =
@@ -74,18 +77,18 @@ run_frame-returns-in-Err-take_outcome-clause-goes g t c =
     let at = frame_in c.step.new.frame c.step.new.self in
     left_out (hand c.step.new.self c.step.new.steps) (hand left.new.self c.step.new.steps) at
     (rw (left.ensures.scope, left.ensures.trace, left.ensures.count, left.ensures.level, c.take_outcome.ensures.after) refl)
-    (came at (sym c.in-Err-take_outcome.ensures.value) (flowed at c.step.new.self.outcome c.in-Over.is (turn (hand c.turn.self c.turn.steps) (rw (c.mark.ensures, c.tick.ensures) refl) c.turn.invariant.goes c.in-Ok.ensures.goes)))
+    (came at (sym c.in-Err-take_outcome.ensures.value) (flowed at c.step.new.self.outcome c.in-Over.is (turn (hand c.turn.self c.turn.steps) (rw (c.mark.ensures, c.tick.ensures) refl) c.turn.invariant.goes (unmoved (λ (s : State) (f : Activation) (n : Counts). Goes (setup c.args.context.program.now c.args.context.engine.now) (hand s n) (performed (frame_in f s)) false (hand c.step.new.self c.step.new.steps) (led (Ok c.in-Ok.flow) c.step.new.self.outcome (frame_in c.step.new.frame c.step.new.self))) c.quick.result c.if-quick.false c.quick.ensures.undone c.in-Ok.ensures.goes))))
 
 pub run_frame-turn-preserved : goal.run_frame-turn-preserved
 run_frame-turn-preserved g t c =
     let engine = c.args.context.engine.now in
     let at = frame_in c.step.new.frame c.step.new.self in
-    let on = subst (λ (q : Flow). GoesOn c.args.context.program.now engine c.turn.self c.turn.frame c.step.new.self c.step.new.frame (Ok q)) c.in-On.is c.in-Ok.ensures.goes_on in
-    let kept = c.in-Ok.ensures.kept in
+    let on = subst (λ (q : Flow). GoesOn c.args.context.program.now engine c.turn.self c.turn.frame c.step.new.self c.step.new.frame (Ok q)) c.in-On.is (unmoved (λ (s : State) (f : Activation) (n : Counts). GoesOn c.args.context.program.now engine s f c.step.new.self c.step.new.frame (Ok c.in-Ok.flow)) c.quick.result c.if-quick.false c.quick.ensures.undone c.in-Ok.ensures.goes_on) in
+    let kept = unmoved (λ (s : State) (f : Activation) (n : Counts). Kept f s c.step.new.frame c.step.new.self) c.quick.result c.if-quick.false c.quick.ensures.undone c.in-Ok.ensures.kept in
     let now = c.turn.invariant in
     let fewer = falls engine c.turn.self.count c.step.new.self.count c.turn.frame.address c.step.new.frame.address on.1 on.2 in
     record {
-      goes = flowed at c.step.new.self.outcome c.in-On.is (turn (hand c.turn.self c.turn.steps) (rw (c.mark.ensures, c.tick.ensures) refl) now.goes c.in-Ok.ensures.goes);
+      goes = flowed at c.step.new.self.outcome c.in-On.is (turn (hand c.turn.self c.turn.steps) (rw (c.mark.ensures, c.tick.ensures) refl) now.goes (unmoved (λ (s : State) (f : Activation) (n : Counts). Goes (setup c.args.context.program.now c.args.context.engine.now) (hand s n) (performed (frame_in f s)) false (hand c.step.new.self c.step.new.steps) (led (Ok c.in-Ok.flow) c.step.new.self.outcome (frame_in c.step.new.frame c.step.new.self))) c.quick.result c.if-quick.false c.quick.ensures.undone c.in-Ok.ensures.goes));
       stands = (omega (arith, kept.bottom, kept.above), omega (arith, kept.base, kept.scope));
       fits = on.0;
       room = omega (arith, kept.bottom, ap (λ (k : Chunk). k.max_stack) kept.chunk, kept.capacity, now.room);
@@ -96,7 +99,30 @@ run_frame-turn-preserved g t c =
       capacity = omega (arith, kept.capacity, now.capacity);
       later = omega (arith, kept.later, now.later);
       fewer = omega (arith, fewer, now.fewer);
-      before = c.in-Ok.ensures.before ∙ (ap (λ (k : Counts). k.before) c.mark.ensures ∙ (ap (λ (k : Counts). k.before) c.tick.ensures ∙ now.before));
+      before = c.in-Ok.ensures.before ∙ (c.quick.ensures.before ∙ (ap (λ (k : Counts). k.before) c.mark.ensures ∙ (ap (λ (k : Counts). k.before) c.tick.ensures ∙ now.before)));
+    }
+
+pub run_frame-turn-preserved-then-quick : goal.run_frame-turn-preserved-then-quick
+run_frame-turn-preserved-then-quick g t c =
+    let engine = c.args.context.engine.now in
+    let at = frame_in c.quick.new.frame c.quick.new.self in
+    let on = done c.quick.result c.if-quick.true c.quick.ensures.goes_on in
+    let kept = done c.quick.result c.if-quick.true c.quick.ensures.kept in
+    let now = c.turn.invariant in
+    let fewer = falls engine c.turn.self.count c.quick.new.self.count c.turn.frame.address c.quick.new.frame.address on.1 on.2 in
+    record {
+      goes = turn (hand c.turn.self c.turn.steps) (rw (c.mark.ensures, c.tick.ensures) refl) now.goes (done c.quick.result c.if-quick.true c.quick.ensures.goes);
+      stands = (omega (arith, kept.bottom, kept.above), omega (arith, kept.base, kept.scope));
+      fits = on.0;
+      room = omega (arith, kept.bottom, ap (λ (k : Chunk). k.max_stack) kept.chunk, kept.capacity, now.room);
+      notes = kept.room now.notes;
+      bottom = kept.bottom ∙ now.bottom;
+      below = subst (λ (n : ℕ). take n c.quick.new.self.stacks.operands.items ≡ take n c.turn.self.stacks.operands.items) now.bottom kept.below ∙ now.below;
+      frames = kept.frames ∙ now.frames;
+      capacity = omega (arith, kept.capacity, now.capacity);
+      later = omega (arith, kept.later, now.later);
+      fewer = omega (arith, fewer, now.fewer);
+      before = c.quick.ensures.before ∙ (ap (λ (k : Counts). k.before) c.mark.ensures ∙ (ap (λ (k : Counts). k.before) c.tick.ensures ∙ now.before));
     }
 
 pub step-returns-in-Call-default-clause-goes : goal.step-returns-in-Call-default-clause-goes
