@@ -1,11 +1,13 @@
 //! The values of the script machine: texts, lists, held values, scopes and limits.
 #![tactic(auto)]
 
+mod appending;
 mod arrays;
 mod blobs;
 mod lists;
 mod memory;
 mod operators;
+mod quoting;
 mod scopes;
 #[cfg(test)]
 mod tests;
