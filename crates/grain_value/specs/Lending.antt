@@ -7,6 +7,8 @@ use Rattle.grain_value.specs.declared.values.Held.{Held}
 use Rattle.grain_value.specs.contracts.values.Held as held
 use Rattle.grain_value.specs.contracts.scopes.Scope as scope
 
--- the scope ends with the last value behind the reference in the entry at the index, or as it was where there is none
+-- when the loan ends, the entry at the index holds the last value of the reference; the scope is
+-- as it
+-- was if nothing was lent
 abbrev pub LendsHeld : MutBor (List Entry) → ℕ → Option (MutBor Held) → Fml
 LendsHeld s i r = LendsIf scope.the_row held.the_row s r (set_held s.now i) s.now

@@ -16,4 +16,6 @@ set_held (e ∷ es) (suc i) held = e ∷ set_held es i held
 -- the index of the last entry of the name
 abbrev pub last_of : List ℕ → List Entry → Option ℕ
 last_of name [] = None
-last_of name (e ∷ es) = option_or (option_map (λ i. i + 1) (last_of name es)) (if bytes_eq e.name name then Some 0 else None)
+last_of name (e ∷ es) =
+    option_or (option_map (λ i. i + 1) (last_of name es))
+    (if bytes_eq e.name name then Some 0 else None)

@@ -44,7 +44,7 @@ impl<B: Before> fmt::Write for Appender<B> {
     }
 }
 
-/// The text with what `{}` prints of the value at its end. After a failure there may be a part of it.
+/// The text, and at its end what `{}` prints of the value, or after a failure a part of it.
 fn printed<B: Before, D: fmt::Display>(text: String, value: &D) -> (String, fmt::Result)
     requires { string_bytes text ≡ B.bytes }
     ensures appended { IfSome (D.output value.now) (λ more.

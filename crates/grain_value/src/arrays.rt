@@ -46,7 +46,7 @@ impl Array {
         self.values.is_empty()
     }
 
-    /// The value at the index, where there is one.
+    /// The value at the index, if there is one.
     pub fn get(&self, index: usize) -> Option<&Dynamic>
         ensures { option_copied result ≡ slice_get self.now index }
     {
@@ -61,7 +61,7 @@ impl Array {
         &self.values[index]
     }
 
-    /// Puts a value at the end. Where memory is out, the list is as it was.
+    /// Puts a value at the end. After want of memory the list is as it was.
     pub fn push(&mut self, value: Dynamic) -> Result<(), OutOfMemory>
         ensures { self.new ≡ (if is_ok result then self.old ++ value ∷ [] else self.old) }
     {

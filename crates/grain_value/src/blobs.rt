@@ -1,6 +1,6 @@
 //! Byte strings.
 
-ghost use Rattle.std.specs.Prelude.{◌≡◌, ◌==◌, ◌≤◌, ◌++◌, ◌∷◌, [], length, take, is_ok, if◌then◌else◌, IfOk, slice_get};
+ghost use Rattle.std.specs.Prelude.{◌≡◌, ◌==◌, ◌++◌, ◌∷◌, [], length, is_ok, if◌then◌else◌, slice_get};
 
 use crate::memory::OutOfMemory;
 use std::alloc::Global;
@@ -30,14 +30,6 @@ impl Blob {
         }
     }
 
-    /// No bytes, with room reserved for this many.
-    pub fn with_room(alloc: Global, room: usize) -> Result<Blob, OutOfMemory>
-        ensures { IfOk result (λ blob. blob ≡ []) }
-    {
-        let bytes = Vec::with_capacity(alloc, room)?;
-        Ok(Blob { bytes })
-    }
-
     /// The bytes of a vector, taken as they are.
     pub fn from_vec(bytes: Vec<u8>) -> Blob
         ensures { result ≡ bytes.items }
@@ -59,7 +51,7 @@ impl Blob {
         self.bytes.is_empty()
     }
 
-    /// The byte at the index, where there is one.
+    /// The byte at the index, if there is one.
     pub fn get(&self, index: usize) -> Option<u8>
         ensures { result ≡ slice_get self.now index }
     {
@@ -73,25 +65,11 @@ impl Blob {
         &self.bytes
     }
 
-    /// Puts a byte at the end. Where memory is out, the bytes are as they were.
+    /// Puts a byte at the end. After want of memory the bytes are as they were.
     pub fn push(&mut self, byte: u8) -> Result<(), OutOfMemory>
         ensures { self.new ≡ (if is_ok result then self.old ++ byte ∷ [] else self.old) }
     {
         self.bytes.push(byte)?;
         Ok(())
-    }
-
-    /// Puts as many of these bytes at the end as fit into the room that is there, and says how many. It takes no
-    /// memory.
-    pub fn put_within(&mut self, more: &[u8]) -> usize
-        ensures within { result ≤ length more.now }
-        ensures put { self.new ≡ self.old ++ take result more.now }
-    {
-        let room = self.bytes.capacity() - self.bytes.len();
-        let count = room.min(more.len());
-        match self.bytes.extend_from_slice(&more[..count]) {
-            Ok(()) => count,
-            Err(_) => unreachable!(),
-        }
     }
 }

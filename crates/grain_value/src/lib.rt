@@ -1,4 +1,5 @@
-//! The values of the script machine: texts, lists, held values, scopes and limits.
+//! The values of the script machine: texts, lists, held values, scopes, the store of cells and
+//! limits.
 #![tactic(auto)]
 
 mod appending;
@@ -9,6 +10,7 @@ mod memory;
 mod operators;
 mod quoting;
 mod scopes;
+mod stores;
 #[cfg(test)]
 mod tests;
 mod texts;
@@ -20,5 +22,6 @@ pub use lists::List;
 pub use memory::OutOfMemory;
 pub use operators::Token;
 pub use scopes::{Entry, Scope};
+pub use stores::Store;
 pub use texts::Text;
 pub use values::{Dynamic, Held, Limits};

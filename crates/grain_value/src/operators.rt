@@ -37,7 +37,7 @@ pub enum Token {
 }
 
 impl Token {
-    /// The token of this text, where there is one: an operator, or `other`.
+    /// The token that is written so, if any: an operator, `neg` or `other`.
     pub fn lookup_from_syntax(syntax: &str) -> Option<Token>
         ensures { result ≡ token_in syntax.now }
     {

@@ -60,7 +60,7 @@ impl Scope {
         self.entries.is_empty()
     }
 
-    /// What the entry at the index holds, where there is one.
+    /// What the entry at the index holds, if there is one.
     pub fn get(&self, index: usize) -> Option<&Held>
         ensures { option_copied result ≡ option_map held_of (slice_get self.now index) }
     {
@@ -70,7 +70,7 @@ impl Scope {
         }
     }
 
-    /// The name of the entry at the index, where there is one.
+    /// The name of the entry at the index, if there is one.
     pub fn name(&self, index: usize) -> Option<&Text>
         ensures { option_copied result ≡ option_map (λ e. e.name) (slice_get self.now index) }
     {
@@ -80,7 +80,7 @@ impl Scope {
         }
     }
 
-    /// The index of the newest entry of the name, where there is one.
+    /// The index of the newest entry of the name, if there is one.
     pub fn search(&self, name: &str) -> Option<usize>
         ensures { result ≡ last_of name.now self.now }
     {
@@ -99,9 +99,11 @@ impl Scope {
         self.search(name).is_some()
     }
 
-    /// Puts an entry at the end. Where memory is out, the scope is as it was.
+    /// Puts an entry at the end. After want of memory the scope is as it was.
     pub fn push(&mut self, name: Text, held: Held) -> Result<(), OutOfMemory>
-        ensures { self.new ≡ (if is_ok result then self.old ++ record { name = name; held = held } ∷ [] else self.old) }
+        ensures { self.new ≡ (if is_ok result
+            then self.old ++ record { name = name; held = held } ∷ []
+            else self.old) }
     {
         self.entries.push(Entry { name, held })?;
         Ok(())
@@ -132,11 +134,12 @@ impl Scope {
         self.entries[index].held = held;
     }
 
-    /// Writes an integer into what the entry at the index holds, which can be written afterwards.
+    /// Writes an integer into the entry at the index, which is not read-only afterwards.
     #[inline(always)]
     pub fn set_int(&mut self, index: usize, integer: i64)
         requires { index < length self.old }
-        ensures { self.new ≡ set_held self.old index (record { value = dynamic.Int integer; read_only = false }) }
+        ensures { self.new
+            ≡ set_held self.old index (record { value = dynamic.Int integer; read_only = false }) }
     {
         let held = &mut self.entries[index].held;
         held.value.set_int(integer);
@@ -145,10 +148,11 @@ impl Scope {
 
     ghost use Rattle.grain_value.specs.Lending.{LendsHeld};
 
-    /// What the entry at the index holds, to be written, where there is one.
+    /// What the entry at the index holds, to be written, if there is one.
     pub fn get_mut(&mut self, index: usize) -> Option<&mut Held>
         ensures* writes_back { sem 𝓛 (LendsHeld self.entry index result) }
-        ensures value { option_map (λ h. h.now) result ≡ option_map held_of (slice_get self.old index) }
+        ensures value { option_map (λ h. h.now) result
+            ≡ option_map held_of (slice_get self.old index) }
     {
         match self.entries.get_mut(index) {
             Some(entry) => Some(&mut entry.held),

@@ -1,6 +1,6 @@
-//! Each call that takes memory, once where there is enough of it.
+//! Each call that takes memory, once with enough of it, and the texts and numbers that are fixed.
 
-use crate::{Array, Blob, Dynamic, Held, OutOfMemory, Scope, Text};
+use crate::{Array, Blob, Dynamic, Held, List, OutOfMemory, Scope, Store, Text, Token};
 
 #[test]
 fn texts_grow(rt: HostRuntime) -> Result<(), OutOfMemory> {
@@ -20,7 +20,7 @@ fn texts_grow(rt: HostRuntime) -> Result<(), OutOfMemory> {
 }
 
 #[test]
-fn values_are_told(rt: HostRuntime) -> Result<(), OutOfMemory> {
+fn values_are_written(rt: HostRuntime) -> Result<(), OutOfMemory> {
     let values = [
         (Dynamic::Unit, "()", "", "()"),
         (Dynamic::Bool(true), "bool", "true", "true"),
@@ -45,7 +45,7 @@ fn values_are_told(rt: HostRuntime) -> Result<(), OutOfMemory> {
 }
 
 #[test]
-fn texts_are_told(rt: HostRuntime) -> Result<(), OutOfMemory> {
+fn texts_are_written(rt: HostRuntime) -> Result<(), OutOfMemory> {
     let value = Dynamic::Text(Text::copy_of(rt.alloc(), "é \"\\\n\r\t'\u{7}")?);
     assert_eq!(rt; value.kind(), 4);
     assert_eq!(rt; value.type_name(rt.alloc())?.as_str(), "string");
@@ -64,15 +64,64 @@ fn lists_grow(rt: HostRuntime) -> Result<(), OutOfMemory> {
     blob.push(3)?;
     blob.push(255)?;
     assert_eq!(rt; blob.as_slice(), [3, 255].as_slice());
-    let mut roomy = Blob::with_room(rt.alloc(), 1)?;
-    roomy.push(7)?;
-    assert_eq!(rt; roomy.as_slice(), [7].as_slice());
     let mut array = Array::new(rt.alloc());
     array.push(Dynamic::Int(5))?;
     array.push(Dynamic::Unit)?;
     assert_eq!(rt; array.len(), 2);
     assert!(rt; matches!(array.get(0), Some(Dynamic::Int(5))));
+    let mut names = List::new(rt.alloc());
+    for name in ["a", "b"] {
+        names.push(Text::copy_of(rt.alloc(), name)?)?;
+    }
+    assert_eq!(rt; names.len(), 2);
+    assert_eq!(rt; names.at(1).as_str(), "b");
+    assert_eq!(rt; names.as_slice().len(), 2);
+    assert!(rt; names.get(2).is_none());
+    names.clear();
+    assert!(rt; names.is_empty());
+    assert_eq!(rt; Store::new(rt.alloc()).len(), 0);
     Ok(())
+}
+
+#[test]
+fn kinds_have_numbers(rt: HostRuntime) -> Result<(), OutOfMemory> {
+    let text = Dynamic::Text(Text::new(rt.alloc()));
+    let values = [
+        (Dynamic::Unit, 0),
+        (Dynamic::Bool(true), 1),
+        (Dynamic::Int(7), 2),
+        (text, 4),
+    ];
+    for (value, kind) in &values {
+        assert_eq!(rt; value.kind(), *kind);
+    }
+    Ok(())
+}
+
+#[test]
+fn tokens_have_texts(rt: HostRuntime) {
+    let tokens = [
+        ("+", Token::Plus),
+        ("-", Token::Minus),
+        ("*", Token::Multiply),
+        ("==", Token::EqualsTo),
+        ("!=", Token::NotEqualsTo),
+        ("<", Token::LessThan),
+        ("<=", Token::LessThanEqualsTo),
+        (">", Token::GreaterThan),
+        (">=", Token::GreaterThanEqualsTo),
+        ("+=", Token::PlusAssign),
+        ("-=", Token::MinusAssign),
+        ("*=", Token::MultiplyAssign),
+        ("neg", Token::UnaryMinus),
+        ("other", Token::Other),
+    ];
+    for (syntax, token) in tokens {
+        assert_eq!(rt; Token::lookup_from_syntax(syntax), Some(token));
+    }
+    for syntax in ["", "=", "plus", "/", "Other"] {
+        assert_eq!(rt; Token::lookup_from_syntax(syntax), None);
+    }
 }
 
 #[test]

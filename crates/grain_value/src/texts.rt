@@ -73,7 +73,7 @@ impl Text {
         self.text.is_empty()
     }
 
-    /// The byte at the index, where there is one.
+    /// The byte at the index, if there is one.
     pub fn get(&self, index: usize) -> Option<u8>
         ensures { result ≡ slice_get self.now index }
     {
@@ -87,7 +87,7 @@ impl Text {
         self.text.as_str()
     }
 
-    /// Puts these characters at the end. Where memory is out, the text is as it was.
+    /// Puts these characters at the end. After want of memory the text is as it was.
     pub fn push_str(&mut self, s: &str) -> Result<(), OutOfMemory>
         ensures { self.new ≡ (if is_ok result then self.old ++ s.now else self.old) }
     {
@@ -95,9 +95,10 @@ impl Text {
         Ok(())
     }
 
-    /// Puts a character at the end, as UTF-8. Where memory is out, the text is as it was.
+    /// Puts a character at the end, as UTF-8. After want of memory the text is as it was.
     pub fn push(&mut self, character: char) -> Result<(), OutOfMemory>
-        ensures { self.new ≡ (if is_ok result then self.old ++ encode_utf8 character else self.old) }
+        ensures { self.new
+            ≡ (if is_ok result then self.old ++ encode_utf8 character else self.old) }
     {
         self.text.push(character)?;
         Ok(())
@@ -113,7 +114,8 @@ impl Text {
     /// Puts an integer's decimal digits at the end, after a minus if it is below zero. After want
     /// of memory the text is as it was.
     pub fn push_integer(&mut self, integer: i64) -> Result<(), OutOfMemory>
-        ensures { self.new ≡ (if is_ok result then self.old ++ signed_decimal integer else self.old) }
+        ensures { self.new
+            ≡ (if is_ok result then self.old ++ signed_decimal integer else self.old) }
     {
         self.push_display(&integer)
     }

@@ -74,7 +74,7 @@ impl Dynamic {
         }
     }
 
-    /// The truth value, where the value is one.
+    /// The truth value, if the value is one.
     pub fn as_bool(&self) -> Option<bool>
         ensures { result ≡ truth_of self.now }
     {
@@ -86,7 +86,7 @@ impl Dynamic {
         }
     }
 
-    /// The integer, where the value is one.
+    /// The integer, if the value is one.
     pub fn as_int(&self) -> Option<i64>
         ensures { result ≡ integer_of self.now }
     {
@@ -98,7 +98,7 @@ impl Dynamic {
         }
     }
 
-    /// Becomes an integer: where it is one, its number alone is written.
+    /// Becomes this integer. If it is an integer already, the number alone is written.
     #[inline(always)]
     pub fn set_int(&mut self, integer: i64)
         ensures { self.new ≡ dynamic.Int integer }

@@ -11,6 +11,9 @@ use Rattle.grain_value.proofs.quoting.write_all_escaped.Goals as goal
 
 pub returns : goal.returns
 returns g c = λ plain ok.
-    let t = YieldsList-end (YieldsList-from_chars c.args.s.now c.utf8.s cc) c.loop-character.yielded _ c.loop-character.yielded_by _ _ c.in-None.is c.next.ensures.steps in
-    let all : c.loop-character.yielded ≡ chars c.args.s.now = sym (map-id c.loop-character.yielded) ∙ t.0 in
+    let t = YieldsList-end
+    (YieldsList-from_chars c.args.s.now c.utf8.s cc) c.loop-character.yielded _
+    c.loop-character.yielded_by _ _ c.in-None.is c.next.ensures.steps in
+    let all : c.loop-character.yielded ≡ chars c.args.s.now =
+    sym (map-id c.loop-character.yielded) ∙ t.0 in
     has_written_of_eq _ _ _ _ _ (ap (flat_map escaped) all) (c.loop-character.invariant plain)

@@ -8,11 +8,23 @@ returns-in-Some c =
     let es = c.self.inside.entries.items in
     let entry = c.in-Some.entry.now in
     let there : c.args.index < length es = omega (arith, c.in-Some.ensures.variant.0 refl) in (
-      lent _ _ _ (gives_back es c.args.self.now c.args.index entry c.self.view_is there c.in-Some.ensures.value),
-      record { writes_back = tt; value = holds es c.args.self.now c.args.index entry c.self.view_is there c.in-Some.ensures.value },
+      lent _ _ _ (gives_back es c.args.self.now c.args.index entry c.self.view_is there
+          c.in-Some.ensures.value),
+      record {
+        writes_back = tt;
+        value =
+            holds es c.args.self.now c.args.index entry c.self.view_is there c.in-Some.ensures.value;
+      },
     )
 
 pub returns-in-None : goal.returns-in-None
 returns-in-None c =
-    let past : length c.self.inside.entries.items ≤ c.args.index = grind (arith, c.in-None.ensures.variant) in
-    (ap inr c.self.view_is, record { writes_back = tt; value = holds_none c.self.inside.entries.items c.args.self.now c.args.index c.self.view_is past })
+    let past : length c.self.inside.entries.items ≤ c.args.index =
+    grind (arith, c.in-None.ensures.variant) in (
+      ap inr c.self.view_is,
+      record {
+        writes_back = tt;
+        value =
+            holds_none c.self.inside.entries.items c.args.self.now c.args.index c.self.view_is past;
+      },
+    )

@@ -12,5 +12,7 @@ returns-then-eq c =
     let entry = c.index.result.now in
     let next : suc i ≡ c.loop-index.index = omega arith in
     let named : bytes_eq entry.name name ≡ true = cc in
-    let none : last_of name (drop (suc i) es) ≡ None = rw (next, c.self.view_is) c.loop-index.invariant in
-    last_at name es i entry (omega arith) c.index.ensures named none ∙ ap (last_of name) c.self.view_is
+    let none : last_of name (drop (suc i) es) ≡ None =
+    rw (next, c.self.view_is) c.loop-index.invariant in
+    last_at name es i entry (omega arith) c.index.ensures named none
+    ∙ ap (last_of name) c.self.view_is

@@ -8,4 +8,6 @@ pub returns : goal.returns
 returns c =
     let set : c.set_int.new.self ≡ dynamic.Int c.args.integer = search rules in
     rw (← c.self.view_is, set)
-    (keeps_name c.self.inside.entries.items c.args.index c.index_mut.result.now (record { value = dynamic.Int c.args.integer; read_only = false }) (rw (← c.self.view_is) at c.requires) c.index_mut.ensures.value)
+    (keeps_name c.self.inside.entries.items c.args.index c.index_mut.result.now
+    (record { value = dynamic.Int c.args.integer; read_only = false })
+    (rw (← c.self.view_is) at c.requires) c.index_mut.ensures.value)
