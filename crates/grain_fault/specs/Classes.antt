@@ -10,7 +10,8 @@ pub data Class : Type 0 where
   -- it ends the run, whatever the script does
   System : Class
 
--- catchable is what a script may do wrong; limits, malformed programs and want of memory are the system's
+-- catchable is what a script may do wrong; limits, malformed programs and want of memory are the
+-- system's
 abbrev pub class_of : Problem → Class
 class_of (FunctionNotFound s p) = Catchable
 class_of (MismatchDataType r a p) = Catchable

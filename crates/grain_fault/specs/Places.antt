@@ -11,9 +11,9 @@ place_at line column = record { line = line; column = column }
 abbrev pub is_nowhere : Position → Bool
 is_nowhere p = p.line == 0
 
-abbrev pub line_in : Position → Option ℕ
-line_in p = if p.line == 0 then None else Some p.line
+abbrev pub line_of : Position → Option ℕ
+line_of p = if p.line == 0 then None else Some p.line
 
 -- the start of a line is no column
-abbrev pub column_in : Position → Option ℕ
-column_in p = if (p.line == 0) || (p.column == 0) then None else Some p.column
+abbrev pub column_of : Position → Option ℕ
+column_of p = if (p.line == 0) || (p.column == 0) then None else Some p.column

@@ -1,4 +1,4 @@
--- Where a fault was raised, and the same fault raised elsewhere.
+-- Where a fault was raised, and the same fault at another position.
 use Rattle.std.specs.Prelude.{Bool, true, false, if◌then◌else◌}
 use Rattle.grain_fault.specs.Places.{nowhere, is_nowhere}
 use Rattle.grain_fault.specs.Problems.{Problem, FunctionNotFound, MismatchDataType, InFunctionCall, AssignmentToConstant, Arithmetic, Runtime, TooManyOperations, TooManyVariables, StackOverflow, Malformed, NoMemory}
@@ -33,19 +33,19 @@ at_position p (Malformed k q) = Malformed k p
 at_position p NoMemory = NoMemory
 
 -- whether the fault has no position ever, which is want of memory alone
-abbrev pub is_placeless : Problem → Bool
-is_placeless (FunctionNotFound s p) = false
-is_placeless (MismatchDataType r a p) = false
-is_placeless (InFunctionCall f s x p) = false
-is_placeless (AssignmentToConstant s p) = false
-is_placeless (Arithmetic s p) = false
-is_placeless (Runtime v p) = false
-is_placeless (TooManyOperations p) = false
-is_placeless (TooManyVariables p) = false
-is_placeless (StackOverflow p) = false
-is_placeless (Malformed k p) = false
-is_placeless NoMemory = true
+abbrev pub never_has_position : Problem → Bool
+never_has_position (FunctionNotFound s p) = false
+never_has_position (MismatchDataType r a p) = false
+never_has_position (InFunctionCall f s x p) = false
+never_has_position (AssignmentToConstant s p) = false
+never_has_position (Arithmetic s p) = false
+never_has_position (Runtime v p) = false
+never_has_position (TooManyOperations p) = false
+never_has_position (TooManyVariables p) = false
+never_has_position (StackOverflow p) = false
+never_has_position (Malformed k p) = false
+never_has_position NoMemory = true
 
 -- the fault at this position where it has none, and else as it is
-abbrev pub filled : Position → Problem → Problem
-filled p f = if is_nowhere (position_of_problem f) then at_position p f else f
+abbrev pub at_position_if_none : Position → Problem → Problem
+at_position_if_none p f = if is_nowhere (position_of_problem f) then at_position p f else f

@@ -33,6 +33,6 @@ problem_of (fault.Malformed k p) = Malformed k p
 problem_of fault.Memory = NoMemory
 
 -- the fault inside its wrappers
-abbrev pub unwrapped : Problem → Problem
-unwrapped (InFunctionCall f s x p) = unwrapped x
-unwrapped x = x
+abbrev pub inner_fault : Problem → Problem
+inner_fault (InFunctionCall f s x p) = inner_fault x
+inner_fault x = x

@@ -33,49 +33,58 @@ mismatch_text r a =
     else (if length r == 0 then codes ": " ++ a
     else codes ": " ++ a ++ codes " (expecting " ++ r ++ codes ")")
 
--- what the program asks for that is not there
+-- what the program names that is not there
 abbrev pub kind_text : MalformedKind → List ℕ
-kind_text (kind.SlotPastScope i l) = codes "slot " ++ decimal i ++ codes " past a scope of " ++ decimal l
-kind_text (kind.UnwindPastScope t l) = codes "unwind to " ++ decimal t ++ codes " past a scope of " ++ decimal l
+kind_text (kind.SlotPastScope i l) =
+    codes "slot " ++ decimal i ++ codes " past a scope of " ++ decimal l
+kind_text (kind.UnwindPastScope t l) =
+    codes "unwind to " ++ decimal t ++ codes " past a scope of " ++ decimal l
 
--- the line and the column in parentheses, behind a blank; no position is nothing, and the start of a line names no column
-abbrev pub place_text : Position → List ℕ
-place_text p =
+-- the line and the column in parentheses, after a blank; no position gives nothing, and the start
+-- of a line has no column
+abbrev pub line_and_column_text : Position → List ℕ
+line_and_column_text p =
     if is_nowhere p then []
     else (if p.column == 0 then codes " (line " ++ decimal p.line ++ codes ")"
     else codes " (line " ++ decimal p.line ++ codes ", position " ++ decimal p.column ++ codes ")")
 
 -- where it happened: the source of the call, empty outside of all calls, and the position
-abbrev pub ending : List ℕ → Position → List ℕ
-ending source p = (if length source == 0 then [] else codes " @ '" ++ source ++ codes "'") ++ place_text p
+abbrev pub location_text : List ℕ → Position → List ℕ
+location_text source p =
+    (if length source == 0 then [] else codes " @ '" ++ source ++ codes "'")
+    ++ line_and_column_text p
 
--- a closure's name begins so
+-- whether the name is that of a closure
 abbrev pub is_closure : List ℕ → Bool
 is_closure function = starts_with eqb function (codes "anon$")
 
 -- the call that a fault left
 abbrev pub call_text : List ℕ → List ℕ
-call_text function = if is_closure function then codes "in closure call" else codes "in call to function '" ++ function ++ codes "'"
+call_text function =
+    if is_closure function then codes "in closure call"
+    else codes "in call to function '" ++ function ++ codes "'"
 
 -- the source of the function that was called
 abbrev pub origin_text : List ℕ → List ℕ
 origin_text source = if length source == 0 then [] else codes " (from '" ++ source ++ codes "')"
 
--- a value that was thrown, by its plain text; unit and the empty text tell nothing
-abbrev pub thrown_text : Dynamic → List ℕ
-thrown_text dynamic.Unit = []
-thrown_text (dynamic.Bool b) = codes ": " ++ truth b
-thrown_text (dynamic.Int n) = codes ": " ++ signed_decimal n
-thrown_text (dynamic.Text t) = if length t == 0 then [] else codes ": " ++ t
+-- a value that was thrown, by its plain text after a colon; unit and the empty text give nothing
+abbrev pub thrown_value_text : Dynamic → List ℕ
+thrown_value_text dynamic.Unit = []
+thrown_value_text (dynamic.Bool b) = codes ": " ++ truth b
+thrown_value_text (dynamic.Int n) = codes ": " ++ signed_decimal n
+thrown_value_text (dynamic.Text t) = if length t == 0 then [] else codes ": " ++ t
 
 -- what happened, without where
 abbrev pub message : Problem → List ℕ
 message (FunctionNotFound s p) = codes "Function not found: " ++ s
 message (MismatchDataType r a p) = codes "Data type incorrect" ++ mismatch_text r a
-message (InFunctionCall f s x p) = message x ++ ending s (position_of_problem x) ++ codes "\n" ++ call_text f ++ origin_text s
+message (InFunctionCall f s x p) =
+    message x ++ location_text s (position_of_problem x) ++ codes "\n" ++ call_text f
+    ++ origin_text s
 message (AssignmentToConstant s p) = codes "Cannot modify constant " ++ s
 message (Arithmetic s p) = if length s == 0 then codes "Arithmetic error" else s
-message (Runtime v p) = codes "Runtime error" ++ thrown_text v
+message (Runtime v p) = codes "Runtime error" ++ thrown_value_text v
 message (TooManyOperations p) = codes "Too many operations"
 message (TooManyVariables p) = codes "Too many variables defined"
 message (StackOverflow p) = codes "Stack overflow"
@@ -84,4 +93,4 @@ message NoMemory = codes "Out of memory"
 
 -- what happened, and then where
 abbrev pub fault_text : Problem → List ℕ
-fault_text f = message f ++ ending [] (position_of_problem f)
+fault_text f = message f ++ location_text [] (position_of_problem f)

@@ -15,7 +15,7 @@ pub type RhaiResult = Result<Dynamic, EvalAltResult>;
 /// How a call ends that gives something else than a value.
 pub type RhaiResultOf<T> = Result<T, EvalAltResult>;
 
-/// What is wrong with a program that the verifier cannot see.
+/// What is wrong with a program, where only its run shows it.
 #[derive(Debug, PartialEq, Eq, Drop)]
 pub enum MalformedKind {
     /// A slot names the entry `index`, counted from 0, of a scope of `length` entries.
@@ -31,8 +31,8 @@ pub enum EvalAltResult {
     ErrorFunctionNotFound(Text, Position),
     /// A value of the second type where one of the first was asked for.
     ErrorMismatchDataType(Text, Text, Position),
-    /// A fault that left the body of a function of this name. The second text is the source of the function's program,
-    /// empty where there is none, and the position is that of the call.
+    /// A fault that left the body of a function of this name. The second text is the source of the
+    /// function's program, empty if it has none. The position is that of the call.
     ErrorInFunctionCall(Text, Text, Box<EvalAltResult>, Position),
     /// An assignment to an entry of this name that can only be read.
     ErrorAssignmentToConstant(Text, Position),
@@ -44,11 +44,11 @@ pub enum EvalAltResult {
     ErrorTooManyOperations(Position),
     /// The variable limit is reached.
     ErrorTooManyVariables(Position),
-    /// The limit of compiled calls within one another is reached.
+    /// The limit of calls within one another is reached.
     ErrorStackOverflow(Position),
     /// The program asks for what is not there.
     Malformed(MalformedKind, Position),
-    /// Want of memory.
+    /// There was no memory for what the run wanted to make or grow.
     Memory,
 }
 

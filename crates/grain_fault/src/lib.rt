@@ -1,4 +1,4 @@
-//! Faults: what ends a run without a value, where it was raised, and how it is told.
+//! Faults: what ends a run without a value, where it was raised, and how it is printed.
 #![tactic(auto)]
 
 mod classes;

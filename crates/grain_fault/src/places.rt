@@ -1,9 +1,10 @@
 //! Positions in a script's source.
 
 ghost use Rattle.std.specs.Prelude.{◌≡◌, ◌<◌};
-ghost use Rattle.grain_fault.specs.Places.{line_in, column_in, is_nowhere, place_at};
+ghost use Rattle.grain_fault.specs.Places.{line_of, column_of, is_nowhere, place_at};
 
-/// A line and a column of a script's source, or none. Lines count from 1; column 0 is the start of a line.
+/// A line and a column of a script's source, or none. Lines count from 1; column 0 is the start of
+/// a line.
 #[derive(Clone, Copy, Debug, PartialEq, Eq)]
 pub struct Position {
     line: u16,
@@ -32,9 +33,9 @@ impl Position {
         self.line == 0
     }
 
-    /// The line, where there is a position.
+    /// The line, if there is a position.
     pub fn line(&self) -> Option<usize>
-        ensures { result ≡ line_in self.now }
+        ensures { result ≡ line_of self.now }
     {
         if self.line == 0 {
             None
@@ -43,9 +44,9 @@ impl Position {
         }
     }
 
-    /// The column, where there is a position that is not the start of a line.
+    /// The column, if there is a position and it is not the start of a line.
     pub fn position(&self) -> Option<usize>
-        ensures { result ≡ column_in self.now }
+        ensures { result ≡ column_of self.now }
     {
         if self.line == 0 || self.column == 0 {
             None

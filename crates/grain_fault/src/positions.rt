@@ -1,9 +1,9 @@
 //! Where faults were raised.
 
 ghost use Rattle.std.specs.Prelude.{◌≡◌, if◌then◌else◌};
-ghost use Rattle.grain_fault.specs.Problems.{problem_of, unwrapped};
+ghost use Rattle.grain_fault.specs.Problems.{problem_of, inner_fault};
 ghost use Rattle.grain_fault.specs.Places.{nowhere};
-ghost use Rattle.grain_fault.specs.Positions.{position_of_problem, at_position, is_placeless, filled};
+ghost use Rattle.grain_fault.specs.Positions.{position_of_problem, at_position, never_has_position, at_position_if_none};
 
 use crate::faults::EvalAltResult;
 use crate::places::Position;
@@ -32,7 +32,7 @@ impl EvalAltResult {
     pub fn set_position(&mut self, new_position: Position)
         ensures whole { problem_of self.new ≡ at_position new_position (problem_of self.old) }
         ensures position { position_of_problem (problem_of self.new)
-            ≡ (if is_placeless (problem_of self.old) then nowhere else new_position) }
+            ≡ (if never_has_position (problem_of self.old) then nowhere else new_position) }
     {
         match self {
             EvalAltResult::ErrorFunctionNotFound(_, position) => *position = new_position,
@@ -49,7 +49,7 @@ impl EvalAltResult {
         }
     }
 
-    /// The fault's position, which it then has no more.
+    /// The fault's position. The fault has none afterwards.
     pub fn take_position(&mut self) -> Position
         ensures value { result ≡ position_of_problem (problem_of self.old) }
         ensures cleared { problem_of self.new ≡ at_position nowhere (problem_of self.old) }
@@ -66,9 +66,9 @@ impl EvalAltResult {
         self.set_position(Position::NONE);
     }
 
-    /// The fault at this position, but where it has one already, it stays there.
+    /// The fault at this position if it has none, and else as it is.
     pub fn fill_position(self, new_position: Position) -> EvalAltResult
-        ensures { problem_of result ≡ filled new_position (problem_of self) }
+        ensures { problem_of result ≡ at_position_if_none new_position (problem_of self) }
     {
         let mut fault = self;
         if fault.position().is_none() {
@@ -77,11 +77,11 @@ impl EvalAltResult {
         fault
     }
 
-    /// The fault inside its wrappers: goes through `ErrorInFunctionCall` alone. That fault is its own
-    /// inner one.
+    /// The fault inside its wrappers, which are `ErrorInFunctionCall` alone. Of that fault the inner
+    /// one is itself.
     pub fn unwrap_inner(&self) -> &EvalAltResult
-        ensures inner { problem_of result.now ≡ unwrapped (problem_of self.now) }
-        ensures again { unwrapped (problem_of result.now) ≡ problem_of result.now }
+        ensures inner { problem_of result.now ≡ inner_fault (problem_of self.now) }
+        ensures again { inner_fault (problem_of result.now) ≡ problem_of result.now }
     {
         match self {
             EvalAltResult::ErrorInFunctionCall(_, _, inner, _) => inner.unwrap_inner(),

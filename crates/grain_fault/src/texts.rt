@@ -3,7 +3,7 @@
 ghost use Rattle.std.specs.Prelude.{◌≡◌, ◌++◌, Some, is_ok, if◌then◌else◌};
 ghost use Rattle.std.specs.Fmt.{WritesOnOk};
 ghost use Rattle.grain_fault.specs.Problems.{problem_of};
-ghost use Rattle.grain_fault.specs.Texts.{fault_name, fault_text, message, mismatch_text, kind_text, place_text, ending, call_text, origin_text, thrown_text};
+ghost use Rattle.grain_fault.specs.Texts.{fault_name, fault_text, message, mismatch_text, kind_text, line_and_column_text, location_text, call_text, origin_text, thrown_value_text};
 
 use crate::faults::{EvalAltResult, MalformedKind};
 use crate::places::Position;
@@ -46,11 +46,11 @@ impl fmt::Display for EvalAltResult {
 
     fn fmt<W: fmt::Write>(&self, f: &mut fmt::Formatter<W>) -> fmt::Result {
         write_message(self, f)?;
-        let ending = Ending {
+        let location = Location {
             source: "",
             position: self.position(),
         };
-        write!(f, "{ending}")
+        write!(f, "{location}")
     }
 }
 
@@ -70,7 +70,8 @@ impl fmt::Display for MalformedKind {
     }
 }
 
-/// Writes what happened, without where: of a fault that left a call, first what happened inside, and where.
+/// Writes what happened, without where: of a fault that left a call, first what happened inside,
+/// and where.
 fn write_message<W: fmt::Write>(fault: &EvalAltResult, f: &mut fmt::Formatter<W>) -> fmt::Result
     ensures { WritesOnOk W.write_str_gives f.old result (message (problem_of fault.now)) f.new }
 {
@@ -85,12 +86,12 @@ fn write_message<W: fmt::Write>(fault: &EvalAltResult, f: &mut fmt::Formatter<W>
         EvalAltResult::ErrorInFunctionCall(function, source, inner, _) => {
             let inner: &EvalAltResult = inner;
             write_message(inner, f)?;
-            let ending = Ending {
+            let location = Location {
                 source: source.as_str(),
                 position: inner.position(),
             };
             let call = Call { function, source };
-            write!(f, "{ending}\n{call}")
+            write!(f, "{location}\n{call}")
         }
         EvalAltResult::ErrorAssignmentToConstant(variable, _) => {
             write!(f, "Cannot modify constant {variable}")
@@ -103,7 +104,7 @@ fn write_message<W: fmt::Write>(fault: &EvalAltResult, f: &mut fmt::Formatter<W>
             }
         }
         EvalAltResult::ErrorRuntime(value, _) => {
-            let thrown = Thrown(value);
+            let thrown = ThrownValue(value);
             write!(f, "Runtime error{thrown}")
         }
         EvalAltResult::ErrorTooManyOperations(_) => write!(f, "Too many operations"),
@@ -114,7 +115,7 @@ fn write_message<W: fmt::Write>(fault: &EvalAltResult, f: &mut fmt::Formatter<W>
     }
 }
 
-/// The requested and the actual type of a mismatch. An empty one is left out.
+/// The requested and the actual type of a mismatch, without one that is empty.
 #[derive(Drop)]
 struct Mismatch<'a> {
     requested: &'a Text,
@@ -136,12 +137,12 @@ impl fmt::Display for Mismatch<'_> {
     }
 }
 
-/// A value that was thrown, behind a colon. Unit and the empty text are nothing.
+/// A value that was thrown, after a colon. Unit and the empty text print nothing.
 #[derive(Drop)]
-struct Thrown<'a>(&'a Dynamic);
+struct ThrownValue<'a>(&'a Dynamic);
 
-impl fmt::Display for Thrown<'_> {
-    ghost output = { λ t. Some (thrown_text t.0.now) };
+impl fmt::Display for ThrownValue<'_> {
+    ghost output = { λ t. Some (thrown_value_text t.0.now) };
 
     fn fmt<W: fmt::Write>(&self, f: &mut fmt::Formatter<W>) -> fmt::Result {
         let value = self.0;
@@ -181,7 +182,7 @@ impl fmt::Display for Call<'_> {
     }
 }
 
-/// The function that was called. A closure has no name to tell.
+/// The function that was called. The name of a closure is not printed.
 #[derive(Drop)]
 struct Callee<'a>(&'a Text);
 
@@ -200,17 +201,17 @@ impl fmt::Display for Callee<'_> {
 
 /// Where something happened: the source of the call, empty outside of all calls, and the position.
 #[derive(Drop)]
-struct Ending<'a> {
+struct Location<'a> {
     source: &'a str,
     position: Position,
 }
 
-impl fmt::Display for Ending<'_> {
-    ghost output = { λ e. Some (ending e.source.now e.position) };
+impl fmt::Display for Location<'_> {
+    ghost output = { λ e. Some (location_text e.source.now e.position) };
 
     fn fmt<W: fmt::Write>(&self, f: &mut fmt::Formatter<W>) -> fmt::Result {
-        let Ending { source, position } = self;
-        let place = Place(*position);
+        let Location { source, position } = self;
+        let place = LineAndColumn(*position);
         if source.is_empty() {
             write!(f, "{place}")
         } else {
@@ -219,12 +220,12 @@ impl fmt::Display for Ending<'_> {
     }
 }
 
-/// A line and a column in parentheses, behind a blank. No position is nothing.
+/// A line and a column in parentheses, after a blank. No position prints nothing.
 #[derive(Clone, Copy)]
-struct Place(Position);
+struct LineAndColumn(Position);
 
-impl fmt::Display for Place {
-    ghost output = { λ p. Some (place_text p.0) };
+impl fmt::Display for LineAndColumn {
+    ghost output = { λ p. Some (line_and_column_text p.0) };
 
     fn fmt<W: fmt::Write>(&self, f: &mut fmt::Formatter<W>) -> fmt::Result {
         match self.0.line() {

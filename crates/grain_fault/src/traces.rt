@@ -1,4 +1,5 @@
-//! The trace of a fault: where each frame stopped that the fault left, the innermost first.
+//! The trace of a fault: for each frame that the fault left, where the frame stopped, the innermost
+//! first.
 
 use grain_value::List;
 
