@@ -33,6 +33,6 @@ pub holds_none : (es now : List Entry) (i : ℕ) → es ≡ now → length es �
 holds_none es now i same le = rw (← same) (sym (ap (option_map held_of) (slice_get_past es i le)))
 
 -- two lenders are one where they are given back alike
-pub lent : {N : Type 0} (name : N) (f g : Held → List Entry) → f ≡ g →
+pub same_loan : {N : Type 0} (name : N) (f g : Held → List Entry) → f ≡ g →
     (let l : (N × (Held → List Entry)) ⊎ List Entry = inl (name, f) in l) ≡ inl (name, g)
-lent name f g same = ap (λ (h : Held → List Entry). inl (name, h)) same
+same_loan name f g same = ap (λ (h : Held → List Entry). inl (name, h)) same

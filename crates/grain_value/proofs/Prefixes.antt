@@ -8,7 +8,7 @@ use Rattle.std.specs.String.Boundary.{IsSplitPoint}
 use Rattle.std.proofs.lemmas.List.{length-take, take-append-le, drop-append-le}
 use Rattle.std.proofs.lemmas.Str.{IsUtf8-append, IsCharBoundary-from_drop}
 use Rattle.std.proofs.lemmas.Fmt.{contents_after_writes}
-use Rattle.grain_value.specs.Growing.{GrownFrom}
+use Rattle.grain_value.specs.Extensions.{Extends}
 
 -- what begins a list is not longer
 pub fits : (p s : List ℕ) → take (length p) s ≡ p → length p ≤ length s
@@ -17,9 +17,9 @@ fits p s begins =
     sym (length-take (length p) s) ∙ ap length begins in
     omega arith
 
-pub grown_after : (p s t new : List ℕ) (grown : Bool) → GrownFrom p s →
-    new ≡ (if grown then s ++ t else s) → IsUtf8 t → GrownFrom p new
-grown_after p s t new true g is piece =
+pub extends_after : (p s t new : List ℕ) (grown : Bool) → Extends p s →
+    new ≡ (if grown then s ++ t else s) → IsUtf8 t → Extends p new
+extends_after p s t new true g is piece =
     let P : List ℕ → Type 0 = λ l. IsUtf8 l in
     record {
       begins = rw is (take-append-le (length p) s t (fits p s g.begins) ∙ g.begins);
@@ -27,13 +27,13 @@ grown_after p s t new true g is piece =
           ∙ drop-append-le (length p) s t (fits p s g.begins)))
           (IsUtf8-append (drop (length p) s) t g.more piece);
     }
-grown_after p s t new false g is piece =
-    let P : List ℕ → Type 0 = λ l. GrownFrom p l in
+extends_after p s t new false g is piece =
+    let P : List ℕ → Type 0 = λ l. Extends p l in
     subst P (sym is) g
 
 -- the text may be cut where its beginning ends
-pub splits : (p s : List ℕ) (n : ℕ) → n ≡ length p → GrownFrom p s → IsSplitPoint s n
-splits p s n same g =
+pub can_be_cut : (p s : List ℕ) (n : ℕ) → n ≡ length p → Extends p s → IsSplitPoint s n
+can_be_cut p s n same g =
     let boundary : IsCharBoundary s n =
     rw same (IsCharBoundary-from_drop s (length p) (fits p s g.begins) g.more) in
     (boundary.0, λ pos lt. boundary.1 lt)

@@ -1,7 +1,7 @@
 //! Appending what `{}` prints of a value to a text.
 
 ghost use Rattle.std.specs.Prelude.{◌≡◌, ◌++◌, IfOk, IfSome, IfErr, is_ok, if◌then◌else◌, string_bytes, List, [], ℕ};
-ghost use Rattle.grain_value.specs.Growing.{GrownFrom};
+ghost use Rattle.grain_value.specs.Extensions.{Extends};
 
 use crate::memory::OutOfMemory;
 use std::fmt;
@@ -9,7 +9,8 @@ use std::fmt::Write;
 use std::marker::{Brand, Model, PhantomData};
 use std::mem::replace;
 
-/// The bytes that a text had before something was appended.
+/// The bytes that a text had before something was appended. They stand in proofs alone: the proof of
+/// `append` says which bytes they are.
 trait Before {
     ghost bytes: { List ℕ };
 }
@@ -30,7 +31,7 @@ impl<B: Before> Model for Appender<B> {
 
     ghost view = { λ a. string_bytes a.text };
 
-    ghost invariant = { λ a. GrownFrom B.bytes (string_bytes a.text) };
+    ghost invariant = { λ a. Extends B.bytes (string_bytes a.text) };
 }
 
 impl<B: Before> fmt::Write for Appender<B> {
@@ -45,11 +46,11 @@ impl<B: Before> fmt::Write for Appender<B> {
 }
 
 /// The text, and at its end what `{}` prints of the value, or after a failure a part of it.
-fn printed<B: Before, D: fmt::Display>(text: String, value: &D) -> (String, fmt::Result)
+fn print_after<B: Before, D: fmt::Display>(text: String, value: &D) -> (String, fmt::Result)
     requires { string_bytes text ≡ B.bytes }
-    ensures appended { IfSome (D.output value.now) (λ more.
+    ensures output { IfSome (D.output value.now) (λ more.
         IfOk result.1 (λ _. string_bytes result.0 ≡ string_bytes text ++ more)) }
-    ensures grown { GrownFrom (string_bytes text) (string_bytes result.0) }
+    ensures extends { Extends (string_bytes text) (string_bytes result.0) }
 {
     let mut appender: Appender<B> = Appender {
         text,
@@ -60,16 +61,16 @@ fn printed<B: Before, D: fmt::Display>(text: String, value: &D) -> (String, fmt:
 }
 
 /// Puts at the end of the text what `{}` prints of the value. After want of memory the text is as
-/// it was.
+/// it was. A value that refuses to be printed counts as want of memory.
 pub fn append<D: fmt::Display>(text: &mut String, value: &D) -> Result<(), OutOfMemory>
-    ensures appended { IfSome (D.output value.now) (λ more. string_bytes text.new
+    ensures output { IfSome (D.output value.now) (λ more. string_bytes text.new
         ≡ (if is_ok result then string_bytes text.old ++ more else string_bytes text.old)) }
-    ensures kept { IfErr result (λ _. string_bytes text.new ≡ string_bytes text.old) }
+    ensures unchanged { IfErr result (λ _. string_bytes text.new ≡ string_bytes text.old) }
 {
     let length = text.as_str().len();
     let empty = String::new(*text.allocator());
-    let (grown, written) = printed::<Brand, D>(replace(text, empty), value);
-    *text = grown;
+    let (extended, written) = print_after::<Brand, D>(replace(text, empty), value);
+    *text = extended;
     match written {
         Ok(()) => Ok(()),
         Err(_) => {

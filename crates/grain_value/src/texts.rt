@@ -130,9 +130,9 @@ impl Text {
 
     /// Puts at the end what `{}` prints of a value. After want of memory the text is as it was.
     pub fn push_display<D: fmt::Display>(&mut self, value: &D) -> Result<(), OutOfMemory>
-        ensures pushed { IfSome (D.output value.now) (λ text.
+        ensures output { IfSome (D.output value.now) (λ text.
             self.new ≡ (if is_ok result then self.old ++ text else self.old)) }
-        ensures kept { IfErr result (λ _. self.new ≡ self.old) }
+        ensures unchanged { IfErr result (λ _. self.new ≡ self.old) }
     {
         append(&mut self.text, value)
     }

@@ -1,6 +1,6 @@
--- The entry that is lent keeps its name.
+-- The entry that is same_loan keeps its name.
 use Rattle.std.proofs.Common.{arith, ◌<◌, ◌≤◌, length, refl, ap, inr}
-use Rattle.grain_value.proofs.Entries.{gives_back, lent, holds, holds_none}
+use Rattle.grain_value.proofs.Entries.{gives_back, same_loan, holds, holds_none}
 use Rattle.grain_value.proofs.scopes.Scope.get_mut.Goals as goal
 
 pub returns-in-Some : goal.returns-in-Some
@@ -8,12 +8,13 @@ returns-in-Some c =
     let es = c.self.inside.entries.items in
     let entry = c.in-Some.entry.now in
     let there : c.args.index < length es = omega (arith, c.in-Some.ensures.variant.0 refl) in (
-      lent _ _ _ (gives_back es c.args.self.now c.args.index entry c.self.view_is there
+      same_loan _ _ _ (gives_back es c.args.self.now c.args.index entry c.self.view_is there
           c.in-Some.ensures.value),
       record {
         writes_back = tt;
         value =
-            holds es c.args.self.now c.args.index entry c.self.view_is there c.in-Some.ensures.value;
+            holds es c.args.self.now c.args.index entry c.self.view_is there
+            c.in-Some.ensures.value;
       },
     )
 
