@@ -77,7 +77,7 @@ impl EvalAltResult {
         fault
     }
 
-    /// The fault inside its wrappers, which are `ErrorInFunctionCall` alone. Of that fault the inner
+    /// The fault inside its wrappers, which are `ErrorInFunctionCall` alone. The inner fault of that
     /// one is itself.
     pub fn unwrap_inner(&self) -> &EvalAltResult
         ensures inner { problem_of result.now ≡ inner_fault (problem_of self.now) }

@@ -1,5 +1,5 @@
--- What the contracts of this crate cite. Read `Quoting`, `Writing` and `Scopes` first. `Lending` says
--- what a scope is after a loan, and `Extensions` serves one private function.
+-- What the contracts of this crate cite. Read `Quoting`, `Writing` and `Scopes` first. `Lending`
+-- says what a scope is after a loan, and `Extensions` serves one private function.
 pub mod Quoting
 pub mod Looking
 pub mod Writing

@@ -9,8 +9,8 @@ use std::fmt::Write;
 use std::marker::{Brand, Model, PhantomData};
 use std::mem::replace;
 
-/// The bytes that a text had before something was appended. They stand in proofs alone: the proof of
-/// `append` says which bytes they are.
+/// The bytes that a text had before something was appended. They stand in proofs alone: the proof
+/// of `append` says which bytes they are.
 trait Before {
     ghost bytes: { List ℕ };
 }
