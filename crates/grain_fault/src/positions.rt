@@ -77,8 +77,8 @@ impl EvalAltResult {
         fault
     }
 
-    /// The fault inside its wrappers, which are `ErrorInFunctionCall` alone. The inner fault of that
-    /// one is itself.
+    /// The fault inside its wrappers, which are `ErrorInFunctionCall` alone. The inner fault of
+    /// that one is itself.
     pub fn unwrap_inner(&self) -> &EvalAltResult
         ensures inner { problem_of result.now ≡ inner_fault (problem_of self.now) }
         ensures again { inner_fault (problem_of result.now) ≡ problem_of result.now }
