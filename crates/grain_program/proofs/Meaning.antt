@@ -1,6 +1,7 @@
 -- What the tests of the rules of single instructions mean.
 use Rattle.std.proofs.Common.{◌≡◌, ℕ, ◌+◌, ◌<◌, ◌≤◌, ◌⊎◌, ◌==◌, Bool, true, false, cond, List, length, Option, Some, None, refl, sym, ap, subst, ◌∙◌, inl, inr, arith}
 use Rattle.std.specs.Prelude.{slice_get, nat_lt}
+use Rattle.std.specs.List.{AllByRecursion}
 use Rattle.std.proofs.lemmas.Bool.{cases_lt, eqb-true, eqb-false}
 use Rattle.std.proofs.lemmas.Option.{slice_get_within}
 use Rattle.grain_program.specs.declared.instructions.Op.{Op}
@@ -9,9 +10,11 @@ use Rattle.grain_program.specs.declared.functions.Function.{Function}
 use Rattle.grain_program.specs.declared.owners.Owner.{Owner}
 use Rattle.grain_program.specs.declared.refusals.Refusal.{Refusal}
 use Rattle.grain_program.specs.declared.refusals.Refusal.TheVariants as refusal
-use Rattle.grain_program.specs.declared.effects.Flow.{Flow}
-use Rattle.grain_program.specs.declared.effects.Flow.TheVariants as flow
+use Rattle.grain_program.specs.declared.fields.Field.{Field}
+use Rattle.grain_program.specs.declared.fields.Field.TheVariants as field
 use Rattle.grain_program.specs.View.{View}
+use Rattle.grain_program.specs.Fields.{every}
+use Rattle.grain_program.specs.InstructionSet.{fields_of}
 use Rattle.grain_program.specs.Reading.{op_at}
 use Rattle.grain_program.specs.Effects.{effect_of}
 use Rattle.grain_program.specs.Indices.{in_pools, IsNamed}
@@ -21,7 +24,7 @@ use Rattle.grain_program.specs.Starts.{Start}
 use Rattle.grain_program.specs.Begins.{start_within}
 use Rattle.grain_program.specs.Rules.{Lands, Whole, IndexRule, TargetRule, EndRule, CapabilityRule, Obeys, Splits, Spot, Unread, Disobeys, address_of, rule_of, Precedes}
 use Rattle.grain_program.specs.Owners.{owner_at, Owned, lands, stays_in, rule_in, rule_at, IsFirstFound}
-use Rattle.grain_program.proofs.Tells.{Tells, tells, lt_tells, pools_tell, stays_tell, permits_tell}
+use Rattle.grain_program.proofs.Tells.{Tells, tells, lt_tells, every_tells, pools_tell, stays_tell, permits_tell}
 use Rattle.grain_program.proofs.Breaches.{ByOp, FirstOf}
 use Rattle.grain_program.proofs.Tiles.{NoneEmpty}
 
@@ -122,11 +125,12 @@ module _ (p : View) (chunks : List Chunk) (t : Tiled (length p.code) chunks) whe
       no : ((owner_at owners x).end == c.end) ≡ false → Start p.code c x → ⊥
       no e s = eqb-false (owner_at owners x).end c.end e (ap (λ (w : Owner). w.end) (o.owned i c x (within i c g) g s))
 
-    lands_tell : (i : ℕ) (c : Chunk) → slice_get chunks i ≡ Some c → c.entry < c.end → (w : Flow) → Tells (lands owners c.end w) (Lands p.code c w)
-    lands_tell i c g full flow.Next = tt
-    lands_tell i c g full (flow.Jump x) = owns_tell i c g full x
-    lands_tell i c g full (flow.Branch x) = owns_tell i c g full x
-    lands_tell i c g full flow.End = tt
+    field_lands : (i : ℕ) (c : Chunk) → slice_get chunks i ≡ Some c → c.entry < c.end → (f : Field) → Tells (lands owners c.end f) (Lands p c f)
+    field_lands i c g full (field.Target x) = owns_tell i c g full x
+    field_lands i c g full _ = tt
+
+    lands_tell : (i : ℕ) (c : Chunk) → slice_get chunks i ≡ Some c → c.entry < c.end → (o : Op) → Tells (every (lands owners c.end) (fields_of o)) (AllByRecursion (Lands p c) (fields_of o))
+    lands_tell i c g full o = every_tells (Lands p c) (lands owners c.end) (field_lands i c g full) (fields_of o)
 
     module _ (i : ℕ) (c : Chunk) (a : ℕ) (g : slice_get chunks i ≡ Some c) (s : Start p.code c a) where
       abbrev spot : Spot p.code chunks a
@@ -147,7 +151,7 @@ module _ (p : View) (chunks : List Chunk) (t : Tiled (length p.code) chunks) whe
       after_target r = cond (stays_in c.end (a + r.1) (effect_of r.0).flow) (after_end r) (Some (refusal.FallsOff a))
 
       abbrev after_index : Op × ℕ → Option Refusal
-      after_index r = cond (lands owners c.end (effect_of r.0).flow) (after_target r) (Some (refusal.JumpTarget a))
+      after_index r = cond (every (lands owners c.end) (fields_of r.0)) (after_target r) (Some (refusal.JumpTarget a))
 
       abbrev after_whole : Op × ℕ → Option Refusal
       after_whole r = cond (in_pools p r.0) (after_index r) (Some (refusal.PoolIndex a))
@@ -182,7 +186,7 @@ module _ (p : View) (chunks : List Chunk) (t : Tiled (length p.code) chunks) whe
         }
 
         second : (b : Bool) → Tells b (IndexRule p c a r) → Says (cond b (after_index r) (Some (refusal.PoolIndex a)))
-        second true h = third h (lands owners c.end (effect_of r.0).flow) (lands_tell i c g full (effect_of r.0).flow)
+        second true h = third h (every (lands owners c.end) (fields_of r.0)) (lands_tell i c g full r.0)
         second false h = record {
           there = refl;
           breach = (spot, (r, w, h));

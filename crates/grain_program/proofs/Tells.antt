@@ -2,17 +2,21 @@
 use Rattle.std.proofs.Common.{◌≡◌, ℕ, zero, suc, ◌<◌, ◌≤◌, ◌⊎◌, ◌&&◌, ◌||◌, ◌==◌, Bool, true, false, List, [], ◌∷◌, length, get_or, Option, Some, None, refl, sym, subst, inl, inr, arith}
 use Rattle.std.specs.Prelude.{nat_lt, nat_le, slice_get}
 use Rattle.std.proofs.lemmas.Bool.{ltb-true, ltb-false, leb-true, leb-false, eqb-true, eqb-false}
+use Rattle.std.specs.List.{AllByRecursion}
 use Rattle.std.specs.Int.RustNames.{bit_and}
 use Rattle.grain_program.specs.declared.instructions.Op.{Op}
-use Rattle.grain_program.specs.declared.instructions.Op.TheVariants as op
+use Rattle.grain_program.specs.declared.fields.Field.{Field}
+use Rattle.grain_program.specs.declared.fields.Field.TheVariants as field
 use Rattle.grain_program.specs.declared.input.AssignOp.{AssignOp}
 use Rattle.grain_program.specs.declared.input.Chunk.{Chunk}
 use Rattle.grain_program.specs.declared.functions.Function.{Function}
 use Rattle.grain_program.specs.declared.refusals.Refusal.{Refusal}
 use Rattle.grain_program.specs.declared.effects.Flow.{Flow}
 use Rattle.grain_program.specs.declared.effects.Flow.TheVariants as flow
-use Rattle.grain_program.specs.View.{View, no_op, assign_op_of}
-use Rattle.grain_program.specs.Indices.{InPools, record_named, in_pools, IsNamed, all_below, is_named}
+use Rattle.grain_program.specs.View.{View, no_op}
+use Rattle.grain_program.specs.Fields.{every}
+use Rattle.grain_program.specs.InstructionSet.{fields_of}
+use Rattle.grain_program.specs.Indices.{HasAssignOp, InPool, InPools, record_named, in_pool, in_pools, IsNamed, all_below, is_named}
 use Rattle.grain_program.specs.Capabilities.{needs, Permits, permits}
 use Rattle.grain_program.specs.Rules.{StaysIn, address_of, rule_of, Precedes, precedes}
 use Rattle.grain_program.specs.Owners.{stays_in}
@@ -56,10 +60,6 @@ precedes_tell r s =
 pub permits_tell : (caps : ℕ) (o : Op) → Tells (permits caps o) (Permits caps o)
 permits_tell caps o = eq_tells (bit_and caps (needs o)) (needs o)
 
--- the record at the index is there, and both its names
-abbrev Named : View → ℕ → Type 0
-Named p a = (a < length p.assign_ops) × ((assign_op_of p a).op_assign_name < length p.names) × ((assign_op_of p a).op_name < length p.names)
-
 -- what a list has at an index, by the same default
 record Entry (xs : List AssignOp) (i : ℕ) (r : AssignOp) : Type 0 where
   inside : i < length xs
@@ -75,52 +75,37 @@ no_entry [] i e lt = omega arith
 no_entry (x ∷ xs) zero e lt = cc
 no_entry (x ∷ xs) (suc i) e lt = no_entry xs i e (omega arith)
 
-named_tells : (p : View) (a : ℕ) → Tells (record_named (length p.names) (slice_get p.assign_ops a)) (Named p a)
+named_tells : (p : View) (a : ℕ) → Tells (record_named (length p.names) (slice_get p.assign_ops a)) (HasAssignOp p a)
 named_tells p a = at (slice_get p.assign_ops a) refl where
-  some : (r : AssignOp) → Entry p.assign_ops a r → (b : Bool) → Tells b ((r.op_assign_name < length p.names) × (r.op_name < length p.names)) → Tells b (Named p a)
+  some : (r : AssignOp) → Entry p.assign_ops a r → (b : Bool) → Tells b ((r.op_assign_name < length p.names) × (r.op_name < length p.names)) → Tells b (HasAssignOp p a)
   some r e true h = (e.inside, subst (λ (x : AssignOp). x.op_assign_name < length p.names) (sym e.is) h.0, subst (λ (x : AssignOp). x.op_name < length p.names) (sym e.is) h.1)
   some r e false h = λ n. h (subst (λ (x : AssignOp). x.op_assign_name < length p.names) e.is n.1, subst (λ (x : AssignOp). x.op_name < length p.names) e.is n.2)
 
-  at : (o : Option AssignOp) → slice_get p.assign_ops a ≡ o → Tells (record_named (length p.names) o) (Named p a)
+  at : (o : Option AssignOp) → slice_get p.assign_ops a ≡ o → Tells (record_named (length p.names) o) (HasAssignOp p a)
   at None e = λ n. no_entry p.assign_ops a e n.0
   at (Some r) e =
       some r (entry_of p.assign_ops a r e) (nat_lt r.op_assign_name (length p.names) && nat_lt r.op_name (length p.names))
       (both_tell (r.op_assign_name < length p.names) (r.op_name < length p.names) (nat_lt r.op_assign_name (length p.names)) (nat_lt r.op_name (length p.names)) (lt_tells r.op_assign_name (length p.names)) (lt_tells r.op_name (length p.names)))
 
-pools_assign : (p : View) (s n a : ℕ) (b : Bool) → Tells b ((n < length p.names) × Named p a) → Tells b (InPools p (op.AssignLocalOp s n a))
-pools_assign p s n a true h = (h.0, h.1.0, h.1.1, h.1.2)
-pools_assign p s n a false h = λ i. h (i.0, (i.1, i.2, i.3))
+-- the test of one operand tells whether its index is in its pool
+pool_tells : (p : View) (f : Field) → Tells (in_pool p f) (InPool p f)
+pool_tells p (field.Constant n) = lt_tells n (length p.consts)
+pool_tells p (field.Name n) = lt_tells n (length p.names)
+pool_tells p (field.Assignment n) = named_tells p n
+pool_tells p (field.Token n) = lt_tells n (length p.tokens)
+pool_tells p (field.Slot n) = tt
+pool_tells p (field.Target n) = tt
+pool_tells p (field.Count n) = tt
+pool_tells p (field.Number n) = tt
+
+-- where a test tells of each operand whether a fact holds, the test of all tells whether it holds of all
+pub every_tells : (P : Field → Type 0) (test : Field → Bool) → ((f : Field) → Tells (test f) (P f)) → (fs : List Field) → Tells (every test fs) (AllByRecursion P fs)
+every_tells P test tell [] = tt
+every_tells P test tell (f ∷ fs) = both_tell (P f) (AllByRecursion P fs) (test f) (every test fs) (tell f) (every_tells P test tell fs)
 
 -- the test of the indices tells whether they are in their pools
 pub pools_tell : (p : View) (o : Op) → Tells (in_pools p o) (InPools p o)
-pools_tell p (op.LoadConst c) = lt_tells c (length p.consts)
-pools_tell p op.Unit = tt
-pools_tell p op.False = tt
-pools_tell p op.True = tt
-pools_tell p (op.LoadLocal s) = tt
-pools_tell p (op.StoreLocal s) = tt
-pools_tell p (op.StoreConst s) = tt
-pools_tell p (op.DeclareLocal n) = lt_tells n (length p.names)
-pools_tell p (op.DeclareConst n) = lt_tells n (length p.names)
-pools_tell p (op.AssignLocal s n) = lt_tells n (length p.names)
-pools_tell p (op.AssignLocalOp s n a) =
-    pools_assign p s n a (nat_lt n (length p.names) && record_named (length p.names) (slice_get p.assign_ops a))
-    (both_tell (n < length p.names) (Named p a) (nat_lt n (length p.names)) (record_named (length p.names) (slice_get p.assign_ops a)) (lt_tells n (length p.names)) (named_tells p a))
-pools_tell p op.Pop = tt
-pools_tell p (op.Rotate u) = tt
-pools_tell p (op.Jump t) = tt
-pools_tell p (op.JumpIfFalse t) = tt
-pools_tell p (op.JumpIfTrue t) = tt
-pools_tell p (op.SkipIfNotUnit t) = tt
-pools_tell p (op.Call n k) = lt_tells n (length p.names)
-pools_tell p (op.CallOp n k o) =
-    both_tell (n < length p.names) (o < length p.tokens) (nat_lt n (length p.names)) (nat_lt o (length p.tokens)) (lt_tells n (length p.names)) (lt_tells o (length p.tokens))
-pools_tell p (op.UnwindTo d) = tt
-pools_tell p op.Tick = tt
-pools_tell p op.Checkpoint = tt
-pools_tell p (op.Statement d) = tt
-pools_tell p op.Throw = tt
-pools_tell p op.Return = tt
+pools_tell p o = every_tells (InPool p) (in_pool p) (pool_tells p) (fields_of o)
 
 -- each number of the list is below the end
 abbrev AllBelow : ℕ → List ℕ → Type 0

@@ -53,7 +53,7 @@ module _ (p : View) (chunks : List Chunk) (laid : layout_fault (length p.code) c
   pub closed : (i : ℕ) (c : Chunk) → slice_get chunks i ≡ Some c → (a : ℕ) → Start p.code c a → (r : Op × ℕ) × (op_at p.code a ≡ Some r) × ((b : ℕ) → In b (leads (effect_of r.0).flow (a + r.1)) → Start p.code c b)
   closed i c g a s =
       let o = w.obeys i c a g s in
-      (o.read, o.whole.is, leads_to_start p.code c (a + o.read.1) (effect_of o.read.0).flow o.target o.end (λ lt. start_next p.code c a o.read s o.whole.is lt))
+      (o.read, o.whole.is, leads_to_start p c (a + o.read.1) o.read.0 o.target o.end (λ lt. start_next p.code c a o.read s o.whole.is lt))
 
   pub inside : (i : ℕ) (c : Chunk) → slice_get chunks i ≡ Some c → c.end ≤ length p.code
   inside i c g = (tiles.inside i c g).1

@@ -2,6 +2,7 @@
 use Rattle.std.specs.Prelude.{ℕ, suc, ◌≡◌, ◌<◌, ◌≤◌, ◌+◌, ◌-◌, nat_lt, Bool, true, false, cond, List, [], ◌∷◌, length, slice_get, Option, Some, None, refl}
 use Rattle.std.proofs.Common.{sym, subst, ◌∙◌, inl, inr, arith}
 use Rattle.std.proofs.lemmas.Bool.{ltb-false}
+use Rattle.std.specs.List.{AllByRecursion}
 use Rattle.grain_program.specs.declared.instructions.Op.{Op}
 use Rattle.grain_program.specs.declared.input.Chunk.{Chunk}
 use Rattle.grain_program.specs.declared.functions.Function.{Function}
@@ -11,7 +12,11 @@ use Rattle.grain_program.specs.Reading.{op_at}
 use Rattle.grain_program.specs.Widths.{op_at_within}
 use Rattle.grain_program.specs.declared.effects.Flow.{Flow}
 use Rattle.grain_program.specs.declared.effects.Flow.TheVariants as flow
-use Rattle.grain_program.specs.Effects.{effect_of, leads, takes_of, gives_of, leads_of}
+use Rattle.grain_program.specs.declared.fields.Field.{Field}
+use Rattle.grain_program.specs.declared.fields.Field.TheVariants as field
+use Rattle.grain_program.specs.Fields.{targets_of}
+use Rattle.grain_program.specs.InstructionSet.{Transfer, falls_through, jumps, branches, ends, row, fields_of}
+use Rattle.grain_program.specs.Effects.{flow_to, effect_of, leads, takes_of, gives_of, leads_of}
 use Rattle.grain_program.specs.Indices.{InPools, IsNamed}
 use Rattle.grain_program.specs.Layout.{chunks_in, function_chunk, gap_from, layout_fault}
 use Rattle.grain_program.specs.Starts.{Start}
@@ -39,13 +44,32 @@ pub record Foreseen (p : View) (c : Chunk) (at depth : ℕ) (op : Op) (width : �
   pub wide : 1 ≤ width
   pub goes : (b : ℕ) → In b (leads_of op (at + width)) → Fits p c b (depth - takes_of op + gives_of op)
 
--- where an instruction leads, an instruction of its chunk begins
-pub leads_to_start : (code : List ℕ) (c : Chunk) (next : ℕ) (w : Flow) → Lands code c w → StaysIn c next w → (next < c.end → Start code c next) → (b : ℕ) → In b (leads w next) → Start code c b
-leads_to_start code c next flow.Next lands stays go b (inl e) = subst (Start code c) (sym e) (go stays)
-leads_to_start code c next flow.Next lands stays go b (inr i) = absurd i
-leads_to_start code c next (flow.Jump t) lands stays go b (inl e) = subst (Start code c) (sym e) lands
-leads_to_start code c next (flow.Jump t) lands stays go b (inr i) = absurd i
-leads_to_start code c next (flow.Branch t) lands stays go b i = at (nat_lt t next) i where
+-- a flow's target is an instruction of the chunk
+abbrev FlowLands : List ℕ → Chunk → Flow → Type 0
+FlowLands code c flow.Next = Unit {0}
+FlowLands code c (flow.Jump t) = Start code c t
+FlowLands code c (flow.Branch t) = Start code c t
+FlowLands code c flow.End = Unit {0}
+
+targets_land : (p : View) (c : Chunk) (fs : List Field) → AllByRecursion (Lands p c) fs → AllByRecursion (Start p.code c) (targets_of fs)
+targets_land p c [] h = tt
+targets_land p c (field.Target n ∷ fs) h = (h.0, targets_land p c fs h.1)
+targets_land p c (_ ∷ fs) h = targets_land p c fs h.1
+
+flow_lands : (code : List ℕ) (c : Chunk) (w : Transfer) (ts : List ℕ) → AllByRecursion (Start code c) ts → FlowLands code c (flow_to w ts)
+flow_lands code c falls_through ts h = tt
+flow_lands code c jumps [] h = tt
+flow_lands code c jumps (t ∷ ts) h = h.0
+flow_lands code c branches [] h = tt
+flow_lands code c branches (t ∷ ts) h = h.0
+flow_lands code c ends ts h = tt
+
+flow_leads : (code : List ℕ) (c : Chunk) (next : ℕ) (w : Flow) → FlowLands code c w → StaysIn c next w → (next < c.end → Start code c next) → (b : ℕ) → In b (leads w next) → Start code c b
+flow_leads code c next flow.Next lands stays go b (inl e) = subst (Start code c) (sym e) (go stays)
+flow_leads code c next flow.Next lands stays go b (inr i) = absurd i
+flow_leads code c next (flow.Jump t) lands stays go b (inl e) = subst (Start code c) (sym e) lands
+flow_leads code c next (flow.Jump t) lands stays go b (inr i) = absurd i
+flow_leads code c next (flow.Branch t) lands stays go b i = at (nat_lt t next) i where
   two : (x y : ℕ) → Start code c x → Start code c y → In b (x ∷ y ∷ []) → Start code c b
   two x y s t (inl e) = subst (Start code c) (sym e) s
   two x y s t (inr (inl e)) = subst (Start code c) (sym e) t
@@ -54,7 +78,13 @@ leads_to_start code c next (flow.Branch t) lands stays go b i = at (nat_lt t nex
   at : (q : Bool) → In b (cond q (t ∷ next ∷ []) (next ∷ t ∷ [])) → Start code c b
   at true i = two t next lands (go stays) i
   at false i = two next t (go stays) lands i
-leads_to_start code c next flow.End lands stays go b i = absurd i
+flow_leads code c next flow.End lands stays go b i = absurd i
+
+-- where an instruction leads, an instruction of its chunk begins
+pub leads_to_start : (p : View) (c : Chunk) (next : ℕ) (o : Op) → AllByRecursion (Lands p c) (fields_of o) → StaysIn c next (effect_of o).flow → (next < c.end → Start p.code c next) → (b : ℕ)
+    → In b (leads_of o next) → Start p.code c b
+leads_to_start p c next o lands stays go b i =
+    flow_leads p.code c next (effect_of o).flow (flow_lands p.code c (row o).transfer (targets_of (fields_of o)) (targets_land p c (fields_of o) lands)) stays go b i
 
 -- the code is no longer than the layout allows
 short : (len : ℕ) (chunks : List Chunk) → layout_fault len chunks ≡ None → len ≤ 16777216
@@ -74,7 +104,7 @@ foreseen p v c at depth f r e =
     let o = v.splits.obeys f.number c at f.is f.start in
     let both : Some o.read ≡ Some r = sym o.whole.is ∙ e in
     let same : o.read ≡ r = cc in
-    let lands = subst (λ (x : Op × ℕ). Lands p.code c (effect_of x.0).flow) same o.target in
+    let lands = subst (λ (x : Op × ℕ). AllByRecursion (Lands p c) (fields_of x.0)) same o.target in
     let stays = subst (λ (x : Op × ℕ). StaysIn c (at + x.1) (effect_of x.0).flow) same o.end in
     let agrees = f.typed.steps f.number c at r (record { height = depth }) f.is f.start e f.known in
     let wide = op_at_within p.code at r e in
@@ -87,7 +117,7 @@ foreseen p v c at depth f r e =
       goes = λ b i. record {
         number = f.number;
         is = f.is;
-        start = leads_to_start p.code c (at + r.1) (effect_of r.0).flow lands stays (λ lt. start_next p.code c at r f.start e lt) b i;
+        start = leads_to_start p c (at + r.1) r.0 lands stays (λ lt. start_next p.code c at r f.start e lt) b i;
         typing = f.typing;
         typed = f.typed;
         known = agrees.arrives b i;

@@ -1,4 +1,6 @@
 pub mod View
+pub mod Fields
+pub mod InstructionSet
 pub mod Reading
 pub mod Spelling
 pub mod Widths

@@ -9,7 +9,11 @@ use Rattle.grain_program.specs.declared.refusals.Refusal.{Refusal}
 use Rattle.grain_program.specs.declared.refusals.Refusal.TheVariants as refusal
 use Rattle.grain_program.specs.declared.effects.Flow.{Flow}
 use Rattle.grain_program.specs.declared.effects.Flow.TheVariants as flow
+use Rattle.grain_program.specs.declared.fields.Field.{Field}
+use Rattle.grain_program.specs.declared.fields.Field.TheVariants as field
 use Rattle.grain_program.specs.View.{View}
+use Rattle.grain_program.specs.Fields.{every}
+use Rattle.grain_program.specs.InstructionSet.{fields_of}
 use Rattle.grain_program.specs.Reading.{op_at}
 use Rattle.grain_program.specs.Effects.{effect_of}
 use Rattle.grain_program.specs.Indices.{in_pools, is_named}
@@ -42,12 +46,16 @@ abbrev pub IsMarked : List ℕ → Chunk → List Owner → List Owner → Type 
 IsMarked code c before now =
     (a : ℕ) → (Start code c a × (owner_at now a ≡ owner_of c)) ⊎ ((Start code c a → ⊥) × (owner_at now a ≡ owner_at before a))
 
--- the target is owned by the chunk of this end
-abbrev pub lands : List Owner → ℕ → Flow → Bool
-lands owners end flow.Next = true
-lands owners end (flow.Jump t) = (owner_at owners t).end == end
-lands owners end (flow.Branch t) = (owner_at owners t).end == end
-lands owners end flow.End = true
+-- an operand that is an address names an instruction that the chunk of this end owns
+abbrev pub lands : List Owner → ℕ → Field → Bool
+lands owners end (field.Constant n) = true
+lands owners end (field.Name n) = true
+lands owners end (field.Assignment n) = true
+lands owners end (field.Token n) = true
+lands owners end (field.Slot n) = true
+lands owners end (field.Target n) = (owner_at owners n).end == end
+lands owners end (field.Count n) = true
+lands owners end (field.Number n) = true
 
 -- what goes on to the address behind stays before the end
 abbrev pub stays_in : ℕ → ℕ → Flow → Bool
@@ -62,7 +70,7 @@ rule_in p owners end a None = Some (refusal.Undecodable a)
 rule_in p owners end a (Some r) =
     if nat_lt end (a + r.1) then Some (refusal.Undecodable a)
     else if in_pools p r.0 then
-    (if lands owners end (effect_of r.0).flow then
+    (if every (lands owners end) (fields_of r.0) then
     (if stays_in end (a + r.1) (effect_of r.0).flow then
     (if permits p.caps r.0 then None else Some (refusal.Capability a))
     else Some (refusal.FallsOff a))

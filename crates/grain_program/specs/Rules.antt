@@ -1,6 +1,7 @@
 -- The rules of single instructions and of functions' names: what obeys them, what breaks them, and which breach is the
 -- first.
 use Rattle.std.specs.Prelude.{ℕ, ◌≡◌, ◌<◌, ◌≤◌, ◌+◌, ◌⊎◌, ◌==◌, ◌&&◌, ◌||◌, nat_lt, nat_le, Bool, List, length, slice_get, Option, Some, None, if◌then◌else◌}
+use Rattle.std.specs.List.{AllByRecursion}
 use Rattle.grain_program.specs.declared.instructions.Op.{Op}
 use Rattle.grain_program.specs.declared.input.Chunk.{Chunk}
 use Rattle.grain_program.specs.declared.functions.Function.{Function}
@@ -8,7 +9,10 @@ use Rattle.grain_program.specs.declared.refusals.Refusal.{Refusal}
 use Rattle.grain_program.specs.declared.refusals.Refusal.TheVariants as refusal
 use Rattle.grain_program.specs.declared.effects.Flow.{Flow}
 use Rattle.grain_program.specs.declared.effects.Flow.TheVariants as flow
+use Rattle.grain_program.specs.declared.fields.Field.{Field}
+use Rattle.grain_program.specs.declared.fields.Field.TheVariants as field
 use Rattle.grain_program.specs.View.{View}
+use Rattle.grain_program.specs.InstructionSet.{fields_of}
 use Rattle.grain_program.specs.Reading.{op_at}
 use Rattle.grain_program.specs.Effects.{effect_of}
 use Rattle.grain_program.specs.Indices.{InPools, IsNamed}
@@ -16,12 +20,16 @@ use Rattle.grain_program.specs.Capabilities.{Permits}
 use Rattle.grain_program.specs.Layout.{layout_fault}
 use Rattle.grain_program.specs.Starts.{Start}
 
--- the target is an instruction of the same chunk
-abbrev pub Lands : List ℕ → Chunk → Flow → Type 0
-Lands code c flow.Next = Unit {0}
-Lands code c (flow.Jump t) = Start code c t
-Lands code c (flow.Branch t) = Start code c t
-Lands code c flow.End = Unit {0}
+-- an operand that is an address names an instruction of the same chunk
+abbrev pub Lands : View → Chunk → Field → Type 0
+Lands p c (field.Constant n) = Unit {0}
+Lands p c (field.Name n) = Unit {0}
+Lands p c (field.Assignment n) = Unit {0}
+Lands p c (field.Token n) = Unit {0}
+Lands p c (field.Slot n) = Unit {0}
+Lands p c (field.Target n) = Start p.code c n
+Lands p c (field.Count n) = Unit {0}
+Lands p c (field.Number n) = Unit {0}
 
 -- what goes on to the address behind does not leave the chunk
 abbrev pub StaysIn : Chunk → ℕ → Flow → Type 0
@@ -39,9 +47,9 @@ pub record Whole (code : List ℕ) (c : Chunk) (a : ℕ) (r : Op × ℕ) : Type 
 abbrev pub IndexRule : View → Chunk → ℕ → Op × ℕ → Type 0
 IndexRule p c a r = InPools p r.0
 
--- the target of an instruction is an instruction of its chunk
+-- each target of an instruction is an instruction of its chunk
 abbrev pub TargetRule : View → Chunk → ℕ → Op × ℕ → Type 0
-TargetRule p c a r = Lands p.code c (effect_of r.0).flow
+TargetRule p c a r = AllByRecursion (Lands p c) (fields_of r.0)
 
 -- an instruction does not go on behind its chunk
 abbrev pub EndRule : View → Chunk → ℕ → Op × ℕ → Type 0
@@ -101,7 +109,11 @@ Breach p chunks (refusal.PoolIndex a) = Disobeys p.code chunks (IndexRule p) a �
 Breach p chunks (refusal.JumpTarget a) = Disobeys p.code chunks (TargetRule p) a
 Breach p chunks (refusal.FallsOff a) = Disobeys p.code chunks (EndRule p) a ⊎ IsHollow chunks a
 Breach p chunks (refusal.Capability a) = Disobeys p.code chunks (CapabilityRule p) a
-Breach p chunks _ = ⊥
+-- these are no rules of single instructions
+Breach p chunks (refusal.HeightDisagrees a) = ⊥
+Breach p chunks (refusal.TooDeep a) = ⊥
+Breach p chunks (refusal.Underflow a) = ⊥
+Breach p chunks refusal.Memory = ⊥
 
 -- the address of a refusal
 abbrev pub address_of : Refusal → ℕ

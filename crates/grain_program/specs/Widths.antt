@@ -1,11 +1,13 @@
 -- An instruction that is read is at least a byte wide, and lies within the code.
-use Rattle.std.specs.Prelude.{ℕ, suc, ◌+◌, ◌≡◌, ◌≤◌, Bool, true, false, cond, List, [], ◌∷◌, length, drop, slice_index_or, Option, Some, None, ◌==◌, IfSome}
+use Rattle.std.specs.Prelude.{ℕ, suc, ◌+◌, ◌≡◌, ◌≤◌, Bool, true, false, cond, List, [], ◌∷◌, length, drop, slice_index_or, Option, Some, None, ◌==◌, ◌&&◌, nat_le, IfSome}
 use Rattle.std.proofs.Common.{arith, length-drop, refl, ap, ◌∙◌, ◌<◌, sym}
 use Rattle.std.proofs.Math.Seq.{drop-cons}
+use Rattle.std.proofs.lemmas.Bool.{leb-true}
 use Rattle.grain_program.specs.declared.instructions.Op.{Op}
-use Rattle.grain_program.specs.Reading.{Operand, one, two, four, bytes_of, number_at, joined, numbers_at, span, Row, rows, made, by_rows, by_tag, width_in, width_of, op_in, op_at}
+use Rattle.grain_program.specs.Fields.{Size, one, two, four, bytes_of, span}
+use Rattle.grain_program.specs.Reading.{number_at, joined, numbers_at, Format, formats, made, by_formats, by_tag, width_in, width_of, op_in, op_at}
 
-number_within : (o : Operand) (bytes : List ℕ) (n : ℕ) → number_at o bytes ≡ Some n → bytes_of o ≤ length bytes
+number_within : (o : Size) (bytes : List ℕ) (n : ℕ) → number_at o bytes ≡ Some n → bytes_of o ≤ length bytes
 number_within one [] n e = absurd cc
 number_within one (a ∷ rest) n e = omega arith
 number_within two [] n e = absurd cc
@@ -22,7 +24,7 @@ both_joined None y ns e = absurd cc
 both_joined (Some n) None ns e = absurd cc
 both_joined (Some n) (Some ms) ns e = (n, ms, refl, refl)
 
-numbers_within : (os : List Operand) (bytes ns : List ℕ) → numbers_at os bytes ≡ Some ns → span os ≤ length bytes
+numbers_within : (os : List Size) (bytes ns : List ℕ) → numbers_at os bytes ≡ Some ns → span os ≤ length bytes
 numbers_within [] bytes ns e = omega arith
 numbers_within (o ∷ os) bytes ns e =
     let j = both_joined (number_at o bytes) (numbers_at os (drop (bytes_of o) bytes)) ns e in
@@ -30,24 +32,24 @@ numbers_within (o ∷ os) bytes ns e =
     let rest = numbers_within os (drop (bytes_of o) bytes) j.1 j.3 in
     omega (arith, first, rest, length-drop (bytes_of o) bytes)
 
-made_within : (r : Row) (bytes : List ℕ) (o : Option (List ℕ)) (x : Op × ℕ) → numbers_at r.operands bytes ≡ o → made r o ≡ Some x → (1 ≤ x.1) × (x.1 ≤ suc (length bytes))
+made_within : (r : Format) (bytes : List ℕ) (o : Option (List ℕ)) (x : Op × ℕ) → numbers_at r.sizes bytes ≡ o → made r o ≡ Some x → (1 ≤ x.1) × (x.1 ≤ suc (length bytes))
 made_within r bytes None x p e = absurd cc
 made_within r bytes (Some ns) x p e =
-    let w : 1 + span r.operands ≡ x.1 = cc in
-    let l = numbers_within r.operands bytes ns p in
+    let w : 1 + span r.sizes ≡ x.1 = cc in
+    let l = numbers_within r.sizes bytes ns p in
     (omega arith, omega arith)
 
-by_rows_within : (rs : List Row) (tag : ℕ) (rest : List ℕ) (x : Op × ℕ) → by_rows rs tag rest ≡ Some x → (1 ≤ x.1) × (x.1 ≤ suc (length rest))
-by_rows_within [] tag rest x e = absurd cc
-by_rows_within (r ∷ rs) tag rest x e = at (tag == r.tag) (λ f. by_rows_within rs tag rest x f) e where
-  at : (b : Bool) → (by_rows rs tag rest ≡ Some x → (1 ≤ x.1) × (x.1 ≤ suc (length rest))) → cond b (made r (numbers_at r.operands rest)) (by_rows rs tag rest) ≡ Some x → (1 ≤ x.1) × (x.1 ≤ suc (length rest))
-  at true more e = made_within r rest (numbers_at r.operands rest) x refl e
+by_formats_within : (rs : List Format) (tag : ℕ) (rest : List ℕ) (x : Op × ℕ) → by_formats rs tag rest ≡ Some x → (1 ≤ x.1) × (x.1 ≤ suc (length rest))
+by_formats_within [] tag rest x e = absurd cc
+by_formats_within (r ∷ rs) tag rest x e = at (tag == r.tag) (λ f. by_formats_within rs tag rest x f) e where
+  at : (b : Bool) → (by_formats rs tag rest ≡ Some x → (1 ≤ x.1) × (x.1 ≤ suc (length rest))) → cond b (made r (numbers_at r.sizes rest)) (by_formats rs tag rest) ≡ Some x → (1 ≤ x.1) × (x.1 ≤ suc (length rest))
+  at true more e = made_within r rest (numbers_at r.sizes rest) x refl e
   at false more e = more e
 
 op_in_within : (bytes : List ℕ) (x : Op × ℕ) → op_in bytes ≡ Some x → (1 ≤ x.1) × (x.1 ≤ length bytes)
 unfolding op_in by_tag
 op_in_within [] x e = absurd cc
-op_in_within (tag ∷ rest) x e = by_rows_within rows tag rest x e
+op_in_within (tag ∷ rest) x e = by_formats_within formats tag rest x e
 
 pub op_at_within : (code : List ℕ) (address : ℕ) (x : Op × ℕ) → op_at code address ≡ Some x → (1 ≤ x.1) × (address + x.1 ≤ length code)
 unfolding op_at
@@ -59,15 +61,15 @@ pub op_at_inside : (code : List ℕ) (address : ℕ) (o : Option (Op × ℕ)) �
 op_at_inside code address None e = tt
 op_at_inside code address (Some x) e = op_at_within code address x e
 
-made_width : (r : Row) (o : Option (List ℕ)) (x : Op × ℕ) → made r o ≡ Some x → 1 + span r.operands ≡ x.1
+made_width : (r : Format) (o : Option (List ℕ)) (x : Op × ℕ) → made r o ≡ Some x → 1 + span r.sizes ≡ x.1
 made_width r None x e = absurd cc
 made_width r (Some ns) x e = cc
 
-by_rows_width : (rs : List Row) (tag : ℕ) (rest : List ℕ) (x : Op × ℕ) → by_rows rs tag rest ≡ Some x → width_in rs tag ≡ x.1
-by_rows_width [] tag rest x e = absurd cc
-by_rows_width (r ∷ rs) tag rest x e = at (tag == r.tag) (λ f. by_rows_width rs tag rest x f) e where
-  at : (b : Bool) → (by_rows rs tag rest ≡ Some x → width_in rs tag ≡ x.1) → cond b (made r (numbers_at r.operands rest)) (by_rows rs tag rest) ≡ Some x → cond b (1 + span r.operands) (width_in rs tag) ≡ x.1
-  at true more e = made_width r (numbers_at r.operands rest) x e
+by_formats_width : (rs : List Format) (tag : ℕ) (rest : List ℕ) (x : Op × ℕ) → by_formats rs tag rest ≡ Some x → width_in rs tag ≡ x.1
+by_formats_width [] tag rest x e = absurd cc
+by_formats_width (r ∷ rs) tag rest x e = at (tag == r.tag) (λ f. by_formats_width rs tag rest x f) e where
+  at : (b : Bool) → (by_formats rs tag rest ≡ Some x → width_in rs tag ≡ x.1) → cond b (made r (numbers_at r.sizes rest)) (by_formats rs tag rest) ≡ Some x → cond b (1 + span r.sizes) (width_in rs tag) ≡ x.1
+  at true more e = made_width r (numbers_at r.sizes rest) x e
   at false more e = more e
 
 -- an instruction is read from its tag and what lies behind
@@ -79,7 +81,7 @@ op_at_tag code address lt =
 
 by_tag_width : (tag : ℕ) (rest : List ℕ) (x : Op × ℕ) → by_tag tag rest ≡ Some x → width_of tag ≡ x.1
 unfolding by_tag width_of
-by_tag_width tag rest x e = by_rows_width rows tag rest x e
+by_tag_width tag rest x e = by_formats_width formats tag rest x e
 
 -- where an instruction stands, its tag and its operands are there
 pub op_at_there : (code : List ℕ) (address : ℕ) (x : Op × ℕ) → op_at code address ≡ Some x →
@@ -96,3 +98,21 @@ op_at_none code address not = at (op_at code address) refl where
   at : (o : Option (Op × ℕ)) → op_at code address ≡ o → None ≡ op_at code address
   at None e = sym e
   at (Some x) e = let t = op_at_there code address x e in absurd (not t.0 t.1 t.2)
+
+-- no instruction has more than eight bytes after its tag
+abbrev short : List Format → Bool
+short [] = true
+short (r ∷ rs) = nat_le (span r.sizes) 8 && short rs
+
+width_in_short : (rs : List Format) (tag : ℕ) → short rs ≡ true → width_in rs tag ≤ 9
+width_in_short [] tag e = omega arith
+width_in_short (r ∷ rs) tag e = at (nat_le (span r.sizes) 8) (short rs) refl refl e (λ o. width_in_short rs tag o) (tag == r.tag) where
+  at : (x y : Bool) → nat_le (span r.sizes) 8 ≡ x → short rs ≡ y → (x && y) ≡ true → (short rs ≡ true → width_in rs tag ≤ 9) → (b : Bool) → cond b (1 + span r.sizes) (width_in rs tag) ≤ 9
+  at true true here others e more true = let le = leb-true (span r.sizes) 8 here in omega arith
+  at true true here others e more false = more others
+  at true false here others e more b = absurd cc
+  at false y here others e more b = absurd cc
+
+pub width_of_short : (tag : ℕ) → width_of tag ≤ 9
+unfolding width_of
+width_of_short tag = width_in_short formats tag refl

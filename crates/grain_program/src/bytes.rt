@@ -1,11 +1,13 @@
 //! Instructions as bytes.
 
 ghost use Rattle.std.specs.Prelude.{◌≡◌, ◌<◌, ◌≤◌, ◌+◌, ◌++◌, ◌∷◌, [], List, ℕ, length, slice_index_or, IfOk, IfSome, Some, option_map};
-ghost use Rattle.std.specs.List.{flat_map};
+ghost use Rattle.std.specs.List.{flat_map, AllByRecursion};
 ghost use Rattle.grain_program.specs.declared.instructions.Op.{Op};
-ghost use Rattle.grain_program.specs.Reading.{one, two, four, number_at, numbers_at, by_tag, width_of, op_at};
-ghost use Rattle.grain_program.specs.Spelling.{spelling, OpFits};
+ghost use Rattle.grain_program.specs.Fields.{one, two, four, size_of, number_of};
+ghost use Rattle.grain_program.specs.Reading.{number_at, by_tag, width_of, op_at};
+ghost use Rattle.grain_program.specs.Spelling.{spelled, fields_spelled, spelling, OpFits};
 
+use crate::fields::{Field, Fields};
 use crate::instructions::Op;
 use grain_value::{Blob, OutOfMemory};
 use std::alloc::Global;
@@ -31,15 +33,15 @@ fn four_there(bytes: &[u8]) -> u32
     u32::from_le_bytes([bytes[0], bytes[1], bytes[2], bytes[3]])
 }
 
-// The instruction of a tag, with its operands from the bytes behind it, which are there, into `op`, and its width. It is
-// written where it is wanted, and not handed on as a part of larger values: so the compiler sees which instruction each
-// tag gives, and a match on what was read needs no second jump.
+// The instruction of a tag, with its operands from the bytes after it, which are there, into `op`, and its width, or 0 for
+// a tag of no instruction. It is written where it is wanted, and not handed on as a part of larger values: so the compiler
+// sees which instruction each tag gives, and a match on what was read needs no second jump.
 #[inline(always)]
 #[tactic(auto, unfolding(crate::specs::Reading::by_tag, crate::specs::Reading::width_of))]
-fn tagged_there(tag: u8, rest: &[u8], op: &mut Op) -> usize
-    requires known { 0 < width_of tag }
-    requires long { width_of tag ≤ length rest.now + 1 }
-    ensures { by_tag tag rest.now ≡ Some (op.new, result) }
+fn tagged(tag: u8, rest: &[u8], op: &mut Op) -> usize
+    requires { width_of tag ≤ length rest.now + 1 }
+    ensures wide { result ≡ width_of tag }
+    ensures read { 0 < result → by_tag tag rest.now ≡ Some (op.new, result) }
 {
     match tag {
         0x01 => {
@@ -148,7 +150,7 @@ fn tagged_there(tag: u8, rest: &[u8], op: &mut Op) -> usize
             *op = Op::Return;
             1
         }
-        _ => unreachable!(),
+        _ => 0,
     }
 }
 
@@ -162,24 +164,19 @@ pub(crate) fn read_there(code: &Blob, address: usize, op: &mut Op) -> usize
 {
     let code = code.as_slice();
     let (_, rest) = code.split_at(address + 1);
-    tagged_there(code[address], rest, op)
+    let width = tagged(code[address], rest, op);
+    if width == 0 {
+        unreachable!()
+    }
+    width
 }
 
-// How wide an instruction of the tag is in bytes, or 0 where there is none.
-#[tactic(auto, unfolding(crate::specs::Reading::width_of))]
+// How wide an instruction of the tag is in bytes, or 0 where there is none: as one whose operands are all 0.
 fn width_of(tag: u8) -> usize
     ensures { result ≡ width_of tag }
 {
-    match tag {
-        0x02 | 0x03 | 0x04 | 0x1b | 0x39 | 0x3a | 0x49 | 0x4a => 1,
-        0x1c => 2,
-        0x01 | 0x05 | 0x06 | 0x07 | 0x0d | 0x0e | 0x38 | 0x3b => 3,
-        0x22 => 4,
-        0x10 | 0x1d | 0x1e | 0x1f | 0x20 => 5,
-        0x23 => 6,
-        0x11 => 7,
-        _ => 0,
-    }
+    let mut op = Op::Return;
+    tagged(tag, &[0; 8], &mut op)
 }
 
 /// The instruction at the address, and its width in bytes. There is none exactly where the address is at or past the
@@ -204,99 +201,51 @@ pub fn decode(code: &Blob, address: usize) -> Option<(Op, usize)>
     Some((op, width))
 }
 
-fn spell(code: &mut Vec<u8>, op: Op) -> Result<(), OutOfMemory>
-    ensures { IfOk result (λ _. code.new.items ≡ code.old.items ++ spelling op) }
+/// Appends the operand's bytes.
+fn spell_field(code: &mut Vec<u8>, field: Field) -> Result<(), OutOfMemory>
+    ensures { IfOk result (λ _. code.new.items ≡ code.old.items ++ spelled (size_of field) (number_of field)) }
 {
-    match op {
-        Op::LoadConst(constant) => {
-            code.push(0x01)?;
-            code.extend_from_slice(&constant.to_le_bytes())?;
-        }
-        Op::Unit => code.push(0x02)?,
-        Op::False => code.push(0x03)?,
-        Op::True => code.push(0x04)?,
-        Op::LoadLocal(slot) => {
-            code.push(0x05)?;
-            code.extend_from_slice(&slot.to_le_bytes())?;
-        }
-        Op::StoreLocal(slot) => {
-            code.push(0x06)?;
-            code.extend_from_slice(&slot.to_le_bytes())?;
-        }
-        Op::StoreConst(slot) => {
-            code.push(0x07)?;
-            code.extend_from_slice(&slot.to_le_bytes())?;
-        }
-        Op::DeclareLocal(name) => {
-            code.push(0x0d)?;
-            code.extend_from_slice(&name.to_le_bytes())?;
-        }
-        Op::DeclareConst(name) => {
-            code.push(0x0e)?;
-            code.extend_from_slice(&name.to_le_bytes())?;
-        }
-        Op::AssignLocal(slot, name) => {
-            code.push(0x10)?;
-            code.extend_from_slice(&slot.to_le_bytes())?;
-            code.extend_from_slice(&name.to_le_bytes())?;
-        }
-        Op::AssignLocalOp(slot, name, assign) => {
-            code.push(0x11)?;
-            code.extend_from_slice(&slot.to_le_bytes())?;
-            code.extend_from_slice(&name.to_le_bytes())?;
-            code.extend_from_slice(&assign.to_le_bytes())?;
-        }
-        Op::Pop => code.push(0x1b)?,
-        Op::Rotate(under) => {
-            code.push(0x1c)?;
-            code.push(under)?;
-        }
-        Op::Jump(target) => {
-            code.push(0x1d)?;
-            code.extend_from_slice(&target.to_le_bytes())?;
-        }
-        Op::JumpIfFalse(target) => {
-            code.push(0x1e)?;
-            code.extend_from_slice(&target.to_le_bytes())?;
-        }
-        Op::JumpIfTrue(target) => {
-            code.push(0x1f)?;
-            code.extend_from_slice(&target.to_le_bytes())?;
-        }
-        Op::SkipIfNotUnit(target) => {
-            code.push(0x20)?;
-            code.extend_from_slice(&target.to_le_bytes())?;
-        }
-        Op::Call(name, count) => {
-            code.push(0x22)?;
-            code.extend_from_slice(&name.to_le_bytes())?;
-            code.push(count)?;
-        }
-        Op::CallOp(name, count, token) => {
-            code.push(0x23)?;
-            code.extend_from_slice(&name.to_le_bytes())?;
-            code.push(count)?;
-            code.extend_from_slice(&token.to_le_bytes())?;
-        }
-        Op::UnwindTo(depth) => {
-            code.push(0x38)?;
-            code.extend_from_slice(&depth.to_le_bytes())?;
-        }
-        Op::Tick => code.push(0x39)?,
-        Op::Checkpoint => code.push(0x3a)?,
-        Op::Statement(depth) => {
-            code.push(0x3b)?;
-            code.extend_from_slice(&depth.to_le_bytes())?;
-        }
-        Op::Throw => code.push(0x49)?,
-        Op::Return => code.push(0x4a)?,
+    match field {
+        Field::Constant(index) => code.extend_from_slice(&index.to_le_bytes())?,
+        Field::Name(index) => code.extend_from_slice(&index.to_le_bytes())?,
+        Field::Assignment(index) => code.extend_from_slice(&index.to_le_bytes())?,
+        Field::Token(index) => code.extend_from_slice(&index.to_le_bytes())?,
+        Field::Slot(slot) => code.extend_from_slice(&slot.to_le_bytes())?,
+        Field::Target(address) => code.extend_from_slice(&address.to_le_bytes())?,
+        Field::Count(count) => code.push(count)?,
+        Field::Number(number) => code.extend_from_slice(&number.to_le_bytes())?,
     }
     Ok(())
 }
 
-/// The bytes of the instructions, one behind the other.
+/// Appends the bytes of the operands, in their order.
+fn spell_fields(code: &mut Vec<u8>, fields: &Fields) -> Result<(), OutOfMemory>
+    ensures { IfOk result (λ _. code.new.items ≡ code.old.items ++ fields_spelled fields.now) }
+{
+    let places = fields.as_slice();
+    for place in places {
+        if let Some(field) = place {
+            spell_field(code, *field)?;
+        }
+    }
+    Ok(())
+}
+
+/// Appends the instruction's bytes.
+fn spell(code: &mut Vec<u8>, op: Op) -> Result<(), OutOfMemory>
+    ensures bytes { IfOk result (λ _. code.new.items ≡ code.old.items ++ spelling op) }
+    ensures fits { OpFits op }
+{
+    let descriptor = op.descriptor();
+    code.push(descriptor.tag)?;
+    spell_fields(code, &descriptor.fields)
+}
+
+/// The bytes of the instructions, one after the other.
 pub fn assemble(alloc: Global, ops: &[Op]) -> Result<Blob, OutOfMemory>
-    ensures { IfOk result (λ code. code ≡ flat_map spelling ops.now) }
+    ensures bytes { IfOk result (λ code. code ≡ flat_map spelling ops.now) }
+    // Each operand fits its bytes, so that the instructions are read again.
+    ensures fits { IfOk result (λ _. AllByRecursion OpFits ops.now) }
 {
     let mut code = Vec::new(alloc);
     for op in ops {
@@ -305,7 +254,7 @@ pub fn assemble(alloc: Global, ops: &[Op]) -> Result<Blob, OutOfMemory>
     Ok(Blob::from_vec(code))
 }
 
-/// What is assembled reads as it was written: at the address behind the instructions before it, each instruction is
+/// What is assembled reads as it was written: at the address after the instructions before it, each instruction is
 /// read again, with the width of its bytes.
 pub fn assembled_reads_back()
     ensures { (before after : List Op) (op : Op) → OpFits op

@@ -4,20 +4,19 @@
 
 ghost use Rattle.std.specs.Prelude.{◌≡◌, ◌==◌, ◌⊎◌, ◌≤◌, ℕ, List, length, slice_get, IfOk, IfErr, Some, None};
 ghost use Rattle.grain_program.specs.View.{view_of};
-ghost use Rattle.grain_program.specs.Indices.{in_pools, record_named, all_below, is_named};
+ghost use Rattle.grain_program.specs.Fields.{every};
+ghost use Rattle.grain_program.specs.Indices.{in_pool, record_named, all_below, is_named};
 ghost use Rattle.grain_program.specs.Reading.{op_at};
-ghost use Rattle.grain_program.specs.Capabilities.{needs};
 ghost use Rattle.grain_program.specs.Layout.{chunks_in, layout_fault};
 ghost use Rattle.grain_program.specs.Rules.{IsSplit, RefusedEarly};
 ghost use Rattle.grain_program.specs.Owners.{owner_at, lands, stays_in, rule_in, rule_at, IsFirstFound, first_empty, first_misnamed};
 ghost use Rattle.grain_program.specs.declared.refusals.Refusal.TheVariants.{Memory};
 
 use crate::bytes::decode;
-use crate::caps::Caps;
-use crate::effects::{Effect, Flow};
+use crate::effects::Flow;
+use crate::fields::{Field, Fields};
 use crate::functions::Function;
 use crate::input::{Chunk, Parts};
-use crate::instructions::Op;
 use crate::owners::{Owner, misplaced, owners_of};
 use crate::refusals::{Refusal, earlier};
 use bitflags::Flags;
@@ -36,42 +35,33 @@ fn has_assign_op(parts: &Parts, index: u16) -> bool
     }
 }
 
-/// Whether each index of the instruction names an entry of its pool.
-fn has_entries(parts: &Parts, op: Op) -> bool
-    ensures { result ≡ in_pools (view_of parts.now) op }
+/// Whether the operand, if it is an index, names an entry of its pool.
+fn has_entry(parts: &Parts, field: Field) -> bool
+    ensures { result ≡ in_pool (view_of parts.now) field }
 {
-    let names = parts.names.len();
-    match op {
-        Op::LoadConst(constant) => (constant as usize) < parts.consts.len(),
-        Op::Unit => true,
-        Op::False => true,
-        Op::True => true,
-        Op::LoadLocal(_) => true,
-        Op::StoreLocal(_) => true,
-        Op::StoreConst(_) => true,
-        Op::DeclareLocal(name) => (name as usize) < names,
-        Op::DeclareConst(name) => (name as usize) < names,
-        Op::AssignLocal(_, name) => (name as usize) < names,
-        Op::AssignLocalOp(_, name, assign) => {
-            (name as usize) < names && has_assign_op(parts, assign)
-        }
-        Op::Pop => true,
-        Op::Rotate(_) => true,
-        Op::Jump(_) => true,
-        Op::JumpIfFalse(_) => true,
-        Op::JumpIfTrue(_) => true,
-        Op::SkipIfNotUnit(_) => true,
-        Op::Call(name, _) => (name as usize) < names,
-        Op::CallOp(name, _, token) => {
-            (name as usize) < names && (token as usize) < parts.tokens.len()
-        }
-        Op::UnwindTo(_) => true,
-        Op::Tick => true,
-        Op::Checkpoint => true,
-        Op::Statement(_) => true,
-        Op::Throw => true,
-        Op::Return => true,
+    match field {
+        Field::Constant(index) => (index as usize) < parts.consts.len(),
+        Field::Name(index) => (index as usize) < parts.names.len(),
+        Field::Assignment(index) => has_assign_op(parts, index),
+        Field::Token(index) => (index as usize) < parts.tokens.len(),
+        Field::Slot(_) => true,
+        Field::Target(_) => true,
+        Field::Count(_) => true,
+        Field::Number(_) => true,
     }
+}
+
+/// Whether each index among the operands names an entry of its pool.
+fn has_entries(parts: &Parts, fields: &Fields) -> bool
+    ensures { result ≡ every (in_pool (view_of parts.now)) fields.now }
+{
+    let places = fields.as_slice();
+    for place in places {
+        if let Some(field) = place && !has_entry(parts, *field) {
+            return false;
+        }
+    }
+    true
 }
 
 /// Whether the chunk of this end owns an instruction at the target.
@@ -85,16 +75,33 @@ fn owns(owners: &[Owner], end: usize, target: u32) -> bool
     owner_end as usize == end
 }
 
-/// Whether the flow's target is an instruction of the chunk of this end.
-fn has_target(owners: &[Owner], end: usize, flow: Flow) -> bool
-    ensures { result ≡ lands owners.now end flow }
+/// Whether the operand, if it is an address, names an instruction of the chunk of this end.
+fn lands(owners: &[Owner], end: usize, field: Field) -> bool
+    ensures { result ≡ lands owners.now end field }
 {
-    match flow {
-        Flow::Next => true,
-        Flow::Jump(target) => owns(owners, end, target),
-        Flow::Branch(target) => owns(owners, end, target),
-        Flow::End => true,
+    match field {
+        Field::Constant(_) => true,
+        Field::Name(_) => true,
+        Field::Assignment(_) => true,
+        Field::Token(_) => true,
+        Field::Slot(_) => true,
+        Field::Target(address) => owns(owners, end, address),
+        Field::Count(_) => true,
+        Field::Number(_) => true,
     }
+}
+
+/// Whether each address among the operands names an instruction of the chunk of this end.
+fn has_targets(owners: &[Owner], end: usize, fields: &Fields) -> bool
+    ensures { result ≡ every (lands owners.now end) fields.now }
+{
+    let places = fields.as_slice();
+    for place in places {
+        if let Some(field) = place && !lands(owners, end, *field) {
+            return false;
+        }
+    }
+    true
 }
 
 /// Whether the flow does not go on behind the chunk of this end.
@@ -109,16 +116,6 @@ fn stays(end: usize, next: usize, flow: Flow) -> bool
     }
 }
 
-/// The capability that the instruction needs, or none.
-fn needed(op: Op) -> Caps
-    ensures { result.0 ≡ needs op }
-{
-    match op {
-        Op::Call(_, _) => Caps::FUNCTION,
-        _ => Caps::empty(),
-    }
-}
-
 /// The first rule that the instruction at the address breaks, in a chunk of this end.
 fn instruction_rule(parts: &Parts, owners: &[Owner], end: usize, address: usize) -> Option<Refusal>
     requires { length parts.now.code ≤ 16777216 }
@@ -128,16 +125,17 @@ fn instruction_rule(parts: &Parts, owners: &[Owner], end: usize, address: usize)
         return Some(Refusal::Undecodable(address));
     };
     let next = address + width;
-    let flow = Effect::of(op).flow;
+    let descriptor = op.descriptor();
+    let flow = descriptor.effect.flow;
     if end < next {
         Some(Refusal::Undecodable(address))
-    } else if !has_entries(parts, op) {
+    } else if !has_entries(parts, &descriptor.fields) {
         Some(Refusal::PoolIndex(address))
-    } else if !has_target(owners, end, flow) {
+    } else if !has_targets(owners, end, &descriptor.fields) {
         Some(Refusal::JumpTarget(address))
     } else if !stays(end, next, flow) {
         Some(Refusal::FallsOff(address))
-    } else if !parts.caps.contains(needed(op)) {
+    } else if !parts.caps.contains(descriptor.capability) {
         Some(Refusal::Capability(address))
     } else {
         None

@@ -5,8 +5,10 @@ mod bytes;
 mod caps;
 #[cfg(test)]
 mod chunk_tests;
+mod descriptors;
 mod early;
 mod effects;
+mod fields;
 mod functions;
 mod input;
 mod instructions;
@@ -23,7 +25,9 @@ mod tests;
 
 pub use bytes::{assemble, assembled_reads_back, decode};
 pub use caps::Caps;
+pub use descriptors::Descriptor;
 pub use effects::{Effect, Flow};
+pub use fields::{Field, Fields};
 pub use functions::{Function, Functions, Indices};
 pub use input::{AssignOp, Chunk, Parts, PositionEntry};
 pub use instructions::Op;
