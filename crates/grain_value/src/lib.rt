@@ -3,6 +3,7 @@
 
 mod arrays;
 mod blobs;
+mod lists;
 mod memory;
 mod operators;
 mod scopes;
@@ -13,6 +14,7 @@ mod values;
 
 pub use arrays::Array;
 pub use blobs::Blob;
+pub use lists::List;
 pub use memory::OutOfMemory;
 pub use operators::Token;
 pub use scopes::{Entry, Scope};
