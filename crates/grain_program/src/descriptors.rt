@@ -33,7 +33,12 @@ fn plain(tag: u8, fields: Fields, takes: u32, gives: u32, flow: Flow) -> Descrip
     ensures capability { result.capability.0 ≡ 0 }
 {
     let effect = Effect { takes, gives, flow };
-    Descriptor { tag, fields, effect, capability: Caps::empty() }
+    Descriptor {
+        tag,
+        fields,
+        effect,
+        capability: Caps::empty(),
+    }
 }
 
 impl Op {
@@ -47,7 +52,13 @@ impl Op {
     {
         match self {
             Op::LoadConst(constant) => {
-                plain(0x01, Fields::one(Field::Constant(constant)), 0, 1, Flow::Next)
+                plain(
+                    0x01,
+                    Fields::one(Field::Constant(constant)),
+                    0,
+                    1,
+                    Flow::Next,
+                )
             }
             Op::Unit => plain(0x02, Fields::none(), 0, 1, Flow::Next),
             Op::False => plain(0x03, Fields::none(), 0, 1, Flow::Next),
@@ -69,7 +80,13 @@ impl Op {
             Op::Pop => plain(0x1b, Fields::none(), 1, 0, Flow::Next),
             Op::Rotate(under) => {
                 let moved = u32::from(under) + 1;
-                plain(0x1c, Fields::one(Field::Count(under)), moved, moved, Flow::Next)
+                plain(
+                    0x1c,
+                    Fields::one(Field::Count(under)),
+                    moved,
+                    moved,
+                    Flow::Next,
+                )
             }
             Op::Jump(target) => {
                 let fields = Fields::one(Field::Target(target));
@@ -90,7 +107,10 @@ impl Op {
             Op::Call(name, count) => {
                 let fields = Fields::two(Field::Name(name), Field::Count(count));
                 let call = plain(0x22, fields, u32::from(count), 1, Flow::Next);
-                Descriptor { capability: Caps::FUNCTION, ..call }
+                Descriptor {
+                    capability: Caps::FUNCTION,
+                    ..call
+                }
             }
             Op::CallOp(name, count, token) => {
                 let token = Field::Token(token);
@@ -100,7 +120,13 @@ impl Op {
             Op::UnwindTo(depth) => plain(0x38, Fields::one(Field::Number(depth)), 0, 0, Flow::Next),
             Op::Tick => plain(0x39, Fields::none(), 0, 0, Flow::Next),
             Op::Checkpoint => plain(0x3a, Fields::none(), 0, 0, Flow::Next),
-            Op::Statement(depth) => plain(0x3b, Fields::one(Field::Number(depth)), 0, 0, Flow::Next),
+            Op::Statement(depth) => plain(
+                0x3b,
+                Fields::one(Field::Number(depth)),
+                0,
+                0,
+                Flow::Next,
+            ),
             Op::Throw => plain(0x49, Fields::none(), 1, 0, Flow::End),
             Op::Return => plain(0x4a, Fields::none(), 0, 0, Flow::End),
         }

@@ -57,7 +57,9 @@ fn has_entries(parts: &Parts, fields: &Fields) -> bool
 {
     let places = fields.as_slice();
     for place in places {
-        if let Some(field) = place && !has_entry(parts, *field) {
+        if let Some(field) = place
+            && !has_entry(parts, *field)
+        {
             return false;
         }
     }
@@ -97,7 +99,9 @@ fn has_targets(owners: &[Owner], end: usize, fields: &Fields) -> bool
 {
     let places = fields.as_slice();
     for place in places {
-        if let Some(field) = place && !lands(owners, end, *field) {
+        if let Some(field) = place
+            && !lands(owners, end, *field)
+        {
             return false;
         }
     }
