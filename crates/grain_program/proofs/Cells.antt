@@ -2,7 +2,7 @@
 use Rattle.std.proofs.Common.{◌≡◌, ℕ, zero, suc, ◌+◌, ◌<◌, List, [], ◌∷◌, length, map, replicate, get_or, Option, Some, None, refl, ap, ◌∙◌, add-one, arith}
 use Rattle.std.proofs.Math.ListN.{set}
 use Rattle.std.proofs.lemmas.List.{map-set}
-use Rattle.grain_program.specs.declared.shapes.Shape.{Shape}
+use Rattle.grain_program.specs.declared.verifier.shapes.Shape.{Shape}
 use Rattle.grain_program.specs.Shapes.{shape_in}
 
 pub cells_none : (n : ℕ) → map shape_in (replicate n 0) ≡ replicate n None

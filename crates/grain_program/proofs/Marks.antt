@@ -4,13 +4,13 @@ use Rattle.std.specs.Prelude.{slice_get}
 use Rattle.std.proofs.Math.ListN.{set}
 use Rattle.std.proofs.lemmas.Bool.{cases_lt}
 use Rattle.std.proofs.lemmas.List.{get_or-set_same, get_or-set_other, length-set}
-use Rattle.grain_program.specs.declared.instructions.Op.{Op}
-use Rattle.grain_program.specs.declared.input.Chunk.{Chunk}
-use Rattle.grain_program.specs.declared.owners.Owner.{Owner}
+use Rattle.grain_program.specs.declared.code.instructions.Op.{Op}
+use Rattle.grain_program.specs.declared.code.parts.Chunk.{Chunk}
+use Rattle.grain_program.specs.declared.verifier.owners.Owner.{Owner}
 use Rattle.grain_program.specs.Reading.{op_at}
 use Rattle.grain_program.specs.Layout.{Tiled}
 use Rattle.grain_program.specs.Starts.{Start}
-use Rattle.grain_program.specs.Begins.{start_first, start_next, start_within, start_apart}
+use Rattle.grain_program.specs.laws.Starts.{start_first, start_next, start_within, start_apart}
 use Rattle.grain_program.specs.Owners.{no_owner, owner_of, owner_at, IsOwned, Owned, IsMarked}
 
 -- the starts below the address have got the owner, and every other address has kept its own
@@ -79,13 +79,6 @@ marking_all code c at before now m le a = one (m.each a) where
   one : MarkedBelow code c at before now a → (Start code c a × (owner_at now a ≡ owner_of c)) ⊎ ((Start code c a → ⊥) × (owner_at now a ≡ owner_at before a))
   one (inl q) = inl (q.0, q.2)
   one (inr q) = inr (λ s. let w = start_within code c a s in let l = q.0 s in omega (arith, w.1), q.1)
-
-pub owned_none : (code : List ℕ) (chunks : List Chunk) (owners : List Owner) → length owners ≡ length code → ((a : ℕ) → owner_at owners a ≡ no_owner) → Owned code chunks 0 owners
-owned_none code chunks owners long none = record {
-  long = long;
-  owned = λ i c a lt g s. absurd (omega arith);
-  only = λ a. inl (none a);
-}
 
 pub owned_more : (code : List ℕ) (chunks : List Chunk) (n : ℕ) (c : Chunk) (before now : List Owner) → Tiled (length code) chunks → slice_get chunks n ≡ Some c
     → Owned code chunks n before → length now ≡ length before → IsMarked code c before now → Owned code chunks (n + 1) now

@@ -4,14 +4,14 @@ use Rattle.std.specs.Prelude.{slice_get, nat_lt}
 use Rattle.std.specs.List.{AllByRecursion}
 use Rattle.std.proofs.lemmas.Bool.{cases_lt, eqb-true, eqb-false}
 use Rattle.std.proofs.lemmas.Option.{slice_get_within}
-use Rattle.grain_program.specs.declared.instructions.Op.{Op}
-use Rattle.grain_program.specs.declared.input.Chunk.{Chunk}
-use Rattle.grain_program.specs.declared.functions.Function.{Function}
-use Rattle.grain_program.specs.declared.owners.Owner.{Owner}
-use Rattle.grain_program.specs.declared.refusals.Refusal.{Refusal}
-use Rattle.grain_program.specs.declared.refusals.Refusal.TheVariants as refusal
-use Rattle.grain_program.specs.declared.fields.Field.{Field}
-use Rattle.grain_program.specs.declared.fields.Field.TheVariants as field
+use Rattle.grain_program.specs.declared.code.instructions.Op.{Op}
+use Rattle.grain_program.specs.declared.code.parts.Chunk.{Chunk}
+use Rattle.grain_program.specs.declared.code.functions.Function.{Function}
+use Rattle.grain_program.specs.declared.verifier.owners.Owner.{Owner}
+use Rattle.grain_program.specs.declared.verifier.refusals.Refusal.{Refusal}
+use Rattle.grain_program.specs.declared.verifier.refusals.Refusal.TheVariants as refusal
+use Rattle.grain_program.specs.declared.code.fields.Field.{Field}
+use Rattle.grain_program.specs.declared.code.fields.Field.TheVariants as field
 use Rattle.grain_program.specs.View.{View}
 use Rattle.grain_program.specs.Fields.{every}
 use Rattle.grain_program.specs.InstructionSet.{fields_of}
@@ -21,10 +21,10 @@ use Rattle.grain_program.specs.Indices.{in_pools, IsNamed}
 use Rattle.grain_program.specs.Capabilities.{permits}
 use Rattle.grain_program.specs.Layout.{Tiled}
 use Rattle.grain_program.specs.Starts.{Start}
-use Rattle.grain_program.specs.Begins.{start_within}
-use Rattle.grain_program.specs.Rules.{Lands, Whole, IndexRule, TargetRule, EndRule, CapabilityRule, Obeys, Splits, Spot, Unread, Disobeys, address_of, rule_of, Precedes}
+use Rattle.grain_program.specs.laws.Starts.{start_within}
+use Rattle.grain_program.specs.Rules.{Lands, Whole, IndexRule, TargetRule, EndRule, CapabilityRule, Obeys, Splits, InstructionStart, Unread, Disobeys, address_of, rule_of, Precedes}
 use Rattle.grain_program.specs.Owners.{owner_at, Owned, lands, stays_in, rule_in, rule_at, IsFirstFound}
-use Rattle.grain_program.proofs.Tells.{Tells, tells, lt_tells, every_tells, pools_tell, stays_tell, permits_tell}
+use Rattle.grain_program.proofs.Decisions.{Decides, decides, lt_decides, every_decides, pools_decide, stays_decide, permits_decide}
 use Rattle.grain_program.proofs.Breaches.{ByOp, FirstOf}
 use Rattle.grain_program.proofs.Tiles.{NoneEmpty}
 
@@ -110,8 +110,8 @@ module _ (p : View) (chunks : List Chunk) (t : Tiled (length p.code) chunks) whe
     within : (i : ℕ) (c : Chunk) → slice_get chunks i ≡ Some c → i < length chunks
     within i c g = slice_get_within chunks i c g
 
-    owns_tell : (i : ℕ) (c : Chunk) → slice_get chunks i ≡ Some c → c.entry < c.end → (x : ℕ) → Tells ((owner_at owners x).end == c.end) (Start p.code c x)
-    owns_tell i c g full x = tells (Start p.code c x) ((owner_at owners x).end == c.end) (λ e. yes (eqb-true (owner_at owners x).end c.end e)) no where
+    owns_decide : (i : ℕ) (c : Chunk) → slice_get chunks i ≡ Some c → c.entry < c.end → (x : ℕ) → Decides ((owner_at owners x).end == c.end) (Start p.code c x)
+    owns_decide i c g full x = decides (Start p.code c x) ((owner_at owners x).end == c.end) (λ e. yes (eqb-true (owner_at owners x).end c.end e)) no where
       yes : (owner_at owners x).end ≡ c.end → Start p.code c x
       yes e = elim (o.only x) [
         | inl none ↦ let z : (owner_at owners x).end ≡ 0 = ap (λ (w : Owner). w.end) none in absurd (omega arith)
@@ -125,16 +125,16 @@ module _ (p : View) (chunks : List Chunk) (t : Tiled (length p.code) chunks) whe
       no : ((owner_at owners x).end == c.end) ≡ false → Start p.code c x → ⊥
       no e s = eqb-false (owner_at owners x).end c.end e (ap (λ (w : Owner). w.end) (o.owned i c x (within i c g) g s))
 
-    field_lands : (i : ℕ) (c : Chunk) → slice_get chunks i ≡ Some c → c.entry < c.end → (f : Field) → Tells (lands owners c.end f) (Lands p c f)
-    field_lands i c g full (field.Target x) = owns_tell i c g full x
+    field_lands : (i : ℕ) (c : Chunk) → slice_get chunks i ≡ Some c → c.entry < c.end → (f : Field) → Decides (lands owners c.end f) (Lands p c f)
+    field_lands i c g full (field.Target x) = owns_decide i c g full x
     field_lands i c g full _ = tt
 
-    lands_tell : (i : ℕ) (c : Chunk) → slice_get chunks i ≡ Some c → c.entry < c.end → (o : Op) → Tells (every (lands owners c.end) (fields_of o)) (AllByRecursion (Lands p c) (fields_of o))
-    lands_tell i c g full o = every_tells (Lands p c) (lands owners c.end) (field_lands i c g full) (fields_of o)
+    lands_decide : (i : ℕ) (c : Chunk) → slice_get chunks i ≡ Some c → c.entry < c.end → (o : Op) → Decides (every (lands owners c.end) (fields_of o)) (AllByRecursion (Lands p c) (fields_of o))
+    lands_decide i c g full o = every_decides (Lands p c) (lands owners c.end) (field_lands i c g full) (fields_of o)
 
     module _ (i : ℕ) (c : Chunk) (a : ℕ) (g : slice_get chunks i ≡ Some c) (s : Start p.code c a) where
-      abbrev spot : Spot p.code chunks a
-      spot = record { number = i; chunk = c; is = g; start = s }
+      abbrev start_here : InstructionStart p.code chunks a
+      start_here = record { number = i; chunk = c; is = g; start = s }
 
       abbrev Says : Option Refusal → Type 0
       Says None = Obeys p c a
@@ -157,61 +157,61 @@ module _ (p : View) (chunks : List Chunk) (t : Tiled (length p.code) chunks) whe
       after_whole r = cond (in_pools p r.0) (after_index r) (Some (refusal.PoolIndex a))
 
       module _ (r : Op × ℕ) (w : Whole p.code c a r) where
-        fifth : IndexRule p c a r → TargetRule p c a r → EndRule p c a r → (b : Bool) → Tells b (CapabilityRule p c a r) → Says (cond b None (Some (refusal.Capability a)))
+        fifth : IndexRule p c a r → TargetRule p c a r → EndRule p c a r → (b : Bool) → Decides b (CapabilityRule p c a r) → Says (cond b None (Some (refusal.Capability a)))
         fifth ix tg en true h = record { read = r; whole = w; index = ix; target = tg; end = en; capability = h }
         fifth ix tg en false h = record {
           there = refl;
-          breach = (spot, (r, w, h));
+          breach = (start_here, (r, w, h));
           least =
               rank a 12 (omega arith) (λ _. not_unread i c a g s r w) (λ _. not_disobeys i c a g s r w (IndexRule p) ix) (λ _. not_disobeys i c a g s r w (TargetRule p) tg)
               (λ _. not_disobeys i c a g s r w (EndRule p) en);
         }
 
-        fourth : IndexRule p c a r → TargetRule p c a r → (b : Bool) → Tells b (EndRule p c a r) → Says (cond b (after_end r) (Some (refusal.FallsOff a)))
-        fourth ix tg true h = fifth ix tg h (permits p.caps r.0) (permits_tell p.caps r.0)
+        fourth : IndexRule p c a r → TargetRule p c a r → (b : Bool) → Decides b (EndRule p c a r) → Says (cond b (after_end r) (Some (refusal.FallsOff a)))
+        fourth ix tg true h = fifth ix tg h (permits p.caps r.0) (permits_decide p.caps r.0)
         fourth ix tg false h = record {
           there = refl;
-          breach = (spot, (r, w, h));
+          breach = (start_here, (r, w, h));
           least =
               rank a 4 (omega arith) (λ _. not_unread i c a g s r w) (λ _. not_disobeys i c a g s r w (IndexRule p) ix) (λ _. not_disobeys i c a g s r w (TargetRule p) tg)
               (λ lt. absurd (omega arith));
         }
 
-        third : IndexRule p c a r → (b : Bool) → Tells b (TargetRule p c a r) → Says (cond b (after_target r) (Some (refusal.JumpTarget a)))
-        third ix true h = fourth ix h (stays_in c.end (a + r.1) (effect_of r.0).flow) (stays_tell c (a + r.1) (effect_of r.0).flow)
+        third : IndexRule p c a r → (b : Bool) → Decides b (TargetRule p c a r) → Says (cond b (after_target r) (Some (refusal.JumpTarget a)))
+        third ix true h = fourth ix h (stays_in c.end (a + r.1) (effect_of r.0).flow) (stays_decide c (a + r.1) (effect_of r.0).flow)
         third ix false h = record {
           there = refl;
-          breach = (spot, (r, w, h));
+          breach = (start_here, (r, w, h));
           least = rank a 3 (omega arith) (λ _. not_unread i c a g s r w) (λ _. not_disobeys i c a g s r w (IndexRule p) ix) (λ lt. absurd (omega arith)) (λ lt. absurd (omega arith));
         }
 
-        second : (b : Bool) → Tells b (IndexRule p c a r) → Says (cond b (after_index r) (Some (refusal.PoolIndex a)))
-        second true h = third h (every (lands owners c.end) (fields_of r.0)) (lands_tell i c g full r.0)
+        second : (b : Bool) → Decides b (IndexRule p c a r) → Says (cond b (after_index r) (Some (refusal.PoolIndex a)))
+        second true h = third h (every (lands owners c.end) (fields_of r.0)) (lands_decide i c g full r.0)
         second false h = record {
           there = refl;
-          breach = (spot, (r, w, h));
+          breach = (start_here, (r, w, h));
           least = rank a 2 (omega arith) (λ _. not_unread i c a g s r w) (λ lt. absurd (omega arith)) (λ lt. absurd (omega arith)) (λ lt. absurd (omega arith));
         }
 
       unread_least : Unread p.code chunks a → Least a (refusal.Undecodable a)
       unread_least u = record { there = refl; breach = u; least = rank a 1 (omega arith) (λ lt. absurd (omega arith)) (λ lt. absurd (omega arith)) (λ lt. absurd (omega arith)) (λ lt. absurd (omega arith)) }
 
-      first : (r : Op × ℕ) → op_at p.code a ≡ Some r → (b : Bool) → Tells b (c.end < a + r.1) → Says (cond b (Some (refusal.Undecodable a)) (after_whole r))
-      first r e true h = unread_least (spot, no) where
+      first : (r : Op × ℕ) → op_at p.code a ≡ Some r → (b : Bool) → Decides b (c.end < a + r.1) → Says (cond b (Some (refusal.Undecodable a)) (after_whole r))
+      first r e true h = unread_least (start_here, no) where
         no : (q : Op × ℕ) → Whole p.code c a q → ⊥
         no q w =
             let both : Some q ≡ Some r = sym w.is ∙ e in
             let same : q ≡ r = cc in
             let le = subst (λ (x : Op × ℕ). a + x.1 ≤ c.end) same w.inside in
             omega arith
-      first r e false h = second r (record { is = e; inside = at (cases_lt c.end (a + r.1)) }) (in_pools p r.0) (pools_tell p r.0) where
+      first r e false h = second r (record { is = e; inside = at (cases_lt c.end (a + r.1)) }) (in_pools p r.0) (pools_decide p r.0) where
         at : (c.end < a + r.1) ⊎ (a + r.1 ≤ c.end) → a + r.1 ≤ c.end
         at (inl lt) = absurd (h lt)
         at (inr le) = le
 
       pub rule_says : (x : Option (Op × ℕ)) → op_at p.code a ≡ x → Says (rule_in p owners c.end a x)
       rule_says None e = unread_least (record { number = i; chunk = c; is = g; start = s }, λ r w. let bad : None ≡ Some r = sym e ∙ w.is in cc)
-      rule_says (Some r) e = first r e (nat_lt c.end (a + r.1)) (lt_tells c.end (a + r.1))
+      rule_says (Some r) e = first r e (nat_lt c.end (a + r.1)) (lt_decides c.end (a + r.1))
 
       -- what is said of the one instruction there is said of the address
       pub said : (x : Option Refusal) → Says x → MeansAt a x
@@ -243,16 +243,16 @@ module _ (p : View) (chunks : List Chunk) (t : Tiled (length p.code) chunks) whe
     -- ---- what the search over the addresses finds
 
     pub first_op : (q : Option Refusal) → IsFirstFound (rule_at p owners) (length p.code) q → FirstOf (ByOp p chunks) q
-    first_op None none = λ s h. at s h (spot_of s h) where
-      spot_of : (s : Refusal) → ByOp p chunks s → Spot p.code chunks (address_of s)
-      spot_of (refusal.Undecodable b) h = h.0
-      spot_of (refusal.PoolIndex b) h = h.0
-      spot_of (refusal.JumpTarget b) h = h.0
-      spot_of (refusal.FallsOff b) h = h.0
-      spot_of (refusal.Capability b) h = h.0
-      spot_of _ h = absurd h
+    first_op None none = λ s h. at s h (start_of s h) where
+      start_of : (s : Refusal) → ByOp p chunks s → InstructionStart p.code chunks (address_of s)
+      start_of (refusal.Undecodable b) h = h.0
+      start_of (refusal.PoolIndex b) h = h.0
+      start_of (refusal.JumpTarget b) h = h.0
+      start_of (refusal.FallsOff b) h = h.0
+      start_of (refusal.Capability b) h = h.0
+      start_of _ h = absurd h
 
-      at : (s : Refusal) → ByOp p chunks s → Spot p.code chunks (address_of s) → ⊥
+      at : (s : Refusal) → ByOp p chunks s → InstructionStart p.code chunks (address_of s) → ⊥
       at s h u =
           let w = start_within p.code u.chunk (address_of s) u.start in
           let n = t.inside u.number u.chunk u.is in

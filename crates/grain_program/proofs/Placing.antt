@@ -3,7 +3,7 @@ use Rattle.std.proofs.Common.{◌≡◌, ℕ, zero, suc, ◌+◌, ◌-◌, ◌/�
 use Rattle.std.specs.Prelude.{slice_get}
 use Rattle.std.proofs.lemmas.Bool.{cases_lt, eqb-true, eq-eqb}
 use Rattle.grain_fault.specs.Places.{nowhere}
-use Rattle.grain_program.specs.declared.input.PositionEntry.{PositionEntry}
+use Rattle.grain_program.specs.declared.code.parts.PositionEntry.{PositionEntry}
 use Rattle.grain_program.specs.View.{position_in}
 use Rattle.grain_program.specs.Recorded.{Ascends}
 
@@ -56,9 +56,6 @@ pub record Between (es : List PositionEntry) (a low high : ℕ) : Type 0 where
   pub inside : high ≤ length es
   pub below : (k : ℕ) → k < low → address_at es k < a
   pub above : (k : ℕ) → high ≤ k → k < length es → a < address_at es k
-
-pub between_all : (es : List PositionEntry) (a : ℕ) → Between es a 0 (length es)
-between_all es a = record { ordered = omega arith; inside = omega arith; below = λ k lt. absurd (omega arith); above = λ k le lt. absurd (omega arith) }
 
 module _ (es : List PositionEntry) (s : (end : ℕ) × Ascends 0 end es) (a low high middle : ℕ) (b : Between es a low high) (e : PositionEntry) (g : slice_get es middle ≡ Some e) where
   pub to_the_right : e.address < a → middle < high → Between es a (middle + 1) high

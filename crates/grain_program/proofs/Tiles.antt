@@ -3,17 +3,18 @@
 use Rattle.std.proofs.Common.{◌≡◌, ℕ, zero, suc, ◌<◌, ◌≤◌, ◌⊎◌, ◌&&◌, ◌==◌, Bool, true, false, cond, List, [], ◌∷◌, length, Option, Some, None, refl, sym, ap, ◌∙◌, subst, inl, inr, arith}
 use Rattle.std.specs.Prelude.{nat_le, nat_lt, slice_get}
 use Rattle.std.proofs.lemmas.Bool.{cases_lt, ltb-false, leb-true, eqb-true, eqb-false}
-use Rattle.grain_program.specs.declared.input.Chunk.{Chunk}
-use Rattle.grain_program.specs.declared.functions.Function.{Function}
-use Rattle.grain_program.specs.declared.refusals.Refusal.{Refusal}
-use Rattle.grain_program.specs.declared.refusals.Refusal.TheVariants as refusal
+use Rattle.grain_program.specs.declared.code.parts.Chunk.{Chunk}
+use Rattle.grain_program.specs.declared.code.functions.Function.{Function}
+use Rattle.grain_program.specs.declared.verifier.refusals.Refusal.{Refusal}
+use Rattle.grain_program.specs.declared.verifier.refusals.Refusal.TheVariants as refusal
 use Rattle.grain_program.specs.View.{View}
 use Rattle.grain_program.specs.Indices.{IsNamed, is_named}
-use Rattle.grain_program.specs.Layout.{chunks_in, function_chunk, gap_from, layout_fault, Tiled}
-use Rattle.grain_program.specs.Rules.{IsHollow, Precedes}
+use Rattle.grain_program.specs.Layout.{chunks_in, gap_from, layout_fault, Tiled}
+use Rattle.grain_program.specs.laws.Layout.{function_chunk}
+use Rattle.grain_program.specs.Rules.{IsEmptyChunk, Precedes}
 use Rattle.grain_program.specs.Owners.{first_empty, first_misnamed}
-use Rattle.grain_program.proofs.Tells.{Tells, eq_tells, named_tell}
-use Rattle.grain_program.proofs.Breaches.{ByName, ByHollow, FirstOf}
+use Rattle.grain_program.proofs.Decisions.{Decides, eq_decides, named_decide}
+use Rattle.grain_program.proofs.Breaches.{ByName, ByEmptyChunk, FirstOf}
 
 both_true : (a b : Bool) → (a && b) ≡ true → (a ≡ true) × (b ≡ true)
 both_true true b e = (refl, e)
@@ -106,38 +107,38 @@ same_first C D (Some r) there back f = (there r f.0, λ s h. f.1 s (back s h))
 no_lower : (a b : ℕ) → a ≤ b → (a < b) ⊎ ((a ≡ b) × (4 ≤ 4))
 no_lower a b le = elim (cases_lt a b) [ inl lt ↦ inl lt | inr ge ↦ inr (omega arith, omega arith) ]
 
-hollow_first : (len at : ℕ) (cs : List Chunk) → gap_from len at cs ≡ None → FirstOf (ByHollow cs) (first_empty cs)
-hollow_first len at [] l = λ s h. none s h where
-  none : (s : Refusal) → ByHollow [] s → ⊥
+empty_first : (len at : ℕ) (cs : List Chunk) → gap_from len at cs ≡ None → FirstOf (ByEmptyChunk cs) (first_empty cs)
+empty_first len at [] l = λ s h. none s h where
+  none : (s : Refusal) → ByEmptyChunk [] s → ⊥
   none (refusal.FallsOff a) h = cc (h.1.1)
   none _ h = h
-hollow_first len at (d ∷ cs) l = case (d.entry == d.end) (eq_tells d.entry d.end) (hollow_first len d.end cs (tile_of len at d cs l).rest) where
-  above : (s : Refusal) → ByHollow (d ∷ cs) s → Precedes (refusal.FallsOff d.entry) s
+empty_first len at (d ∷ cs) l = case (d.entry == d.end) (eq_decides d.entry d.end) (empty_first len d.end cs (tile_of len at d cs l).rest) where
+  above : (s : Refusal) → ByEmptyChunk (d ∷ cs) s → Precedes (refusal.FallsOff d.entry) s
   above (refusal.FallsOff a) h =
       let b = behind len at (d ∷ cs) l h.0 h.1.0 h.1.1 in
       let t = tile_of len at d cs l in
       no_lower d.entry a (omega (arith, b.0, t.begins, h.1.2))
   above _ h = absurd h
 
-  on : (s : Refusal) → ByHollow cs s → ByHollow (d ∷ cs) s
+  on : (s : Refusal) → ByEmptyChunk cs s → ByEmptyChunk (d ∷ cs) s
   on (refusal.FallsOff a) h = (suc h.0, h.1)
   on _ h = absurd h
 
-  back : (d.entry ≡ d.end → ⊥) → (s : Refusal) → ByHollow (d ∷ cs) s → ByHollow cs s
+  back : (d.entry ≡ d.end → ⊥) → (s : Refusal) → ByEmptyChunk (d ∷ cs) s → ByEmptyChunk cs s
   back ne (refusal.FallsOff a) h = one h.0 h.1.0 h.1.1 h.1.2 h.1.3 where
-    one : (i : ℕ) (c : Chunk) → slice_get (d ∷ cs) i ≡ Some c → c.entry ≡ a → c.end ≡ a → IsHollow cs a
+    one : (i : ℕ) (c : Chunk) → slice_get (d ∷ cs) i ≡ Some c → c.entry ≡ a → c.end ≡ a → IsEmptyChunk cs a
     one zero c g x y =
         let same : d ≡ c = cc in
         absurd (ne (ap (λ (z : Chunk). z.entry) same ∙ x ∙ sym y ∙ sym (ap (λ (z : Chunk). z.end) same)))
     one (suc i) c g x y = (i, (c, g, x, y))
   back ne _ h = absurd h
 
-  case : (t : Bool) → Tells t (d.entry ≡ d.end) → FirstOf (ByHollow cs) (first_empty cs) → FirstOf (ByHollow (d ∷ cs)) (cond t (Some (refusal.FallsOff d.entry)) (first_empty cs))
+  case : (t : Bool) → Decides t (d.entry ≡ d.end) → FirstOf (ByEmptyChunk cs) (first_empty cs) → FirstOf (ByEmptyChunk (d ∷ cs)) (cond t (Some (refusal.FallsOff d.entry)) (first_empty cs))
   case true h f = ((0, (d, refl, refl, sym h)), above)
-  case false h f = same_first (ByHollow cs) (ByHollow (d ∷ cs)) (first_empty cs) on (back h) f
+  case false h f = same_first (ByEmptyChunk cs) (ByEmptyChunk (d ∷ cs)) (first_empty cs) on (back h) f
 
-pub first_hollow : (len : ℕ) (chunks : List Chunk) → layout_fault len chunks ≡ None → FirstOf (ByHollow chunks) (first_empty chunks)
-first_hollow len chunks l = hollow_first len 0 chunks (laid len chunks l).gapless
+pub first_of_empty : (len : ℕ) (chunks : List Chunk) → layout_fault len chunks ≡ None → FirstOf (ByEmptyChunk chunks) (first_empty chunks)
+first_of_empty len chunks l = empty_first len 0 chunks (laid len chunks l).gapless
 
 -- ---- the first function without its names
 
@@ -161,7 +162,7 @@ misnamed_first p [] rises = λ s h. none s h where
   none : (s : Refusal) → ByNameIn p [] s → ⊥
   none (refusal.PoolIndex a) h = cc (h.1.1)
   none _ h = h
-misnamed_first p (d ∷ fs) rises = case (is_named p d) (named_tell p d) (misnamed_first p fs (λ i j f g lt x y. rises (suc i) (suc j) f g (omega arith) x y)) where
+misnamed_first p (d ∷ fs) rises = case (is_named p d) (named_decide p d) (misnamed_first p fs (λ i j f g lt x y. rises (suc i) (suc j) f g (omega arith) x y)) where
   above : (s : Refusal) → ByNameIn p (d ∷ fs) s → Precedes (refusal.PoolIndex d.chunk.entry) s
   above (refusal.PoolIndex a) h = no_higher d.chunk.entry a (at h.0 h.1.0 h.1.1 h.1.2) where
     at : (i : ℕ) (f : Function) → slice_get (d ∷ fs) i ≡ Some f → f.chunk.entry ≡ a → d.chunk.entry ≤ a
@@ -180,7 +181,7 @@ misnamed_first p (d ∷ fs) rises = case (is_named p d) (named_tell p d) (misnam
     one (suc i) f g x lacks = (i, (f, g, x, lacks))
   back named _ h = absurd h
 
-  case : (t : Bool) → Tells t (IsNamed p d) → FirstOf (ByNameIn p fs) (first_misnamed p fs) → FirstOf (ByNameIn p (d ∷ fs)) (cond t (first_misnamed p fs) (Some (refusal.PoolIndex d.chunk.entry)))
+  case : (t : Bool) → Decides t (IsNamed p d) → FirstOf (ByNameIn p fs) (first_misnamed p fs) → FirstOf (ByNameIn p (d ∷ fs)) (cond t (first_misnamed p fs) (Some (refusal.PoolIndex d.chunk.entry)))
   case true h f = same_first (ByNameIn p fs) (ByNameIn p (d ∷ fs)) (first_misnamed p fs) on (back h) f
   case false h f = ((0, (d, refl, refl, h)), above)
 
@@ -207,8 +208,8 @@ first_name p chunks whole l =
 -- where none is first, each has its names
 pub all_named : (p : View) (fs : List Function) → first_misnamed p fs ≡ None → (i : ℕ) (f : Function) → slice_get fs i ≡ Some f → IsNamed p f
 all_named p [] e i f g = absurd cc
-all_named p (d ∷ fs) e i f g = case (is_named p d) (named_tell p d) e (λ h k x. all_named p fs h k f x) where
-  case : (t : Bool) → Tells t (IsNamed p d) → cond t (first_misnamed p fs) (Some (refusal.PoolIndex d.chunk.entry)) ≡ None → (first_misnamed p fs ≡ None → (k : ℕ) → slice_get fs k ≡ Some f → IsNamed p f) → IsNamed p f
+all_named p (d ∷ fs) e i f g = case (is_named p d) (named_decide p d) e (λ h k x. all_named p fs h k f x) where
+  case : (t : Bool) → Decides t (IsNamed p d) → cond t (first_misnamed p fs) (Some (refusal.PoolIndex d.chunk.entry)) ≡ None → (first_misnamed p fs ≡ None → (k : ℕ) → slice_get fs k ≡ Some f → IsNamed p f) → IsNamed p f
   case true h e more = at i g where
     at : (k : ℕ) → slice_get (d ∷ fs) k ≡ Some f → IsNamed p f
     at zero x = let same : d ≡ f = cc in subst (IsNamed p) same h

@@ -1,9 +1,9 @@
 -- What each instruction takes and gives, and where it leads, by its row.
 use Rattle.std.specs.Prelude.{ℕ, List, [], ◌∷◌, nat_lt, if◌then◌else◌}
-use Rattle.grain_program.specs.declared.instructions.Op.{Op}
-use Rattle.grain_program.specs.declared.effects.Effect.{Effect}
-use Rattle.grain_program.specs.declared.effects.Flow.{Flow}
-use Rattle.grain_program.specs.declared.effects.Flow.TheVariants as flow
+use Rattle.grain_program.specs.declared.code.instructions.Op.{Op}
+use Rattle.grain_program.specs.declared.code.effects.Effect.{Effect}
+use Rattle.grain_program.specs.declared.code.effects.Flow.{Flow}
+use Rattle.grain_program.specs.declared.code.effects.Flow.TheVariants as flow
 use Rattle.grain_program.specs.Fields.{targets_of}
 use Rattle.grain_program.specs.InstructionSet.{Transfer, falls_through, jumps, branches, ends, row}
 

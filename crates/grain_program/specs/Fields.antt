@@ -1,7 +1,7 @@
 -- The kinds of operands that an instruction's bytes have, and how many bytes each has.
 use Rattle.std.specs.Prelude.{ℕ, ◌<◌, ◌^◌, ◌+◌, ◌&&◌, Bool, true, List, [], ◌∷◌, Option, Some, None}
-use Rattle.grain_program.specs.declared.fields.Field.{Field}
-use Rattle.grain_program.specs.declared.fields.Field.TheVariants as field
+use Rattle.grain_program.specs.declared.code.fields.Field.{Field}
+use Rattle.grain_program.specs.declared.code.fields.Field.TheVariants as field
 
 -- one byte, two or four
 pub data Size : Type 0 where

@@ -1,11 +1,11 @@
 -- The indices of an instruction, of the pool records that it uses and of a function name entries of their pools.
 use Rattle.std.specs.Prelude.{ℕ, ◌≡◌, ◌<◌, ◌&&◌, nat_lt, Bool, true, false, List, [], ◌∷◌, length, slice_get, Option, Some, None}
 use Rattle.std.specs.List.{AllByRecursion}
-use Rattle.grain_program.specs.declared.input.AssignOp.{AssignOp}
-use Rattle.grain_program.specs.declared.functions.Function.{Function}
-use Rattle.grain_program.specs.declared.instructions.Op.{Op}
-use Rattle.grain_program.specs.declared.fields.Field.{Field}
-use Rattle.grain_program.specs.declared.fields.Field.TheVariants as field
+use Rattle.grain_program.specs.declared.code.parts.AssignOp.{AssignOp}
+use Rattle.grain_program.specs.declared.code.functions.Function.{Function}
+use Rattle.grain_program.specs.declared.code.instructions.Op.{Op}
+use Rattle.grain_program.specs.declared.code.fields.Field.{Field}
+use Rattle.grain_program.specs.declared.code.fields.Field.TheVariants as field
 use Rattle.grain_program.specs.Fields.{every}
 use Rattle.grain_program.specs.InstructionSet.{fields_of}
 use Rattle.grain_program.specs.View.{View, assign_op_of}

@@ -1,10 +1,10 @@
 -- The instruction set. Each instruction has one row, and whatever else is defined of an instruction is read from its row:
 -- its bytes, how it is read, its line in a listing, its operands, where it goes, its entries of pools and its capability.
 use Rattle.std.specs.Prelude.{ℕ, ◌+◌, List, [], ◌∷◌, codes, slice_index}
-use Rattle.grain_program.specs.declared.instructions.Op.{Op}
-use Rattle.grain_program.specs.declared.instructions.Op.TheVariants as op
-use Rattle.grain_program.specs.declared.fields.Field.{Field}
-use Rattle.grain_program.specs.declared.fields.Field.TheVariants as field
+use Rattle.grain_program.specs.declared.code.instructions.Op.{Op}
+use Rattle.grain_program.specs.declared.code.instructions.Op.TheVariants as op
+use Rattle.grain_program.specs.declared.code.fields.Field.{Field}
+use Rattle.grain_program.specs.declared.code.fields.Field.TheVariants as field
 
 -- where the machine goes after an instruction
 pub data Transfer : Type 0 where

@@ -1,16 +1,16 @@
 -- The table of instruction starts, and the tests of the rules of single instructions by it; the tests of empty chunks and
 -- of functions' names.
 use Rattle.std.specs.Prelude.{ℕ, ◌≡◌, ◌<◌, ◌+◌, ◌⊎◌, ◌==◌, nat_lt, Bool, true, List, [], ◌∷◌, length, slice_get, slice_index_or, Option, Some, None, if◌then◌else◌}
-use Rattle.grain_program.specs.declared.instructions.Op.{Op}
-use Rattle.grain_program.specs.declared.input.Chunk.{Chunk}
-use Rattle.grain_program.specs.declared.functions.Function.{Function}
-use Rattle.grain_program.specs.declared.owners.Owner.{Owner}
-use Rattle.grain_program.specs.declared.refusals.Refusal.{Refusal}
-use Rattle.grain_program.specs.declared.refusals.Refusal.TheVariants as refusal
-use Rattle.grain_program.specs.declared.effects.Flow.{Flow}
-use Rattle.grain_program.specs.declared.effects.Flow.TheVariants as flow
-use Rattle.grain_program.specs.declared.fields.Field.{Field}
-use Rattle.grain_program.specs.declared.fields.Field.TheVariants as field
+use Rattle.grain_program.specs.declared.code.instructions.Op.{Op}
+use Rattle.grain_program.specs.declared.code.parts.Chunk.{Chunk}
+use Rattle.grain_program.specs.declared.code.functions.Function.{Function}
+use Rattle.grain_program.specs.declared.verifier.owners.Owner.{Owner}
+use Rattle.grain_program.specs.declared.verifier.refusals.Refusal.{Refusal}
+use Rattle.grain_program.specs.declared.verifier.refusals.Refusal.TheVariants as refusal
+use Rattle.grain_program.specs.declared.code.effects.Flow.{Flow}
+use Rattle.grain_program.specs.declared.code.effects.Flow.TheVariants as flow
+use Rattle.grain_program.specs.declared.code.fields.Field.{Field}
+use Rattle.grain_program.specs.declared.code.fields.Field.TheVariants as field
 use Rattle.grain_program.specs.View.{View}
 use Rattle.grain_program.specs.Fields.{every}
 use Rattle.grain_program.specs.InstructionSet.{fields_of}

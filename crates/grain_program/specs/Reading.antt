@@ -1,7 +1,7 @@
 -- How an instruction is read: its tag, and after it operands of one, two or four bytes, the lowest byte first.
 use Rattle.std.specs.Prelude.{ℕ, ◌+◌, List, [], ◌∷◌, drop, map, Option, Some, None, ◌==◌, if◌then◌else◌}
 use Rattle.std.specs.Int.{w16, w32, from_le_bytes}
-use Rattle.grain_program.specs.declared.instructions.Op.{Op}
+use Rattle.grain_program.specs.declared.code.instructions.Op.{Op}
 use Rattle.grain_program.specs.Fields.{Size, one, two, four, bytes_of, size_of, span}
 use Rattle.grain_program.specs.InstructionSet.{instructions, tag_of, fields_of}
 

@@ -2,15 +2,15 @@
 -- first.
 use Rattle.std.specs.Prelude.{ℕ, ◌≡◌, ◌<◌, ◌≤◌, ◌+◌, ◌⊎◌, ◌==◌, ◌&&◌, ◌||◌, nat_lt, nat_le, Bool, List, length, slice_get, Option, Some, None, if◌then◌else◌}
 use Rattle.std.specs.List.{AllByRecursion}
-use Rattle.grain_program.specs.declared.instructions.Op.{Op}
-use Rattle.grain_program.specs.declared.input.Chunk.{Chunk}
-use Rattle.grain_program.specs.declared.functions.Function.{Function}
-use Rattle.grain_program.specs.declared.refusals.Refusal.{Refusal}
-use Rattle.grain_program.specs.declared.refusals.Refusal.TheVariants as refusal
-use Rattle.grain_program.specs.declared.effects.Flow.{Flow}
-use Rattle.grain_program.specs.declared.effects.Flow.TheVariants as flow
-use Rattle.grain_program.specs.declared.fields.Field.{Field}
-use Rattle.grain_program.specs.declared.fields.Field.TheVariants as field
+use Rattle.grain_program.specs.declared.code.instructions.Op.{Op}
+use Rattle.grain_program.specs.declared.code.parts.Chunk.{Chunk}
+use Rattle.grain_program.specs.declared.code.functions.Function.{Function}
+use Rattle.grain_program.specs.declared.verifier.refusals.Refusal.{Refusal}
+use Rattle.grain_program.specs.declared.verifier.refusals.Refusal.TheVariants as refusal
+use Rattle.grain_program.specs.declared.code.effects.Flow.{Flow}
+use Rattle.grain_program.specs.declared.code.effects.Flow.TheVariants as flow
+use Rattle.grain_program.specs.declared.code.fields.Field.{Field}
+use Rattle.grain_program.specs.declared.code.fields.Field.TheVariants as field
 use Rattle.grain_program.specs.View.{View}
 use Rattle.grain_program.specs.InstructionSet.{fields_of}
 use Rattle.grain_program.specs.Reading.{op_at}
@@ -80,7 +80,7 @@ pub record IsSplit (p : View) (chunks : List Chunk) : Type 0 where
   pub splits : Splits p chunks
 
 -- an instruction of some chunk begins at the address
-pub record Spot (code : List ℕ) (chunks : List Chunk) (a : ℕ) : Type 0 where
+pub record InstructionStart (code : List ℕ) (chunks : List Chunk) (a : ℕ) : Type 0 where
   pub number : ℕ
   pub chunk : Chunk
   pub is : slice_get chunks number ≡ Some chunk
@@ -88,15 +88,15 @@ pub record Spot (code : List ℕ) (chunks : List Chunk) (a : ℕ) : Type 0 where
 
 -- no whole instruction is at the address, where one should begin
 abbrev pub Unread : List ℕ → List Chunk → ℕ → Type 0
-Unread code chunks a = (s : Spot code chunks a) × ((r : Op × ℕ) → Whole code s.chunk a r → ⊥)
+Unread code chunks a = (s : InstructionStart code chunks a) × ((r : Op × ℕ) → Whole code s.chunk a r → ⊥)
 
 -- the whole instruction at the address does not obey the rule
 abbrev pub Disobeys : List ℕ → List Chunk → (Chunk → ℕ → Op × ℕ → Type 0) → ℕ → Type 0
-Disobeys code chunks rule a = (s : Spot code chunks a) × ((r : Op × ℕ) × Whole code s.chunk a r × (rule s.chunk a r → ⊥))
+Disobeys code chunks rule a = (s : InstructionStart code chunks a) × ((r : Op × ℕ) × Whole code s.chunk a r × (rule s.chunk a r → ⊥))
 
 -- an empty chunk lies at the address
-abbrev pub IsHollow : List Chunk → ℕ → Type 0
-IsHollow chunks a = (i : ℕ) × ((c : Chunk) × (slice_get chunks i ≡ Some c) × (c.entry ≡ a) × (c.end ≡ a))
+abbrev pub IsEmptyChunk : List Chunk → ℕ → Type 0
+IsEmptyChunk chunks a = (i : ℕ) × ((c : Chunk) × (slice_get chunks i ≡ Some c) × (c.entry ≡ a) × (c.end ≡ a))
 
 -- a function that is entered at the address has a name that is no entry of the pool
 abbrev pub IsMisnamed : View → ℕ → Type 0
@@ -107,7 +107,7 @@ abbrev pub Breach : View → List Chunk → Refusal → Type 0
 Breach p chunks (refusal.Undecodable a) = Unread p.code chunks a
 Breach p chunks (refusal.PoolIndex a) = Disobeys p.code chunks (IndexRule p) a ⊎ IsMisnamed p a
 Breach p chunks (refusal.JumpTarget a) = Disobeys p.code chunks (TargetRule p) a
-Breach p chunks (refusal.FallsOff a) = Disobeys p.code chunks (EndRule p) a ⊎ IsHollow chunks a
+Breach p chunks (refusal.FallsOff a) = Disobeys p.code chunks (EndRule p) a ⊎ IsEmptyChunk chunks a
 Breach p chunks (refusal.Capability a) = Disobeys p.code chunks (CapabilityRule p) a
 -- these are no rules of single instructions
 Breach p chunks (refusal.HeightDisagrees a) = ⊥
@@ -159,7 +159,7 @@ pub record IsFirst (p : View) (chunks : List Chunk) (r : Refusal) : Type 0 where
   pub first : (s : Refusal) → Breach p chunks s → Precedes r s
 
 -- what is refused before heights are looked at: the layout, and else the first breach
-abbrev pub RefusedEarly : View → List Chunk → Refusal → Type 0
-RefusedEarly p chunks r =
+abbrev pub RefusedBeforeHeights : View → List Chunk → Refusal → Type 0
+RefusedBeforeHeights p chunks r =
     ((a : ℕ) × (layout_fault (length p.code) chunks ≡ Some a) × (r ≡ refusal.Undecodable a))
     ⊎ ((layout_fault (length p.code) chunks ≡ None) × IsFirst p chunks r)

@@ -1,7 +1,7 @@
 -- Where instructions begin: splitting a chunk from its entry on reaches them before its end.
 use Rattle.std.specs.Prelude.{ℕ, suc, zero, ◌≡◌, ◌<◌, ◌+◌, List, Some}
-use Rattle.grain_program.specs.declared.instructions.Op.{Op}
-use Rattle.grain_program.specs.declared.input.Chunk.{Chunk}
+use Rattle.grain_program.specs.declared.code.instructions.Op.{Op}
+use Rattle.grain_program.specs.declared.code.parts.Chunk.{Chunk}
 use Rattle.grain_program.specs.Reading.{op_at}
 
 -- so many instructions lead from the first address to the second, which is before the end

@@ -1,6 +1,7 @@
 -- What is found is there.
 use Rattle.std.proofs.Common.{◌≡◌, rules}
-use Rattle.grain_program.specs.Lookups.{function_of, found_called}
+use Rattle.grain_program.specs.Lookups.{function_of}
+use Rattle.grain_program.specs.laws.Lookups.{found_called}
 use Rattle.grain_program.proofs.programs.Program.function.Goals as goal
 
 pub returns-clause-called : goal.returns-clause-called

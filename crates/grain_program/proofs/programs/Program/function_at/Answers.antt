@@ -2,7 +2,7 @@
 use Rattle.std.proofs.Common.{◌≡◌, Some, rules, subst}
 use Rattle.std.specs.Prelude.{slice_get}
 use Rattle.grain_program.specs.Typing.{IsProgram}
-use Rattle.grain_program.specs.Fits.{enters}
+use Rattle.grain_program.specs.laws.TypedAt.{enters}
 use Rattle.grain_program.proofs.programs.Program.function_at.Goals as goal
 
 pub returns-clause-enters : goal.returns-clause-enters

@@ -1,6 +1,7 @@
 -- What is found is there.
 use Rattle.std.proofs.Common.{◌≡◌, rules}
-use Rattle.grain_program.specs.Lookups.{function_by_text, found_by_text}
+use Rattle.grain_program.specs.Lookups.{function_by_text}
+use Rattle.grain_program.specs.laws.Lookups.{found_by_text}
 use Rattle.grain_program.proofs.programs.Program.function_named.Goals as goal
 
 pub returns-clause-called : goal.returns-clause-called
