@@ -28,7 +28,8 @@ ByEmptyChunk chunks (refusal.FallsOff a) = IsEmptyChunk chunks a
 ByEmptyChunk chunks _ = ⊥
 
 -- each breach is of one of these kinds
-pub kind_of : (p : View) (chunks : List Chunk) (q : Refusal) → Breach p chunks q → ByOp p chunks q ⊎ (ByName p q ⊎ ByEmptyChunk chunks q)
+pub kind_of : (p : View) (chunks : List Chunk) (q : Refusal) → Breach p chunks q → ByOp p chunks q
+    ⊎ (ByName p q ⊎ ByEmptyChunk chunks q)
 kind_of p chunks (refusal.Undecodable a) h = inl h
 kind_of p chunks (refusal.PoolIndex a) (inl h) = inl h
 kind_of p chunks (refusal.PoolIndex a) (inr h) = inr (inl h)
@@ -50,11 +51,13 @@ name_breach : (p : View) (chunks : List Chunk) (q : Refusal) → ByName p q → 
 name_breach p chunks (refusal.PoolIndex a) h = inr h
 name_breach p chunks _ h = absurd h
 
-empty_breach : (p : View) (chunks : List Chunk) (q : Refusal) → ByEmptyChunk chunks q → Breach p chunks q
+empty_breach : (p : View) (chunks : List Chunk) (q : Refusal) → ByEmptyChunk chunks q
+    → Breach p chunks q
 empty_breach p chunks (refusal.FallsOff a) h = inr h
 empty_breach p chunks _ h = absurd h
 
-breach_of : (p : View) (chunks : List Chunk) (q : Refusal) → ByOp p chunks q ⊎ (ByName p q ⊎ ByEmptyChunk chunks q) → Breach p chunks q
+breach_of : (p : View) (chunks : List Chunk) (q : Refusal) → ByOp p chunks q
+    ⊎ (ByName p q ⊎ ByEmptyChunk chunks q) → Breach p chunks q
 breach_of p chunks q (inl h) = op_breach p chunks q h
 breach_of p chunks q (inr (inl h)) = name_breach p chunks q h
 breach_of p chunks q (inr (inr h)) = empty_breach p chunks q h
@@ -73,14 +76,20 @@ on_from r s t (inr a) (inl b) = inl (omega (arith, a.0))
 on_from r s t (inr a) (inr b) = inr (omega (arith, a.0, b.0), omega (arith, a.1, b.1))
 
 other_way : (r s : Refusal) → (Precedes r s → ⊥) → Precedes s r
-other_way r s never = at (cases_lt (address_of r) (address_of s)) (cases_lt (address_of s) (address_of r)) (cases_lt (rule_of s) (rule_of r)) where
-  at : (address_of r < address_of s) ⊎ (address_of s ≤ address_of r) → (address_of s < address_of r) ⊎ (address_of r ≤ address_of s) → (rule_of s < rule_of r) ⊎ (rule_of r ≤ rule_of s) → Precedes s r
-  at (inl lt) x y = absurd (never (inl lt))
-  at (inr ge) (inl lt) y = inl lt
-  at (inr ge) (inr le) (inl lt) = inr (omega arith, omega arith)
-  at (inr ge) (inr le) (inr more) = absurd (never (inr (omega arith, more)))
+other_way r s never =
+    at (cases_lt (address_of r) (address_of s)) (cases_lt (address_of s) (address_of r))
+    (cases_lt (rule_of s) (rule_of r)) where
+      at : (address_of r < address_of s) ⊎ (address_of s ≤ address_of r)
+          → (address_of s < address_of r)
+          ⊎ (address_of r ≤ address_of s) → (rule_of s < rule_of r) ⊎ (rule_of r ≤ rule_of s)
+          → Precedes s r
+      at (inl lt) x y = absurd (never (inl lt))
+      at (inr ge) (inl lt) y = inl lt
+      at (inr ge) (inr le) (inl lt) = inr (omega arith, omega arith)
+      at (inr ge) (inr le) (inr more) = absurd (never (inr (omega arith, more)))
 
-pub earlier_first : (C D : Refusal → Type 0) (x y : Option Refusal) → FirstOf C x → FirstOf D y → FirstOf (λ s. C s ⊎ D s) (earlier x y)
+pub earlier_first : (C D : Refusal → Type 0) (x y : Option Refusal) → FirstOf C x → FirstOf D y
+    → FirstOf (λ s. C s ⊎ D s) (earlier x y)
 earlier_first C D None None f g = λ s h. none s h where
   none : (s : Refusal) → C s ⊎ D s → ⊥
   none s (inl h) = f s h
@@ -105,8 +114,10 @@ earlier_first C D (Some a) (Some b) f g = at (precedes a b) (precedes_decide a b
     first s (inr k) = g.1 s k
 
 -- the first breach of all
-pub is_first : (p : View) (chunks : List Chunk) (r : Refusal) → FirstOf (λ s. ByOp p chunks s ⊎ (ByName p s ⊎ ByEmptyChunk chunks s)) (Some r) → IsFirst p chunks r
-is_first p chunks r f = record { breach = breach_of p chunks r f.0; first = λ s h. f.1 s (kind_of p chunks s h) }
+pub is_first : (p : View) (chunks : List Chunk) (r : Refusal) → FirstOf (λ s. ByOp p chunks s
+    ⊎ (ByName p s ⊎ ByEmptyChunk chunks s)) (Some r) → IsFirst p chunks r
+is_first p chunks r f =
+    record { breach = breach_of p chunks r f.0; first = λ s h. f.1 s (kind_of p chunks s h) }
 
 -- where there is no earlier one of two, there is none
 pub neither : (x y : Option Refusal) → earlier x y ≡ None → (x ≡ None) × (y ≡ None)

@@ -1,4 +1,5 @@
--- The indices of an instruction, of the pool records that it uses and of a function name entries of their pools.
+-- The indices of an instruction, of the pool records that it uses and of a function name entries of
+-- their pools.
 use Rattle.std.specs.Prelude.{ℕ, ◌≡◌, ◌<◌, ◌&&◌, nat_lt, Bool, true, false, List, [], ◌∷◌, length, slice_get, Option, Some, None}
 use Rattle.std.specs.List.{AllByRecursion}
 use Rattle.grain_program.specs.declared.code.parts.AssignOp.{AssignOp}
@@ -13,7 +14,8 @@ use Rattle.grain_program.specs.View.{View, assign_op_of}
 -- there is an op-assignment at the index, and both its names are entries of their pool
 abbrev pub HasAssignOp : View → ℕ → Type 0
 HasAssignOp p a =
-    (a < length p.assign_ops) × ((assign_op_of p a).op_assign_name < length p.names) × ((assign_op_of p a).op_name < length p.names)
+    (a < length p.assign_ops) × ((assign_op_of p a).op_assign_name < length p.names)
+    × ((assign_op_of p a).op_name < length p.names)
 
 -- an operand that is an index names an entry of its pool
 abbrev pub InPool : View → Field → Type 0
@@ -30,7 +32,7 @@ InPool p (field.Number n) = Unit {0}
 abbrev pub InPools : View → Op → Type 0
 InPools p o = AllByRecursion (InPool p) (fields_of o)
 
--- there is a record, and both its names are among so many
+-- there is a record, and both its names are below this number
 abbrev pub record_named : ℕ → Option AssignOp → Bool
 record_named names None = false
 record_named names (Some r) = nat_lt r.op_assign_name names && nat_lt r.op_name names

@@ -1,5 +1,6 @@
--- The instruction set. Each instruction has one row, and whatever else is defined of an instruction is read from its row:
--- its bytes, how it is read, its line in a listing, its operands, where it goes, its entries of pools and its capability.
+-- The instruction set. Each instruction has one row, and whatever else is defined of an instruction
+-- is read from its row: its bytes, how it is read, its line in a listing, its operands, where it
+-- goes, its entries of pools and its capability.
 use Rattle.std.specs.Prelude.{ℕ, ◌+◌, List, [], ◌∷◌, codes, slice_index}
 use Rattle.grain_program.specs.declared.code.instructions.Op.{Op}
 use Rattle.grain_program.specs.declared.code.instructions.Op.TheVariants as op
@@ -50,7 +51,8 @@ function_calls = 1
 
 -- an instruction that needs no capability
 abbrev pub plain : List ℕ → ℕ → List Field → ℕ → ℕ → Transfer → Row
-plain word tag fields takes gives transfer = entry word tag fields takes gives transfer no_capability
+plain word tag fields takes gives transfer =
+    entry word tag fields takes gives transfer no_capability
 
 -- the row of the instruction
 abbrev pub row : Op → Row
@@ -63,17 +65,22 @@ row (op.StoreLocal s) = plain (codes "store_local") 0x06 (field.Slot s ∷ []) 1
 row (op.StoreConst s) = plain (codes "store_const") 0x07 (field.Slot s ∷ []) 1 0 falls_through
 row (op.DeclareLocal n) = plain (codes "declare_local") 0x0d (field.Name n ∷ []) 1 0 falls_through
 row (op.DeclareConst n) = plain (codes "declare_const") 0x0e (field.Name n ∷ []) 1 0 falls_through
-row (op.AssignLocal s n) = plain (codes "assign_local") 0x10 (field.Slot s ∷ field.Name n ∷ []) 1 0 falls_through
+row (op.AssignLocal s n) =
+    plain (codes "assign_local") 0x10 (field.Slot s ∷ field.Name n ∷ []) 1 0 falls_through
 row (op.AssignLocalOp s n a) =
-    plain (codes "assign_local_op") 0x11 (field.Slot s ∷ field.Name n ∷ field.Assignment a ∷ []) 1 0 falls_through
+    let fields : List Field = field.Slot s ∷ field.Name n ∷ field.Assignment a ∷ [] in
+    plain (codes "assign_local_op") 0x11 fields 1 0 falls_through
 row op.Pop = plain (codes "pop") 0x1b [] 1 0 falls_through
 row (op.Rotate u) = plain (codes "rotate") 0x1c (field.Count u ∷ []) (u + 1) (u + 1) falls_through
 row (op.Jump t) = plain (codes "jump") 0x1d (field.Target t ∷ []) 0 0 jumps
 row (op.JumpIfFalse t) = plain (codes "jump_if_false") 0x1e (field.Target t ∷ []) 1 0 branches
 row (op.JumpIfTrue t) = plain (codes "jump_if_true") 0x1f (field.Target t ∷ []) 1 0 branches
 row (op.SkipIfNotUnit t) = plain (codes "skip_if_not_unit") 0x20 (field.Target t ∷ []) 1 1 branches
-row (op.Call n k) = entry (codes "call") 0x22 (field.Name n ∷ field.Count k ∷ []) k 1 falls_through function_calls
-row (op.CallOp n k o) = plain (codes "call_op") 0x23 (field.Name n ∷ field.Count k ∷ field.Token o ∷ []) k 1 falls_through
+row (op.Call n k) =
+    entry (codes "call") 0x22 (field.Name n ∷ field.Count k ∷ []) k 1 falls_through function_calls
+row (op.CallOp n k o) =
+    let fields : List Field = field.Name n ∷ field.Count k ∷ field.Token o ∷ [] in
+    plain (codes "call_op") 0x23 fields k 1 falls_through
 row (op.UnwindTo d) = plain (codes "unwind_to") 0x38 (field.Number d ∷ []) 0 0 falls_through
 row op.Tick = plain (codes "tick") 0x39 [] 0 0 falls_through
 row op.Checkpoint = plain (codes "checkpoint") 0x3a [] 0 0 falls_through

@@ -1,5 +1,6 @@
--- The contracts of public functions are read with these files: a program as lists, the instruction set and what follows
--- from an instruction's row, the rules that a program obeys, and what is verified of it.
+-- The contracts of public functions are read with these files: a program as lists, the instruction
+-- set and what follows from an instruction's row, the rules that a program obeys, and what is
+-- verified of it.
 pub mod View
 pub mod InstructionSet
 pub mod Fields
@@ -16,7 +17,8 @@ pub mod Typing
 pub mod TypedAt
 pub mod Lookups
 pub mod Recorded
--- the table with which the rules of instructions are tested, which the contracts of private functions name
+-- the table with which the rules of instructions are tested, which the contracts of private
+-- functions name
 pub mod Owners
 -- lemmas, which no contract names
 pub mod laws

@@ -8,11 +8,11 @@ use Rattle.std.specs.BTreeMap.{BTreeMap, get}
 use Rattle.grain_program.specs.declared.code.functions.Function.{Function}
 use Rattle.grain_program.specs.View.{View}
 
--- the function has this name, by its index, and so many parameters
+-- the function has this name, by its index, and this number of parameters
 abbrev pub is_called : ℕ → ℕ → Function → Bool
 is_called name count f = (f.name == name) && (length f.params == count)
 
--- the number of the first function of this name with so many parameters
+-- the number of the first function of this name with this number of parameters
 abbrev pub function_of : View → ℕ → ℕ → Option ℕ
 function_of p name count = position_from (is_called name count) 0 p.functions
 
@@ -21,11 +21,11 @@ abbrev pub is_text : List ℕ → Option (List ℕ) → Bool
 is_text text None = false
 is_text text (Some name) = bytes_eq name text
 
--- the function has a name of this text, and so many parameters
+-- the function has a name of this text, and this number of parameters
 abbrev pub has_text : List (List ℕ) → List ℕ → ℕ → Function → Bool
 has_text names text count f = is_text text (slice_get names f.name) && (length f.params == count)
 
--- the number of the first function that has a name of this text, with so many parameters
+-- the number of the first function that has a name of this text, with this number of parameters
 abbrev pub function_by_text : View → List ℕ → ℕ → Option ℕ
 function_by_text p text count = position_from (has_text p.names text count) 0 p.functions
 
@@ -34,14 +34,14 @@ abbrev pub name_at : View → Option ℕ → Option ℕ
 name_at p None = None
 name_at p (Some number) = option_map (λ f. f.name) (slice_get p.functions number)
 
--- a function of this number is there, with the name and so many parameters
+-- a function of this number is there, with the name and this number of parameters
 pub record Called (p : View) (name count number : ℕ) : Type 0 where
   pub function : Function
   pub is : slice_get p.functions number ≡ Some function
   pub name_is : function.name ≡ name
   pub count_is : length function.params ≡ count
 
--- a function of this number is there, with a name of this text and so many parameters
+-- a function of this number is there, with a name of this text and this number of parameters
 pub record CalledByText (p : View) (text : List ℕ) (count number : ℕ) : Type 0 where
   pub function : Function
   pub is : slice_get p.functions number ≡ Some function
@@ -54,6 +54,9 @@ pub record CalledByText (p : View) (text : List ℕ) (count number : ℕ) : Type
 abbrev pub signature_cmp : ℕ × ℕ → ℕ × ℕ → Ordering
 signature_cmp x y = ordering_then (nat_cmp x.0 y.0) (nat_cmp x.1 y.1)
 
--- the map has the number of the first function of each name, by its index, with each number of parameters
+-- the map has the number of the first function of each name, by its index, with each number of
+-- parameters
 abbrev pub IsIndex : List Function → BTreeMap (ℕ × ℕ) ℕ → Type 0
-IsIndex fs function_index = (name count : ℕ) → get signature_cmp function_index (name, count) ≡ position_from (is_called name count) 0 fs
+IsIndex fs function_index =
+    (name count : ℕ)
+    → get signature_cmp function_index (name, count) ≡ position_from (is_called name count) 0 fs

@@ -1,4 +1,5 @@
--- How an instruction is read: its tag, and after it operands of one, two or four bytes, the lowest byte first.
+-- How an instruction is read: its tag, and after it operands of one, two or four bytes, the lowest
+-- byte first.
 use Rattle.std.specs.Prelude.{ℕ, ◌+◌, List, [], ◌∷◌, drop, map, Option, Some, None, ◌==◌, if◌then◌else◌}
 use Rattle.std.specs.Int.{w16, w32, from_le_bytes}
 use Rattle.grain_program.specs.declared.code.instructions.Op.{Op}
@@ -23,7 +24,8 @@ abbrev pub numbers_at : List Size → List ℕ → Option (List ℕ)
 numbers_at [] bytes = Some []
 numbers_at (s ∷ ss) bytes = joined (number_at s bytes) (numbers_at ss (drop (bytes_of s) bytes))
 
--- how the bytes of an instruction are read: its tag, the sizes of its operands, and the instruction that their numbers make
+-- how the bytes of an instruction are read: its tag, the sizes of its operands, and the instruction
+-- that their numbers make
 pub record Format : Type 0 where
   pub tag : ℕ
   pub sizes : List Size
@@ -31,7 +33,8 @@ pub record Format : Type 0 where
 
 -- the format of the instruction that is made so, by its row
 abbrev pub format_of : (List ℕ → Op) → Format
-format_of make = record { tag = tag_of (make []); sizes = map size_of (fields_of (make [])); make = make }
+format_of make =
+    record { tag = tag_of (make []); sizes = map size_of (fields_of (make [])); make = make }
 
 abbrev pub formats : List Format
 formats = map format_of instructions
@@ -44,13 +47,14 @@ made r (Some ns) = Some (r.make ns, 1 + span r.sizes)
 -- the instruction of the first format that has the tag, and its width
 abbrev pub by_formats : List Format → ℕ → List ℕ → Option (Op × ℕ)
 by_formats [] tag rest = None
-by_formats (r ∷ rs) tag rest = if tag == r.tag then made r (numbers_at r.sizes rest) else by_formats rs tag rest
+by_formats (r ∷ rs) tag rest =
+    if tag == r.tag then made r (numbers_at r.sizes rest) else by_formats rs tag rest
 
 -- the instruction of the tag, and its width
 unfoldable pub by_tag : ℕ → List ℕ → Option (Op × ℕ)
 by_tag tag rest = by_formats formats tag rest
 
--- how wide an instruction of the tag is, or 0 where there is none
+-- how wide an instruction of the tag is, or 0 if there is none
 abbrev pub width_in : List Format → ℕ → ℕ
 width_in [] tag = 0
 width_in (r ∷ rs) tag = if tag == r.tag then 1 + span r.sizes else width_in rs tag

@@ -1,5 +1,5 @@
--- The rules of single instructions and of functions' names: what obeys them, what breaks them, and which breach is the
--- first.
+-- The rules of single instructions and of functions' names: what obeys them, what breaks them, and
+-- which breach is the first.
 use Rattle.std.specs.Prelude.{ℕ, ◌≡◌, ◌<◌, ◌≤◌, ◌+◌, ◌⊎◌, ◌==◌, ◌&&◌, ◌||◌, nat_lt, nat_le, Bool, List, length, slice_get, Option, Some, None, if◌then◌else◌}
 use Rattle.std.specs.List.{AllByRecursion}
 use Rattle.grain_program.specs.declared.code.instructions.Op.{Op}
@@ -31,7 +31,7 @@ Lands p c (field.Target n) = Start p.code c n
 Lands p c (field.Count n) = Unit {0}
 Lands p c (field.Number n) = Unit {0}
 
--- what goes on to the address behind does not leave the chunk
+-- what goes on to the next address does not leave the chunk
 abbrev pub StaysIn : Chunk → ℕ → Flow → Type 0
 StaysIn c next flow.Next = next < c.end
 StaysIn c next (flow.Jump t) = Unit {0}
@@ -51,7 +51,7 @@ IndexRule p c a r = InPools p r.0
 abbrev pub TargetRule : View → Chunk → ℕ → Op × ℕ → Type 0
 TargetRule p c a r = AllByRecursion (Lands p c) (fields_of r.0)
 
--- an instruction does not go on behind its chunk
+-- an instruction does not go on past its chunk
 abbrev pub EndRule : View → Chunk → ℕ → Op × ℕ → Type 0
 EndRule p c a r = StaysIn c (a + r.1) (effect_of r.0).flow
 
@@ -68,10 +68,12 @@ pub record Obeys (p : View) (c : Chunk) (a : ℕ) : Type 0 where
   pub end : EndRule p c a read
   pub capability : CapabilityRule p c a read
 
--- every chunk has an instruction, every instruction obeys the rules of single instructions, and every function has names
+-- every chunk has an instruction, every instruction obeys the rules of single instructions, and
+-- every function has names
 pub record Splits (p : View) (chunks : List Chunk) : Type 0 where
   pub full : (i : ℕ) (c : Chunk) → slice_get chunks i ≡ Some c → c.entry < c.end
-  pub obeys : (i : ℕ) (c : Chunk) (a : ℕ) → slice_get chunks i ≡ Some c → Start p.code c a → Obeys p c a
+  pub obeys : (i : ℕ) (c : Chunk) (a : ℕ) → slice_get chunks i ≡ Some c → Start p.code c a
+      → Obeys p c a
   pub named : (i : ℕ) (f : Function) → slice_get p.functions i ≡ Some f → IsNamed p f
 
 -- the layout is without a fault, and the rules are obeyed that look at no heights
@@ -88,19 +90,26 @@ pub record InstructionStart (code : List ℕ) (chunks : List Chunk) (a : ℕ) : 
 
 -- no whole instruction is at the address, where one should begin
 abbrev pub Unread : List ℕ → List Chunk → ℕ → Type 0
-Unread code chunks a = (s : InstructionStart code chunks a) × ((r : Op × ℕ) → Whole code s.chunk a r → ⊥)
+Unread code chunks a =
+    (s : InstructionStart code chunks a) × ((r : Op × ℕ) → Whole code s.chunk a r → ⊥)
 
 -- the whole instruction at the address does not obey the rule
 abbrev pub Disobeys : List ℕ → List Chunk → (Chunk → ℕ → Op × ℕ → Type 0) → ℕ → Type 0
-Disobeys code chunks rule a = (s : InstructionStart code chunks a) × ((r : Op × ℕ) × Whole code s.chunk a r × (rule s.chunk a r → ⊥))
+Disobeys code chunks rule a =
+    (s : InstructionStart code chunks a)
+    × ((r : Op × ℕ) × Whole code s.chunk a r × (rule s.chunk a r → ⊥))
 
 -- an empty chunk lies at the address
 abbrev pub IsEmptyChunk : List Chunk → ℕ → Type 0
-IsEmptyChunk chunks a = (i : ℕ) × ((c : Chunk) × (slice_get chunks i ≡ Some c) × (c.entry ≡ a) × (c.end ≡ a))
+IsEmptyChunk chunks a =
+    (i : ℕ) × ((c : Chunk) × (slice_get chunks i ≡ Some c) × (c.entry ≡ a) × (c.end ≡ a))
 
 -- a function that is entered at the address has a name that is no entry of the pool
 abbrev pub IsMisnamed : View → ℕ → Type 0
-IsMisnamed p a = (i : ℕ) × ((f : Function) × (slice_get p.functions i ≡ Some f) × (f.chunk.entry ≡ a) × (IsNamed p f → ⊥))
+IsMisnamed p a =
+    (i : ℕ)
+    × ((f : Function)
+    × (slice_get p.functions i ≡ Some f) × (f.chunk.entry ≡ a) × (IsNamed p f → ⊥))
 
 -- the rule is broken at the address
 abbrev pub Breach : View → List Chunk → Refusal → Type 0
@@ -141,13 +150,16 @@ rule_of refusal.Memory = 13
 
 -- at a lower address, or at the same one by a lower rule or the same
 abbrev pub Precedes : Refusal → Refusal → Type 0
-Precedes r s = (address_of r < address_of s) ⊎ ((address_of r ≡ address_of s) × (rule_of r ≤ rule_of s))
+Precedes r s =
+    (address_of r < address_of s) ⊎ ((address_of r ≡ address_of s) × (rule_of r ≤ rule_of s))
 
 -- the test of which of two comes first
 abbrev pub precedes : Refusal → Refusal → Bool
-precedes r s = nat_lt (address_of r) (address_of s) || ((address_of r == address_of s) && nat_le (rule_of r) (rule_of s))
+precedes r s =
+    nat_lt (address_of r) (address_of s)
+    || ((address_of r == address_of s) && nat_le (rule_of r) (rule_of s))
 
--- the one of two that comes first, where there are any
+-- the one of two that comes first, if any
 abbrev pub earlier : Option Refusal → Option Refusal → Option Refusal
 earlier None other = other
 earlier (Some r) None = Some r

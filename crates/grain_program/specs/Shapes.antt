@@ -17,8 +17,8 @@ height_after e s = s.height - e.takes + e.gives
 abbrev pub after : Effect → Shape → Shape
 after e s = record { height = height_after e s }
 
--- the shape after the instruction at the address, unless there are too few operands for it or else too
--- many after it
+-- the shape after the instruction at the address, unless there are too few operands for it or else
+-- too many after it
 abbrev pub stepped : ℕ → ℕ → Effect → Shape → Result Shape Refusal
 stepped max a e s =
     if nat_lt s.height e.takes then Err (refusal.Underflow a)

@@ -1,5 +1,5 @@
--- A frame that stands at an instruction with as many operands as a typing says, and what the verifier has shown of that
--- instruction.
+-- A frame that stands at an instruction with as many operands as a typing says, and what the
+-- verifier has shown of that instruction.
 use Rattle.std.specs.Prelude.{ℕ, ◌≡◌, ◌≤◌, ◌+◌, ◌-◌, slice_get, Option, Some}
 use Rattle.grain_program.specs.declared.code.instructions.Op.{Op}
 use Rattle.grain_program.specs.declared.code.parts.Chunk.{Chunk}
@@ -28,4 +28,5 @@ pub record Verified (p : View) (c : Chunk) (at depth : ℕ) (op : Op) (width : �
   pub pools : InPools p op
   pub inside : at + width ≤ 16777216
   pub wide : 1 ≤ width
-  pub goes : (b : ℕ) → In b (leads_of op (at + width)) → IsTypedAt p c b (depth - takes_of op + gives_of op)
+  pub goes : (b : ℕ) → In b (leads_of op (at + width))
+      → IsTypedAt p c b (depth - takes_of op + gives_of op)

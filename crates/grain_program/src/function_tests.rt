@@ -195,7 +195,8 @@ fn names_of_functions(rt: HostRuntime) {
     );
 }
 
-/// What is said of code behind a return, which two functions of these names enter at 1, the first with an empty chunk.
+/// What is said of code after a return, which two functions of these names enter at 1, the first
+/// with an empty chunk.
 fn said_at_one(alloc: Global, caps: Caps, bytes: &[u8], end: u32, name: u32) -> Option<Refusal> {
     let outlines = [
         defined(name, &[], chunk(1, 1, 1)),
@@ -254,7 +255,7 @@ fn capabilities(rt: HostRuntime) {
         refusal_of(alloc, all_but, &[0x02, 0x22, 0, 0, 1], main, &[]),
         Some(Refusal::FallsOff(1))
     );
-    // call 0 0, then no instruction: the lower address is told
+    // call 0 0, then no instruction: the lower address is reported
     assert_eq!(rt;
         refusal_of(alloc, all_but, &[0x22, 0, 0, 0, 0xff], main, &[]),
         Some(Refusal::Capability(0))
@@ -273,7 +274,7 @@ fn capabilities(rt: HostRuntime) {
 #[test]
 fn heights_by_chunks(rt: HostRuntime) {
     let alloc = rt.alloc();
-    // unit, unit, return; pop, return: both chunks have a fault, and the main one is told
+    // unit, unit, return; pop, return: both chunks have a fault, and the main one is reported
     let code = [0x02, 0x02, RETURN, 0x1b, RETURN];
     let function = [defined(0, &[], chunk(3, 5, 2))];
     assert_eq!(rt;

@@ -25,7 +25,7 @@ pub fn index_functions(alloc: Global, functions: &[Function]) -> Result<Function
     Ok(function_index)
 }
 
-/// Whether the function has a name of this text, and so many parameters.
+/// Whether the function has a name of this text, and this number of parameters.
 fn has_text(names: &Names, text: &str, count: usize, function: &Function) -> bool
     ensures { result ≡ has_text names.now text.now count function.now }
 {
@@ -35,7 +35,7 @@ fn has_text(names: &Names, text: &str, count: usize, function: &Function) -> boo
     }
 }
 
-/// The number of the first function that has a name of this text, with so many parameters.
+/// The number of the first function that has a name of this text, with this number of parameters.
 pub fn first_by_text(
     names: &Names,
     functions: &[Function],

@@ -22,7 +22,8 @@ use grain_value::{Blob, Dynamic, OutOfMemory, Text, Token};
 use std::alloc::Global;
 use std::marker::Model;
 
-/// Code that is verified, with its pools: no run of it finds a missing operand, a bad index or a bad address.
+/// Code that is verified, with its pools: no run of it finds a missing operand, a bad index or a
+/// bad address.
 #[derive(Drop)]
 pub struct Program {
     parts: Parts,
@@ -39,11 +40,12 @@ impl Model for Program {
 
     ghost view = { λ p. view_of p.parts };
 
-    ghost invariant = { λ p. IsProgram (view_of p.parts) × HasOrder (view_of p.parts) × IsIndex p.parts.functions p.function_index };
+    ghost invariant = { λ p. IsProgram (view_of p.parts) × HasOrder (view_of p.parts)
+        × IsIndex p.parts.functions p.function_index };
 }
 
-/// The program that the parts are, or the first rule that they break. Their positions have to be in ascending order of
-/// their addresses, which are below the code's length.
+/// The program that the parts are, or the first rule that they break. Their positions have to be in
+/// ascending order of their addresses, which are below the code's length.
 pub fn verify(alloc: Global, parts: Parts) -> Result<Program, Refusal>
     requires { HasOrder (view_of parts) }
     // The program is the parts.
@@ -128,7 +130,8 @@ impl Program {
         &self.parts.functions
     }
 
-    /// The function of that number. A frame can be entered at its chunk's entry, and its names can be looked up.
+    /// The function of that number. A frame can be entered at its chunk's entry, and its names can
+    /// be looked up.
     pub fn function_at(&self, number: usize) -> &Function
         requires { number < length self.now.functions }
         ensures value { slice_get self.now.functions number ≡ Some result.now }
@@ -141,7 +144,7 @@ impl Program {
         function
     }
 
-    /// The number of the first function of this name, by its index, with so many parameters.
+    /// The number of the first function of this name, by its index, with this number of parameters.
     pub fn function(&self, name_index: u32, argc: usize) -> Option<usize>
         ensures exact { result ≡ function_of self.now name_index argc }
         ensures called { IfSome result (Called self.now name_index argc) }
@@ -149,7 +152,7 @@ impl Program {
         self.function_index.get(&(name_index, argc)).copied()
     }
 
-    /// The number of the first function whose name is this text, with so many parameters.
+    /// The number of the first function whose name is this text, with this number of parameters.
     pub fn function_named(&self, name: &str, argc: usize) -> Option<usize>
         ensures exact { result ≡ function_by_text self.now name.now argc }
         ensures called { IfSome result (CalledByText self.now name.now argc) }
@@ -207,7 +210,8 @@ impl Program {
         self.parts.assign_ops.at(index as usize)
     }
 
-    /// The instruction at which a frame of the chunk stands with so many operands, and its width in bytes.
+    /// The instruction at which a frame of the chunk stands with depth operands, and its width in
+    /// bytes.
     #[inline(always)]
     pub fn fetch(&self, chunk: Chunk, address: usize, depth: usize) -> (Op, usize)
         requires { IsTypedAt self.now chunk address depth }

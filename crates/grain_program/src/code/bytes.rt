@@ -33,9 +33,10 @@ fn four_there(bytes: &[u8]) -> u32
     u32::from_le_bytes([bytes[0], bytes[1], bytes[2], bytes[3]])
 }
 
-// The instruction of a tag, with its operands from the bytes after it, which are there, into `op`, and its width, or 0 for
-// a tag of no instruction. It is written where it is wanted, and not handed on as a part of larger values: so the compiler
-// sees which instruction each tag gives, and a match on what was read needs no second jump.
+// The instruction of a tag, with its operands from the bytes after it, which are there, into `op`,
+// and its width, or 0 for a tag of no instruction. It is written where it is wanted, and not handed
+// on as a part of larger values: so the compiler sees which instruction each tag gives, and a match
+// on what was read needs no second jump.
 #[inline(always)]
 #[tactic(auto, unfolding(crate::specs::Reading::by_tag, crate::specs::Reading::width_of))]
 fn tagged(tag: u8, rest: &[u8], op: &mut Op) -> usize
@@ -171,7 +172,8 @@ pub(crate) fn read_there(code: &Blob, address: usize, op: &mut Op) -> usize
     width
 }
 
-// How wide an instruction of the tag is in bytes, or 0 where there is none: as one whose operands are all 0.
+// How wide an instruction of the tag is in bytes, or 0 if there is none: as one whose operands
+// are all 0.
 fn width_of(tag: u8) -> usize
     ensures { result ≡ width_of tag }
 {
@@ -179,8 +181,8 @@ fn width_of(tag: u8) -> usize
     tagged(tag, &[0; 8], &mut op)
 }
 
-/// The instruction at the address, and its width in bytes. There is none exactly where the address is at or past the
-/// code's end, the byte there is no tag, or the operands pass the code's end.
+/// The instruction at the address, and its width in bytes. There is none exactly where the address
+/// is at or past the code's end, the byte there is no tag, or the operands pass the code's end.
 pub fn decode(code: &Blob, address: usize) -> Option<(Op, usize)>
     ensures exact { result ≡ op_at code.now address }
     ensures within { IfSome result (λ r. (1 ≤ r.1) × (address + r.1 ≤ length code.now)) }
@@ -203,7 +205,8 @@ pub fn decode(code: &Blob, address: usize) -> Option<(Op, usize)>
 
 /// Appends the operand's bytes.
 fn spell_field(code: &mut Vec<u8>, field: Field) -> Result<(), OutOfMemory>
-    ensures { IfOk result (λ _. code.new.items ≡ code.old.items ++ spelled (size_of field) (number_of field)) }
+    ensures { IfOk result (λ _. code.new.items
+        ≡ code.old.items ++ spelled (size_of field) (number_of field)) }
 {
     match field {
         Field::Constant(index) => code.extend_from_slice(&index.to_le_bytes())?,
@@ -254,9 +257,10 @@ pub fn assemble(alloc: Global, ops: &[Op]) -> Result<Blob, OutOfMemory>
     Ok(Blob::from_vec(code))
 }
 
-/// What is assembled reads as it was written: at the address after the instructions before it, each instruction is
-/// read again, with the width of its bytes.
+/// What is assembled reads as it was written: at the address after the instructions before it, each
+/// instruction is read again, with the width of its bytes.
 pub fn assembled_reads_back()
     ensures { (before after : List Op) (op : Op) → OpFits op
-        → op_at (flat_map spelling (before ++ op ∷ after)) (length (flat_map spelling before)) ≡ Some (op, length (spelling op)) }
+        → op_at (flat_map spelling (before ++ op ∷ after)) (length (flat_map spelling before))
+        ≡ Some (op, length (spelling op)) }
 {}

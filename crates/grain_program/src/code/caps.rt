@@ -4,7 +4,8 @@ ghost use Rattle.std.specs.Prelude.{⊤, ◌≡◌, [], ◌∷◌, codes};
 
 use bitflags::{Flag, Flags, bitflag_items};
 
-/// Capabilities, as a set of bits. An instruction that needs one can stand only in a program that has it.
+/// Capabilities, as a set of bits. An instruction that needs one can stand only in a program that
+/// has it.
 #[derive(Clone, Copy, Debug, PartialEq, Eq)]
 pub struct Caps(u8);
 
@@ -23,7 +24,8 @@ impl Flags for Caps {
 
     ghost exact = { ⊤ };
 
-    ghost table = { (codes "FUNCTION", 1) ∷ (codes "MODULE", 2) ∷ (codes "CLOSURE", 4) ∷ (codes "CUSTOM", 8) ∷ (codes "FRAGMENT", 16) ∷ [] };
+    ghost table = { (codes "FUNCTION", 1) ∷ (codes "MODULE", 2) ∷ (codes "CLOSURE", 4)
+        ∷ (codes "CUSTOM", 8) ∷ (codes "FRAGMENT", 16) ∷ [] };
 
     ghost set_of = { λ caps. caps.0 };
 

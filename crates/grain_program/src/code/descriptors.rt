@@ -12,7 +12,8 @@ use crate::code::fields::{Field, Fields};
 use crate::code::instructions::Op;
 use bitflags::Flags;
 
-/// What an instruction is: its bytes, what it does to the operands on the stack, where it goes, and what it needs.
+/// What an instruction is: its bytes, what it does to the operands on the stack, where it goes, and
+/// what it needs.
 #[derive(Drop)]
 pub struct Descriptor {
     /// Its first byte.

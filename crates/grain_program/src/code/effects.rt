@@ -8,11 +8,11 @@ use crate::code::instructions::Op;
 /// Where the machine goes after an instruction.
 #[derive(Clone, Copy, Debug, PartialEq, Eq)]
 pub enum Flow {
-    /// To the instruction behind.
+    /// To the next instruction.
     Next,
     /// To the target.
     Jump(u32),
-    /// To the target or to the instruction behind.
+    /// To the target or to the next instruction.
     Branch(u32),
     /// Out of the chunk.
     End,

@@ -5,7 +5,8 @@ ghost use Rattle.grain_program.specs.Fields.{present};
 
 use std::marker::Model;
 
-/// An operand in an instruction's bytes. Its kind says how many bytes it has, and what its number has to name.
+/// An operand in an instruction's bytes. Its kind says how many bytes it has, and what its number
+/// has to name.
 #[derive(Clone, Copy, Debug, PartialEq, Eq)]
 pub enum Field {
     /// The index of a constant, in two bytes.

@@ -1,7 +1,8 @@
 //! Instructions.
 
-/// One instruction. Its operands stand in the order of its bytes: C a constant, N a name, S a slot, A an
-/// op-assignment, O an operator token, T a target address and d a plain number; a count or another number U is one byte.
+/// One instruction. Its operands stand in the order of its bytes: C a constant, N a name, S a slot,
+/// A an op-assignment, O an operator token, T a target address and d a plain number; a count or
+/// another number U is one byte.
 #[derive(Clone, Copy, Debug, PartialEq, Eq)]
 pub enum Op {
     /// `load_const C`: a copy of the constant.
@@ -28,7 +29,7 @@ pub enum Op {
     AssignLocalOp(u16, u16, u16),
     /// `pop`: takes the last operand away.
     Pop,
-    /// `rotate U`: the last operand goes under so many others.
+    /// `rotate U`: the last operand goes under U others.
     Rotate(u8),
     /// `jump T`.
     Jump(u32),
@@ -42,7 +43,7 @@ pub enum Op {
     Call(u16, u8),
     /// `call_op N n O`: the operator on the n last operands.
     CallOp(u16, u8, u16),
-    /// `unwind_to d`: cuts the scope to so many entries above the base.
+    /// `unwind_to d`: cuts the scope to d entries above the base.
     UnwindTo(u16),
     /// `tick`: costs an operation.
     Tick,

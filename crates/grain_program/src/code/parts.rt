@@ -6,7 +6,8 @@ use crate::code::pools::{AssignOps, Names, Positions, Tokens};
 use grain_fault::Position;
 use grain_value::{Array, Blob, Token};
 
-/// A stretch of the code: its first address, the address behind it, and how many operands its frame may have.
+/// A stretch of the code: its first address, the address after it, and how many operands its frame
+/// may have.
 #[derive(Clone, Copy, Debug, PartialEq, Eq)]
 pub struct Chunk {
     pub entry: u32,
@@ -30,7 +31,8 @@ pub struct PositionEntry {
     pub position: Position,
 }
 
-/// What the code may do, code with its chunks, its pools, and the positions of its instructions by ascending address.
+/// What the code may do, code with its chunks, its pools, and the positions of its instructions by
+/// ascending address.
 #[derive(Drop)]
 pub struct Parts {
     pub caps: Caps,

@@ -31,7 +31,7 @@ impl Model for HeightAnalysis {
 }
 
 impl HeightAnalysis {
-    /// Nothing is known at that many addresses, and none waits.
+    /// Nothing is known at len addresses, and none waits.
     pub fn new(alloc: Global, len: usize) -> Result<HeightAnalysis, OutOfMemory>
         ensures { IfOk result (λ analysis. analysis ≡ nothing_seen len) }
     {
@@ -86,12 +86,13 @@ impl HeightAnalysis {
 
     /// The lowest address that waits, which waits no longer. Where none waits, nothing changes.
     fn lowest(&mut self) -> Option<usize>
-        ensures { MatchOption result ((self.old.waiting ≡ []) × (self.new ≡ self.old)) (λ a. self.old ≡ with_lowest a self.new) }
+        ensures { MatchOption result ((self.old.waiting ≡ []) × (self.new ≡ self.old))
+            (λ a. self.old ≡ with_lowest a self.new) }
     {
         self.waiting.pop_first()
     }
 
-    /// Takes the instruction at the address, in a chunk whose frame may have so many operands.
+    /// Takes the instruction at the address, in a chunk whose frame may have max operands.
     fn take(&mut self, code: &Blob, max: u16, address: usize) -> Result<(), Refusal>
         requires { Ready code.now self.old.shapes address }
         ensures { Gives self.new result (take_at code.now max address self.old) }
@@ -109,11 +110,13 @@ impl HeightAnalysis {
         }
     }
 
-    /// Takes the instructions of the chunk from its entry on, the lowest waiting address each time, until none waits.
+    /// Takes the instructions of the chunk from its entry on, the lowest waiting address each time,
+    /// until none waits.
     pub fn analyse_chunk(&mut self, code: &Blob, chunk: Chunk) -> Result<(), Refusal>
         requires { IsAnalysable code.now chunk self.old }
         ensures exact { Gives self.new result (analyse_chunk code.now chunk self.old) }
-        ensures rest { IfOk result (λ _. (self.new.waiting ≡ []) × (length self.new.shapes ≡ length code.now)) }
+        ensures rest { IfOk result (λ _. (self.new.waiting ≡ []) × (length self.new.shapes ≡ length
+            code.now)) }
     {
         self.arrive(Shape { height: 0 }, chunk.entry as usize)?;
         while let Some(address) = self.lowest() {

@@ -10,14 +10,17 @@ use std::alloc::{AllocError, AllocFailed};
 /// Why parts are no program: the first rule that fails, and the address where it fails.
 #[derive(Clone, Copy, Debug, PartialEq, Eq)]
 pub enum Refusal {
-    /// No instruction begins there, an instruction passes its chunk's end, or the chunks do not tile the code.
+    /// No instruction begins there, an instruction passes its chunk's end, or the chunks do not
+    /// tile the code.
     Undecodable(usize),
-    /// An index of the instruction there, or of a record that it uses, names no entry of its pool, or a function that
-    /// is entered there has a name or a parameter's name that is no entry of the names.
+    /// An index of the instruction there, or of a record that it uses, names no entry of its pool,
+    /// or a function that is entered there has a name or a parameter's name that is no entry of the
+    /// names.
     PoolIndex(usize),
     /// The target of the instruction there is no instruction of the same chunk.
     JumpTarget(usize),
-    /// The instruction there is its chunk's last and goes on behind it, or an empty chunk lies there.
+    /// The instruction there is its chunk's last and goes on past it, or an empty chunk lies
+    /// there.
     FallsOff(usize),
     /// Two ways to the instruction there come with different numbers of operands.
     HeightDisagrees(usize),
@@ -66,7 +69,8 @@ impl Refusal {
         }
     }
 
-    /// Whether this comes first: at a lower address, or at the same one by a lower rule or the same.
+    /// Whether this comes first: at a lower address, or at the same one by a lower rule or the
+    /// same.
     fn precedes(self, other: Refusal) -> bool
         ensures { result ≡ precedes self other }
     {
@@ -75,7 +79,7 @@ impl Refusal {
     }
 }
 
-/// The one of two that comes first, where there are any.
+/// The one of two that comes first, if any.
 pub fn earlier(one: Option<Refusal>, other: Option<Refusal>) -> Option<Refusal>
     ensures { result ≡ earlier one other }
 {

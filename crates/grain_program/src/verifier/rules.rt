@@ -1,6 +1,7 @@
-//! The layout, and the rules of single instructions: each is read and whole, its indices name entries of their pools, its
-//! target is an instruction, it does not go on behind its chunk, and the program has the capability that it needs. No
-//! chunk is empty, and the functions' names are entries of their pool.
+//! The layout, and the rules of single instructions: each is read and whole, its indices name
+//! entries of their pools, its target is an instruction, it does not go on past its chunk, and
+//! the program has the capability that it needs. No chunk is empty, and the functions' names are
+//! entries of their pool.
 
 ghost use Rattle.std.specs.Prelude.{◌≡◌, ◌==◌, ◌⊎◌, ◌≤◌, ℕ, List, length, slice_get, IfOk, IfErr, Some, None};
 ghost use Rattle.grain_program.specs.View.{view_of};
@@ -25,7 +26,8 @@ use std::alloc::Global;
 
 /// Whether there is an op-assignment at the index, and its names are in their pool.
 fn has_assign_op(parts: &Parts, index: u16) -> bool
-    ensures { result ≡ record_named (length parts.now.names) (slice_get parts.now.assign_ops index) }
+    ensures { result ≡ record_named (length parts.now.names) (slice_get parts.now.assign_ops
+        index) }
 {
     match parts.assign_ops.get(index as usize) {
         Some(record) => {
@@ -109,7 +111,7 @@ fn has_targets(owners: &[Owner], end: usize, fields: &Fields) -> bool
     true
 }
 
-/// Whether the flow does not go on behind the chunk of this end.
+/// Whether the flow does not go on past the chunk of this end.
 fn stays(end: usize, next: usize, flow: Flow) -> bool
     ensures { result ≡ stays_in end next flow }
 {
@@ -124,7 +126,8 @@ fn stays(end: usize, next: usize, flow: Flow) -> bool
 /// The first rule that the instruction at the address breaks, in a chunk of this end.
 fn instruction_rule(parts: &Parts, owners: &[Owner], end: usize, address: usize) -> Option<Refusal>
     requires { length parts.now.code ≤ 16777216 }
-    ensures { result ≡ rule_in (view_of parts.now) owners.now end address (op_at parts.now.code address) }
+    ensures { result ≡ rule_in (view_of parts.now) owners.now end address (op_at parts.now.code
+        address) }
 {
     let Some((op, width)) = decode(&parts.code, address) else {
         return Some(Refusal::Undecodable(address));
@@ -226,7 +229,8 @@ fn check_rules(alloc: Global, parts: &Parts, chunks: &[Chunk]) -> Result<(), Ref
     requires whole { chunks.now ≡ chunks_in (view_of parts.now) }
     requires laid { layout_fault (length parts.now.code) chunks.now ≡ None }
     ensures ok { IfOk result (λ _. IsSplit (view_of parts.now) chunks.now) }
-    ensures err { IfErr result (λ r. (r ≡ Memory) ⊎ RefusedBeforeHeights (view_of parts.now) chunks.now r) }
+    ensures err { IfErr result (λ r. (r ≡ Memory) ⊎ RefusedBeforeHeights (view_of parts.now)
+        chunks.now r) }
 {
     let Ok(owners) = owners_of(alloc, &parts.code, chunks) else {
         return Err(Refusal::Memory);
@@ -242,7 +246,8 @@ fn check_rules(alloc: Global, parts: &Parts, chunks: &[Chunk]) -> Result<(), Ref
 pub fn check_instructions(alloc: Global, parts: &Parts, chunks: &[Chunk]) -> Result<(), Refusal>
     requires { chunks.now ≡ chunks_in (view_of parts.now) }
     ensures ok { IfOk result (λ _. IsSplit (view_of parts.now) chunks.now) }
-    ensures err { IfErr result (λ r. (r ≡ Memory) ⊎ RefusedBeforeHeights (view_of parts.now) chunks.now r) }
+    ensures err { IfErr result (λ r. (r ≡ Memory) ⊎ RefusedBeforeHeights (view_of parts.now)
+        chunks.now r) }
 {
     match misplaced(parts.code.len(), chunks) {
         Some(address) => Err(Refusal::Undecodable(address)),

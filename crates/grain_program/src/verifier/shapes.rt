@@ -16,7 +16,8 @@ pub struct Shape {
 }
 
 impl Shape {
-    /// The shape after an instruction of this effect at the address, where a frame may have so many operands.
+    /// The shape after an instruction of this effect at the address, where a frame may have max
+    /// operands.
     pub fn stepped(self, max: u16, address: usize, effect: Effect) -> Result<Shape, Refusal>
         ensures exact { result ≡ stepped max address effect self }
         ensures small { IfOk result (λ shape. shape.height < 2 ^ 16) }
@@ -62,7 +63,7 @@ impl Model for Shapes {
 }
 
 impl Shapes {
-    /// A table of that many addresses, with no shape.
+    /// A table of len addresses, with no shape.
     pub fn new(alloc: Global, len: usize) -> Result<Shapes, OutOfMemory>
         ensures { IfOk result (λ shapes. shapes ≡ replicate len None) }
     {

@@ -7,5 +7,7 @@ use Rattle.grain_program.proofs.programs.Program.function_at.Goals as goal
 
 pub returns-clause-enters : goal.returns-clause-enters
 returns-clause-enters c =
-    let found : slice_get c.args.self.now.functions c.args.number ≡ Some c.at-function.result.now = search rules in
-    enters c.args.self.now (subst IsProgram c.self.view_is c.self.invariant.0) c.args.number c.at-function.result.now found
+    let found : slice_get c.args.self.now.functions c.args.number ≡ Some c.at-function.result.now =
+    search rules in
+    enters c.args.self.now (subst IsProgram c.self.view_is c.self.invariant.0) c.args.number
+    c.at-function.result.now found

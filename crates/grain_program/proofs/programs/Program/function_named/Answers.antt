@@ -6,5 +6,6 @@ use Rattle.grain_program.proofs.programs.Program.function_named.Goals as goal
 
 pub returns-clause-called : goal.returns-clause-called
 returns-clause-called c =
-    let found : c.first_by_text.result ≡ function_by_text c.args.self.now c.args.name.now c.args.argc = search rules in
+    let found : c.first_by_text.result ≡ function_by_text c.args.self.now c.args.name.now
+    c.args.argc = search rules in
     found_by_text c.args.self.now c.args.name.now c.args.argc c.first_by_text.result found

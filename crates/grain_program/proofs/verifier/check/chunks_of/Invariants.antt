@@ -5,4 +5,5 @@ use Rattle.grain_program.specs.Layout.{chunks_in}
 use Rattle.grain_program.proofs.verifier.check.chunks_of.Given as goal
 
 abbrev pub invariant-loop-function : goal.invariant-loop-function
-invariant-loop-function l = l.chunks.items ++ map (λ f. f.chunk) (drop l.function-index l.functions) ≡ chunks_in (view_of l.parts)
+invariant-loop-function l = l.chunks.items ++ map (λ f. f.chunk) (drop l.function-index
+    l.functions) ≡ chunks_in (view_of l.parts)

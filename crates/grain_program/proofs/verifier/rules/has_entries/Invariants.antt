@@ -6,4 +6,5 @@ use Rattle.grain_program.specs.Indices.{in_pool}
 use Rattle.grain_program.proofs.verifier.rules.has_entries.Given as goal
 
 abbrev pub invariant-loop-place : goal.invariant-loop-place
-invariant-loop-place l = every (in_pool (view_of l.parts)) (present (drop l.place-index l.places)) ≡ every (in_pool (view_of l.parts)) (present l.places)
+invariant-loop-place l = every (in_pool (view_of l.parts)) (present (drop l.place-index l.places))
+    ≡ every (in_pool (view_of l.parts)) (present l.places)

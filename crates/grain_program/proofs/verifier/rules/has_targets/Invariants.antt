@@ -5,4 +5,5 @@ use Rattle.grain_program.specs.Owners.{lands}
 use Rattle.grain_program.proofs.verifier.rules.has_targets.Given as goal
 
 abbrev pub invariant-loop-place : goal.invariant-loop-place
-invariant-loop-place l = every (lands l.owners l.end) (present (drop l.place-index l.places)) ≡ every (lands l.owners l.end) (present l.places)
+invariant-loop-place l = every (lands l.owners l.end) (present (drop l.place-index l.places))
+    ≡ every (lands l.owners l.end) (present l.places)

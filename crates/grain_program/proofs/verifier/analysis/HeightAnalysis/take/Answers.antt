@@ -9,9 +9,13 @@ use Rattle.grain_program.proofs.verifier.analysis.HeightAnalysis.take.Goals as g
 pub arrive_by-requires-clause-within : goal.arrive_by-requires-clause-within
 arrive_by-requires-clause-within c =
     let next = c.args.address + c.in-Some.width in
-    let read : op_at c.args.code.now c.args.address ≡ Some (c.in-Some.op, c.in-Some.width) = sym c.decode.ensures.exact ∙ c.in-Some.is in
-    let here = subst (λ (x : Effect). AllByRecursion (λ b. b < length c.args.code.now) (leads x.flow next)) (sym c.of-effect.ensures) (c.requires.targets (c.in-Some.op, c.in-Some.width) read) in
-    subst (λ n. AllByRecursion (λ b. b < n) (leads c.of-effect.result.flow next)) (sym c.requires.room) here
+    let read : op_at c.args.code.now c.args.address ≡ Some (c.in-Some.op, c.in-Some.width) =
+    sym c.decode.ensures.exact ∙ c.in-Some.is in
+    let here =
+    subst (λ (x : Effect). AllByRecursion (λ b. b < length c.args.code.now) (leads x.flow next))
+    (sym c.of-effect.ensures) (c.requires.targets (c.in-Some.op, c.in-Some.width) read) in
+    subst (λ n. AllByRecursion (λ b. b < n) (leads c.of-effect.result.flow next))
+    (sym c.requires.room) here
 
 pub unreachable-requires : goal.unreachable-requires
 unreachable-requires c = c.requires.read (sym c.decode.ensures.exact ∙ c.in_default.is)
