@@ -1,12 +1,12 @@
 -- Breaches by what breaks the rule, and the first of those of one kind or of two.
 use Rattle.std.proofs.Common.{◌≡◌, ◌<◌, ◌≤◌, ◌⊎◌, Bool, true, false, cond, List, Option, Some, None, refl, inl, inr, arith}
 use Rattle.std.proofs.lemmas.Bool.{cases_lt}
-use Rattle.grain_program.specs.declared.input.Chunk.{Chunk}
-use Rattle.grain_program.specs.declared.refusals.Refusal.{Refusal}
-use Rattle.grain_program.specs.declared.refusals.Refusal.TheVariants as refusal
+use Rattle.grain_program.specs.declared.code.parts.Chunk.{Chunk}
+use Rattle.grain_program.specs.declared.verifier.refusals.Refusal.{Refusal}
+use Rattle.grain_program.specs.declared.verifier.refusals.Refusal.TheVariants as refusal
 use Rattle.grain_program.specs.View.{View}
-use Rattle.grain_program.specs.Rules.{IndexRule, TargetRule, EndRule, CapabilityRule, Unread, Disobeys, IsHollow, IsMisnamed, Breach, address_of, rule_of, Precedes, precedes, earlier, IsFirst}
-use Rattle.grain_program.proofs.Tells.{Tells, precedes_tell}
+use Rattle.grain_program.specs.Rules.{IndexRule, TargetRule, EndRule, CapabilityRule, Unread, Disobeys, IsEmptyChunk, IsMisnamed, Breach, address_of, rule_of, Precedes, precedes, earlier, IsFirst}
+use Rattle.grain_program.proofs.Decisions.{Decides, precedes_decide}
 
 -- an instruction breaks the rule
 abbrev pub ByOp : View → List Chunk → Refusal → Type 0
@@ -23,12 +23,13 @@ ByName p (refusal.PoolIndex a) = IsMisnamed p a
 ByName p _ = ⊥
 
 -- an empty chunk breaks it
-abbrev pub ByHollow : List Chunk → Refusal → Type 0
-ByHollow chunks (refusal.FallsOff a) = IsHollow chunks a
-ByHollow chunks _ = ⊥
+abbrev pub ByEmptyChunk : List Chunk → Refusal → Type 0
+ByEmptyChunk chunks (refusal.FallsOff a) = IsEmptyChunk chunks a
+ByEmptyChunk chunks _ = ⊥
 
 -- each breach is of one of these kinds
-pub kind_of : (p : View) (chunks : List Chunk) (q : Refusal) → Breach p chunks q → ByOp p chunks q ⊎ (ByName p q ⊎ ByHollow chunks q)
+pub kind_of : (p : View) (chunks : List Chunk) (q : Refusal) → Breach p chunks q → ByOp p chunks q
+    ⊎ (ByName p q ⊎ ByEmptyChunk chunks q)
 kind_of p chunks (refusal.Undecodable a) h = inl h
 kind_of p chunks (refusal.PoolIndex a) (inl h) = inl h
 kind_of p chunks (refusal.PoolIndex a) (inr h) = inr (inl h)
@@ -50,14 +51,16 @@ name_breach : (p : View) (chunks : List Chunk) (q : Refusal) → ByName p q → 
 name_breach p chunks (refusal.PoolIndex a) h = inr h
 name_breach p chunks _ h = absurd h
 
-hollow_breach : (p : View) (chunks : List Chunk) (q : Refusal) → ByHollow chunks q → Breach p chunks q
-hollow_breach p chunks (refusal.FallsOff a) h = inr h
-hollow_breach p chunks _ h = absurd h
+empty_breach : (p : View) (chunks : List Chunk) (q : Refusal) → ByEmptyChunk chunks q
+    → Breach p chunks q
+empty_breach p chunks (refusal.FallsOff a) h = inr h
+empty_breach p chunks _ h = absurd h
 
-breach_of : (p : View) (chunks : List Chunk) (q : Refusal) → ByOp p chunks q ⊎ (ByName p q ⊎ ByHollow chunks q) → Breach p chunks q
+breach_of : (p : View) (chunks : List Chunk) (q : Refusal) → ByOp p chunks q
+    ⊎ (ByName p q ⊎ ByEmptyChunk chunks q) → Breach p chunks q
 breach_of p chunks q (inl h) = op_breach p chunks q h
 breach_of p chunks q (inr (inl h)) = name_breach p chunks q h
-breach_of p chunks q (inr (inr h)) = hollow_breach p chunks q h
+breach_of p chunks q (inr (inr h)) = empty_breach p chunks q h
 
 -- ---- the first of a kind
 
@@ -73,14 +76,20 @@ on_from r s t (inr a) (inl b) = inl (omega (arith, a.0))
 on_from r s t (inr a) (inr b) = inr (omega (arith, a.0, b.0), omega (arith, a.1, b.1))
 
 other_way : (r s : Refusal) → (Precedes r s → ⊥) → Precedes s r
-other_way r s never = at (cases_lt (address_of r) (address_of s)) (cases_lt (address_of s) (address_of r)) (cases_lt (rule_of s) (rule_of r)) where
-  at : (address_of r < address_of s) ⊎ (address_of s ≤ address_of r) → (address_of s < address_of r) ⊎ (address_of r ≤ address_of s) → (rule_of s < rule_of r) ⊎ (rule_of r ≤ rule_of s) → Precedes s r
-  at (inl lt) x y = absurd (never (inl lt))
-  at (inr ge) (inl lt) y = inl lt
-  at (inr ge) (inr le) (inl lt) = inr (omega arith, omega arith)
-  at (inr ge) (inr le) (inr more) = absurd (never (inr (omega arith, more)))
+other_way r s never =
+    at (cases_lt (address_of r) (address_of s)) (cases_lt (address_of s) (address_of r))
+    (cases_lt (rule_of s) (rule_of r)) where
+      at : (address_of r < address_of s) ⊎ (address_of s ≤ address_of r)
+          → (address_of s < address_of r)
+          ⊎ (address_of r ≤ address_of s) → (rule_of s < rule_of r) ⊎ (rule_of r ≤ rule_of s)
+          → Precedes s r
+      at (inl lt) x y = absurd (never (inl lt))
+      at (inr ge) (inl lt) y = inl lt
+      at (inr ge) (inr le) (inl lt) = inr (omega arith, omega arith)
+      at (inr ge) (inr le) (inr more) = absurd (never (inr (omega arith, more)))
 
-pub earlier_first : (C D : Refusal → Type 0) (x y : Option Refusal) → FirstOf C x → FirstOf D y → FirstOf (λ s. C s ⊎ D s) (earlier x y)
+pub earlier_first : (C D : Refusal → Type 0) (x y : Option Refusal) → FirstOf C x → FirstOf D y
+    → FirstOf (λ s. C s ⊎ D s) (earlier x y)
 earlier_first C D None None f g = λ s h. none s h where
   none : (s : Refusal) → C s ⊎ D s → ⊥
   none s (inl h) = f s h
@@ -93,8 +102,8 @@ earlier_first C D (Some a) None f g = (inl f.0, λ s h. first s h) where
   first : (s : Refusal) → C s ⊎ D s → Precedes a s
   first s (inl h) = f.1 s h
   first s (inr h) = absurd (g s h)
-earlier_first C D (Some a) (Some b) f g = at (precedes a b) (precedes_tell a b) where
-  at : (t : Bool) → Tells t (Precedes a b) → FirstOf (λ s. C s ⊎ D s) (cond t (Some a) (Some b))
+earlier_first C D (Some a) (Some b) f g = at (precedes a b) (precedes_decide a b) where
+  at : (t : Bool) → Decides t (Precedes a b) → FirstOf (λ s. C s ⊎ D s) (cond t (Some a) (Some b))
   at true h = (inl f.0, λ s k. first s k) where
     first : (s : Refusal) → C s ⊎ D s → Precedes a s
     first s (inl k) = f.1 s k
@@ -105,8 +114,10 @@ earlier_first C D (Some a) (Some b) f g = at (precedes a b) (precedes_tell a b) 
     first s (inr k) = g.1 s k
 
 -- the first breach of all
-pub is_first : (p : View) (chunks : List Chunk) (r : Refusal) → FirstOf (λ s. ByOp p chunks s ⊎ (ByName p s ⊎ ByHollow chunks s)) (Some r) → IsFirst p chunks r
-is_first p chunks r f = record { breach = breach_of p chunks r f.0; first = λ s h. f.1 s (kind_of p chunks s h) }
+pub is_first : (p : View) (chunks : List Chunk) (r : Refusal) → FirstOf (λ s. ByOp p chunks s
+    ⊎ (ByName p s ⊎ ByEmptyChunk chunks s)) (Some r) → IsFirst p chunks r
+is_first p chunks r f =
+    record { breach = breach_of p chunks r f.0; first = λ s h. f.1 s (kind_of p chunks s h) }
 
 -- where there is no earlier one of two, there is none
 pub neither : (x y : Option Refusal) → earlier x y ≡ None → (x ≡ None) × (y ≡ None)

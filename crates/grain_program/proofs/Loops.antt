@@ -2,50 +2,51 @@
 use Rattle.std.proofs.Common.{◌≡◌, ℕ, zero, suc, ◌+◌, ◌<◌, ◌≤◌, ◌⊎◌, List, [], ◌∷◌, length, Some, None, Result, Ok, Err, refl, sym, ap, subst, ◌∙◌, inl, inr, arith}
 use Rattle.std.specs.Prelude.{slice_get}
 use Rattle.std.specs.List.{AllByRecursion}
-use Rattle.grain_program.specs.declared.instructions.Op.{Op}
-use Rattle.grain_program.specs.declared.input.Chunk.{Chunk}
-use Rattle.grain_program.specs.declared.shapes.Shape.{Shape}
-use Rattle.grain_program.specs.declared.refusals.Refusal.{Refusal}
-use Rattle.grain_program.specs.declared.refusals.Refusal.TheVariants.{Memory}
+use Rattle.grain_program.specs.declared.code.instructions.Op.{Op}
+use Rattle.grain_program.specs.declared.code.parts.Chunk.{Chunk}
+use Rattle.grain_program.specs.declared.verifier.shapes.Shape.{Shape}
+use Rattle.grain_program.specs.declared.verifier.refusals.Refusal.{Refusal}
+use Rattle.grain_program.specs.declared.verifier.refusals.Refusal.TheVariants.{Memory}
 use Rattle.grain_program.specs.View.{View}
 use Rattle.grain_program.specs.Reading.{op_at}
 use Rattle.grain_program.specs.Effects.{effect_of, leads}
 use Rattle.grain_program.specs.Starts.{Start}
-use Rattle.grain_program.specs.Begins.{start_first, start_within}
+use Rattle.grain_program.specs.laws.Starts.{start_first, start_within}
 use Rattle.grain_program.specs.Rules.{IsSplit}
 use Rattle.grain_program.specs.Shapes.{bare, shape_at}
-use Rattle.grain_program.specs.Typing.{In, HasTyping, Seen, ◌>>=◌, arrive, take_at, take_lowest, with_lowest, walk, survey_chunk, survey_from, survey, Ready, Walkable}
+use Rattle.grain_program.specs.Typing.{In, HasTyping, AnalysisState, ◌>>=◌, arrive, take_at, take_lowest, with_lowest, take_all, analyse_chunk, analyse_from, analysis, Ready, IsAnalysable}
 use Rattle.grain_program.proofs.Tiles.{is_tiled}
 use Rattle.grain_program.proofs.Cells.{free}
 use Rattle.grain_program.proofs.Grows.{Spread, arrive_spread, Moved, moved}
-use Rattle.grain_program.proofs.Walks.{free_within, walk_none, inside, closed, has_typing}
+use Rattle.grain_program.proofs.Worklists.{free_within, take_none, inside, closed, has_typing}
 
 -- a fact of each number in a list
 all_in : (P : ℕ → Type 0) (bs : List ℕ) → ((b : ℕ) → In b bs → P b) → AllByRecursion P bs
 all_in P [] h = tt
 all_in P (b ∷ bs) h = (h b (inl refl), all_in P bs (λ x i. h x (inr i)))
 
--- the walk has come so far: what is left of it gives what all of it gives, and is long enough
-pub record Walking (code : List ℕ) (c : Chunk) (before f : Seen) : Type 0 where
+-- the loop has come so far: what is left of it gives what all of it gives, and is long enough
+pub record Taking (code : List ℕ) (c : Chunk) (before f : AnalysisState) : Type 0 where
   pub left : ℕ
-  pub is : walk code c.max_stack left f ≡ survey_chunk code c before
+  pub is : take_all code c.max_stack left f ≡ analyse_chunk code c before
   pub enough : free f.shapes + length f.waiting ≤ left
   pub long : length f.shapes ≡ length code
   pub known : (a : ℕ) → In a f.waiting → (s : Shape) × (shape_at f.shapes a ≡ Some s)
   pub mine : (a : ℕ) → In a f.waiting → Start code c a
 
-module _ (code : List ℕ) (c : Chunk) (before : Seen) (w : Walkable code c before) where
+module _ (code : List ℕ) (c : Chunk) (before : AnalysisState) (w : IsAnalysable code c before) where
   within : (a : ℕ) → Start code c a → a < length code
   within a s = let x = start_within code c a s in omega (arith, x.1, w.inside)
 
   pub entry_within : c.entry < length before.shapes
   entry_within = omega (arith, w.full, w.inside, w.room)
 
-  pub entered : (f : Seen) → arrive bare before c.entry ≡ Ok f → Walking code c before f
-  unfolding survey_chunk
+  pub entered : (f : AnalysisState) → arrive bare before c.entry ≡ Ok f → Taking code c before f
+  unfolding analyse_chunk
   entered f ok = record {
     left = length code;
-    is = sym (ap (λ (x : Result Seen Refusal). x >>= λ g. walk code c.max_stack (length code) g) ok);
+    is = sym (ap (λ (x : Result AnalysisState Refusal). x >>= λ g. take_all code c.max_stack
+        (length code) g) ok);
     enough = omega (arith, spread.less, ap length w.none, free_within before.shapes, w.room);
     long = spread.long ∙ w.room;
     known = λ a i. known a (spread.fresh a i);
@@ -54,7 +55,8 @@ module _ (code : List ℕ) (c : Chunk) (before : Seen) (w : Walkable code c befo
     spread : Spread bare before f (c.entry ∷ [])
     spread = arrive_spread bare before f c.entry entry_within ok
 
-    known : (a : ℕ) → In a before.waiting ⊎ In a (c.entry ∷ []) → (s : Shape) × (shape_at f.shapes a ≡ Some s)
+    known : (a : ℕ) → In a before.waiting ⊎ In a (c.entry ∷ [])
+        → (s : Shape) × (shape_at f.shapes a ≡ Some s)
     known a (inl i) = absurd (subst (In a) w.none i)
     known a (inr i) = (bare, spread.there a i)
 
@@ -66,107 +68,131 @@ module _ (code : List ℕ) (c : Chunk) (before : Seen) (w : Walkable code c befo
     mine a (inl i) = absurd (subst (In a) w.none i)
     mine a (inr i) = at a i
 
-  pub not_entered : (r : Refusal) → (r ≡ Memory) ⊎ (arrive bare before c.entry ≡ Err r) → (r ≡ Memory) ⊎ (survey_chunk code c before ≡ Err r)
-  unfolding survey_chunk
+  pub not_entered : (r : Refusal) → (r ≡ Memory) ⊎ (arrive bare before c.entry ≡ Err r)
+      → (r ≡ Memory) ⊎ (analyse_chunk code c before ≡ Err r)
+  unfolding analyse_chunk
   not_entered r (inl m) = inl m
-  not_entered r (inr e) = inr (ap (λ (x : Result Seen Refusal). x >>= λ g. walk code c.max_stack (length code) g) e)
+  not_entered r (inr e) = inr (ap (λ (x : Result AnalysisState Refusal). x >>= λ g. take_all code
+      c.max_stack (length code) g) e)
 
   -- the address is the lowest that waits, and the others wait still
-  module _ (f g : Seen) (a : ℕ) (so : Walking code c before f) (e : f ≡ with_lowest a g) where
-    waits : f.waiting ≡ a ∷ g.waiting
-    waits = ap (λ (x : Seen). x.waiting) e
+  module _ (f g : AnalysisState) (a : ℕ) (so : Taking code c before f) (e : f ≡ with_lowest a g)
+    where
+      waits : f.waiting ≡ a ∷ g.waiting
+      waits = ap (λ (x : AnalysisState). x.waiting) e
 
-    shapes : f.shapes ≡ g.shapes
-    shapes = ap (λ (x : Seen). x.shapes) e
+      shapes : f.shapes ≡ g.shapes
+      shapes = ap (λ (x : AnalysisState). x.shapes) e
 
-    here : In a f.waiting
-    here = subst (In a) (sym waits) (inl refl)
+      here : In a f.waiting
+      here = subst (In a) (sym waits) (inl refl)
 
-    start : Start code c a
-    start = so.mine a here
+      start : Start code c a
+      start = so.mine a here
 
-    known : (t : Shape) × (shape_at g.shapes a ≡ Some t)
-    known = let k = so.known a here in (k.0, ap (λ l. shape_at l a) (sym shapes) ∙ k.1)
+      known : (t : Shape) × (shape_at g.shapes a ≡ Some t)
+      known = let k = so.known a here in (k.0, ap (λ l. shape_at l a) (sym shapes) ∙ k.1)
 
-    long : length g.shapes ≡ length code
-    long = ap length (sym shapes) ∙ so.long
+      long : length g.shapes ≡ length code
+      long = ap length (sym shapes) ∙ so.long
 
-    read : (r : Op × ℕ) × (op_at code a ≡ Some r) × ((b : ℕ) → In b (leads (effect_of r.0).flow (a + r.1)) → Start code c b)
-    read = w.closed a start
+      read : (r : Op × ℕ) × (op_at code a ≡ Some r) × ((b : ℕ)
+          → In b (leads (effect_of r.0).flow (a + r.1)) → Start code c b)
+      read = w.closed a start
 
-    pub is_ready : Ready code g.shapes a
-    is_ready = record {
-      small = w.small;
-      room = long;
-      within = within a start;
-      read = λ k. let bad : None ≡ Some read.0 = sym k ∙ read.1 in cc;
-      known = λ k. let bad : None ≡ Some known.0 = sym k ∙ known.1 in cc;
-      targets = λ r k. targets r k;
-    } where
-      targets : (r : Op × ℕ) → op_at code a ≡ Some r → AllByRecursion (λ b. b < length code) (leads (effect_of r.0).flow (a + r.1))
-      targets r k =
-          let both : Some read.0 ≡ Some r = sym read.1 ∙ k in
-          let same : read.0 ≡ r = cc in
-          subst (λ (x : Op × ℕ). AllByRecursion (λ b. b < length code) (leads (effect_of x.0).flow (a + x.1))) same
-          (all_in (λ b. b < length code) (leads (effect_of read.0.0).flow (a + read.0.1)) (λ b i. within b (read.2 b i)))
+      pub is_ready : Ready code g.shapes a
+      is_ready = record {
+        small = w.small;
+        room = long;
+        within = within a start;
+        read = λ k. let bad : None ≡ Some read.0 = sym k ∙ read.1 in cc;
+        known = λ k. let bad : None ≡ Some known.0 = sym k ∙ known.1 in cc;
+        targets = λ r k. targets r k;
+      } where
+        targets : (r : Op × ℕ) → op_at code a ≡ Some r
+            → AllByRecursion (λ b. b < length code) (leads (effect_of r.0).flow (a + r.1))
+        targets r k =
+            let both : Some read.0 ≡ Some r = sym read.1 ∙ k in
+            let same : read.0 ≡ r = cc in
+            subst (λ (x : Op × ℕ). AllByRecursion (λ b. b < length code) (leads (effect_of x.0).flow
+            (a + x.1))) same
+            (all_in (λ b. b < length code) (leads (effect_of read.0.0).flow (a + read.0.1))
+            (λ b i. within b (read.2 b i)))
 
-    -- one step less is left
-    step : (n : ℕ) → so.left ≡ suc n → (x : Result Seen Refusal) → take_at code c.max_stack a g ≡ x → survey_chunk code c before ≡ (x >>= λ h. walk code c.max_stack n h)
-    unfolding walk
-    step n l x k =
-        sym so.is
-        ∙ ap (λ m. walk code c.max_stack m f) l
-        ∙ ap (λ (y : Seen). take_lowest code c.max_stack y y.waiting >>= λ h. walk code c.max_stack n h) e
-        ∙ ap (λ (y : Result Seen Refusal). y >>= λ h. walk code c.max_stack n h) k
+      -- one step less is left
+      step : (n : ℕ) → so.left ≡ suc n → (x : Result AnalysisState Refusal)
+          → take_at code c.max_stack a g ≡ x
+          → analyse_chunk code c before ≡ (x >>= λ h. take_all code
+          c.max_stack n h)
+      unfolding take_all
+      step n l x k =
+          sym so.is
+          ∙ ap (λ m. take_all code c.max_stack m f) l
+          ∙ ap (λ (y : AnalysisState). take_lowest code c.max_stack y y.waiting >>= λ h. take_all
+          code
+          c.max_stack n h) e
+          ∙ ap (λ (y : Result AnalysisState Refusal). y >>= λ h. take_all code c.max_stack n h) k
 
-    some_left : (m : ℕ) → so.left ≡ m → (n : ℕ) × (so.left ≡ suc n)
-    some_left zero l = absurd (omega (arith, so.enough, ap length waits, l))
-    some_left (suc n) l = (n, l)
+      some_left : (m : ℕ) → so.left ≡ m → (n : ℕ) × (so.left ≡ suc n)
+      some_left zero l = absurd (omega (arith, so.enough, ap length waits, l))
+      some_left (suc n) l = (n, l)
 
-    left : (n : ℕ) × (so.left ≡ suc n)
-    left = some_left so.left refl
+      left : (n : ℕ) × (so.left ≡ suc n)
+      left = some_left so.left refl
 
-    pub walked_on : (h : Seen) → take_at code c.max_stack a g ≡ Ok h → Walking code c before h × (free h.shapes + length h.waiting < free f.shapes + length f.waiting)
-    walked_on h k = (
-      record {
-        left = left.0;
-        is = sym (step left.0 left.1 (Ok h) k);
-        enough = omega (arith, less, so.enough, left.1);
-        long = m.spread.long ∙ long;
-        known = λ x i. known' x (m.spread.fresh x i);
-        mine = λ x i. mine' x (m.spread.fresh x i);
-      },
-      less,
-    ) where
-      m : Moved code c.max_stack a read.0 known.0 g h
-      m = moved code c.max_stack a read.0 known.0 g read.1 known.1 h (λ b i. let lt = within b (read.2 b i) in omega (arith, long)) k
+      pub taken_on : (h : AnalysisState) → take_at code c.max_stack a g ≡ Ok h
+          → Taking code c before h × (free h.shapes + length h.waiting < free f.shapes + length
+          f.waiting)
+      taken_on h k = (
+        record {
+          left = left.0;
+          is = sym (step left.0 left.1 (Ok h) k);
+          enough = omega (arith, less, so.enough, left.1);
+          long = m.spread.long ∙ long;
+          known = λ x i. known' x (m.spread.fresh x i);
+          mine = λ x i. mine' x (m.spread.fresh x i);
+        },
+        less,
+      ) where
+        m : Moved code c.max_stack a read.0 known.0 g h
+        m = moved code c.max_stack a read.0 known.0 g read.1 known.1 h (λ b i. let lt =
+            within b (read.2 b i) in omega (arith, long)) k
 
-      less : free h.shapes + length h.waiting < free f.shapes + length f.waiting
-      less = omega (arith, m.spread.less, ap length waits, ap free shapes)
+        less : free h.shapes + length h.waiting < free f.shapes + length f.waiting
+        less = omega (arith, m.spread.less, ap length waits, ap free shapes)
 
-      old : (x : ℕ) → In x g.waiting → In x f.waiting
-      old x i = subst (In x) (sym waits) (inr i)
+        old : (x : ℕ) → In x g.waiting → In x f.waiting
+        old x i = subst (In x) (sym waits) (inr i)
 
-      known' : (x : ℕ) → In x g.waiting ⊎ In x (leads (effect_of read.0.0).flow (a + read.0.1)) → (s : Shape) × (shape_at h.shapes x ≡ Some s)
-      known' x (inl i) = let k = so.known x (old x i) in (k.0, m.spread.stays x k.0 (ap (λ l. shape_at l x) (sym shapes) ∙ k.1))
-      known' x (inr i) = (m.shape, m.spread.there x i)
+        known' : (x : ℕ) → In x g.waiting ⊎ In x (leads (effect_of read.0.0).flow (a + read.0.1))
+            → (s : Shape) × (shape_at h.shapes x ≡ Some s)
+        known' x (inl i) = let k = so.known x (old x i) in (
+          k.0,
+          m.spread.stays x k.0
+              (ap (λ l. shape_at l x) (sym shapes) ∙ k.1),
+        )
+        known' x (inr i) = (m.shape, m.spread.there x i)
 
-      mine' : (x : ℕ) → In x g.waiting ⊎ In x (leads (effect_of read.0.0).flow (a + read.0.1)) → Start code c x
-      mine' x (inl i) = so.mine x (old x i)
-      mine' x (inr i) = read.2 x i
+        mine' : (x : ℕ) → In x g.waiting ⊎ In x (leads (effect_of read.0.0).flow (a + read.0.1))
+            → Start code c x
+        mine' x (inl i) = so.mine x (old x i)
+        mine' x (inr i) = read.2 x i
 
-    pub refused_on : (r : Refusal) → (r ≡ Memory) ⊎ (take_at code c.max_stack a g ≡ Err r) → (r ≡ Memory) ⊎ (survey_chunk code c before ≡ Err r)
-    refused_on r (inl m) = inl m
-    refused_on r (inr k) = inr (step left.0 left.1 (Err r) k)
+      pub refused_on : (r : Refusal) → (r ≡ Memory) ⊎ (take_at code c.max_stack a g ≡ Err r)
+          → (r ≡ Memory) ⊎ (analyse_chunk code c before ≡ Err r)
+      refused_on r (inl m) = inl m
+      refused_on r (inr k) = inr (step left.0 left.1 (Err r) k)
 
-  pub ended : (f : Seen) → Walking code c before f → f.waiting ≡ [] → survey_chunk code c before ≡ Ok f
-  ended f so e = sym so.is ∙ walk_none code c.max_stack so.left f e
+  pub ended : (f : AnalysisState) → Taking code c before f → f.waiting ≡ []
+      → analyse_chunk code c before ≡ Ok f
+  ended f so e = sym so.is ∙ take_none code c.max_stack so.left f e
 
 -- ---- the loop over the chunks
 
-module _ (p : View) (chunks : List Chunk) (split : IsSplit p chunks) (i : ℕ) (c : Chunk) (g : slice_get chunks i ≡ Some c) (f : Seen) where
-  pub walkable : length f.shapes ≡ length p.code → f.waiting ≡ [] → Walkable p.code c f
-  walkable long none = record {
+module _ (p : View) (chunks : List Chunk) (split : IsSplit p chunks) (i : ℕ) (c : Chunk)
+    (g : slice_get chunks i ≡ Some c) (f : AnalysisState) where
+  pub analysable : length f.shapes ≡ length p.code → f.waiting ≡ [] → IsAnalysable p.code c f
+  analysable long none = record {
     small = (is_tiled (length p.code) chunks split.laid).small;
     room = long;
     none = none;
@@ -176,5 +202,8 @@ module _ (p : View) (chunks : List Chunk) (split : IsSplit p chunks) (i : ℕ) (
   }
 
 -- where no chunk is left, a typing is found
-pub found : (p : View) (chunks : List Chunk) → IsSplit p chunks → (cs : List Chunk) (f : Seen) → survey_from p.code cs f ≡ survey p.code chunks → cs ≡ [] → HasTyping p.code chunks
-found p chunks split cs f so e = has_typing p chunks split.laid split.splits f (sym so ∙ ap (λ l. survey_from p.code l f) e)
+pub found : (p : View) (chunks : List Chunk) → IsSplit p chunks
+    → (cs : List Chunk) (f : AnalysisState) → analyse_from p.code cs f ≡ analysis p.code chunks
+    → cs ≡ [] → HasTyping p.code chunks
+found p chunks split cs f so e =
+    has_typing p chunks split.laid split.splits f (sym so ∙ ap (λ l. analyse_from p.code l f) e)

@@ -1,17 +1,18 @@
--- Both groups of rules together: what is valid is not refused, and what is refused is refused for one reason.
+-- Both groups of rules together: what is valid is not refused, and what is refused is refused for
+-- one reason.
 use Rattle.std.proofs.Common.{◌≡◌, ℕ, zero, suc, ◌⊎◌, List, length, Some, None, Result, Ok, Err, refl, sym, ap, ◌∙◌, inl, inr, arith}
 use Rattle.std.specs.Prelude.{IfErr}
-use Rattle.grain_program.specs.declared.input.Chunk.{Chunk}
-use Rattle.grain_program.specs.declared.refusals.Refusal.{Refusal}
-use Rattle.grain_program.specs.declared.refusals.Refusal.TheVariants as refusal
+use Rattle.grain_program.specs.declared.code.parts.Chunk.{Chunk}
+use Rattle.grain_program.specs.declared.verifier.refusals.Refusal.{Refusal}
+use Rattle.grain_program.specs.declared.verifier.refusals.Refusal.TheVariants as refusal
 use Rattle.grain_program.specs.View.{View}
 use Rattle.grain_program.specs.Layout.{layout_fault}
-use Rattle.grain_program.specs.Rules.{Splits, Breach, address_of, rule_of, Precedes, IsFirst, RefusedEarly}
-use Rattle.grain_program.specs.Typing.{Valid, survey, StopsWith, Refused}
+use Rattle.grain_program.specs.Rules.{Splits, Breach, address_of, rule_of, Precedes, IsFirst, RefusedBeforeHeights}
+use Rattle.grain_program.specs.Typing.{Valid, analysis, StopsWith, Refused}
 use Rattle.grain_program.proofs.Tiles.{is_tiled}
-use Rattle.grain_program.proofs.Breaches.{ByOp, ByName, ByHollow, kind_of}
+use Rattle.grain_program.proofs.Breaches.{ByOp, ByName, ByEmptyChunk, kind_of}
 use Rattle.grain_program.proofs.Meaning.{none_by_op}
-use Rattle.grain_program.proofs.Walks.{never_stops}
+use Rattle.grain_program.proofs.Worklists.{never_stops}
 
 -- the refusal of the rule at the address
 refusal_of : ℕ → ℕ → Refusal
@@ -24,22 +25,26 @@ refusal_of (suc (suc (suc (suc (suc n))))) a = refusal.Capability a
 
 module _ (p : View) (chunks : List Chunk) where
   -- where each rule is obeyed there is no breach
-  no_breach : layout_fault (length p.code) chunks ≡ None → Splits p chunks → (q : Refusal) → Breach p chunks q → ⊥
+  no_breach : layout_fault (length p.code) chunks ≡ None → Splits p chunks → (q : Refusal)
+      → Breach p chunks q → ⊥
   no_breach laid w q h = at q (kind_of p chunks q h) where
     name : (q : Refusal) → ByName p q → ⊥
     name (refusal.PoolIndex a) h = h.1.3 (w.named h.0 h.1.0 h.1.1)
     name _ h = h
 
-    hollow : (q : Refusal) → ByHollow chunks q → ⊥
-    hollow (refusal.FallsOff a) h = let full = w.full h.0 h.1.0 h.1.1 in omega (arith, full, h.1.2, h.1.3)
-    hollow _ h = h
+    empty_one : (q : Refusal) → ByEmptyChunk chunks q → ⊥
+    empty_one (refusal.FallsOff a) h =
+        let full = w.full h.0 h.1.0 h.1.1 in omega (arith, full, h.1.2, h.1.3)
+    empty_one _ h = h
 
-    at : (q : Refusal) → ByOp p chunks q ⊎ (ByName p q ⊎ ByHollow chunks q) → ⊥
-    at q (inl h) = none_by_op p chunks (is_tiled (length p.code) chunks laid) (address_of q) (λ i c g s. w.obeys i c (address_of q) g s) q h refl
+    at : (q : Refusal) → ByOp p chunks q ⊎ (ByName p q ⊎ ByEmptyChunk chunks q) → ⊥
+    at q (inl h) = none_by_op p chunks (is_tiled (length p.code) chunks laid) (address_of q)
+        (λ i c g s. w.obeys i c (address_of q) g s) q h refl
     at q (inr (inl h)) = name q h
-    at q (inr (inr h)) = hollow q h
+    at q (inr (inr h)) = empty_one q h
 
-  not_early : layout_fault (length p.code) chunks ≡ None → Splits p chunks → (r : Refusal) → RefusedEarly p chunks r → ⊥
+  not_early : layout_fault (length p.code) chunks ≡ None → Splits p chunks → (r : Refusal)
+      → RefusedBeforeHeights p chunks r → ⊥
   not_early laid w r (inl h) = let bad : None ≡ Some h.0 = sym laid ∙ h.1 in cc
   not_early laid w r (inr h) = no_breach laid w r h.1.breach
 
@@ -47,21 +52,27 @@ module _ (p : View) (chunks : List Chunk) where
   not_refused v r (inl h) = not_early v.layout v.splits r h
   not_refused v r (inr h) = never_stops p chunks v.layout v.splits v.typing v.typed r h.2
 
-  -- what is refused for want of memory or else for a broken rule is, of valid parts, for want of memory
-  pub only_memory : Valid p chunks → (r : Refusal) → (r ≡ refusal.Memory) ⊎ Refused p chunks r → r ≡ refusal.Memory
+  -- what is refused for want of memory or else for a broken rule is, of valid parts, for want of
+  -- memory
+  pub only_memory : Valid p chunks → (r : Refusal) → (r ≡ refusal.Memory) ⊎ Refused p chunks r
+      → r ≡ refusal.Memory
   only_memory v r (inl m) = m
   only_memory v r (inr h) = absurd (not_refused v r h)
 
-  pub refused_early : (r : Refusal) → (r ≡ refusal.Memory) ⊎ RefusedEarly p chunks r → (r ≡ refusal.Memory) ⊎ Refused p chunks r
-  refused_early r (inl m) = inl m
-  refused_early r (inr h) = inr (inl h)
+  pub refused_before_heights : (r : Refusal) → (r ≡ refusal.Memory) ⊎ RefusedBeforeHeights p chunks
+      r → (r ≡ refusal.Memory) ⊎ Refused p chunks r
+  refused_before_heights r (inl m) = inl m
+  refused_before_heights r (inr h) = inr (inl h)
 
-  pub refused_late : layout_fault (length p.code) chunks ≡ None → Splits p chunks → (x : Result (Unit {0}) Refusal) → IfErr x (λ r. (r ≡ refusal.Memory) ⊎ StopsWith p.code chunks r) → IfErr x (λ r. (r ≡ refusal.Memory) ⊎ Refused p chunks r)
-  refused_late laid w (Ok y) h = tt
-  refused_late laid w (Err r) (inl m) = inl m
-  refused_late laid w (Err r) (inr s) = inr (inr (laid, w, s))
+  pub refused_by_heights : layout_fault (length p.code) chunks ≡ None → Splits p chunks
+      → (x : Result (Unit {0}) Refusal) → IfErr x (λ r. (r ≡ refusal.Memory)
+      ⊎ StopsWith p.code chunks r) → IfErr x (λ r. (r ≡ refusal.Memory) ⊎ Refused p chunks r)
+  refused_by_heights laid w (Ok y) h = tt
+  refused_by_heights laid w (Err r) (inl m) = inl m
+  refused_by_heights laid w (Err r) (inr s) = inr (inr (laid, w, s))
 
-  pub complete : (x : Result (Unit {0}) Refusal) → IfErr x (λ r. (r ≡ refusal.Memory) ⊎ Refused p chunks r) → Valid p chunks → IfErr x (λ r. r ≡ refusal.Memory)
+  pub complete : (x : Result (Unit {0}) Refusal) → IfErr x (λ r. (r ≡ refusal.Memory)
+      ⊎ Refused p chunks r) → Valid p chunks → IfErr x (λ r. r ≡ refusal.Memory)
   complete (Ok y) h v = tt
   complete (Err r) h v = only_memory v r h
 
@@ -76,7 +87,8 @@ module _ (p : View) (chunks : List Chunk) where
   is_of (refusal.Capability a) h = refl
   is_of _ h = absurd h
 
-  both_ways : (r s : Refusal) → Precedes r s → Precedes s r → (address_of r ≡ address_of s) × (rule_of r ≡ rule_of s)
+  both_ways : (r s : Refusal) → Precedes r s → Precedes s r → (address_of r ≡ address_of s)
+      × (rule_of r ≡ rule_of s)
   both_ways r s (inl x) (inl y) = absurd (omega arith)
   both_ways r s (inl x) (inr y) = absurd (omega (arith, x, y.0))
   both_ways r s (inr x) (inl y) = absurd (omega (arith, y, x.0))
@@ -85,9 +97,11 @@ module _ (p : View) (chunks : List Chunk) where
   one_first : (r s : Refusal) → IsFirst p chunks r → IsFirst p chunks s → r ≡ s
   one_first r s x y =
       let e = both_ways r s (x.first s y.breach) (y.first r x.breach) in
-      sym (is_of r x.breach) ∙ ap (λ n. refusal_of n (address_of r)) e.1 ∙ ap (refusal_of (rule_of s)) e.0 ∙ is_of s y.breach
+      sym (is_of r x.breach) ∙ ap (λ n. refusal_of n (address_of r)) e.1
+      ∙ ap (refusal_of (rule_of s)) e.0 ∙ is_of s y.breach
 
-  one_early : (r s : Refusal) → RefusedEarly p chunks r → RefusedEarly p chunks s → r ≡ s
+  one_early : (r s : Refusal) → RefusedBeforeHeights p chunks r → RefusedBeforeHeights p chunks s
+      → r ≡ s
   one_early r s (inl x) (inl y) =
       let both : Some x.0 ≡ Some y.0 = sym x.1 ∙ y.1 in
       let same : x.0 ≡ y.0 = cc in
@@ -96,7 +110,8 @@ module _ (p : View) (chunks : List Chunk) where
   one_early r s (inr x) (inl y) = let bad : Some y.0 ≡ None = sym y.1 ∙ x.0 in absurd cc
   one_early r s (inr x) (inr y) = one_first r s x.1 y.1
 
-  one_stop : (r s : Refusal) → survey p.code chunks ≡ Err r → survey p.code chunks ≡ Err s → r ≡ s
+  one_stop : (r s : Refusal) → analysis p.code chunks ≡ Err r → analysis p.code chunks ≡ Err s
+      → r ≡ s
   one_stop r s x y =
       let both : Err r ≡ Err s = sym x ∙ y in
       cc

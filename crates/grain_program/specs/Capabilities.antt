@@ -1,13 +1,12 @@
--- What an instruction needs a program to have.
+-- What an instruction needs a program to have, by its row.
 use Rattle.std.specs.Prelude.{ℕ, ◌≡◌, ◌==◌, Bool}
 use Rattle.std.specs.Int.RustNames.{bit_and}
-use Rattle.grain_program.specs.declared.instructions.Op.{Op}
-use Rattle.grain_program.specs.declared.instructions.Op.TheVariants as op
+use Rattle.grain_program.specs.declared.code.instructions.Op.{Op}
+use Rattle.grain_program.specs.InstructionSet.{row}
 
 -- the bit of the capability that the instruction needs, or no bit
 abbrev pub needs : Op → ℕ
-needs (op.Call n k) = 1
-needs _ = 0
+needs o = (row o).capability
 
 -- what the instruction needs is among the bits
 abbrev pub Permits : ℕ → Op → Type 0

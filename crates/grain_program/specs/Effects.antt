@@ -1,43 +1,31 @@
--- What each instruction takes and gives, and where it leads: one row for each.
-use Rattle.std.specs.Prelude.{ℕ, ◌+◌, List, [], ◌∷◌, nat_lt, if◌then◌else◌}
-use Rattle.grain_program.specs.declared.instructions.Op.{Op}
-use Rattle.grain_program.specs.declared.instructions.Op.TheVariants as op
-use Rattle.grain_program.specs.declared.effects.Effect.{Effect}
-use Rattle.grain_program.specs.declared.effects.Flow.{Flow}
-use Rattle.grain_program.specs.declared.effects.Flow.TheVariants as flow
+-- What each instruction takes and gives, and where it leads, by its row.
+use Rattle.std.specs.Prelude.{ℕ, List, [], ◌∷◌, nat_lt, if◌then◌else◌}
+use Rattle.grain_program.specs.declared.code.instructions.Op.{Op}
+use Rattle.grain_program.specs.declared.code.effects.Effect.{Effect}
+use Rattle.grain_program.specs.declared.code.effects.Flow.{Flow}
+use Rattle.grain_program.specs.declared.code.effects.Flow.TheVariants as flow
+use Rattle.grain_program.specs.Fields.{targets_of}
+use Rattle.grain_program.specs.InstructionSet.{Transfer, falls_through, jumps, branches, ends, row}
 
-abbrev pub effect : ℕ → ℕ → Flow → Effect
-effect takes gives flow = record { takes = takes; gives = gives; flow = flow }
+-- where the machine goes, given the targets among the instruction's operands
+abbrev pub flow_to : Transfer → List ℕ → Flow
+flow_to falls_through targets = flow.Next
+flow_to jumps (t ∷ targets) = flow.Jump t
+flow_to branches (t ∷ targets) = flow.Branch t
+-- no instruction transfers without a target
+flow_to jumps [] = flow.End
+flow_to branches [] = flow.End
+flow_to ends targets = flow.End
 
 -- how many operands the instruction takes, how many it then gives, and where the machine goes
 abbrev pub effect_of : Op → Effect
-effect_of (op.LoadConst c) = effect 0 1 flow.Next
-effect_of op.Unit = effect 0 1 flow.Next
-effect_of op.False = effect 0 1 flow.Next
-effect_of op.True = effect 0 1 flow.Next
-effect_of (op.LoadLocal s) = effect 0 1 flow.Next
-effect_of (op.StoreLocal s) = effect 1 0 flow.Next
-effect_of (op.StoreConst s) = effect 1 0 flow.Next
-effect_of (op.DeclareLocal n) = effect 1 0 flow.Next
-effect_of (op.DeclareConst n) = effect 1 0 flow.Next
-effect_of (op.AssignLocal s n) = effect 1 0 flow.Next
-effect_of (op.AssignLocalOp s n a) = effect 1 0 flow.Next
-effect_of op.Pop = effect 1 0 flow.Next
-effect_of (op.Rotate u) = effect (u + 1) (u + 1) flow.Next
-effect_of (op.Jump t) = effect 0 0 (flow.Jump t)
-effect_of (op.JumpIfFalse t) = effect 1 0 (flow.Branch t)
-effect_of (op.JumpIfTrue t) = effect 1 0 (flow.Branch t)
-effect_of (op.SkipIfNotUnit t) = effect 1 1 (flow.Branch t)
-effect_of (op.Call n k) = effect k 1 flow.Next
-effect_of (op.CallOp n k o) = effect k 1 flow.Next
-effect_of (op.UnwindTo d) = effect 0 0 flow.Next
-effect_of op.Tick = effect 0 0 flow.Next
-effect_of op.Checkpoint = effect 0 0 flow.Next
-effect_of (op.Statement d) = effect 0 0 flow.Next
-effect_of op.Throw = effect 1 0 flow.End
-effect_of op.Return = effect 0 0 flow.End
+effect_of o = record {
+  takes = (row o).takes;
+  gives = (row o).gives;
+  flow = flow_to (row o).transfer (targets_of (row o).fields);
+}
 
--- the addresses that a flow leads to, given the address behind the instruction, the lower one first
+-- the addresses that a flow leads to, given the address after the instruction, the lower one first
 abbrev pub leads : Flow → ℕ → List ℕ
 leads flow.Next next = next ∷ []
 leads (flow.Jump t) next = t ∷ []
@@ -52,6 +40,6 @@ takes_of o = (effect_of o).takes
 abbrev pub gives_of : Op → ℕ
 gives_of o = (effect_of o).gives
 
--- the addresses that the instruction leads to, given the address behind it
+-- the addresses that the instruction leads to, given the address after it
 abbrev pub leads_of : Op → ℕ → List ℕ
 leads_of o next = leads (effect_of o).flow next

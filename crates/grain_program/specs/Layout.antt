@@ -1,27 +1,20 @@
--- The layout of the chunks: each begins where the one before ends, and the last one ends where the code does.
-use Rattle.std.specs.Prelude.{ℕ, zero, suc, ◌≡◌, ◌<◌, ◌≤◌, ◌==◌, ◌&&◌, nat_lt, nat_le, List, [], ◌∷◌, map, slice_get, Option, Some, None, if◌then◌else◌}
-use Rattle.std.proofs.Common.{ap}
-use Rattle.grain_program.specs.declared.input.Chunk.{Chunk}
-use Rattle.grain_program.specs.declared.functions.Function.{Function}
+-- The layout of the chunks: each begins where the one before ends, and the last one ends where the
+-- code does.
+use Rattle.std.specs.Prelude.{ℕ, ◌≡◌, ◌<◌, ◌≤◌, ◌==◌, ◌&&◌, nat_lt, nat_le, List, [], ◌∷◌, map, slice_get, Option, Some, None, if◌then◌else◌}
+use Rattle.grain_program.specs.declared.code.parts.Chunk.{Chunk}
 use Rattle.grain_program.specs.View.{View}
 
--- the chunks of a program, in the order of their layout: the main one, and then the functions' in their order
+-- the chunks of a program, in the order of their layout: the main one, and then the functions' in
+-- their order
 abbrev pub chunks_in : View → List Chunk
 chunks_in p = p.main ∷ map (λ f. f.chunk) p.functions
-
-chunk_at : (fs : List Function) (i : ℕ) (f : Function) → slice_get fs i ≡ Some f → slice_get (map (λ f. f.chunk) fs) i ≡ Some f.chunk
-chunk_at [] i f e = absurd cc
-chunk_at (g ∷ fs) zero f e = let same : g ≡ f = cc in ap (λ (x : Function). Some x.chunk) same
-chunk_at (g ∷ fs) (suc i) f e = chunk_at fs i f e
-
--- the chunk of a function is one of them
-pub function_chunk : (p : View) (i : ℕ) (f : Function) → slice_get p.functions i ≡ Some f → slice_get (chunks_in p) (suc i) ≡ Some f.chunk
-function_chunk p i f e = chunk_at p.functions i f e
 
 -- where the chunks fail to tile a code of this length from the address on
 abbrev pub gap_from : ℕ → ℕ → List Chunk → Option ℕ
 gap_from len at [] = if at == len then None else Some at
-gap_from len at (c ∷ cs) = if (c.entry == at) && nat_le at c.end && nat_le c.end len then gap_from len c.end cs else Some c.entry
+gap_from len at (c ∷ cs) =
+    if (c.entry == at) && nat_le at c.end && nat_le c.end len then gap_from len c.end cs
+    else Some c.entry
 
 -- where the layout fails: a code of more than 16777216 bytes fails there
 unfoldable pub layout_fault : ℕ → List Chunk → Option ℕ
@@ -31,4 +24,5 @@ layout_fault len chunks = if nat_lt 16777216 len then Some 16777216 else gap_fro
 pub record Tiled (len : ℕ) (chunks : List Chunk) : Type 0 where
   pub small : len ≤ 16777216
   pub inside : (i : ℕ) (c : Chunk) → slice_get chunks i ≡ Some c → (c.entry ≤ c.end) × (c.end ≤ len)
-  pub apart : (i j : ℕ) (c d : Chunk) → i < j → slice_get chunks i ≡ Some c → slice_get chunks j ≡ Some d → c.end ≤ d.entry
+  pub apart : (i j : ℕ) (c d : Chunk) → i < j → slice_get chunks i ≡ Some c
+      → slice_get chunks j ≡ Some d → c.end ≤ d.entry

@@ -1,17 +1,24 @@
+-- The contracts of public functions are read with these files: a program as lists, the instruction
+-- set and what follows from an instruction's row, the rules that a program obeys, and what is
+-- verified of it.
 pub mod View
+pub mod InstructionSet
+pub mod Fields
 pub mod Reading
 pub mod Spelling
-pub mod Widths
 pub mod Effects
 pub mod Indices
 pub mod Capabilities
 pub mod Layout
 pub mod Starts
-pub mod Begins
 pub mod Rules
-pub mod Owners
 pub mod Shapes
 pub mod Typing
-pub mod Fits
+pub mod TypedAt
 pub mod Lookups
 pub mod Recorded
+-- the table with which the rules of instructions are tested, which the contracts of private
+-- functions name
+pub mod Owners
+-- lemmas, which no contract names
+pub mod laws

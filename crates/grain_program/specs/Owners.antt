@@ -1,15 +1,19 @@
--- The table of instruction starts, and the tests of the rules of single instructions by it; the tests of empty chunks and
--- of functions' names.
+-- The table of instruction starts, and the tests of the rules of single instructions by it; the
+-- tests of empty chunks and of functions' names.
 use Rattle.std.specs.Prelude.{ℕ, ◌≡◌, ◌<◌, ◌+◌, ◌⊎◌, ◌==◌, nat_lt, Bool, true, List, [], ◌∷◌, length, slice_get, slice_index_or, Option, Some, None, if◌then◌else◌}
-use Rattle.grain_program.specs.declared.instructions.Op.{Op}
-use Rattle.grain_program.specs.declared.input.Chunk.{Chunk}
-use Rattle.grain_program.specs.declared.functions.Function.{Function}
-use Rattle.grain_program.specs.declared.owners.Owner.{Owner}
-use Rattle.grain_program.specs.declared.refusals.Refusal.{Refusal}
-use Rattle.grain_program.specs.declared.refusals.Refusal.TheVariants as refusal
-use Rattle.grain_program.specs.declared.effects.Flow.{Flow}
-use Rattle.grain_program.specs.declared.effects.Flow.TheVariants as flow
+use Rattle.grain_program.specs.declared.code.instructions.Op.{Op}
+use Rattle.grain_program.specs.declared.code.parts.Chunk.{Chunk}
+use Rattle.grain_program.specs.declared.code.functions.Function.{Function}
+use Rattle.grain_program.specs.declared.verifier.owners.Owner.{Owner}
+use Rattle.grain_program.specs.declared.verifier.refusals.Refusal.{Refusal}
+use Rattle.grain_program.specs.declared.verifier.refusals.Refusal.TheVariants as refusal
+use Rattle.grain_program.specs.declared.code.effects.Flow.{Flow}
+use Rattle.grain_program.specs.declared.code.effects.Flow.TheVariants as flow
+use Rattle.grain_program.specs.declared.code.fields.Field.{Field}
+use Rattle.grain_program.specs.declared.code.fields.Field.TheVariants as field
 use Rattle.grain_program.specs.View.{View}
+use Rattle.grain_program.specs.Fields.{every}
+use Rattle.grain_program.specs.InstructionSet.{fields_of}
 use Rattle.grain_program.specs.Reading.{op_at}
 use Rattle.grain_program.specs.Effects.{effect_of}
 use Rattle.grain_program.specs.Indices.{in_pools, is_named}
@@ -29,27 +33,39 @@ owner_at owners a = slice_index_or owners a no_owner
 
 -- an instruction of a chunk begins at the address, and the chunk owns it
 abbrev pub IsOwned : List ℕ → List Chunk → List Owner → ℕ → Type 0
-IsOwned code chunks owners a = (i : ℕ) × ((c : Chunk) × (slice_get chunks i ≡ Some c) × Start code c a × (owner_at owners a ≡ owner_of c))
+IsOwned code chunks owners a =
+    (i : ℕ) × ((c : Chunk) × (slice_get chunks i ≡ Some c) × Start code c a
+    × (owner_at owners a ≡ owner_of c))
 
--- each start of the first so many chunks is owned by its chunk, and no other address has an owner
-pub record Owned (code : List ℕ) (chunks : List Chunk) (upto : ℕ) (owners : List Owner) : Type 0 where
-  pub long : length owners ≡ length code
-  pub owned : (i : ℕ) (c : Chunk) (a : ℕ) → i < upto → slice_get chunks i ≡ Some c → Start code c a → owner_at owners a ≡ owner_of c
-  pub only : (a : ℕ) → (owner_at owners a ≡ no_owner) ⊎ IsOwned code chunks owners a
+-- each start of the chunks before the number is owned by its chunk, and no other address has an
+-- owner
+pub record Owned (code : List ℕ) (chunks : List Chunk) (upto : ℕ) (owners : List Owner) : Type 0
+  where
+    pub long : length owners ≡ length code
+    pub owned : (i : ℕ) (c : Chunk) (a : ℕ) → i < upto → slice_get chunks i ≡ Some c
+        → Start code c a
+        → owner_at owners a ≡ owner_of c
+    pub only : (a : ℕ) → (owner_at owners a ≡ no_owner) ⊎ IsOwned code chunks owners a
 
 -- the starts of the chunk have got this owner, and every other address has kept its own
 abbrev pub IsMarked : List ℕ → Chunk → List Owner → List Owner → Type 0
 IsMarked code c before now =
-    (a : ℕ) → (Start code c a × (owner_at now a ≡ owner_of c)) ⊎ ((Start code c a → ⊥) × (owner_at now a ≡ owner_at before a))
+    (a : ℕ)
+    → (Start code c a × (owner_at now a ≡ owner_of c))
+    ⊎ ((Start code c a → ⊥) × (owner_at now a ≡ owner_at before a))
 
--- the target is owned by the chunk of this end
-abbrev pub lands : List Owner → ℕ → Flow → Bool
-lands owners end flow.Next = true
-lands owners end (flow.Jump t) = (owner_at owners t).end == end
-lands owners end (flow.Branch t) = (owner_at owners t).end == end
-lands owners end flow.End = true
+-- an operand that is an address names an instruction that the chunk of this end owns
+abbrev pub lands : List Owner → ℕ → Field → Bool
+lands owners end (field.Constant n) = true
+lands owners end (field.Name n) = true
+lands owners end (field.Assignment n) = true
+lands owners end (field.Token n) = true
+lands owners end (field.Slot n) = true
+lands owners end (field.Target n) = (owner_at owners n).end == end
+lands owners end (field.Count n) = true
+lands owners end (field.Number n) = true
 
--- what goes on to the address behind stays before the end
+-- what goes on to the next address stays before the end
 abbrev pub stays_in : ℕ → ℕ → Flow → Bool
 stays_in end next flow.Next = nat_lt next end
 stays_in end next (flow.Jump t) = true
@@ -62,7 +78,7 @@ rule_in p owners end a None = Some (refusal.Undecodable a)
 rule_in p owners end a (Some r) =
     if nat_lt end (a + r.1) then Some (refusal.Undecodable a)
     else if in_pools p r.0 then
-    (if lands owners end (effect_of r.0).flow then
+    (if every (lands owners end) (fields_of r.0) then
     (if stays_in end (a + r.1) (effect_of r.0).flow then
     (if permits p.caps r.0 then None else Some (refusal.Capability a))
     else Some (refusal.FallsOff a))
@@ -71,7 +87,9 @@ rule_in p owners end a (Some r) =
 
 -- the first rule that an instruction at the address breaks
 abbrev pub rule_at : View → List Owner → ℕ → Option Refusal
-rule_at p owners a = if (owner_at owners a).end == 0 then None else rule_in p owners (owner_at owners a).end a (op_at p.code a)
+rule_at p owners a =
+    if (owner_at owners a).end == 0 then None
+    else rule_in p owners (owner_at owners a).end a (op_at p.code a)
 
 -- what the search finds at the lowest number below n where it finds something
 abbrev pub IsFirstFound : (ℕ → Option Refusal) → ℕ → Option Refusal → Type 0
@@ -86,4 +104,5 @@ first_empty (c ∷ cs) = if c.entry == c.end then Some (refusal.FallsOff c.entry
 -- the refusal of the first function that has a name that is no entry of the pool
 abbrev pub first_misnamed : View → List Function → Option Refusal
 first_misnamed p [] = None
-first_misnamed p (f ∷ fs) = if is_named p f then first_misnamed p fs else Some (refusal.PoolIndex f.chunk.entry)
+first_misnamed p (f ∷ fs) =
+    if is_named p f then first_misnamed p fs else Some (refusal.PoolIndex f.chunk.entry)

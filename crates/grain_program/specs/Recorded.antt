@@ -1,6 +1,6 @@
 -- The positions that are recorded for instructions.
 use Rattle.std.specs.Prelude.{ℕ, suc, ◌<◌, ◌≤◌, List, [], ◌∷◌, length}
-use Rattle.grain_program.specs.declared.input.PositionEntry.{PositionEntry}
+use Rattle.grain_program.specs.declared.code.parts.PositionEntry.{PositionEntry}
 use Rattle.grain_program.specs.View.{View}
 
 -- the addresses ascend strictly from the first number on, and are below the second

@@ -1,14 +1,18 @@
--- The rules of single instructions and of functions' names: what obeys them, what breaks them, and which breach is the
--- first.
+-- The rules of single instructions and of functions' names: what obeys them, what breaks them, and
+-- which breach is the first.
 use Rattle.std.specs.Prelude.{ℕ, ◌≡◌, ◌<◌, ◌≤◌, ◌+◌, ◌⊎◌, ◌==◌, ◌&&◌, ◌||◌, nat_lt, nat_le, Bool, List, length, slice_get, Option, Some, None, if◌then◌else◌}
-use Rattle.grain_program.specs.declared.instructions.Op.{Op}
-use Rattle.grain_program.specs.declared.input.Chunk.{Chunk}
-use Rattle.grain_program.specs.declared.functions.Function.{Function}
-use Rattle.grain_program.specs.declared.refusals.Refusal.{Refusal}
-use Rattle.grain_program.specs.declared.refusals.Refusal.TheVariants as refusal
-use Rattle.grain_program.specs.declared.effects.Flow.{Flow}
-use Rattle.grain_program.specs.declared.effects.Flow.TheVariants as flow
+use Rattle.std.specs.List.{AllByRecursion}
+use Rattle.grain_program.specs.declared.code.instructions.Op.{Op}
+use Rattle.grain_program.specs.declared.code.parts.Chunk.{Chunk}
+use Rattle.grain_program.specs.declared.code.functions.Function.{Function}
+use Rattle.grain_program.specs.declared.verifier.refusals.Refusal.{Refusal}
+use Rattle.grain_program.specs.declared.verifier.refusals.Refusal.TheVariants as refusal
+use Rattle.grain_program.specs.declared.code.effects.Flow.{Flow}
+use Rattle.grain_program.specs.declared.code.effects.Flow.TheVariants as flow
+use Rattle.grain_program.specs.declared.code.fields.Field.{Field}
+use Rattle.grain_program.specs.declared.code.fields.Field.TheVariants as field
 use Rattle.grain_program.specs.View.{View}
+use Rattle.grain_program.specs.InstructionSet.{fields_of}
 use Rattle.grain_program.specs.Reading.{op_at}
 use Rattle.grain_program.specs.Effects.{effect_of}
 use Rattle.grain_program.specs.Indices.{InPools, IsNamed}
@@ -16,14 +20,18 @@ use Rattle.grain_program.specs.Capabilities.{Permits}
 use Rattle.grain_program.specs.Layout.{layout_fault}
 use Rattle.grain_program.specs.Starts.{Start}
 
--- the target is an instruction of the same chunk
-abbrev pub Lands : List ℕ → Chunk → Flow → Type 0
-Lands code c flow.Next = Unit {0}
-Lands code c (flow.Jump t) = Start code c t
-Lands code c (flow.Branch t) = Start code c t
-Lands code c flow.End = Unit {0}
+-- an operand that is an address names an instruction of the same chunk
+abbrev pub Lands : View → Chunk → Field → Type 0
+Lands p c (field.Constant n) = Unit {0}
+Lands p c (field.Name n) = Unit {0}
+Lands p c (field.Assignment n) = Unit {0}
+Lands p c (field.Token n) = Unit {0}
+Lands p c (field.Slot n) = Unit {0}
+Lands p c (field.Target n) = Start p.code c n
+Lands p c (field.Count n) = Unit {0}
+Lands p c (field.Number n) = Unit {0}
 
--- what goes on to the address behind does not leave the chunk
+-- what goes on to the next address does not leave the chunk
 abbrev pub StaysIn : Chunk → ℕ → Flow → Type 0
 StaysIn c next flow.Next = next < c.end
 StaysIn c next (flow.Jump t) = Unit {0}
@@ -39,11 +47,11 @@ pub record Whole (code : List ℕ) (c : Chunk) (a : ℕ) (r : Op × ℕ) : Type 
 abbrev pub IndexRule : View → Chunk → ℕ → Op × ℕ → Type 0
 IndexRule p c a r = InPools p r.0
 
--- the target of an instruction is an instruction of its chunk
+-- each target of an instruction is an instruction of its chunk
 abbrev pub TargetRule : View → Chunk → ℕ → Op × ℕ → Type 0
-TargetRule p c a r = Lands p.code c (effect_of r.0).flow
+TargetRule p c a r = AllByRecursion (Lands p c) (fields_of r.0)
 
--- an instruction does not go on behind its chunk
+-- an instruction does not go on past its chunk
 abbrev pub EndRule : View → Chunk → ℕ → Op × ℕ → Type 0
 EndRule p c a r = StaysIn c (a + r.1) (effect_of r.0).flow
 
@@ -60,10 +68,12 @@ pub record Obeys (p : View) (c : Chunk) (a : ℕ) : Type 0 where
   pub end : EndRule p c a read
   pub capability : CapabilityRule p c a read
 
--- every chunk has an instruction, every instruction obeys the rules of single instructions, and every function has names
+-- every chunk has an instruction, every instruction obeys the rules of single instructions, and
+-- every function has names
 pub record Splits (p : View) (chunks : List Chunk) : Type 0 where
   pub full : (i : ℕ) (c : Chunk) → slice_get chunks i ≡ Some c → c.entry < c.end
-  pub obeys : (i : ℕ) (c : Chunk) (a : ℕ) → slice_get chunks i ≡ Some c → Start p.code c a → Obeys p c a
+  pub obeys : (i : ℕ) (c : Chunk) (a : ℕ) → slice_get chunks i ≡ Some c → Start p.code c a
+      → Obeys p c a
   pub named : (i : ℕ) (f : Function) → slice_get p.functions i ≡ Some f → IsNamed p f
 
 -- the layout is without a fault, and the rules are obeyed that look at no heights
@@ -72,7 +82,7 @@ pub record IsSplit (p : View) (chunks : List Chunk) : Type 0 where
   pub splits : Splits p chunks
 
 -- an instruction of some chunk begins at the address
-pub record Spot (code : List ℕ) (chunks : List Chunk) (a : ℕ) : Type 0 where
+pub record InstructionStart (code : List ℕ) (chunks : List Chunk) (a : ℕ) : Type 0 where
   pub number : ℕ
   pub chunk : Chunk
   pub is : slice_get chunks number ≡ Some chunk
@@ -80,28 +90,39 @@ pub record Spot (code : List ℕ) (chunks : List Chunk) (a : ℕ) : Type 0 where
 
 -- no whole instruction is at the address, where one should begin
 abbrev pub Unread : List ℕ → List Chunk → ℕ → Type 0
-Unread code chunks a = (s : Spot code chunks a) × ((r : Op × ℕ) → Whole code s.chunk a r → ⊥)
+Unread code chunks a =
+    (s : InstructionStart code chunks a) × ((r : Op × ℕ) → Whole code s.chunk a r → ⊥)
 
 -- the whole instruction at the address does not obey the rule
 abbrev pub Disobeys : List ℕ → List Chunk → (Chunk → ℕ → Op × ℕ → Type 0) → ℕ → Type 0
-Disobeys code chunks rule a = (s : Spot code chunks a) × ((r : Op × ℕ) × Whole code s.chunk a r × (rule s.chunk a r → ⊥))
+Disobeys code chunks rule a =
+    (s : InstructionStart code chunks a)
+    × ((r : Op × ℕ) × Whole code s.chunk a r × (rule s.chunk a r → ⊥))
 
 -- an empty chunk lies at the address
-abbrev pub IsHollow : List Chunk → ℕ → Type 0
-IsHollow chunks a = (i : ℕ) × ((c : Chunk) × (slice_get chunks i ≡ Some c) × (c.entry ≡ a) × (c.end ≡ a))
+abbrev pub IsEmptyChunk : List Chunk → ℕ → Type 0
+IsEmptyChunk chunks a =
+    (i : ℕ) × ((c : Chunk) × (slice_get chunks i ≡ Some c) × (c.entry ≡ a) × (c.end ≡ a))
 
 -- a function that is entered at the address has a name that is no entry of the pool
 abbrev pub IsMisnamed : View → ℕ → Type 0
-IsMisnamed p a = (i : ℕ) × ((f : Function) × (slice_get p.functions i ≡ Some f) × (f.chunk.entry ≡ a) × (IsNamed p f → ⊥))
+IsMisnamed p a =
+    (i : ℕ)
+    × ((f : Function)
+    × (slice_get p.functions i ≡ Some f) × (f.chunk.entry ≡ a) × (IsNamed p f → ⊥))
 
 -- the rule is broken at the address
 abbrev pub Breach : View → List Chunk → Refusal → Type 0
 Breach p chunks (refusal.Undecodable a) = Unread p.code chunks a
 Breach p chunks (refusal.PoolIndex a) = Disobeys p.code chunks (IndexRule p) a ⊎ IsMisnamed p a
 Breach p chunks (refusal.JumpTarget a) = Disobeys p.code chunks (TargetRule p) a
-Breach p chunks (refusal.FallsOff a) = Disobeys p.code chunks (EndRule p) a ⊎ IsHollow chunks a
+Breach p chunks (refusal.FallsOff a) = Disobeys p.code chunks (EndRule p) a ⊎ IsEmptyChunk chunks a
 Breach p chunks (refusal.Capability a) = Disobeys p.code chunks (CapabilityRule p) a
-Breach p chunks _ = ⊥
+-- these are no rules of single instructions
+Breach p chunks (refusal.HeightDisagrees a) = ⊥
+Breach p chunks (refusal.TooDeep a) = ⊥
+Breach p chunks (refusal.Underflow a) = ⊥
+Breach p chunks refusal.Memory = ⊥
 
 -- the address of a refusal
 abbrev pub address_of : Refusal → ℕ
@@ -129,13 +150,16 @@ rule_of refusal.Memory = 13
 
 -- at a lower address, or at the same one by a lower rule or the same
 abbrev pub Precedes : Refusal → Refusal → Type 0
-Precedes r s = (address_of r < address_of s) ⊎ ((address_of r ≡ address_of s) × (rule_of r ≤ rule_of s))
+Precedes r s =
+    (address_of r < address_of s) ⊎ ((address_of r ≡ address_of s) × (rule_of r ≤ rule_of s))
 
 -- the test of which of two comes first
 abbrev pub precedes : Refusal → Refusal → Bool
-precedes r s = nat_lt (address_of r) (address_of s) || ((address_of r == address_of s) && nat_le (rule_of r) (rule_of s))
+precedes r s =
+    nat_lt (address_of r) (address_of s)
+    || ((address_of r == address_of s) && nat_le (rule_of r) (rule_of s))
 
--- the one of two that comes first, where there are any
+-- the one of two that comes first, if any
 abbrev pub earlier : Option Refusal → Option Refusal → Option Refusal
 earlier None other = other
 earlier (Some r) None = Some r
@@ -147,7 +171,7 @@ pub record IsFirst (p : View) (chunks : List Chunk) (r : Refusal) : Type 0 where
   pub first : (s : Refusal) → Breach p chunks s → Precedes r s
 
 -- what is refused before heights are looked at: the layout, and else the first breach
-abbrev pub RefusedEarly : View → List Chunk → Refusal → Type 0
-RefusedEarly p chunks r =
+abbrev pub RefusedBeforeHeights : View → List Chunk → Refusal → Type 0
+RefusedBeforeHeights p chunks r =
     ((a : ℕ) × (layout_fault (length p.code) chunks ≡ Some a) × (r ≡ refusal.Undecodable a))
     ⊎ ((layout_fault (length p.code) chunks ≡ None) × IsFirst p chunks r)

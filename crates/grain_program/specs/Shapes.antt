@@ -1,9 +1,9 @@
 -- What an instruction does to a shape, and when it may not.
 use Rattle.std.specs.Prelude.{ℕ, zero, suc, ◌+◌, ◌-◌, ◌==◌, nat_lt, List, slice_index_or, Option, Some, None, Result, Ok, Err, if◌then◌else◌}
-use Rattle.grain_program.specs.declared.shapes.Shape.{Shape}
-use Rattle.grain_program.specs.declared.effects.Effect.{Effect}
-use Rattle.grain_program.specs.declared.refusals.Refusal.{Refusal}
-use Rattle.grain_program.specs.declared.refusals.Refusal.TheVariants as refusal
+use Rattle.grain_program.specs.declared.verifier.shapes.Shape.{Shape}
+use Rattle.grain_program.specs.declared.code.effects.Effect.{Effect}
+use Rattle.grain_program.specs.declared.verifier.refusals.Refusal.{Refusal}
+use Rattle.grain_program.specs.declared.verifier.refusals.Refusal.TheVariants as refusal
 
 -- a frame without operands
 abbrev pub bare : Shape
@@ -17,8 +17,8 @@ height_after e s = s.height - e.takes + e.gives
 abbrev pub after : Effect → Shape → Shape
 after e s = record { height = height_after e s }
 
--- the shape after the instruction at the address, unless there are too few operands for it or else too
--- many after it
+-- the shape after the instruction at the address, unless there are too few operands for it or else
+-- too many after it
 abbrev pub stepped : ℕ → ℕ → Effect → Shape → Result Shape Refusal
 stepped max a e s =
     if nat_lt s.height e.takes then Err (refusal.Underflow a)

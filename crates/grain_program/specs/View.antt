@@ -6,11 +6,11 @@ use Rattle.grain_value.specs.declared.operators.Token.{Token}
 use Rattle.grain_value.specs.declared.operators.Token.TheVariants as token
 use Rattle.grain_fault.specs.declared.places.Position.{Position}
 use Rattle.grain_fault.specs.Places.{nowhere}
-use Rattle.grain_program.specs.declared.input.Chunk.{Chunk}
-use Rattle.grain_program.specs.declared.functions.Function.{Function}
-use Rattle.grain_program.specs.declared.input.AssignOp.{AssignOp}
-use Rattle.grain_program.specs.declared.input.PositionEntry.{PositionEntry}
-use Rattle.grain_program.specs.declared.input.Parts.{Parts}
+use Rattle.grain_program.specs.declared.code.parts.Chunk.{Chunk}
+use Rattle.grain_program.specs.declared.code.functions.Function.{Function}
+use Rattle.grain_program.specs.declared.code.parts.AssignOp.{AssignOp}
+use Rattle.grain_program.specs.declared.code.parts.PositionEntry.{PositionEntry}
+use Rattle.grain_program.specs.declared.code.parts.Parts.{Parts}
 
 -- the capabilities are the bits of a number
 pub record View : Type 0 where

@@ -1,33 +1,25 @@
 //! Programs: instructions and their bytes, the parts of a program, and the verifier.
 #![tactic(auto)]
 
-mod bytes;
-mod caps;
+mod code;
 #[cfg(test)]
-mod chunk_tests;
-mod early;
-mod effects;
-mod functions;
-mod input;
-mod instructions;
-mod late;
+mod function_tests;
 mod lookups;
-mod owners;
-mod pools;
 mod programs;
-mod refusals;
-mod shapes;
-mod surveys;
 #[cfg(test)]
 mod tests;
+mod verifier;
 
-pub use bytes::{assemble, assembled_reads_back, decode};
-pub use caps::Caps;
-pub use effects::{Effect, Flow};
-pub use functions::{Function, Functions, Indices};
-pub use input::{AssignOp, Chunk, Parts, PositionEntry};
-pub use instructions::Op;
-pub use pools::{AssignOps, Names, Positions, Tokens};
-pub use programs::{Program, one_refusal, verify};
-pub use refusals::Refusal;
-pub use shapes::Shape;
+pub use code::bytes::{assemble, assembled_reads_back, decode};
+pub use code::caps::Caps;
+pub use code::descriptors::Descriptor;
+pub use code::effects::{Effect, Flow};
+pub use code::fields::{Field, Fields};
+pub use code::functions::{Function, Functions, Indices};
+pub use code::instructions::Op;
+pub use code::parts::{AssignOp, Chunk, Parts, PositionEntry};
+pub use code::pools::{AssignOps, Names, Positions, Tokens};
+pub use programs::{Program, verify};
+pub use verifier::check::one_refusal;
+pub use verifier::refusals::Refusal;
+pub use verifier::shapes::Shape;

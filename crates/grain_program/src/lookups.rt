@@ -4,28 +4,28 @@ ghost use Rattle.std.specs.Prelude.{◌≡◌, IfOk};
 ghost use Rattle.std.specs.List.{position_from};
 ghost use Rattle.grain_program.specs.Lookups.{has_text, IsIndex};
 
-use crate::functions::Function;
-use crate::pools::Names;
+use crate::code::functions::Function;
+use crate::code::pools::Names;
 use grain_value::OutOfMemory;
 use std::alloc::Global;
 use std::collections::BTreeMap;
 
 /// The number of the first function of each name, by its index, with each number of parameters.
-pub type Firsts = BTreeMap<(u32, usize), usize>;
+pub type FunctionIndex = BTreeMap<(u32, usize), usize>;
 
 /// The first of these functions, by name and number of parameters.
-pub fn firsts_of(alloc: Global, functions: &[Function]) -> Result<Firsts, OutOfMemory>
-    ensures { IfOk result (λ firsts. IsIndex functions.now firsts) }
+pub fn index_functions(alloc: Global, functions: &[Function]) -> Result<FunctionIndex, OutOfMemory>
+    ensures { IfOk result (λ function_index. IsIndex functions.now function_index) }
 {
-    let mut firsts = BTreeMap::new(alloc);
+    let mut function_index = BTreeMap::new(alloc);
     for number in (0..functions.len()).rev() {
         let function = &functions[number];
-        firsts.insert((function.name, function.params.len()), number)?;
+        function_index.insert((function.name, function.params.len()), number)?;
     }
-    Ok(firsts)
+    Ok(function_index)
 }
 
-/// Whether the function has a name of this text, and so many parameters.
+/// Whether the function has a name of this text, and this number of parameters.
 fn has_text(names: &Names, text: &str, count: usize, function: &Function) -> bool
     ensures { result ≡ has_text names.now text.now count function.now }
 {
@@ -35,7 +35,7 @@ fn has_text(names: &Names, text: &str, count: usize, function: &Function) -> boo
     }
 }
 
-/// The number of the first function that has a name of this text, with so many parameters.
+/// The number of the first function that has a name of this text, with this number of parameters.
 pub fn first_by_text(
     names: &Names,
     functions: &[Function],

@@ -3,34 +3,31 @@
 ghost use Rattle.std.specs.Prelude.{◌≡◌, ◌<◌, ◌^◌, ◌⊎◌, ℕ, List, length, slice_get, IfOk, IfErr, IfSome, Some};
 ghost use Rattle.grain_program.specs.View.{View, view_of, position_in, const_of, name_of, token_of, assign_op_of, position_of};
 ghost use Rattle.grain_program.specs.Reading.{op_at};
-ghost use Rattle.grain_program.specs.Layout.{chunks_in};
-ghost use Rattle.grain_program.specs.Typing.{Valid, Refused, IsProgram, IsRefusal};
+ghost use Rattle.grain_program.specs.Typing.{IsProgram, IsRefusal};
 ghost use Rattle.grain_program.specs.Indices.{IsNamed};
-ghost use Rattle.grain_program.specs.Fits.{Fits, Foreseen};
+ghost use Rattle.grain_program.specs.TypedAt.{IsTypedAt, Verified};
 ghost use Rattle.grain_program.specs.Lookups.{function_of, Called, function_by_text, CalledByText, name_at};
 ghost use Rattle.grain_program.specs.Recorded.{Ascends, HasOrder};
-ghost use Rattle.grain_program.specs.declared.input.Chunk.{Chunk};
-ghost use Rattle.grain_program.specs.declared.refusals.Refusal.{Refusal};
-ghost use Rattle.grain_program.specs.declared.refusals.Refusal.TheVariants.{Memory};
+ghost use Rattle.grain_program.specs.declared.verifier.refusals.Refusal.TheVariants.{Memory};
 
-use crate::bytes::read_there;
-use crate::early::early;
-use crate::functions::{Function, Functions};
-use crate::input::{AssignOp, Chunk, Parts, PositionEntry};
-use crate::instructions::Op;
-use crate::late::late;
-use crate::lookups::{Firsts, first_by_text, firsts_of};
-use crate::refusals::Refusal;
+use crate::code::bytes::read_there;
+use crate::code::functions::{Function, Functions};
+use crate::code::instructions::Op;
+use crate::code::parts::{AssignOp, Chunk, Parts, PositionEntry};
+use crate::lookups::{FunctionIndex, first_by_text, index_functions};
+use crate::verifier::check::check;
+use crate::verifier::refusals::Refusal;
 use grain_fault::Position;
 use grain_value::{Blob, Dynamic, OutOfMemory, Text, Token};
 use std::alloc::Global;
 use std::marker::Model;
 
-/// Code that is verified, with its pools: no run of it finds a missing operand, a bad index or a bad address.
+/// Code that is verified, with its pools: no run of it finds a missing operand, a bad index or a
+/// bad address.
 #[derive(Drop)]
 pub struct Program {
     parts: Parts,
-    firsts: Firsts,
+    function_index: FunctionIndex,
 }
 
 impl Model for Program {
@@ -43,47 +40,12 @@ impl Model for Program {
 
     ghost view = { λ p. view_of p.parts };
 
-    ghost invariant = { λ p. IsProgram (view_of p.parts) × HasOrder (view_of p.parts) × IsIndex p.parts.functions p.firsts };
+    ghost invariant = { λ p. IsProgram (view_of p.parts) × HasOrder (view_of p.parts)
+        × IsIndex p.parts.functions p.function_index };
 }
 
-fn chunks_of(alloc: Global, parts: &Parts) -> Result<Vec<Chunk>, OutOfMemory>
-    ensures { IfOk result (λ chunks. chunks.items ≡ chunks_in (view_of parts.now)) }
-{
-    let mut chunks = Vec::new(alloc);
-    chunks.push(parts.main)?;
-    let functions = parts.functions.as_slice();
-    for function in functions {
-        chunks.push(function.chunk)?;
-    }
-    Ok(chunks)
-}
-
-/// Whether these chunks of the parts break no rule, or the first that they break.
-fn check_chunks(alloc: Global, parts: &Parts, chunks: &[Chunk]) -> Result<(), Refusal>
-    requires { chunks.now ≡ chunks_in (view_of parts.now) }
-    ensures sound { IfOk result (λ _. Valid (view_of parts.now) chunks.now) }
-    ensures complete { Valid (view_of parts.now) chunks.now → IfErr result (λ r. r ≡ Memory) }
-    ensures first { IfErr result (λ r. (r ≡ Memory) ⊎ Refused (view_of parts.now) chunks.now r) }
-{
-    match early(alloc, parts, chunks) {
-        Ok(()) => late(alloc, parts, chunks),
-        Err(refusal) => Err(refusal),
-    }
-}
-
-fn check(alloc: Global, parts: &Parts) -> Result<(), Refusal>
-    ensures sound { IfOk result (λ _. IsProgram (view_of parts.now)) }
-    ensures complete { IsProgram (view_of parts.now) → IfErr result (λ r. r ≡ Memory) }
-    ensures first { IfErr result (λ r. (r ≡ Memory) ⊎ IsRefusal (view_of parts.now) r) }
-{
-    match chunks_of(alloc, parts) {
-        Ok(chunks) => check_chunks(alloc, parts, &chunks),
-        Err(_) => Err(Refusal::Memory),
-    }
-}
-
-/// The program that the parts are, or the first rule that they break. Their positions have to be in ascending order of
-/// their addresses, which are below the code's length.
+/// The program that the parts are, or the first rule that they break. Their positions have to be in
+/// ascending order of their addresses, which are below the code's length.
 pub fn verify(alloc: Global, parts: Parts) -> Result<Program, Refusal>
     requires { HasOrder (view_of parts) }
     // The program is the parts.
@@ -98,16 +60,14 @@ pub fn verify(alloc: Global, parts: Parts) -> Result<Program, Refusal>
     if let Err(refusal) = check(alloc, &parts) {
         return Err(refusal);
     }
-    match firsts_of(alloc, parts.functions.as_slice()) {
-        Ok(firsts) => Ok(Program { parts, firsts }),
+    match index_functions(alloc, parts.functions.as_slice()) {
+        Ok(function_index) => Ok(Program {
+            parts,
+            function_index,
+        }),
         Err(_) => Err(Refusal::Memory),
     }
 }
-
-/// Parts have one refusal at most.
-pub fn one_refusal()
-    ensures { (p : View) (r s : Refusal) → IsRefusal p r → IsRefusal p s → r ≡ s }
-{}
 
 /// A number by value is known to be in its range, which a field behind a reference is not.
 fn bounded(max_stack: u16) -> u16
@@ -170,11 +130,12 @@ impl Program {
         &self.parts.functions
     }
 
-    /// The function of that number. A frame can be entered at its chunk's entry, and its names can be looked up.
+    /// The function of that number. A frame can be entered at its chunk's entry, and its names can
+    /// be looked up.
     pub fn function_at(&self, number: usize) -> &Function
         requires { number < length self.now.functions }
         ensures value { slice_get self.now.functions number ≡ Some result.now }
-        ensures enters { Fits self.now result.now.chunk result.now.chunk.entry 0 }
+        ensures enters { IsTypedAt self.now result.now.chunk result.now.chunk.entry 0 }
         ensures named { IsNamed self.now result.now }
         ensures small { result.now.chunk.max_stack < 2 ^ 16 }
     {
@@ -183,15 +144,15 @@ impl Program {
         function
     }
 
-    /// The number of the first function of this name, by its index, with so many parameters.
+    /// The number of the first function of this name, by its index, with this number of parameters.
     pub fn function(&self, name_index: u32, argc: usize) -> Option<usize>
         ensures exact { result ≡ function_of self.now name_index argc }
         ensures called { IfSome result (Called self.now name_index argc) }
     {
-        self.firsts.get(&(name_index, argc)).copied()
+        self.function_index.get(&(name_index, argc)).copied()
     }
 
-    /// The number of the first function whose name is this text, with so many parameters.
+    /// The number of the first function whose name is this text, with this number of parameters.
     pub fn function_named(&self, name: &str, argc: usize) -> Option<usize>
         ensures exact { result ≡ function_by_text self.now name.now argc }
         ensures called { IfSome result (CalledByText self.now name.now argc) }
@@ -249,12 +210,13 @@ impl Program {
         self.parts.assign_ops.at(index as usize)
     }
 
-    /// The instruction at which a frame of the chunk stands with so many operands, and its width in bytes.
+    /// The instruction at which a frame of the chunk stands with depth operands, and its width in
+    /// bytes.
     #[inline(always)]
     pub fn fetch(&self, chunk: Chunk, address: usize, depth: usize) -> (Op, usize)
-        requires { Fits self.now chunk address depth }
+        requires { IsTypedAt self.now chunk address depth }
         ensures read { op_at self.now.code address ≡ Some (result.0, result.1) }
-        ensures foreseen { Foreseen self.now chunk address depth result.0 result.1 }
+        ensures verified { Verified self.now chunk address depth result.0 result.1 }
     {
         let _ = chunk;
         let _ = depth;

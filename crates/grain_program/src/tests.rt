@@ -4,21 +4,21 @@ ghost use Rattle.std.specs.Prelude.{IfOk};
 ghost use Rattle.grain_program.specs.View.{view_of};
 ghost use Rattle.grain_program.specs.Recorded.{HasOrder};
 
-use crate::bytes::{assemble, decode};
-use crate::caps::Caps;
-use crate::functions::Functions;
-use crate::input::{AssignOp, Chunk, Parts};
-use crate::instructions::Op;
-use crate::pools::{AssignOps, Names, Positions, Tokens};
+use crate::code::bytes::{assemble, decode};
+use crate::code::caps::Caps;
+use crate::code::functions::Functions;
+use crate::code::instructions::Op;
+use crate::code::parts::{AssignOp, Chunk, Parts};
+use crate::code::pools::{AssignOps, Names, Positions, Tokens};
 use crate::programs::verify;
-use crate::refusals::Refusal;
+use crate::verifier::refusals::Refusal;
 use grain_value::{Array, Blob, Dynamic, OutOfMemory, Text, Token};
 use std::alloc::Global;
 use std::process::Abort;
 use std::test::Fail;
 
-/// Parts of this code, with one constant, one name and one token, and two op-assignments of which the second has a name
-/// too many.
+/// Parts of this code, with one constant, one name and one token, and two op-assignments of which
+/// the second has a name too many.
 fn parts_of(alloc: Global, code: Blob, end: u32, max_stack: u16) -> Result<Parts, OutOfMemory>
     ensures { IfOk result (λ parts. HasOrder (view_of parts)) }
 {
@@ -65,7 +65,7 @@ fn verdict_of(alloc: Global, code: Blob, end: u32, max_stack: u16) -> Result<(),
     }
 }
 
-/// What is said of these instructions, in a frame of so many operands.
+/// What is said of these instructions, in a frame of that number of operands.
 fn verdict(alloc: Global, ops: &[Op], max_stack: u16) -> Result<(), Refusal> {
     let Ok(code) = assemble(alloc, ops) else {
         return Err(Refusal::Memory);

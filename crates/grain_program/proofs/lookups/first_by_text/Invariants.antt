@@ -5,4 +5,5 @@ use Rattle.grain_program.specs.Lookups.{has_text}
 use Rattle.grain_program.proofs.lookups.first_by_text.Given as goal
 
 abbrev pub invariant-loop-number : goal.invariant-loop-number
-invariant-loop-number l = position_from (has_text l.names l.text l.count) l.number (drop l.number l.functions) ≡ position_from (has_text l.names l.text l.count) 0 l.functions
+invariant-loop-number l = position_from (has_text l.names l.text l.count) l.number (drop l.number
+    l.functions) ≡ position_from (has_text l.names l.text l.count) 0 l.functions

@@ -2,29 +2,42 @@
 use Rattle.std.proofs.Common.{sym, ap, subst, ◌∙◌}
 use Rattle.grain_program.specs.View.{View}
 use Rattle.grain_program.specs.Reading.{op_at}
-use Rattle.grain_program.specs.Widths.{op_at_there}
+use Rattle.grain_program.specs.laws.Widths.{op_at_there}
 use Rattle.grain_program.specs.Typing.{IsProgram}
-use Rattle.grain_program.specs.Fits.{stands, foreseen}
+use Rattle.grain_program.specs.laws.TypedAt.{stands, verified}
 use Rattle.grain_program.proofs.programs.Program.fetch.Goals as goal
 
 pub read_there-width-requires-clause-there : goal.read_there-width-requires-clause-there
 read_there-width-requires-clause-there c =
-    let s = stands c.args.self.now (subst IsProgram c.self.view_is c.self.invariant.0) c.args.chunk c.args.address c.args.depth c.requires in
-    (op_at_there _ c.args.address s.0 (ap (λ (v : View). op_at v.code c.args.address) c.self.view_is ∙ s.1)).0
+    let s =
+    stands c.args.self.now (subst IsProgram c.self.view_is c.self.invariant.0) c.args.chunk
+    c.args.address c.args.depth c.requires in
+    (op_at_there _ c.args.address s.0 (ap (λ (v : View). op_at v.code c.args.address) c.self.view_is
+    ∙ s.1)).0
 
 pub read_there-width-requires-clause-known : goal.read_there-width-requires-clause-known
 read_there-width-requires-clause-known c =
-    let s = stands c.args.self.now (subst IsProgram c.self.view_is c.self.invariant.0) c.args.chunk c.args.address c.args.depth c.requires in
-    (op_at_there _ c.args.address s.0 (ap (λ (v : View). op_at v.code c.args.address) c.self.view_is ∙ s.1)).1
+    let s =
+    stands c.args.self.now (subst IsProgram c.self.view_is c.self.invariant.0) c.args.chunk
+    c.args.address c.args.depth c.requires in
+    (op_at_there _ c.args.address s.0 (ap (λ (v : View). op_at v.code c.args.address) c.self.view_is
+    ∙ s.1)).1
 
 pub read_there-width-requires-clause-long : goal.read_there-width-requires-clause-long
 read_there-width-requires-clause-long c =
-    let s = stands c.args.self.now (subst IsProgram c.self.view_is c.self.invariant.0) c.args.chunk c.args.address c.args.depth c.requires in
-    (op_at_there _ c.args.address s.0 (ap (λ (v : View). op_at v.code c.args.address) c.self.view_is ∙ s.1)).2
+    let s =
+    stands c.args.self.now (subst IsProgram c.self.view_is c.self.invariant.0) c.args.chunk
+    c.args.address c.args.depth c.requires in
+    (op_at_there _ c.args.address s.0 (ap (λ (v : View). op_at v.code c.args.address) c.self.view_is
+    ∙ s.1)).2
 
-pub returns-clause-foreseen : goal.returns-clause-foreseen
-returns-clause-foreseen c =
+pub returns-clause-verified : goal.returns-clause-verified
+returns-clause-verified c =
     let p = c.args.self.now in
     let valid = subst IsProgram c.self.view_is c.self.invariant.0 in
-    foreseen p valid c.args.chunk c.args.address c.args.depth c.requires (c.read_there-width.new.op, c.read_there-width.result)
-    (ap (λ (v : View). op_at v.code c.args.address) (sym c.self.view_is) ∙ c.read_there-width.ensures)
+    verified p valid c.args.chunk c.args.address c.args.depth c.requires (
+      c.read_there-width.new.op,
+      c.read_there-width.result,
+    )
+    (ap (λ (v : View). op_at v.code c.args.address) (sym c.self.view_is)
+    ∙ c.read_there-width.ensures)

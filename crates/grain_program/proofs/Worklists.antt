@@ -1,0 +1,459 @@
+-- The search for a typing: where it ends it has found one, and if there is one it does not stop.
+use Rattle.std.proofs.Common.{◌≡◌, ℕ, zero, suc, ◌+◌, ◌<◌, ◌≤◌, ◌⊎◌, List, [], ◌∷◌, length, replicate, Option, Some, None, Result, Ok, Err, refl, sym, ap, subst, ◌∙◌, inl, inr, arith}
+use Rattle.std.specs.Prelude.{slice_get}
+use Rattle.std.proofs.lemmas.Bool.{cases_lt}
+use Rattle.std.proofs.lemmas.List.{get_or-replicate, length-replicate, get_or_past}
+use Rattle.grain_program.specs.declared.code.instructions.Op.{Op}
+use Rattle.grain_program.specs.declared.code.parts.Chunk.{Chunk}
+use Rattle.grain_program.specs.declared.verifier.shapes.Shape.{Shape}
+use Rattle.grain_program.specs.declared.verifier.refusals.Refusal.{Refusal}
+use Rattle.grain_program.specs.View.{View}
+use Rattle.grain_program.specs.Reading.{op_at}
+use Rattle.grain_program.specs.Effects.{effect_of, leads}
+use Rattle.grain_program.specs.Layout.{layout_fault, Tiled}
+use Rattle.grain_program.specs.Starts.{Start}
+use Rattle.grain_program.specs.laws.Starts.{start_first, start_next, start_within}
+use Rattle.grain_program.specs.Rules.{Splits, InstructionStart}
+use Rattle.grain_program.specs.Shapes.{bare, shape_at}
+use Rattle.grain_program.specs.Typing.{In, Agrees, Typing, HasTyping, AnalysisState, ◌>>=◌, arrive, take_at, take_lowest, nothing_seen, take_all, analyse_chunk, analyse_from, analysis}
+use Rattle.grain_program.specs.laws.TypedAt.{leads_to_start}
+use Rattle.grain_program.proofs.Tiles.{is_tiled}
+use Rattle.grain_program.proofs.Meaning.{same_chunk}
+use Rattle.grain_program.proofs.Cells.{free}
+use Rattle.grain_program.proofs.Grows.{then_ok, Stays, Spread, arrive_spread, Moved, moved, SoundBut, Done, spread_sound, Below, arrive_fits, take_fits}
+
+none_seen : (n a : ℕ) (s : Shape) → shape_at (replicate n None) a ≡ Some s → ⊥
+none_seen n a s e = at (cases_lt a n) where
+  at : (a < n) ⊎ (n ≤ a) → ⊥
+  at (inl lt) = let none : None ≡ Some s = sym (get_or-replicate n a None None lt) ∙ e in cc
+  at (inr le) = let none : None ≡ Some s =
+      sym (get_or_past (replicate n None) a None (omega (
+        arith,
+        length-replicate {A =
+            Option Shape} n None,
+      ))) ∙ e in cc
+
+-- an address without a shape is free, so there are no more of them than addresses
+pub free_within : (xs : List (Option Shape)) → free xs ≤ length xs
+free_within [] = omega arith
+free_within (None ∷ xs) = omega (arith, free_within xs)
+free_within (Some s ∷ xs) = omega (arith, free_within xs)
+
+-- where none waits, no more is taken
+pub take_none : (code : List ℕ) (max n : ℕ) (f : AnalysisState) → f.waiting ≡ []
+    → take_all code max n f ≡ Ok f
+unfolding take_all
+take_none code max zero f e = refl
+take_none code max (suc n) f e =
+    ap (λ xs. take_lowest code max f xs >>= λ g. take_all code max n g) e ∙ take_none code max n f e
+
+pub empty : (xs : List ℕ) → length xs ≤ 0 → xs ≡ []
+empty [] le = refl
+empty (x ∷ xs) le = absurd (omega arith)
+
+-- the chunks of a sound layout
+module _ (p : View) (chunks : List Chunk) (laid : layout_fault (length p.code) chunks ≡ None)
+    (w : Splits p chunks) where
+  tiles : Tiled (length p.code) chunks
+  tiles = is_tiled (length p.code) chunks laid
+
+  -- an instruction of the chunk is read, and leads to instructions of the chunk
+  pub closed : (i : ℕ) (c : Chunk) → slice_get chunks i ≡ Some c → (a : ℕ) → Start p.code c a
+      → (r : Op × ℕ) × (op_at p.code a ≡ Some r) × ((b : ℕ)
+      → In b (leads (effect_of r.0).flow (a + r.1)) → Start p.code c b)
+  closed i c g a s =
+      let o = w.obeys i c a g s in (
+        o.read,
+        o.whole.is,
+        leads_to_start p c (a + o.read.1) o.read.0 o.target o.end
+            (λ lt. start_next p.code c a o.read s o.whole.is lt),
+      )
+
+  pub inside : (i : ℕ) (c : Chunk) → slice_get chunks i ≡ Some c → c.end ≤ length p.code
+  inside i c g = (tiles.inside i c g).1
+
+  abbrev None_out : ℕ → Type 0
+  None_out a = ⊥
+
+  -- each known address waits or is done
+  abbrev Sound : AnalysisState → Type 0
+  Sound f = SoundBut p.code chunks None_out f
+
+  -- ---- one chunk
+
+  module _ (i : ℕ) (c : Chunk) (g : slice_get chunks i ≡ Some c) where
+    start_here : (a : ℕ) → Start p.code c a → InstructionStart p.code chunks a
+    start_here a s = record { number = i; chunk = c; is = g; start = s }
+
+    within : (f : AnalysisState) → Sound f → (a : ℕ) → Start p.code c a → a < length f.shapes
+    within f sound a s =
+        let x = start_within p.code c a s in let n = inside i c g in omega (arith, x.1, sound.long)
+
+    -- the search is in the chunk: what waits are instructions of it
+    record Here (f : AnalysisState) : Type 0 where
+      sound : Sound f
+      mine : (a : ℕ) → In a f.waiting → Start p.code c a
+
+    -- the lowest of those that wait is taken
+    module _ (f : AnalysisState) (a : ℕ) (rest : List ℕ) (h : Here f) (e : f.waiting ≡ a ∷ rest)
+      where
+        abbrev without : AnalysisState
+        without = record { shapes = f.shapes; waiting = rest }
+
+        waits : In a f.waiting
+        waits = subst (In a) (sym e) (inl refl)
+
+        start : Start p.code c a
+        start = h.mine a waits
+
+        read : (r : Op × ℕ) × (op_at p.code a ≡ Some r) × ((b : ℕ)
+            → In b (leads (effect_of r.0).flow (a + r.1)) → Start p.code c b)
+        read = closed i c g a start
+
+        known : (t : Shape) × (shape_at f.shapes a ≡ Some t)
+        known = h.sound.known a waits
+
+        -- without the address that is taken, all others are sound
+        rest_sound : SoundBut p.code chunks (λ x. x ≡ a) (record {
+          shapes = f.shapes;
+          waiting =
+              rest;
+        })
+        rest_sound = record {
+          long = h.sound.long;
+          starts = h.sound.starts;
+          known = λ x j. h.sound.known x (subst (In x) (sym e) (inr j));
+          done = λ x s k. at x s (h.sound.done x s k);
+        } where
+          one : (x : ℕ) (s : Shape) → In x (a ∷ rest)
+              → In x rest ⊎ ((x ≡ a) ⊎ Done p.code chunks (record {
+                shapes = f.shapes;
+                waiting =
+                    rest;
+              }) x s)
+          one x s (inl same) = inr (inl same)
+          one x s (inr j) = inl j
+
+          at : (x : ℕ) (s : Shape) → In x f.waiting ⊎ (None_out x ⊎ Done p.code chunks f x s)
+              → In x rest ⊎ ((x ≡ a) ⊎ Done p.code chunks (record {
+                shapes = f.shapes;
+                waiting =
+                    rest;
+              }) x s)
+          at x s (inl j) = one x s (subst (In x) e j)
+          at x s (inr (inl o)) = absurd o
+          at x s (inr (inr d)) = inr (inr d)
+
+        module _ (h' : AnalysisState) (ok : take_at p.code c.max_stack a (record {
+          shapes =
+              f.shapes;
+          waiting = rest;
+        }) ≡ Ok h') where
+          m : Moved p.code c.max_stack a read.0 known.0 (record {
+            shapes = f.shapes;
+            waiting =
+                rest;
+          })
+              h'
+          m = moved p.code c.max_stack a read.0 known.0 (record {
+            shapes = f.shapes;
+            waiting =
+                rest;
+          })
+              read.1 known.1 h' (λ b j. within f h.sound b (read.2 b j)) ok
+
+          all : SoundBut p.code chunks (λ x. x ≡ a) h'
+          all = spread_sound p.code chunks (λ x. x ≡ a) m.shape (record {
+            shapes = f.shapes;
+            waiting =
+                rest;
+          }) h' (leads (effect_of read.0.0).flow (a + read.0.1)) (λ b j. start_here b
+              (read.2 b j)) rest_sound m.spread
+
+          -- the address that was taken is done
+          done : Done p.code chunks h' a known.0
+          done j d r k s is =
+              let both : Some read.0 ≡ Some r = sym read.1 ∙ is in
+              let same : read.0 ≡ r = cc in
+              let chunk : c ≡ d = same_chunk p chunks tiles i j c d a g k start s in
+              let after = m.stepped.is in
+              subst (λ (x : Chunk). Agrees (shape_at h'.shapes) x.max_stack a r.1 (effect_of r.0)
+              known.0) chunk
+              (subst (λ (x : Op × ℕ). Agrees (shape_at h'.shapes) c.max_stack a x.1 (effect_of x.0)
+              known.0) same
+              (record {
+                enough = m.stepped.enough;
+                room = m.stepped.room;
+                arrives =
+                    λ b q. m.spread.there b q ∙ ap (λ (x : Shape). Some x) (sym after);
+              }))
+
+          here : Here h'
+          here = record {
+            sound = record {
+              long = all.long;
+              starts = all.starts;
+              known = all.known;
+              done =
+                  λ x s k. at x s k (all.done x s k);
+            };
+            mine = λ x j. mine x (m.spread.fresh x j);
+          } where
+            at : (x : ℕ) (s : Shape) → shape_at h'.shapes x ≡ Some s → In x h'.waiting
+                ⊎ ((x ≡ a) ⊎ Done p.code chunks h' x s) → In x h'.waiting
+                ⊎ (None_out x ⊎ Done p.code chunks h' x s)
+            at x s k (inl j) = inl j
+            at x s k (inr (inr d)) = inr (inr d)
+            at x s k (inr (inl same)) =
+                let is : shape_at h'.shapes a ≡ Some known.0 = m.spread.stays a known.0 known.1 in
+                let both : Some known.0 ≡ Some s =
+                sym is ∙ ap (shape_at h'.shapes) (sym same) ∙ k in
+                let shape : known.0 ≡ s = cc in
+                inr (inr (subst (λ y. Done p.code chunks h' y s) (sym same)
+                (subst (λ (y : Shape). Done p.code chunks h' a y) shape done)))
+
+            mine : (x : ℕ) → In x rest ⊎ In x (leads (effect_of read.0.0).flow (a + read.0.1))
+                → Start p.code c x
+            mine x (inl j) = h.mine x (subst (In x) (sym e) (inr j))
+            mine x (inr j) = read.2 x j
+
+          step_ok : Here h' × Stays f h' × (free h'.shapes + length h'.waiting < free
+              f.shapes + length f.waiting)
+          step_ok = (here, m.spread.stays, omega (arith, m.spread.less, ap length e))
+
+        step_fits : (typing : ℕ → Option Shape) → Typing p.code chunks typing → Below typing f
+            → (h' : AnalysisState) × (take_at p.code c.max_stack a (record {
+              shapes =
+                  f.shapes;
+              waiting = rest;
+            }) ≡ Ok h') × Below typing h'
+        step_fits typing y below =
+            take_fits p.code typing c.max_stack a read.0 known.0 (record {
+              shapes =
+                  f.shapes;
+              waiting = rest;
+            }) read.1 known.1 (y.steps i c a read.0 known.0 g start
+            read.1 (below a known.0 known.1)) below
+
+    -- a loop that is long enough, and is not refused, ends where none waits
+    record AllTaken (f f' : AnalysisState) : Type 0 where
+      sound : Sound f'
+      over : f'.waiting ≡ []
+      stays : Stays f f'
+
+    take_all_ok : (n : ℕ) (f f' : AnalysisState) → Here f → free f.shapes + length f.waiting ≤ n
+        → take_all p.code c.max_stack n f ≡ Ok f' → AllTaken f f'
+    unfolding take_all
+    take_all_ok zero f f' h enough ok =
+        let same : f ≡ f' = cc in
+        subst (AllTaken f) same (record {
+          sound = h.sound;
+          over = empty f.waiting (omega arith);
+          stays = λ a s k. k;
+        })
+    take_all_ok (suc n) f f' h enough ok =
+        at f.waiting refl ok (λ k h' less ok'. take_all_ok n k f' h' less ok') where
+          at : (xs : List ℕ) → f.waiting ≡ xs
+              → (take_lowest p.code c.max_stack f xs >>= λ g. take_all
+              p.code c.max_stack n g) ≡ Ok f'
+              → ((k : AnalysisState) → Here k → free k.shapes + length k.waiting ≤ n
+              → take_all p.code c.max_stack n k ≡ Ok f' → AllTaken k f') → AllTaken f f'
+          at [] e k more =
+              let both : Ok f ≡ Ok f' = sym (take_none p.code c.max_stack n f e) ∙ k in
+              let same : f ≡ f' = cc in
+              subst (AllTaken f) same (record { sound = h.sound; over = e; stays = λ a s q. q })
+          at (a ∷ rest) e k more =
+              let t =
+              then_ok (take_at p.code c.max_stack a (record { shapes = f.shapes; waiting = rest }))
+              (λ g. take_all p.code c.max_stack n g) f' k in
+              let s = step_ok f a rest h e t.0 t.1 in
+              let w = more t.0 s.0 (omega (arith, s.2, enough)) t.2 in
+              record { sound = w.sound; over = w.over; stays = λ x q z. w.stays x q (s.1 x q z) }
+
+    take_all_fits : (typing : ℕ → Option Shape) → Typing p.code chunks typing
+        → (n : ℕ) (f : AnalysisState) → Here f → Below typing f
+        → (f' : AnalysisState) × (take_all p.code c.max_stack n f ≡ Ok f') × Below typing f'
+    unfolding take_all
+    take_all_fits typing y zero f h below = (f, refl, below)
+    take_all_fits typing y (suc n) f h below =
+        at f.waiting refl (λ k h' b. take_all_fits typing y n k h' b) where
+          at : (xs : List ℕ) → f.waiting ≡ xs → ((k : AnalysisState) → Here k → Below typing k
+              → (f' : AnalysisState) × (take_all p.code c.max_stack n k ≡ Ok f') × Below typing f')
+              → (f' : AnalysisState) × ((take_lowest p.code c.max_stack f xs >>= λ g. take_all
+              p.code
+              c.max_stack n g) ≡ Ok f') × Below typing f'
+          at [] e more = (f, take_none p.code c.max_stack n f e, below)
+          at (a ∷ rest) e more =
+              let t = step_fits f a rest h e typing y below in
+              let w = more t.0 (step_ok f a rest h e t.0 t.1).0 t.2 in (
+                w.0,
+                ap (λ (x : Result AnalysisState Refusal). x >>= λ g. take_all p.code c.max_stack n
+                    g) t.1 ∙ w.1,
+                w.2,
+              )
+
+    -- a bare frame at the entry begins the loop
+    enter : (f k : AnalysisState) → Sound f → f.waiting ≡ [] → arrive bare f c.entry ≡ Ok k
+        → Here k × Spread bare f k (c.entry ∷ [])
+    enter f k sound e ok =
+        (record { sound = all; mine = λ a j. mine a (spread.fresh a j) }, spread) where
+          first : Start p.code c c.entry
+          first = start_first p.code c (w.full i c g)
+
+          at : (b : ℕ) → In b (c.entry ∷ []) → Start p.code c b
+          at b (inl same) = subst (Start p.code c) (sym same) first
+          at b (inr j) = absurd j
+
+          spread : Spread bare f k (c.entry ∷ [])
+          spread = arrive_spread bare f k c.entry (within f sound c.entry first) ok
+
+          all : Sound k
+          all = spread_sound p.code chunks None_out bare f k (c.entry ∷ []) (λ b j. start_here b
+              (at b j)) sound spread
+
+          mine : (a : ℕ) → In a f.waiting ⊎ In a (c.entry ∷ []) → Start p.code c a
+          mine a (inl j) = absurd (subst (In a) e j)
+          mine a (inr j) = at a j
+
+    -- the chunk is done, and its entry is known
+    record Analysed (f f' : AnalysisState) : Type 0 where
+      taken : AllTaken f f'
+      entry : shape_at f'.shapes c.entry ≡ Some bare
+
+    chunk_ok : (f f' : AnalysisState) → Sound f → f.waiting ≡ [] → analyse_chunk p.code c f ≡ Ok f'
+        → Analysed f f'
+    unfolding analyse_chunk
+    chunk_ok f f' sound e ok =
+        let t =
+        then_ok (arrive bare f c.entry) (λ g. take_all p.code c.max_stack (length p.code) g) f'
+        ok in
+        let h = enter f t.0 sound e t.1 in
+        let v =
+        take_all_ok (length p.code) t.0 f' h.0 (omega (
+          arith,
+          h.1.less,
+          ap length e,
+          free_within
+              f.shapes,
+          sound.long,
+        )) t.2 in
+        record {
+          taken = record {
+            sound = v.sound;
+            over = v.over;
+            stays =
+                λ a s k. v.stays a s (h.1.stays a s k);
+          };
+          entry = v.stays c.entry bare (h.1.there c.entry (inl refl));
+        }
+
+    chunk_fits : (typing : ℕ → Option Shape) → Typing p.code chunks typing → (f : AnalysisState)
+        → Sound f → f.waiting ≡ [] → Below typing f
+        → (f' : AnalysisState) × (analyse_chunk p.code c f ≡ Ok f') × Below typing f'
+    unfolding analyse_chunk
+    chunk_fits typing y f sound e below =
+        let b = arrive_fits typing bare f c.entry (y.entries i c g) below in
+        let h = enter f b.0 sound e b.1 in
+        let v = take_all_fits typing y (length p.code) b.0 h.0 b.2 in (
+          v.0,
+          ap (λ (x : Result AnalysisState Refusal). x >>= λ g. take_all p.code c.max_stack
+              (length p.code) g) b.1 ∙ v.1,
+          v.2,
+        )
+
+  -- ---- all chunks
+
+  -- these are some of the chunks
+  abbrev Among : List Chunk → Type 0
+  Among cs = (j : ℕ) (c : Chunk) → slice_get cs j ≡ Some c → (i : ℕ) × (slice_get chunks i ≡ Some c)
+
+  -- the chunks are done, and their entries are known
+  record Over (cs : List Chunk) (f f' : AnalysisState) : Type 0 where
+    sound : Sound f'
+    over : f'.waiting ≡ []
+    stays : Stays f f'
+    entries : (j : ℕ) (c : Chunk) → slice_get cs j ≡ Some c → shape_at f'.shapes c.entry ≡ Some bare
+
+  from_ok : (cs : List Chunk) (f f' : AnalysisState) → Among cs → Sound f → f.waiting ≡ []
+      → analyse_from p.code cs f ≡ Ok f' → Over cs f f'
+  from_ok [] f f' among sound e ok =
+      let same : f ≡ f' = cc in
+      subst (Over [] f) same (record {
+        sound = sound;
+        over = e;
+        stays = λ a s k. k;
+        entries =
+            λ j c k. absurd cc;
+      })
+  from_ok (c ∷ cs) f f' among sound e ok =
+      let t = then_ok (analyse_chunk p.code c f) (λ g. analyse_from p.code cs g) f' ok in
+      let i = among 0 c refl in
+      let s = chunk_ok i.0 c i.1 f t.0 sound e t.1 in
+      let more = from_ok cs t.0 f' (λ j d k. among (suc j) d k) s.taken.sound s.taken.over t.2 in
+      record {
+        sound = more.sound;
+        over = more.over;
+        stays = λ a x k. more.stays a x (s.taken.stays a x k);
+        entries = λ j d k. entry (more.stays c.entry bare s.entry) more.entries j d k;
+      } where
+        entry : shape_at f'.shapes c.entry ≡ Some bare → ((j : ℕ) (d : Chunk)
+            → slice_get cs j ≡ Some d → shape_at f'.shapes d.entry ≡ Some bare)
+            → (j : ℕ) (d : Chunk) → slice_get (c ∷ cs) j ≡ Some d
+            → shape_at f'.shapes d.entry ≡ Some bare
+        entry first later zero d k = let same : c ≡ d =
+            cc in subst (λ (x : Chunk). shape_at f'.shapes x.entry ≡ Some bare) same first
+        entry first later (suc j) d k = later j d k
+
+  from_fits : (typing : ℕ → Option Shape) → Typing p.code chunks typing
+      → (cs : List Chunk) (f : AnalysisState) → Among cs → Sound f → f.waiting ≡ [] → Below typing f
+      → (f' : AnalysisState) × (analyse_from p.code cs f ≡ Ok f')
+  from_fits typing y [] f among sound e below = (f, refl)
+  from_fits typing y (c ∷ cs) f among sound e below =
+      let i = among 0 c refl in
+      let t = chunk_fits i.0 c i.1 typing y f sound e below in
+      let s = chunk_ok i.0 c i.1 f t.0 sound e t.1 in
+      let more =
+      from_fits typing y cs t.0 (λ j d k. among (suc j) d k) s.taken.sound s.taken.over t.2 in (
+        more.0,
+        ap (λ (x : Result AnalysisState Refusal). x >>= λ g. analyse_from p.code cs g) t.1
+            ∙ more.1,
+      )
+
+  nothing_sound : Sound (nothing_seen (length p.code))
+  nothing_sound = record {
+    long = length-replicate {A = Option Shape} (length p.code) None;
+    starts = λ a s k. absurd (none_seen (length p.code) a s k);
+    known = λ a i. absurd i;
+    done = λ a s k. absurd (none_seen (length p.code) a s k);
+  }
+
+  -- a search that is not refused has found a typing
+  pub has_typing : (f : AnalysisState) → analysis p.code chunks ≡ Ok f → HasTyping p.code chunks
+  has_typing f ok = (
+    shape_at f.shapes,
+    record {
+      entries = o.entries;
+      steps = λ i c a r s g st is k. at i c a r s
+          g st is (o.sound.done a s k);
+    },
+  ) where
+    o : Over chunks (nothing_seen (length p.code)) f
+    o = from_ok chunks (nothing_seen (length p.code)) f (λ j c k. (j, k)) nothing_sound refl ok
+
+    at : (i : ℕ) (c : Chunk) (a : ℕ) (r : Op × ℕ) (s : Shape) → slice_get chunks i ≡ Some c
+        → Start p.code c a → op_at p.code a ≡ Some r → In a f.waiting
+        ⊎ (None_out a ⊎ Done p.code chunks f a s)
+        → Agrees (shape_at f.shapes) c.max_stack a r.1 (effect_of r.0) s
+    at i c a r s g st is (inl j) = absurd (subst (In a) o.over j)
+    at i c a r s g st is (inr (inl out)) = absurd out
+    at i c a r s g st is (inr (inr d)) = d i c r g st is
+
+  -- where there is a typing, the search is not refused
+  pub never_stops : (typing : ℕ → Option Shape) → Typing p.code chunks typing → (r : Refusal)
+      → analysis p.code chunks ≡ Err r → ⊥
+  never_stops typing y r e =
+      let q =
+      from_fits typing y chunks (nothing_seen (length p.code)) (λ j c k. (j, k)) nothing_sound
+      refl (λ a s k. absurd (none_seen (length p.code) a s k)) in
+      let bad : Ok q.0 ≡ Err r = sym q.1 ∙ e in
+      cc

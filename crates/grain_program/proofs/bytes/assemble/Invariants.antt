@@ -1,8 +1,0 @@
--- So far the code has the bytes of the instructions so far.
-use Rattle.std.proofs.Common.{◌≡◌, take}
-use Rattle.std.specs.List.{flat_map}
-use Rattle.grain_program.specs.Spelling.{spelling}
-use Rattle.grain_program.proofs.bytes.assemble.Given as goal
-
-abbrev pub invariant-loop-op : goal.invariant-loop-op
-invariant-loop-op l = l.code.items ≡ flat_map spelling (take l.op-index l.ops)

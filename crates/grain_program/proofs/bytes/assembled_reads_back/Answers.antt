@@ -1,5 +1,0 @@
-use Rattle.grain_program.proofs.Again.{op_at_again}
-use Rattle.grain_program.proofs.bytes.assembled_reads_back.Goals as goal
-
-pub returns : goal.returns
-returns c = op_at_again

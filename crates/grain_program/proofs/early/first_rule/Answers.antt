@@ -1,5 +1,0 @@
-use Rattle.std.proofs.Common.{below_more, ◌∙◌, sym}
-use Rattle.grain_program.proofs.early.first_rule.Goals as goal
-
-pub loop-address-preserved : goal.loop-address-preserved
-loop-address-preserved c = below_more _ _ c.loop-address.invariant (sym c.address_rule.ensures ∙ c.in_default.is)

@@ -1,0 +1,75 @@
+-- The kinds of operands that an instruction's bytes have, and how many bytes each has.
+use Rattle.std.specs.Prelude.{ℕ, ◌<◌, ◌^◌, ◌+◌, ◌&&◌, Bool, true, List, [], ◌∷◌, Option, Some, None}
+use Rattle.grain_program.specs.declared.code.fields.Field.{Field}
+use Rattle.grain_program.specs.declared.code.fields.Field.TheVariants as field
+
+-- one byte, two or four
+pub data Size : Type 0 where
+  one : Size
+  two : Size
+  four : Size
+
+abbrev pub bytes_of : Size → ℕ
+bytes_of one = 1
+bytes_of two = 2
+bytes_of four = 4
+
+-- the size of an operand of the kind
+abbrev pub size_of : Field → Size
+size_of (field.Constant n) = two
+size_of (field.Name n) = two
+size_of (field.Assignment n) = two
+size_of (field.Token n) = two
+size_of (field.Slot n) = two
+size_of (field.Target n) = four
+size_of (field.Count n) = one
+size_of (field.Number n) = two
+
+-- the number that stands in the operand's bytes
+abbrev pub number_of : Field → ℕ
+number_of (field.Constant n) = n
+number_of (field.Name n) = n
+number_of (field.Assignment n) = n
+number_of (field.Token n) = n
+number_of (field.Slot n) = n
+number_of (field.Target n) = n
+number_of (field.Count n) = n
+number_of (field.Number n) = n
+
+-- how many bytes operands of these sizes have together
+abbrev pub span : List Size → ℕ
+span [] = 0
+span (s ∷ ss) = bytes_of s + span ss
+
+-- the number fits the size
+abbrev pub NumberFits : Size → ℕ → Type 0
+NumberFits one n = n < 256
+NumberFits two n = n < 2 ^ 16
+NumberFits four n = n < 2 ^ 32
+
+-- the operand's number fits its bytes
+abbrev pub FieldFits : Field → Type 0
+FieldFits f = NumberFits (size_of f) (number_of f)
+
+-- the addresses among the operands
+abbrev pub targets_of : List Field → List ℕ
+targets_of [] = []
+targets_of (field.Constant n ∷ fs) = targets_of fs
+targets_of (field.Name n ∷ fs) = targets_of fs
+targets_of (field.Assignment n ∷ fs) = targets_of fs
+targets_of (field.Token n ∷ fs) = targets_of fs
+targets_of (field.Slot n ∷ fs) = targets_of fs
+targets_of (field.Target n ∷ fs) = n ∷ targets_of fs
+targets_of (field.Count n ∷ fs) = targets_of fs
+targets_of (field.Number n ∷ fs) = targets_of fs
+
+-- each operand passes the test
+abbrev pub every : (Field → Bool) → List Field → Bool
+every test [] = true
+every test (f ∷ fs) = test f && every test fs
+
+-- the operands that are there, of places for some
+abbrev pub present : List (Option Field) → List Field
+present [] = []
+present (None ∷ places) = present places
+present (Some f ∷ places) = f ∷ present places

@@ -1,0 +1,11 @@
+//! Instructions and their bytes, and the parts of a program.
+
+pub mod bytes;
+pub mod caps;
+pub mod descriptors;
+pub mod effects;
+pub mod fields;
+pub mod functions;
+pub mod instructions;
+pub mod parts;
+pub mod pools;

@@ -1,0 +1,135 @@
+//! The instruction set: what each instruction is, in one row.
+
+ghost use Rattle.std.specs.Prelude.{◌≡◌};
+ghost use Rattle.grain_program.specs.InstructionSet.{tag_of, fields_of};
+ghost use Rattle.grain_program.specs.Spelling.{OpFits};
+ghost use Rattle.grain_program.specs.Effects.{effect_of};
+ghost use Rattle.grain_program.specs.Capabilities.{needs};
+
+use crate::code::caps::Caps;
+use crate::code::effects::{Effect, Flow};
+use crate::code::fields::{Field, Fields};
+use crate::code::instructions::Op;
+use bitflags::Flags;
+
+/// What an instruction is: its bytes, what it does to the operands on the stack, where it goes, and
+/// what it needs.
+#[derive(Drop)]
+pub struct Descriptor {
+    /// Its first byte.
+    pub tag: u8,
+    /// What its other bytes say.
+    pub fields: Fields,
+    /// How many operands it takes and gives, and where the machine goes afterwards.
+    pub effect: Effect,
+    /// The capability that a program needs to have it, or none.
+    pub capability: Caps,
+}
+
+/// An instruction that needs no capability.
+fn plain(tag: u8, fields: Fields, takes: u32, gives: u32, flow: Flow) -> Descriptor
+    ensures tag { result.tag ≡ tag }
+    ensures fields { result.fields ≡ fields }
+    ensures effect { result.effect ≡ record { takes = takes; gives = gives; flow = flow } }
+    ensures capability { result.capability.0 ≡ 0 }
+{
+    let effect = Effect { takes, gives, flow };
+    Descriptor {
+        tag,
+        fields,
+        effect,
+        capability: Caps::empty(),
+    }
+}
+
+impl Op {
+    /// The row of the instruction.
+    pub fn descriptor(self) -> Descriptor
+        ensures tag { result.tag ≡ tag_of self }
+        ensures fields { result.fields ≡ fields_of self }
+        ensures effect { result.effect ≡ effect_of self }
+        ensures capability { result.capability.0 ≡ needs self }
+        ensures fits { OpFits self }
+    {
+        match self {
+            Op::LoadConst(constant) => {
+                plain(
+                    0x01,
+                    Fields::one(Field::Constant(constant)),
+                    0,
+                    1,
+                    Flow::Next,
+                )
+            }
+            Op::Unit => plain(0x02, Fields::none(), 0, 1, Flow::Next),
+            Op::False => plain(0x03, Fields::none(), 0, 1, Flow::Next),
+            Op::True => plain(0x04, Fields::none(), 0, 1, Flow::Next),
+            Op::LoadLocal(slot) => plain(0x05, Fields::one(Field::Slot(slot)), 0, 1, Flow::Next),
+            Op::StoreLocal(slot) => plain(0x06, Fields::one(Field::Slot(slot)), 1, 0, Flow::Next),
+            Op::StoreConst(slot) => plain(0x07, Fields::one(Field::Slot(slot)), 1, 0, Flow::Next),
+            Op::DeclareLocal(name) => plain(0x0d, Fields::one(Field::Name(name)), 1, 0, Flow::Next),
+            Op::DeclareConst(name) => plain(0x0e, Fields::one(Field::Name(name)), 1, 0, Flow::Next),
+            Op::AssignLocal(slot, name) => {
+                let fields = Fields::two(Field::Slot(slot), Field::Name(name));
+                plain(0x10, fields, 1, 0, Flow::Next)
+            }
+            Op::AssignLocalOp(slot, name, assign) => {
+                let assign = Field::Assignment(assign);
+                let fields = Fields::three(Field::Slot(slot), Field::Name(name), assign);
+                plain(0x11, fields, 1, 0, Flow::Next)
+            }
+            Op::Pop => plain(0x1b, Fields::none(), 1, 0, Flow::Next),
+            Op::Rotate(under) => {
+                let moved = u32::from(under) + 1;
+                plain(
+                    0x1c,
+                    Fields::one(Field::Count(under)),
+                    moved,
+                    moved,
+                    Flow::Next,
+                )
+            }
+            Op::Jump(target) => {
+                let fields = Fields::one(Field::Target(target));
+                plain(0x1d, fields, 0, 0, Flow::Jump(target))
+            }
+            Op::JumpIfFalse(target) => {
+                let fields = Fields::one(Field::Target(target));
+                plain(0x1e, fields, 1, 0, Flow::Branch(target))
+            }
+            Op::JumpIfTrue(target) => {
+                let fields = Fields::one(Field::Target(target));
+                plain(0x1f, fields, 1, 0, Flow::Branch(target))
+            }
+            Op::SkipIfNotUnit(target) => {
+                let fields = Fields::one(Field::Target(target));
+                plain(0x20, fields, 1, 1, Flow::Branch(target))
+            }
+            Op::Call(name, count) => {
+                let fields = Fields::two(Field::Name(name), Field::Count(count));
+                let call = plain(0x22, fields, u32::from(count), 1, Flow::Next);
+                Descriptor {
+                    capability: Caps::FUNCTION,
+                    ..call
+                }
+            }
+            Op::CallOp(name, count, token) => {
+                let token = Field::Token(token);
+                let fields = Fields::three(Field::Name(name), Field::Count(count), token);
+                plain(0x23, fields, u32::from(count), 1, Flow::Next)
+            }
+            Op::UnwindTo(depth) => plain(0x38, Fields::one(Field::Number(depth)), 0, 0, Flow::Next),
+            Op::Tick => plain(0x39, Fields::none(), 0, 0, Flow::Next),
+            Op::Checkpoint => plain(0x3a, Fields::none(), 0, 0, Flow::Next),
+            Op::Statement(depth) => plain(
+                0x3b,
+                Fields::one(Field::Number(depth)),
+                0,
+                0,
+                Flow::Next,
+            ),
+            Op::Throw => plain(0x49, Fields::none(), 1, 0, Flow::End),
+            Op::Return => plain(0x4a, Fields::none(), 0, 0, Flow::End),
+        }
+    }
+}

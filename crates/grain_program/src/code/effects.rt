@@ -1,0 +1,36 @@
+//! What an instruction does to the operands, and where it leads.
+
+ghost use Rattle.std.specs.Prelude.{◌≡◌};
+ghost use Rattle.grain_program.specs.Effects.{effect_of};
+
+use crate::code::instructions::Op;
+
+/// Where the machine goes after an instruction.
+#[derive(Clone, Copy, Debug, PartialEq, Eq)]
+pub enum Flow {
+    /// To the next instruction.
+    Next,
+    /// To the target.
+    Jump(u32),
+    /// To the target or to the next instruction.
+    Branch(u32),
+    /// Out of the chunk.
+    End,
+}
+
+/// How many operands an instruction takes and then gives, and where the machine goes.
+#[derive(Clone, Copy, Debug, PartialEq, Eq)]
+pub struct Effect {
+    pub takes: u32,
+    pub gives: u32,
+    pub flow: Flow,
+}
+
+impl Effect {
+    /// The effect of the instruction.
+    pub fn of(op: Op) -> Effect
+        ensures { result ≡ effect_of op }
+    {
+        op.descriptor().effect
+    }
+}

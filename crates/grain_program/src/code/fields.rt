@@ -1,0 +1,89 @@
+//! The operands in an instruction's bytes.
+
+ghost use Rattle.std.specs.Prelude.{◌≡◌, [], ◌∷◌};
+ghost use Rattle.grain_program.specs.Fields.{present};
+
+use std::marker::Model;
+
+/// An operand in an instruction's bytes. Its kind says how many bytes it has, and what its number
+/// has to name.
+#[derive(Clone, Copy, Debug, PartialEq, Eq)]
+pub enum Field {
+    /// The index of a constant, in two bytes.
+    Constant(u16),
+    /// The index of a name, in two bytes.
+    Name(u16),
+    /// The index of an op-assignment, in two bytes.
+    Assignment(u16),
+    /// The index of an operator token, in two bytes.
+    Token(u16),
+    /// A scope entry, counted from the frame's base, in two bytes.
+    Slot(u16),
+    /// The address of an instruction of the same chunk, in four bytes.
+    Target(u32),
+    /// A number of operands, in one byte.
+    Count(u8),
+    /// A plain number, in two bytes.
+    Number(u16),
+}
+
+/// The operands in an instruction's bytes, in their order: three at most.
+#[derive(Drop)]
+pub struct Fields {
+    places: [Option<Field>; 3],
+}
+
+impl Model for Fields {
+    ghost use Rattle.std.specs.Prelude.{List};
+    ghost use Rattle.grain_program.specs.declared.code.fields.Field.{Field};
+    ghost use Rattle.grain_program.specs.Fields.{present};
+
+    ghost Value = { List Field };
+
+    ghost view = { λ f. present f.places };
+}
+
+impl Fields {
+    /// No operand.
+    pub fn none() -> Fields
+        ensures { result ≡ [] }
+    {
+        Fields {
+            places: [None, None, None],
+        }
+    }
+
+    /// One operand.
+    pub fn one(first: Field) -> Fields
+        ensures { result ≡ first ∷ [] }
+    {
+        Fields {
+            places: [Some(first), None, None],
+        }
+    }
+
+    /// Two operands.
+    pub fn two(first: Field, second: Field) -> Fields
+        ensures { result ≡ first ∷ second ∷ [] }
+    {
+        Fields {
+            places: [Some(first), Some(second), None],
+        }
+    }
+
+    /// Three operands.
+    pub fn three(first: Field, second: Field, third: Field) -> Fields
+        ensures { result ≡ first ∷ second ∷ third ∷ [] }
+    {
+        Fields {
+            places: [Some(first), Some(second), Some(third)],
+        }
+    }
+
+    /// The places for operands, of which the first ones have one each.
+    pub fn as_slice(&self) -> &[Option<Field>]
+        ensures { present result.now ≡ self.now }
+    {
+        &self.places
+    }
+}

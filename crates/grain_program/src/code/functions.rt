@@ -1,0 +1,18 @@
+//! Functions, and where they stand among a program's parts.
+
+use crate::code::parts::Chunk;
+use grain_value::List;
+
+/// Indices of pool entries.
+pub type Indices = List<u32>;
+
+/// A function: its name and its parameters' names, each by its index among the names, and its code.
+#[derive(Drop)]
+pub struct Function {
+    pub name: u32,
+    pub params: Indices,
+    pub chunk: Chunk,
+}
+
+/// The functions of a program.
+pub type Functions = List<Function>;

@@ -1,0 +1,10 @@
+//! The verifier: whether parts break no rule, or the first rule that they break.
+
+pub mod analysis;
+pub mod check;
+pub mod heights;
+pub mod layout;
+pub mod owners;
+pub mod refusals;
+pub mod rules;
+pub mod shapes;

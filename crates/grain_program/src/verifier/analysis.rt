@@ -1,0 +1,127 @@
+//! The search for a typing.
+
+ghost use Rattle.std.specs.Prelude.{◌≡◌, ◌<◌, ◌^◌, [], length, IfOk, MatchOption};
+ghost use Rattle.std.specs.List.{AllByRecursion};
+ghost use Rattle.grain_program.specs.Effects.{leads};
+ghost use Rattle.grain_program.specs.Typing.{nothing_seen, with_lowest, arrive, arrive_all, take_at, analyse_chunk, Gives, Ready, IsAnalysable};
+
+use crate::code::bytes::decode;
+use crate::code::effects::{Effect, Flow};
+use crate::code::parts::Chunk;
+use crate::verifier::refusals::Refusal;
+use crate::verifier::shapes::{Shape, Shapes};
+use grain_value::{Blob, OutOfMemory};
+use std::alloc::Global;
+use std::collections::BTreeSet;
+use std::marker::Model;
+
+/// The shapes that are known, and the addresses that wait to be taken.
+#[derive(Drop)]
+pub struct HeightAnalysis {
+    shapes: Shapes,
+    waiting: BTreeSet<usize>,
+}
+
+impl Model for HeightAnalysis {
+    ghost use Rattle.grain_program.specs.Typing.{AnalysisState};
+
+    ghost Value = { AnalysisState };
+
+    ghost view = { λ s. record { shapes = s.shapes; waiting = s.waiting.keys } };
+}
+
+impl HeightAnalysis {
+    /// Nothing is known at len addresses, and none waits.
+    pub fn new(alloc: Global, len: usize) -> Result<HeightAnalysis, OutOfMemory>
+        ensures { IfOk result (λ analysis. analysis ≡ nothing_seen len) }
+    {
+        let shapes = Shapes::new(alloc, len)?;
+        Ok(HeightAnalysis {
+            shapes,
+            waiting: BTreeSet::new(alloc),
+        })
+    }
+
+    /// The shape comes to the address, which waits unless it was known.
+    fn arrive(&mut self, shape: Shape, address: usize) -> Result<(), Refusal>
+        requires within { address < length self.old.shapes }
+        requires small { shape.height < 2 ^ 16 }
+        ensures length_same { length self.new.shapes ≡ length self.old.shapes }
+        ensures exact { Gives self.new result (arrive shape self.old address) }
+    {
+        if let Some(known) = self.shapes.get(address) {
+            return match known.clash(shape, address) {
+                Some(refusal) => Err(refusal),
+                None => Ok(()),
+            };
+        }
+        self.waiting.insert(address)?;
+        self.shapes.put(address, shape);
+        Ok(())
+    }
+
+    /// The shape comes wherever the flow leads, to the lower address first.
+    fn arrive_by(&mut self, shape: Shape, flow: Flow, next: usize) -> Result<(), Refusal>
+        requires within { AllByRecursion (λ b. b < length self.old.shapes) (leads flow next) }
+        requires small { shape.height < 2 ^ 16 }
+        ensures length_same { length self.new.shapes ≡ length self.old.shapes }
+        ensures exact { Gives self.new result (arrive_all shape (leads flow next) self.old) }
+    {
+        match flow {
+            Flow::Next => self.arrive(shape, next),
+            Flow::Jump(target) => self.arrive(shape, target as usize),
+            Flow::Branch(target) => {
+                let target = target as usize;
+                if target < next {
+                    self.arrive(shape, target)?;
+                    self.arrive(shape, next)
+                } else {
+                    self.arrive(shape, next)?;
+                    self.arrive(shape, target)
+                }
+            }
+            Flow::End => Ok(()),
+        }
+    }
+
+    /// The lowest address that waits, which waits no longer. Where none waits, nothing changes.
+    fn lowest(&mut self) -> Option<usize>
+        ensures { MatchOption result ((self.old.waiting ≡ []) × (self.new ≡ self.old))
+            (λ a. self.old ≡ with_lowest a self.new) }
+    {
+        self.waiting.pop_first()
+    }
+
+    /// Takes the instruction at the address, in a chunk whose frame may have max operands.
+    fn take(&mut self, code: &Blob, max: u16, address: usize) -> Result<(), Refusal>
+        requires { Ready code.now self.old.shapes address }
+        ensures { Gives self.new result (take_at code.now max address self.old) }
+    {
+        let Some((op, width)) = decode(code, address) else {
+            unreachable!()
+        };
+        let Some(shape) = self.shapes.get(address) else {
+            unreachable!()
+        };
+        let effect = Effect::of(op);
+        match shape.stepped(max, address, effect) {
+            Ok(after) => self.arrive_by(after, effect.flow, address + width),
+            Err(refusal) => Err(refusal),
+        }
+    }
+
+    /// Takes the instructions of the chunk from its entry on, the lowest waiting address each time,
+    /// until none waits.
+    pub fn analyse_chunk(&mut self, code: &Blob, chunk: Chunk) -> Result<(), Refusal>
+        requires { IsAnalysable code.now chunk self.old }
+        ensures exact { Gives self.new result (analyse_chunk code.now chunk self.old) }
+        ensures rest { IfOk result (λ _. (self.new.waiting ≡ []) × (length self.new.shapes ≡ length
+            code.now)) }
+    {
+        self.arrive(Shape { height: 0 }, chunk.entry as usize)?;
+        while let Some(address) = self.lowest() {
+            self.take(code, chunk.max_stack, address)?;
+        }
+        Ok(())
+    }
+}

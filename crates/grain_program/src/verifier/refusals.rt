@@ -1,0 +1,115 @@
+//! Why parts are no program.
+
+ghost use Rattle.std.specs.Prelude.{◌≡◌};
+ghost use Rattle.grain_program.specs.declared.verifier.refusals.Refusal.TheVariants.{Memory};
+ghost use Rattle.grain_program.specs.Rules.{address_of, rule_of, precedes, earlier};
+
+use grain_value::OutOfMemory;
+use std::alloc::{AllocError, AllocFailed};
+
+/// Why parts are no program: the first rule that fails, and the address where it fails.
+#[derive(Clone, Copy, Debug, PartialEq, Eq)]
+pub enum Refusal {
+    /// No instruction begins there, an instruction passes its chunk's end, or the chunks do not
+    /// tile the code.
+    Undecodable(usize),
+    /// An index of the instruction there, or of a record that it uses, names no entry of its pool,
+    /// or a function that is entered there has a name or a parameter's name that is no entry of the
+    /// names.
+    PoolIndex(usize),
+    /// The target of the instruction there is no instruction of the same chunk.
+    JumpTarget(usize),
+    /// The instruction there is its chunk's last and goes on past it, or an empty chunk lies
+    /// there.
+    FallsOff(usize),
+    /// Two ways to the instruction there come with different numbers of operands.
+    HeightDisagrees(usize),
+    /// There are more operands after the instruction there than the chunk may have.
+    TooDeep(usize),
+    /// There are fewer operands than the instruction there takes.
+    Underflow(usize),
+    /// The instruction there needs a capability that the program does not have.
+    Capability(usize),
+    /// There was no memory for the verification.
+    Memory,
+}
+
+impl Refusal {
+    /// The address where the rule fails, or 0 for want of memory.
+    pub fn address(self) -> usize
+        ensures { result ≡ address_of self }
+    {
+        match self {
+            Refusal::Undecodable(address) => address,
+            Refusal::PoolIndex(address) => address,
+            Refusal::JumpTarget(address) => address,
+            Refusal::FallsOff(address) => address,
+            Refusal::HeightDisagrees(address) => address,
+            Refusal::TooDeep(address) => address,
+            Refusal::Underflow(address) => address,
+            Refusal::Capability(address) => address,
+            Refusal::Memory => 0,
+        }
+    }
+
+    /// The place of the rule among those that are tested at one address.
+    fn rule(self) -> u8
+        ensures { result ≡ rule_of self }
+    {
+        match self {
+            Refusal::Undecodable(_) => 1,
+            Refusal::PoolIndex(_) => 2,
+            Refusal::JumpTarget(_) => 3,
+            Refusal::FallsOff(_) => 4,
+            Refusal::HeightDisagrees(_) => 5,
+            Refusal::TooDeep(_) => 6,
+            Refusal::Underflow(_) => 7,
+            Refusal::Capability(_) => 12,
+            Refusal::Memory => 13,
+        }
+    }
+
+    /// Whether this comes first: at a lower address, or at the same one by a lower rule or the
+    /// same.
+    fn precedes(self, other: Refusal) -> bool
+        ensures { result ≡ precedes self other }
+    {
+        let (here, there) = (self.address(), other.address());
+        here < there || here == there && self.rule() <= other.rule()
+    }
+}
+
+/// The one of two that comes first, if any.
+pub fn earlier(one: Option<Refusal>, other: Option<Refusal>) -> Option<Refusal>
+    ensures { result ≡ earlier one other }
+{
+    let Some(first) = one else {
+        return other;
+    };
+    match other {
+        Some(second) => {
+            if first.precedes(second) {
+                Some(first)
+            } else {
+                Some(second)
+            }
+        }
+        None => Some(first),
+    }
+}
+
+impl From<AllocError> for Refusal {
+    ghost from_gives = { λ _ e. e ≡ Memory };
+
+    fn from(_: AllocError) -> Refusal {
+        Refusal::Memory
+    }
+}
+
+impl<T: Drop> From<AllocFailed<T>> for Refusal {
+    ghost from_gives = { λ _ e. e ≡ Memory };
+
+    fn from(_: AllocFailed<T>) -> Refusal {
+        Refusal::Memory
+    }
+}

@@ -1,0 +1,256 @@
+//! The layout, and the rules of single instructions: each is read and whole, its indices name
+//! entries of their pools, its target is an instruction, it does not go on past its chunk, and
+//! the program has the capability that it needs. No chunk is empty, and the functions' names are
+//! entries of their pool.
+
+ghost use Rattle.std.specs.Prelude.{◌≡◌, ◌==◌, ◌⊎◌, ◌≤◌, ℕ, List, length, slice_get, IfOk, IfErr, Some, None};
+ghost use Rattle.grain_program.specs.View.{view_of};
+ghost use Rattle.grain_program.specs.Fields.{every};
+ghost use Rattle.grain_program.specs.Indices.{in_pool, record_named, all_below, is_named};
+ghost use Rattle.grain_program.specs.Reading.{op_at};
+ghost use Rattle.grain_program.specs.Layout.{chunks_in, layout_fault};
+ghost use Rattle.grain_program.specs.Rules.{IsSplit, RefusedBeforeHeights};
+ghost use Rattle.grain_program.specs.Owners.{owner_at, lands, stays_in, rule_in, rule_at, IsFirstFound, first_empty, first_misnamed};
+ghost use Rattle.grain_program.specs.declared.verifier.refusals.Refusal.TheVariants.{Memory};
+
+use crate::code::bytes::decode;
+use crate::code::effects::Flow;
+use crate::code::fields::{Field, Fields};
+use crate::code::functions::Function;
+use crate::code::parts::{Chunk, Parts};
+use crate::verifier::layout::misplaced;
+use crate::verifier::owners::{Owner, owners_of};
+use crate::verifier::refusals::{Refusal, earlier};
+use bitflags::Flags;
+use std::alloc::Global;
+
+/// Whether there is an op-assignment at the index, and its names are in their pool.
+fn has_assign_op(parts: &Parts, index: u16) -> bool
+    ensures { result ≡ record_named (length parts.now.names) (slice_get parts.now.assign_ops
+        index) }
+{
+    match parts.assign_ops.get(index as usize) {
+        Some(record) => {
+            let names = parts.names.len();
+            (record.op_assign_name as usize) < names && (record.op_name as usize) < names
+        }
+        None => false,
+    }
+}
+
+/// Whether the operand, if it is an index, names an entry of its pool.
+fn has_entry(parts: &Parts, field: Field) -> bool
+    ensures { result ≡ in_pool (view_of parts.now) field }
+{
+    match field {
+        Field::Constant(index) => (index as usize) < parts.consts.len(),
+        Field::Name(index) => (index as usize) < parts.names.len(),
+        Field::Assignment(index) => has_assign_op(parts, index),
+        Field::Token(index) => (index as usize) < parts.tokens.len(),
+        Field::Slot(_) => true,
+        Field::Target(_) => true,
+        Field::Count(_) => true,
+        Field::Number(_) => true,
+    }
+}
+
+/// Whether each index among the operands names an entry of its pool.
+fn has_entries(parts: &Parts, fields: &Fields) -> bool
+    ensures { result ≡ every (in_pool (view_of parts.now)) fields.now }
+{
+    let places = fields.as_slice();
+    for place in places {
+        if let Some(field) = place
+            && !has_entry(parts, *field)
+        {
+            return false;
+        }
+    }
+    true
+}
+
+/// Whether the chunk of this end owns an instruction at the target.
+fn owns(owners: &[Owner], end: usize, target: u32) -> bool
+    ensures { result ≡ ((owner_at owners.now target).end == end) }
+{
+    let owner_end = match owners.get(target as usize) {
+        Some(owner) => owner.end,
+        None => 0,
+    };
+    owner_end as usize == end
+}
+
+/// Whether the operand, if it is an address, names an instruction of the chunk of this end.
+fn lands(owners: &[Owner], end: usize, field: Field) -> bool
+    ensures { result ≡ lands owners.now end field }
+{
+    match field {
+        Field::Constant(_) => true,
+        Field::Name(_) => true,
+        Field::Assignment(_) => true,
+        Field::Token(_) => true,
+        Field::Slot(_) => true,
+        Field::Target(address) => owns(owners, end, address),
+        Field::Count(_) => true,
+        Field::Number(_) => true,
+    }
+}
+
+/// Whether each address among the operands names an instruction of the chunk of this end.
+fn has_targets(owners: &[Owner], end: usize, fields: &Fields) -> bool
+    ensures { result ≡ every (lands owners.now end) fields.now }
+{
+    let places = fields.as_slice();
+    for place in places {
+        if let Some(field) = place
+            && !lands(owners, end, *field)
+        {
+            return false;
+        }
+    }
+    true
+}
+
+/// Whether the flow does not go on past the chunk of this end.
+fn stays(end: usize, next: usize, flow: Flow) -> bool
+    ensures { result ≡ stays_in end next flow }
+{
+    match flow {
+        Flow::Next => next < end,
+        Flow::Jump(_) => true,
+        Flow::Branch(_) => next < end,
+        Flow::End => true,
+    }
+}
+
+/// The first rule that the instruction at the address breaks, in a chunk of this end.
+fn instruction_rule(parts: &Parts, owners: &[Owner], end: usize, address: usize) -> Option<Refusal>
+    requires { length parts.now.code ≤ 16777216 }
+    ensures { result ≡ rule_in (view_of parts.now) owners.now end address (op_at parts.now.code
+        address) }
+{
+    let Some((op, width)) = decode(&parts.code, address) else {
+        return Some(Refusal::Undecodable(address));
+    };
+    let next = address + width;
+    let descriptor = op.descriptor();
+    let flow = descriptor.effect.flow;
+    if end < next {
+        Some(Refusal::Undecodable(address))
+    } else if !has_entries(parts, &descriptor.fields) {
+        Some(Refusal::PoolIndex(address))
+    } else if !has_targets(owners, end, &descriptor.fields) {
+        Some(Refusal::JumpTarget(address))
+    } else if !stays(end, next, flow) {
+        Some(Refusal::FallsOff(address))
+    } else if !parts.caps.contains(descriptor.capability) {
+        Some(Refusal::Capability(address))
+    } else {
+        None
+    }
+}
+
+/// The first rule that an instruction at the address breaks.
+fn address_rule(parts: &Parts, owners: &[Owner], address: usize) -> Option<Refusal>
+    requires { length parts.now.code ≤ 16777216 }
+    ensures { result ≡ rule_at (view_of parts.now) owners.now address }
+{
+    let end = match owners.get(address) {
+        Some(owner) => owner.end,
+        None => 0,
+    };
+    if end == 0 {
+        None
+    } else {
+        instruction_rule(parts, owners, end as usize, address)
+    }
+}
+
+/// The first rule that an instruction breaks, at the lowest address.
+fn first_rule(parts: &Parts, owners: &[Owner]) -> Option<Refusal>
+    requires { length parts.now.code ≤ 16777216 }
+    ensures { IsFirstFound (rule_at (view_of parts.now) owners.now) (length owners.now) result }
+{
+    for address in 0..owners.len() {
+        if let Some(refusal) = address_rule(parts, owners, address) {
+            return Some(refusal);
+        }
+    }
+    None
+}
+
+/// Whether each index is below the end.
+fn all_below(end: usize, indices: &[u32]) -> bool
+    ensures { result ≡ all_below end indices.now }
+{
+    for index in indices {
+        if *index as usize >= end {
+            return false;
+        }
+    }
+    true
+}
+
+/// Whether the function's name and its parameters' names are entries of the pool.
+fn is_named(parts: &Parts, function: &Function) -> bool
+    ensures { result ≡ is_named (view_of parts.now) function.now }
+{
+    let names = parts.names.len();
+    (function.name as usize) < names && all_below(names, function.params.as_slice())
+}
+
+/// The refusal of the first function that has a name that is no entry of the pool.
+fn misnamed_function(parts: &Parts) -> Option<Refusal>
+    ensures { result ≡ first_misnamed (view_of parts.now) parts.now.functions }
+{
+    let functions = parts.functions.as_slice();
+    for function in functions {
+        if !is_named(parts, function) {
+            return Some(Refusal::PoolIndex(function.chunk.entry as usize));
+        }
+    }
+    None
+}
+
+/// The refusal of the first empty chunk.
+fn empty_chunk(chunks: &[Chunk]) -> Option<Refusal>
+    ensures { result ≡ first_empty chunks.now }
+{
+    for chunk in chunks {
+        if chunk.entry == chunk.end {
+            return Some(Refusal::FallsOff(chunk.entry as usize));
+        }
+    }
+    None
+}
+
+/// The first rule that is broken, where the layout has no fault.
+fn check_rules(alloc: Global, parts: &Parts, chunks: &[Chunk]) -> Result<(), Refusal>
+    requires whole { chunks.now ≡ chunks_in (view_of parts.now) }
+    requires laid { layout_fault (length parts.now.code) chunks.now ≡ None }
+    ensures ok { IfOk result (λ _. IsSplit (view_of parts.now) chunks.now) }
+    ensures err { IfErr result (λ r. (r ≡ Memory) ⊎ RefusedBeforeHeights (view_of parts.now)
+        chunks.now r) }
+{
+    let Ok(owners) = owners_of(alloc, &parts.code, chunks) else {
+        return Err(Refusal::Memory);
+    };
+    let by_functions = earlier(misnamed_function(parts), empty_chunk(chunks));
+    match earlier(first_rule(parts, &owners), by_functions) {
+        Some(refusal) => Err(refusal),
+        None => Ok(()),
+    }
+}
+
+/// The layout's fault, or the first rule that is broken.
+pub fn check_instructions(alloc: Global, parts: &Parts, chunks: &[Chunk]) -> Result<(), Refusal>
+    requires { chunks.now ≡ chunks_in (view_of parts.now) }
+    ensures ok { IfOk result (λ _. IsSplit (view_of parts.now) chunks.now) }
+    ensures err { IfErr result (λ r. (r ≡ Memory) ⊎ RefusedBeforeHeights (view_of parts.now)
+        chunks.now r) }
+{
+    match misplaced(parts.code.len(), chunks) {
+        Some(address) => Err(Refusal::Undecodable(address)),
+        None => check_rules(alloc, parts, chunks),
+    }
+}
