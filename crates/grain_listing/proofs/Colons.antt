@@ -1,6 +1,6 @@
 -- The text before a colon at the end of a word.
 use Rattle.std.proofs.Common.{◌≡◌, ◌≢◌, ℕ, Bool, true, false, cond, List, [], ◌∷◌, ◌++◌, Option, Some, None, MatchOption, option_map, Bor, refl, sym, ap, ◌∙◌, eqb-true, ◌==◌}
-use Rattle.grain_listing.specs.Outline.{before_colon}
+use Rattle.grain_listing.specs.LineMeanings.{before_colon}
 
 -- what stands before a last colon is found
 stands : (t : List ℕ) → before_colon (t ++ 58 ∷ []) ≡ Some t
