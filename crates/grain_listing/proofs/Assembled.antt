@@ -16,7 +16,8 @@ blanks (Goto line label ∷ ps) = 0 ∷ 0 ∷ 0 ∷ 0 ∷ blanks ps
 abbrev pub fixups_from : ℕ → List Piece → List Fixup
 fixups_from a [] = []
 fixups_from a (Byte b ∷ ps) = fixups_from (a + 1) ps
-fixups_from a (Goto line label ∷ ps) = record { line = line; at = a; label = label } ∷ fixups_from (a + 4) ps
+fixups_from a (Goto line label ∷ ps) =
+    record { line = line; at = a; label = label } ∷ fixups_from (a + 4) ps
 
 abbrev pub blank_code : List Statement → List ℕ
 blank_code [] = []
@@ -25,7 +26,8 @@ blank_code (s ∷ before) = blank_code before
 
 abbrev pub fixups : List Statement → List Fixup
 fixups [] = []
-fixups (code_line p ps at ∷ before) = fixups before ++ fixups_from (length (blank_code before)) (p ∷ ps)
+fixups (code_line p ps at ∷ before) =
+    fixups before ++ fixups_from (length (blank_code before)) (p ∷ ps)
 fixups (s ∷ before) = fixups before
 
 abbrev pub label_map : List Statement → Addresses
@@ -70,7 +72,8 @@ blanks-append [] qs = refl
 blanks-append (Byte b ∷ ps) qs = ap (λ l. b ∷ l) (blanks-append ps qs)
 blanks-append (Goto line label ∷ ps) qs = ap (λ l. 0 ∷ 0 ∷ 0 ∷ 0 ∷ l) (blanks-append ps qs)
 
-pub fixups-append : (a : ℕ) (ps qs : List Piece) → fixups_from a (ps ++ qs) ≡ fixups_from a ps ++ fixups_from (a + width ps) qs
+pub fixups-append : (a : ℕ) (ps qs : List Piece) →
+    fixups_from a (ps ++ qs) ≡ fixups_from a ps ++ fixups_from (a + width ps) qs
 fixups-append a [] qs = let e : a ≡ a + 0 = omega arith in ap (λ n. fixups_from n qs) e
 fixups-append a (Byte b ∷ ps) qs =
     let e : a + 1 + width ps ≡ a + (1 + width ps) = omega arith in
@@ -78,7 +81,8 @@ fixups-append a (Byte b ∷ ps) qs =
 fixups-append a (Goto line label ∷ ps) qs =
     let e : a + 4 + width ps ≡ a + (4 + width ps) = omega arith in
     let first : Fixup = record { line = line; at = a; label = label } in
-    ap (λ l. first ∷ l) (fixups-append (a + 4) ps qs ∙ ap (λ n. fixups_from (a + 4) ps ++ fixups_from n qs) e)
+    ap (λ l. first ∷ l) (fixups-append (a + 4) ps qs ∙
+    ap (λ n. fixups_from (a + 4) ps ++ fixups_from n qs) e)
 
 pub blanks-bytes : (bs : List ℕ) → blanks (bytes bs) ≡ bs
 blanks-bytes [] = refl
@@ -91,7 +95,8 @@ fixups-bytes a (b ∷ bs) = fixups-bytes (a + 1) bs
 -- the code of the lines is that of their pieces
 pub code_is : (said : List Statement) → blank_code said ≡ blanks (pieces said)
 code_is [] = refl
-code_is (code_line p ps at ∷ before) = ap (λ l. l ++ blanks (p ∷ ps)) (code_is before) ∙ sym (blanks-append (pieces before) (p ∷ ps))
+code_is (code_line p ps at ∷ before) = ap (λ l. l ++ blanks (p ∷ ps)) (code_is before) ∙
+    sym (blanks-append (pieces before) (p ∷ ps))
 code_is (s ∷ before) = code_is before
 
 pub sized : (said : List Statement) → length (blank_code said) ≡ address said
@@ -100,33 +105,45 @@ sized said = ap length (code_is said) ∙ length-blanks (pieces said)
 pub fixups_are : (said : List Statement) → fixups said ≡ fixups_from 0 (pieces said)
 fixups_are [] = refl
 fixups_are (code_line p ps at ∷ before) =
-    let e : length (blank_code before) ≡ 0 + width (pieces before) = let h = sized before in omega (arith, h) in
+    let e : length (blank_code before) ≡ 0 + width (pieces before) = let h = sized before in
+    omega (arith, h) in
     ap (λ l. l ++ fixups_from (length (blank_code before)) (p ∷ ps)) (fixups_are before) ∙
-    ap (λ n. fixups_from 0 (pieces before) ++ fixups_from n (p ∷ ps)) e ∙ sym (fixups-append 0 (pieces before) (p ∷ ps))
+    ap (λ n. fixups_from 0 (pieces before) ++ fixups_from n (p ∷ ps)) e ∙
+    sym (fixups-append 0 (pieces before) (p ∷ ps))
 fixups_are (s ∷ before) = fixups_are before
 
 -- pieces at the end of the code
 abbrev pub with_pieces : List Piece → AssemblerView → AssemblerView
-with_pieces ps v = record v { code = v.code ++ blanks ps; fixups = v.fixups ++ fixups_from (length v.code) ps }
+with_pieces ps v = record v { code = v.code ++ blanks ps; fixups =
+    v.fixups ++ fixups_from (length v.code) ps }
 
 abbrev coded : AssemblerView → List ℕ → List Fixup → AssemblerView
 coded v code fixups = record v { code = code; fixups = fixups }
 
-pub bytes_put : (bs : List ℕ) (v : AssemblerView) → record v { code = v.code ++ bs } ≡ with_pieces (bytes bs) v
+pub bytes_put : (bs : List ℕ) (v : AssemblerView) →
+    record v { code = v.code ++ bs } ≡ with_pieces (bytes bs) v
 bytes_put bs v =
     ap (λ c. coded v (v.code ++ c) v.fixups) (sym (blanks-bytes bs)) ∙
     ap (λ f. coded v (v.code ++ blanks (bytes bs)) f) (sym (append-nil v.fixups)) ∙
-    ap (λ f. coded v (v.code ++ blanks (bytes bs)) (v.fixups ++ f)) (sym (fixups-bytes (length v.code) bs))
+    ap (λ f. coded v (v.code ++ blanks (bytes bs)) (v.fixups ++ f))
+    (sym (fixups-bytes (length v.code) bs))
 
 -- one after the other, or both at once
-pub put_twice : (ps qs : List Piece) (v : AssemblerView) → with_pieces qs (with_pieces ps v) ≡ with_pieces (ps ++ qs) v
+pub put_twice : (ps qs : List Piece) (v : AssemblerView) →
+    with_pieces qs (with_pieces ps v) ≡ with_pieces (ps ++ qs) v
 put_twice ps qs v =
-    let e : length (v.code ++ blanks ps) ≡ length v.code + width ps = length-append v.code (blanks ps) ∙ ap (λ n. length v.code + n) (length-blanks ps) in
+    let e : length (v.code ++ blanks ps) ≡ length v.code + width ps =
+    length-append v.code (blanks ps) ∙ ap (λ n. length v.code + n) (length-blanks ps) in
     let code : (v.code ++ blanks ps) ++ blanks qs ≡ v.code ++ blanks (ps ++ qs) =
-        append_assoc v.code (blanks ps) (blanks qs) ∙ ap (λ l. v.code ++ l) (sym (blanks-append ps qs)) in
-    let labels : (v.fixups ++ fixups_from (length v.code) ps) ++ fixups_from (length (v.code ++ blanks ps)) qs ≡ v.fixups ++ fixups_from (length v.code) (ps ++ qs) =
-        append_assoc v.fixups (fixups_from (length v.code) ps) (fixups_from (length (v.code ++ blanks ps)) qs) ∙
+        append_assoc v.code (blanks ps) (blanks qs) ∙
+        ap (λ l. v.code ++ l) (sym (blanks-append ps qs)) in
+    let labels : (v.fixups ++ fixups_from (length v.code) ps) ++
+    fixups_from (length (v.code ++ blanks ps)) qs ≡
+    v.fixups ++ fixups_from (length v.code) (ps ++ qs) =
+        append_assoc v.fixups (fixups_from (length v.code) ps)
+        (fixups_from (length (v.code ++ blanks ps)) qs) ∙
         ap (λ n. v.fixups ++ (fixups_from (length v.code) ps ++ fixups_from n qs)) e ∙
         ap (λ l. v.fixups ++ l) (sym (fixups-append (length v.code) ps qs)) in
-    ap (λ c. coded v c ((v.fixups ++ fixups_from (length v.code) ps) ++ fixups_from (length (v.code ++ blanks ps)) qs)) code ∙
+    ap (λ c. coded v c ((v.fixups ++ fixups_from (length v.code) ps) ++
+    fixups_from (length (v.code ++ blanks ps)) qs)) code ∙
     ap (λ f. coded v (v.code ++ blanks (ps ++ qs)) f) labels

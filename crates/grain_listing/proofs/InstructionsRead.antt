@@ -20,7 +20,7 @@ use Rattle.grain_listing.specs.Instructions.{word_of, kind_of, kinds_of, encodin
 use Rattle.grain_listing.specs.InstructionLines.{numbers_of, instruction_line, instruction_text}
 use Rattle.grain_listing.specs.Table.{is_block, line_of, own_line, instruction_line_of, later_line, or_else}
 use Rattle.grain_listing.specs.Statements.{Piece, Byte, Goto, Statement, code_line, section, pieces, width, address}
-use Rattle.grain_listing.specs.LineMeanings.{bytes, operand, operand_word, operands, at_address, statement, known, begun_by, in_section, says, at_line, statements}
+use Rattle.grain_listing.specs.LineMeanings.{bytes, operand, operand_word, operands, statement, known, begun_by, in_section, says, at_line, statements}
 use Rattle.grain_listing.specs.declared.table.Line.{Line}
 use Rattle.grain_listing.specs.declared.table.Line.TheVariants as lines
 use Rattle.grain_listing.specs.declared.table.OperandKind.{OperandKind}
@@ -119,7 +119,9 @@ few op.Return = omega arith
 its_line : (o : Op) → line_of (word_of o) ≡ Some (lines.Instruction (encoding_of o))
 unfolding line_of
 its_line o =
-    ap (λ (l : Option Line). or_else l (or_else (instruction_line_of (encoding_named (word_of o))) (later_line (word_of o)))) (other_line o) ∙
+    ap (λ (l : Option Line). or_else l
+    (or_else (instruction_line_of (encoding_named (word_of o))) (later_line (word_of o))))
+    (other_line o) ∙
     ap (λ e. or_else (instruction_line_of e) (later_line (word_of o))) (in_table o)
 
 -- what is taken from the laws of numbers and words
@@ -127,9 +129,12 @@ pub record Laws : Type 0 where
   pub numbers : (most n : ℕ) → n ≤ most → n < 2 ^ 64 → number most (decimal n) ≡ Some n
   pub plain : (n : ℕ) → n < 2 ^ 64 → is_plain_word (decimal n) ≡ true
   pub letterless : (n : ℕ) → n < 2 ^ 64 → begins_letter (decimal n) ≡ false
-  pub words : (w : List ℕ) (ws : List (List ℕ)) → is_plain_word w ≡ true → list_all is_plain_word ws ≡ true → words_of (spaced w ws) ≡ Bare w ∷ map (λ v. Bare v) ws
-  pub inside : (w : List ℕ) (ws : List (List ℕ)) → is_plain_word w ≡ true → list_all is_plain_word ws ≡ true → list_all is_inside (spaced w ws) ≡ true
-  pub lines : (ls : List (List ℕ)) → list_all (list_all is_inside) ls ≡ true → lines_of (text_of ls) ≡ ls
+  pub words : (w : List ℕ) (ws : List (List ℕ)) → is_plain_word w ≡ true →
+      list_all is_plain_word ws ≡ true → words_of (spaced w ws) ≡ Bare w ∷ map (λ v. Bare v) ws
+  pub inside : (w : List ℕ) (ws : List (List ℕ)) → is_plain_word w ≡ true →
+      list_all is_plain_word ws ≡ true → list_all is_inside (spaced w ws) ≡ true
+  pub lines : (ls : List (List ℕ)) → list_all (list_all is_inside) ls ≡ true →
+      lines_of (text_of ls) ≡ ls
 
 small : (a : Operand) (n : ℕ) → NumberFits a n → n < 2 ^ 64
 small one n h = omega arith
@@ -137,12 +142,19 @@ small two n h = omega arith
 small four n h = omega arith
 
 -- the word of a number is read as its bytes
-field_read : Laws → (line : ℕ) (a : Operand) (n : ℕ) → NumberFits a n → operand line (kind_of a) (decimal n) ≡ Ok (bytes (spelled a n))
-field_read laws line one n h = ap (λ o. and_then (present BadOperand o) (λ k. Ok (bytes (k ∷ [])))) (laws.numbers 255 n (omega arith) (omega arith))
-field_read laws line two n h = ap (λ o. and_then (present BadOperand o) (λ k. Ok (bytes (to_le_bytes w16 k)))) (laws.numbers 65535 n (omega arith) (omega arith))
+field_read : Laws → (line : ℕ) (a : Operand) (n : ℕ) → NumberFits a n →
+    operand line (kind_of a) (decimal n) ≡ Ok (bytes (spelled a n))
+field_read laws line one n h = ap (λ o. and_then (present BadOperand o) (λ k. Ok (bytes (k ∷ []))))
+    (laws.numbers 255 n (omega arith) (omega arith))
+field_read laws line two n h = ap
+    (λ o. and_then (present BadOperand o) (λ k. Ok (bytes (to_le_bytes w16 k))))
+    (laws.numbers 65535 n (omega arith) (omega arith))
 field_read laws line four n h =
-    ap (λ b. cond b (Ok (Goto line (decimal n) ∷ [])) (and_then (present BadOperand (number (2 ^ 32 - 1) (decimal n))) (λ k. Ok (bytes (to_le_bytes w32 k))))) (laws.letterless n (omega arith)) ∙
-    ap (λ o. and_then (present BadOperand o) (λ k. Ok (bytes (to_le_bytes w32 k)))) (laws.numbers (2 ^ 32 - 1) n (omega arith) (omega arith))
+    ap (λ b. cond b (Ok (Goto line (decimal n) ∷ []))
+    (and_then (present BadOperand (number (2 ^ 32 - 1) (decimal n)))
+    (λ k. Ok (bytes (to_le_bytes w32 k))))) (laws.letterless n (omega arith)) ∙
+    ap (λ o. and_then (present BadOperand o) (λ k. Ok (bytes (to_le_bytes w32 k))))
+    (laws.numbers (2 ^ 32 - 1) n (omega arith) (omega arith))
 
 abbrev Operands : Type 0
 Operands = Result (List Piece × Option Position) Reason
@@ -152,44 +164,62 @@ bytes-append [] ys = refl
 bytes-append (x ∷ xs) ys = ap (λ l. Byte x ∷ l) (bytes-append xs ys)
 
 -- one more operand before the others
-first_read : Laws → (line : ℕ) (f : Field) (fs : List Field) (ks : List (Option OperandKind)) → NumberFits f.operand f.number →
+first_read : Laws → (line : ℕ) (f : Field) (fs : List Field) (ks : List (Option OperandKind)) →
+    NumberFits f.operand f.number →
     operands line ks (map (λ w. Bare w) (numbers_of fs)) ≡ Ok (bytes (fields_spelled fs), None) →
-    operands line (Some (kind_of f.operand) ∷ ks) (map (λ w. Bare w) (numbers_of (f ∷ fs))) ≡ Ok (bytes (fields_spelled (f ∷ fs)), None)
+    operands line (Some (kind_of f.operand) ∷ ks) (map (λ w. Bare w) (numbers_of (f ∷ fs))) ≡
+    Ok (bytes (fields_spelled (f ∷ fs)), None)
 first_read laws line f fs ks fits rest =
     let others : Operands = operands line ks (map (λ w. Bare w) (numbers_of fs)) in
-    ap (λ (r : Result (List Piece) Reason). and_then r (λ ps. and_then others (λ o. Ok (ps ++ o.0, o.1)))) (field_read laws line f.operand f.number fits) ∙
-    ap (λ (r : Operands). and_then r (λ o. Ok (bytes (spelled f.operand f.number) ++ o.0, o.1))) rest ∙
-    ap (λ (ps : List Piece). Ok (ps, None)) (sym (bytes-append (spelled f.operand f.number) (fields_spelled fs)))
+    ap (λ (r : Result (List Piece) Reason).
+    and_then r (λ ps. and_then others (λ o. Ok (ps ++ o.0, o.1))))
+    (field_read laws line f.operand f.number fits) ∙
+    ap (λ (r : Operands). and_then r (λ o. Ok (bytes (spelled f.operand f.number) ++ o.0, o.1)))
+    rest ∙
+    ap (λ (ps : List Piece). Ok (ps, None))
+    (sym (bytes-append (spelled f.operand f.number) (fields_spelled fs)))
 
-fields_read : Laws → (line : ℕ) (fs : List Field) → FieldsFit fs → length fs ≤ 3 → operands line (kinds_of fs) (map (λ w. Bare w) (numbers_of fs)) ≡ Ok (bytes (fields_spelled fs), None)
+fields_read : Laws → (line : ℕ) (fs : List Field) → FieldsFit fs → length fs ≤ 3 →
+    operands line (kinds_of fs) (map (λ w. Bare w) (numbers_of fs)) ≡
+    Ok (bytes (fields_spelled fs), None)
 fields_read laws line [] fit three = refl
 fields_read laws line (a ∷ []) fit three = first_read laws line a [] (None ∷ None ∷ []) fit.0 refl
 fields_read laws line (a ∷ b ∷ []) fit three =
-    first_read laws line a (b ∷ []) (Some (kind_of b.operand) ∷ None ∷ []) fit.0 (first_read laws line b [] (None ∷ []) fit.1.0 refl)
+    first_read laws line a (b ∷ []) (Some (kind_of b.operand) ∷ None ∷ []) fit.0
+    (first_read laws line b [] (None ∷ []) fit.1.0 refl)
 fields_read laws line (a ∷ b ∷ c ∷ []) fit three =
-    first_read laws line a (b ∷ c ∷ []) (Some (kind_of b.operand) ∷ Some (kind_of c.operand) ∷ []) fit.0
-    (first_read laws line b (c ∷ []) (Some (kind_of c.operand) ∷ []) fit.1.0 (first_read laws line c [] [] fit.1.1.0 refl))
+    first_read laws line a (b ∷ c ∷ []) (Some (kind_of b.operand) ∷ Some (kind_of c.operand) ∷ [])
+    fit.0
+    (first_read laws line b (c ∷ []) (Some (kind_of c.operand) ∷ []) fit.1.0
+    (first_read laws line c [] [] fit.1.1.0 refl))
 fields_read laws line (a ∷ b ∷ c ∷ d ∷ fs) fit three = absurd (omega arith)
 
-plain_numbers : Laws → (fs : List Field) → FieldsFit fs → list_all is_plain_word (numbers_of fs) ≡ true
+plain_numbers : Laws → (fs : List Field) → FieldsFit fs → list_all is_plain_word (numbers_of fs) ≡
+    true
 plain_numbers laws [] fit = refl
 plain_numbers laws (f ∷ fs) fit =
-    ap (λ b. b && list_all is_plain_word (numbers_of fs)) (laws.plain f.number (small f.operand f.number fit.0)) ∙ plain_numbers laws fs fit.1
+    ap (λ b. b && list_all is_plain_word (numbers_of fs))
+    (laws.plain f.number (small f.operand f.number fit.0)) ∙ plain_numbers laws fs fit.1
 
 -- what the line of the instruction says
 abbrev instruction_said : Op → Statement
 instruction_said o = code_line (Byte (tag_of o)) (bytes (fields_spelled (fields_of o))) None
 
-one_read : Laws → (n : ℕ) (o : Op) (before : List Statement) → OpFits o → section before ≡ sections.Block → address before < 2 ^ 32 →
+one_read : Laws → (n : ℕ) (o : Op) (before : List Statement) → OpFits o →
+    section before ≡ sections.Block →
     says n (words_of (instruction_line o)) before ≡ Ok (instruction_said o)
-one_read laws n o before fits block low =
+one_read laws n o before fits block =
     let ws : List Word = map (λ w. Bare w) (numbers_of (fields_of o)) in
-    let within : Result Statement Reason = and_then (operands n (encoding_of o).operands ws) (λ x. Ok (code_line (Byte (tag_of o)) x.0 x.1)) in
-    ap (λ l. says n l before) (laws.words (word_of o) (numbers_of (fields_of o)) (plain_word o) (plain_numbers laws (fields_of o) fits)) ∙
-    ap (λ s. in_section s n (Bare (word_of o)) ws before) block ∙ ap (λ l. known l n (word_of o) ws before) (its_line o) ∙
-    ap (λ s. cond (is_block s) (at_address (address before) within) (Err OutOfPlace)) block ∙
-    ap (λ b. cond b within (Err TooMany)) (lt-ltb (address before) (2 ^ 32) low) ∙
-    ap (λ (r : Operands). and_then r (λ x. Ok (code_line (Byte (tag_of o)) x.0 x.1))) (fields_read laws n (fields_of o) fits (few o))
+    let within : Result Statement Reason =
+    and_then (operands n (encoding_of o).operands ws)
+    (λ x. Ok (code_line (Byte (tag_of o)) x.0 x.1)) in
+    ap (λ l. says n l before) (laws.words (word_of o) (numbers_of (fields_of o)) (plain_word o)
+    (plain_numbers laws (fields_of o) fits)) ∙
+    ap (λ s. in_section s n (Bare (word_of o)) ws before) block ∙
+    ap (λ l. known l n (word_of o) ws before) (its_line o) ∙
+    ap (λ s. cond (is_block s) within (Err OutOfPlace)) block ∙
+    ap (λ (r : Operands). and_then r (λ x. Ok (code_line (Byte (tag_of o)) x.0 x.1)))
+    (fields_read laws n (fields_of o) fits (few o))
 
 first_fits : (o : Op) (os : List Op) → All OpFits (o ∷ os) → OpFits o
 first_fits o os fit = fit 0 o (omega arith)
@@ -197,37 +227,44 @@ first_fits o os fit = fit 0 o (omega arith)
 others_fit : (o : Op) (os : List Op) → All OpFits (o ∷ os) → All OpFits os
 others_fit o os fit = λ k d h. fit (suc k) d (omega arith)
 
-width-bytes : (bs : List ℕ) → width (bytes bs) ≡ length bs
-width-bytes [] = refl
-width-bytes (b ∷ bs) = let h = width-bytes bs in omega (arith, h)
-
 abbrev Pieces : Type 0
 Pieces = Result (List Piece) BadLine
 
 abbrev pieces_read : Result (List Statement) BadLine → Pieces
 pieces_read r = and_then r (λ said. Ok (pieces said))
 
-lines_read : Laws → (n : ℕ) (before : List Statement) (ops : List Op) → section before ≡ sections.Block → All OpFits ops → address before + length (flat_map spelling ops) ≤ 2 ^ 32 →
-    pieces_read (statements n before (map instruction_line ops)) ≡ Ok (pieces before ++ bytes (flat_map spelling ops))
-lines_read laws n before [] block fit room = ap (λ (ps : List Piece). Ok ps) (sym (append-nil (pieces before)))
-lines_read laws n before (o ∷ os) block fit room =
+lines_read : Laws → (n : ℕ) (before : List Statement) (ops : List Op) →
+    section before ≡ sections.Block → All OpFits ops →
+    pieces_read (statements n before (map instruction_line ops)) ≡
+    Ok (pieces before ++ bytes (flat_map spelling ops))
+lines_read laws n before [] block fit =
+    ap (λ (ps : List Piece). Ok ps) (sym (append-nil (pieces before)))
+lines_read laws n before (o ∷ os) block fit =
     let here : List Statement = instruction_said o ∷ before in
-    let many : length (flat_map spelling (o ∷ os)) ≡ length (spelling o) + length (flat_map spelling os) = length-append (spelling o) (flat_map spelling os) in
-    let first : says (n + 1) (words_of (instruction_line o)) before ≡ Ok (instruction_said o) = one_read laws (n + 1) o before (first_fits o os fit) block (omega (arith, many)) in
-    let wide : address here ≡ address before + length (spelling o) =
-        width-append (pieces before) (bytes (spelling o)) ∙ ap (λ k. address before + k) (width-bytes (spelling o)) in
-    ap (λ (r : Result Statement Reason). pieces_read (and_then (at_line (n + 1) r) (λ s. statements (n + 1) (s ∷ before) (map instruction_line os)))) first ∙
-    lines_read laws (n + 1) here os block (others_fit o os fit) (omega (arith, many, wide)) ∙
-    ap (λ (ps : List Piece). Ok ps) (append_assoc (pieces before) (bytes (spelling o)) (bytes (flat_map spelling os)) ∙
+    let first : says (n + 1) (words_of (instruction_line o)) before ≡ Ok (instruction_said o) =
+    one_read laws (n + 1) o before (first_fits o os fit) block in
+    ap (λ (r : Result Statement Reason).
+    pieces_read (and_then (at_line (n + 1) r)
+    (λ s. statements (n + 1) (s ∷ before) (map instruction_line os)))) first ∙
+    lines_read laws (n + 1) here os block (others_fit o os fit) ∙
+    ap (λ (ps : List Piece). Ok ps)
+    (append_assoc (pieces before) (bytes (spelling o)) (bytes (flat_map spelling os)) ∙
     ap (λ l. pieces before ++ l) (sym (bytes-append (spelling o) (flat_map spelling os))))
 
-inside_all : Laws → (ops : List Op) → All OpFits ops → list_all (list_all is_inside) (map instruction_line ops) ≡ true
+inside_all : Laws → (ops : List Op) → All OpFits ops →
+    list_all (list_all is_inside) (map instruction_line ops) ≡ true
 inside_all laws [] fit = refl
 inside_all laws (o ∷ os) fit =
-    ap (λ b. b && list_all (list_all is_inside) (map instruction_line os)) (laws.inside (word_of o) (numbers_of (fields_of o)) (plain_word o) (plain_numbers laws (fields_of o) (first_fits o os fit))) ∙
+    ap (λ b. b && list_all (list_all is_inside) (map instruction_line os))
+    (laws.inside (word_of o) (numbers_of (fields_of o)) (plain_word o)
+    (plain_numbers laws (fields_of o) (first_fits o os fit))) ∙
     inside_all laws os (others_fit o os fit)
 
-pub instructions_read : Laws → (n : ℕ) (before : List Statement) (ops : List Op) → section before ≡ sections.Block → All OpFits ops → address before + length (flat_map spelling ops) ≤ 2 ^ 32 →
-    and_then (statements n before (lines_of (instruction_text ops))) (λ said. Ok (pieces said)) ≡ Ok (pieces before ++ bytes (flat_map spelling ops))
-instructions_read laws n before ops block fit room =
-    ap (λ ls. pieces_read (statements n before ls)) (laws.lines (map instruction_line ops) (inside_all laws ops fit)) ∙ lines_read laws n before ops block fit room
+pub instructions_read : Laws → (n : ℕ) (before : List Statement) (ops : List Op) →
+    section before ≡ sections.Block → All OpFits ops →
+    and_then (statements n before (lines_of (instruction_text ops))) (λ said. Ok (pieces said)) ≡
+    Ok (pieces before ++ bytes (flat_map spelling ops))
+instructions_read laws n before ops block fit =
+    ap (λ ls. pieces_read (statements n before ls))
+    (laws.lines (map instruction_line ops) (inside_all laws ops fit)) ∙
+    lines_read laws n before ops block fit

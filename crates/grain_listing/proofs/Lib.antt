@@ -9,3 +9,4 @@ pub mod Linked
 pub mod LinesRead
 pub mod AllowedLimits
 pub mod InstructionsRead
+pub mod Narrow

@@ -47,7 +47,8 @@ abbrev pub kinds_of : List Field → List (Option OperandKind)
 kinds_of [] = None ∷ None ∷ None ∷ []
 kinds_of (a ∷ []) = Some (kind_of a.operand) ∷ None ∷ None ∷ []
 kinds_of (a ∷ b ∷ []) = Some (kind_of a.operand) ∷ Some (kind_of b.operand) ∷ None ∷ []
-kinds_of (a ∷ b ∷ c ∷ others) = Some (kind_of a.operand) ∷ Some (kind_of b.operand) ∷ Some (kind_of c.operand) ∷ []
+kinds_of (a ∷ b ∷ c ∷ others) =
+    Some (kind_of a.operand) ∷ Some (kind_of b.operand) ∷ Some (kind_of c.operand) ∷ []
 
 -- the tag and the operands with which the instruction is spelled in the code
 abbrev pub encoding_of : Op → Encoding
@@ -56,13 +57,15 @@ encoding_of o = record { tag = tag_of o; operands = kinds_of (fields_of o) }
 -- the instructions of values and variables, one of each word
 abbrev pub value_instructions : List Op
 value_instructions =
-    op.LoadConst 0 ∷ op.Unit ∷ op.False ∷ op.True ∷ op.LoadLocal 0 ∷ op.StoreLocal 0 ∷ op.StoreConst 0 ∷ op.DeclareLocal 0 ∷ op.DeclareConst 0 ∷
+    op.LoadConst 0 ∷ op.Unit ∷ op.False ∷ op.True ∷ op.LoadLocal 0 ∷ op.StoreLocal 0 ∷
+    op.StoreConst 0 ∷ op.DeclareLocal 0 ∷ op.DeclareConst 0 ∷
     op.AssignLocal 0 0 ∷ op.AssignLocalOp 0 0 0 ∷ op.Pop ∷ op.Rotate 0 ∷ []
 
 -- the instructions that go elsewhere, call, count or cut, one of each word
 abbrev pub flow_instructions : List Op
 flow_instructions =
-    op.Jump 0 ∷ op.JumpIfFalse 0 ∷ op.JumpIfTrue 0 ∷ op.SkipIfNotUnit 0 ∷ op.Call 0 0 ∷ op.CallOp 0 0 0 ∷ op.UnwindTo 0 ∷ op.Tick ∷ op.Checkpoint ∷
+    op.Jump 0 ∷ op.JumpIfFalse 0 ∷ op.JumpIfTrue 0 ∷ op.SkipIfNotUnit 0 ∷ op.Call 0 0 ∷
+    op.CallOp 0 0 0 ∷ op.UnwindTo 0 ∷ op.Tick ∷ op.Checkpoint ∷
     op.Statement 0 ∷ op.Throw ∷ op.Return ∷ []
 
 -- how the line is read of the instruction among these that has the word

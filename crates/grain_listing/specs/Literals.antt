@@ -53,12 +53,14 @@ token_named t = if is_later_operator t then Err NotBuilt else present BadOperand
 
 -- after `op`: the text of a token
 abbrev pub token_of : List Word → Result Token Reason
-token_of ws = and_then (first BadValue ws) (λ a. and_then (text_word a.0) (λ t. and_then (token_named t) (λ k. alone a.1 k)))
+token_of ws = and_then (first BadValue ws)
+    (λ a. and_then (text_word a.0) (λ t. and_then (token_named t) (λ k. alone a.1 k)))
 
 -- after `scope` and maybe `const`: a name and a value
 abbrev pub entry_in : Bool → List Word → Result Entry Reason
 entry_in read_only ws =
-    and_then (first BadValue ws) (λ a. and_then (text_word a.0) (λ t. and_then (constant_of a.1) (λ v.
+    and_then (first BadValue ws) (λ a.
+    and_then (text_word a.0) (λ t. and_then (constant_of a.1) (λ v.
     Ok (record { name = t; held = record { value = v; read_only = read_only } }))))
 
 -- an entry with `const` is read-only

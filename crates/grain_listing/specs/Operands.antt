@@ -31,7 +31,8 @@ number_word most w = Err BadOperand
 
 -- a number of 32 bits, and the words after it
 abbrev pub index : List Word → Result (ℕ × List Word) Reason
-index ws = and_then (first BadOperand ws) (λ a. and_then (number_word (2 ^ 32 - 1) a.0) (λ n. Ok (n, a.1)))
+index ws = and_then (first BadOperand ws)
+    (λ a. and_then (number_word (2 ^ 32 - 1) a.0) (λ n. Ok (n, a.1)))
 
 -- a position
 abbrev pub position_operand : Word → Result Position Reason

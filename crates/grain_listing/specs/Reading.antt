@@ -23,7 +23,8 @@ use Rattle.grain_listing.specs.declared.reasons.BadLine.{BadLine}
 use Rattle.grain_listing.specs.declared.reasons.Reason.{Reason}
 use Rattle.grain_listing.specs.declared.reasons.Reason.TheVariants.{TooLong, NotUtf8, MissingHeader, BadOperand, UnfinishedChunk, MissingMain}
 
--- what a listing says: what may become a program, the limits of its run, and the scope in which that begins
+-- what a listing says: what may become a program, the limits of its run, and the scope in which
+-- that begins
 pub record SetUp : Type 0 where
   pub parts : View
   pub limits : Limits
@@ -39,7 +40,8 @@ abbrev pub or_number : ℕ → Option ℕ → ℕ
 or_number n None = n
 or_number n (Some m) = m
 
--- Without lines of their own a million operations, 64 levels and 10,000 variables are allowed; no line sets
+-- Without lines of their own a million operations, 64 levels and 10,000 variables are allowed; no
+-- line sets
 -- the others so far.
 abbrev pub limits_of : List LimitLine → Limits
 limits_of set =
@@ -65,7 +67,9 @@ assign_op_of tokens a =
 
 abbrev pub assign_ops_of : List Token → List AssignLine → Result (List AssignOp) BadLine
 assign_ops_of tokens [] = Ok []
-assign_ops_of tokens (a ∷ others) = and_then (assign_op_of tokens a) (λ o. and_then (assign_ops_of tokens others) (λ os. Ok (o ∷ os)))
+assign_ops_of tokens (a ∷ others) =
+    and_then (assign_op_of tokens a)
+    (λ o. and_then (assign_ops_of tokens others) (λ os. Ok (o ∷ os)))
 
 -- without a line of its own every capability is there
 abbrev pub caps_of : Option ℕ → ℕ

@@ -44,7 +44,8 @@ allowed limits.Variables n = Ok n
 -- a limit's number, alone
 abbrev pub limit_number : Limit → List Word → Result ℕ Reason
 limit_number l ws =
-    and_then (first BadOperand ws) (λ a. and_then (number_word (2 ^ 64 - 1) a.0) (λ n. and_then (allowed l n) (λ m. alone a.1 m)))
+    and_then (first BadOperand ws) (λ a.
+    and_then (number_word (2 ^ 64 - 1) a.0) (λ n. and_then (allowed l n) (λ m. alone a.1 m)))
 
 -- the bit of the capability of that name
 abbrev pub capability : List ℕ → Option ℕ
@@ -61,7 +62,8 @@ abbrev pub with_bit : ℕ → ℕ → Result ℕ Reason
 with_bit bits bit = if nat_lt bits bit then Ok (bits + bit) else Err BadOperand
 
 abbrev pub with_capability : ℕ → Word → Result ℕ Reason
-with_capability bits (Bare w) = and_then (present BadOperand (capability w)) (λ bit. with_bit bits bit)
+with_capability bits (Bare w) =
+    and_then (present BadOperand (capability w)) (λ bit. with_bit bits bit)
 with_capability bits w = Err BadOperand
 
 -- after `caps` and those that say these bits: capabilities, each above those before it

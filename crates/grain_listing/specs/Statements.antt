@@ -122,7 +122,8 @@ label_address t (l ∷ ls) = if bytes_eq t l.0 then Some l.1 else label_address 
 -- the positions of the instructions and bytes that have one
 abbrev pub positions : List Statement → List PositionEntry
 positions [] = []
-positions (code_line p ps (Some at) ∷ before) = positions before ++ record { address = address before; position = at } ∷ []
+positions (code_line p ps (Some at) ∷ before) =
+    positions before ++ record { address = address before; position = at } ∷ []
 positions (s ∷ before) = positions before
 
 -- the block that is open: the last `main` or `fn` begins it, unless an `end` comes after
@@ -140,12 +141,14 @@ main_ended (Some (blocks.Main entry n)) a main = record { entry = entry; end = a
 main_ended (Some (blocks.Function entry h)) a main = main
 
 abbrev pub function_of : ℕ → FunctionHeader → ℕ → Function
-function_of entry h a = record { name = h.name; params = h.params; chunk = record { entry = entry; end = a; max_stack = h.stack } }
+function_of entry h a = record { name = h.name; params = h.params; chunk =
+    record { entry = entry; end = a; max_stack = h.stack } }
 
 abbrev pub functions_ended : Option OpenBlock → ℕ → List Function → List Function
 functions_ended None a functions = functions
 functions_ended (Some (blocks.Main entry n)) a functions = functions
-functions_ended (Some (blocks.Function entry h)) a functions = functions ++ function_of entry h a ∷ []
+functions_ended (Some (blocks.Function entry h)) a functions =
+    functions ++ function_of entry h a ∷ []
 
 abbrev pub main_chunk : List Statement → Chunk
 main_chunk [] = record { entry = 0; end = 0; max_stack = 0 }
@@ -154,7 +157,8 @@ main_chunk (s ∷ before) = main_chunk before
 
 abbrev pub functions : List Statement → List Function
 functions [] = []
-functions (end_line ∷ before) = functions_ended (open_block before) (address before) (functions before)
+functions (end_line ∷ before) =
+    functions_ended (open_block before) (address before) (functions before)
 functions (s ∷ before) = functions before
 
 abbrev pub bad_line : ℕ → Reason → BadLine

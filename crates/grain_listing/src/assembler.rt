@@ -1,6 +1,6 @@
 //! What the lines of a listing so far have given.
 
-ghost use Rattle.std.specs.Prelude.{◌≡◌, ◌<◌, IfOk};
+ghost use Rattle.std.specs.Prelude.{◌≡◌, ◌<◌, IfOk, length};
 ghost use Rattle.std.specs.Option.{ForSome};
 ghost use Rattle.grain_listing.specs.Settings.{number_in};
 ghost use Rattle.grain_listing.specs.declared.limits.Limit.TheVariants as limit;
@@ -8,7 +8,6 @@ ghost use Rattle.grain_listing.specs.declared.limits.Limit.TheVariants as limit;
 use crate::blocks::OpenBlock;
 use crate::headers::AssignLine;
 use crate::limits::LimitLine;
-use crate::reasons::Reason;
 use crate::table::Section;
 use grain_fault::Position;
 use grain_program::{Chunk, Functions, Names, PositionEntry, Positions, Tokens};
@@ -49,7 +48,7 @@ pub struct Assembler {
 
 impl Assembler {
     ghost use Rattle.grain_listing.specs.views.AssemblerView.{assembler_view};
-    ghost use Rattle.grain_listing.specs.views.Assembling.{empty, code_address, with_position};
+    ghost use Rattle.grain_listing.specs.views.Assembling.{empty, HasRoom, with_position};
 
     /// Nothing so far. It takes no memory.
     pub fn new(alloc: Global) -> Assembler
@@ -80,14 +79,11 @@ impl Assembler {
     }
 
     /// The address of what comes next.
-    pub fn code_address(&self) -> Result<u32, Reason>
-        ensures { result ≡ code_address (assembler_view self.now) }
+    pub fn code_address(&self) -> u32
+        requires { HasRoom (assembler_view self.now) }
+        ensures { result ≡ length self.now.code.items }
     {
-        let address = self.code.len();
-        if address > u32::MAX as usize {
-            return Err(Reason::TooMany);
-        }
-        Ok(address as u32)
+        self.code.len() as u32
     }
 
     /// Records the position of the instruction at the address, if it has one.
@@ -96,7 +92,8 @@ impl Assembler {
         address: u32,
         position: Option<Position>,
     ) -> Result<(), OutOfMemory>
-        ensures { IfOk result (λ _. assembler_view self.new ≡ with_position address position (assembler_view self.old)) }
+        ensures { IfOk result (λ _. assembler_view self.new ≡
+            with_position address position (assembler_view self.old)) }
     {
         if let Some(position) = position {
             self.positions.push(PositionEntry { address, position })?;

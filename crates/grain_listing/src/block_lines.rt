@@ -3,7 +3,7 @@
 ghost use Rattle.std.specs.Prelude.{◌≡◌, drop, IfOk, option_map};
 ghost use Rattle.grain_listing.specs.declared.table.Line.TheVariants as lines;
 ghost use Rattle.grain_listing.specs.views.AssemblerView.{assembler_view, result_view};
-ghost use Rattle.grain_listing.specs.views.Assembling.{opened, with_block, closed, put_label, put_line};
+ghost use Rattle.grain_listing.specs.views.Assembling.{HasRoom, opened, with_block, closed, put_label, put_line};
 
 use crate::assembler::Assembler;
 use crate::blocks::OpenBlock;
@@ -30,9 +30,11 @@ fn after_two(words: &[Word]) -> &[Word]
 impl Assembler {
     /// The beginning of the main block.
     pub fn put_main(&mut self, words: &[Word]) -> Result<(), Reason>
-        ensures { result_view result (assembler_view self.new) ≡ put_line lines.Main words.now (assembler_view self.old) }
+        requires { HasRoom (assembler_view self.old) }
+        ensures { result_view result (assembler_view self.new) ≡
+            put_line lines.Main words.now (assembler_view self.old) }
     {
-        let address = self.code_address()?;
+        let address = self.code_address();
         let stack = stack_of(words)?;
         self.section = Section::Block;
         self.block = Some(OpenBlock::Main(address, stack));
@@ -45,7 +47,8 @@ impl Assembler {
         address: u32,
         words: &[Word],
     ) -> Result<Result<(), Reason>, OutOfMemory>
-        ensures { IfOk result (λ r. result_view r (assembler_view self.new) ≡ opened address words.now (assembler_view self.old)) }
+        ensures { IfOk result (λ r. result_view r (assembler_view self.new) ≡
+            opened address words.now (assembler_view self.old)) }
     {
         match header_of(alloc, words)? {
             Err(reason) => Ok(Err(reason)),
@@ -63,7 +66,9 @@ impl Assembler {
         alloc: Global,
         words: &[Word],
     ) -> Result<Result<(), Reason>, OutOfMemory>
-        ensures { IfOk result (λ r. result_view r (assembler_view self.new) ≡ put_line lines.Function words.now (assembler_view self.old)) }
+        requires { HasRoom (assembler_view self.old) }
+        ensures { IfOk result (λ r. result_view r (assembler_view self.new) ≡
+            put_line lines.Function words.now (assembler_view self.old)) }
     {
         if self.functions.len() >= POOL_ROOM {
             return Ok(Err(Reason::TooMany));
@@ -71,14 +76,13 @@ impl Assembler {
         if parameters(after_two(words)) > POOL_ROOM {
             return Ok(Err(Reason::TooMany));
         }
-        match self.code_address() {
-            Err(reason) => Ok(Err(reason)),
-            Ok(address) => self.open_function(alloc, address, words),
-        }
+        let address = self.code_address();
+        self.open_function(alloc, address, words)
     }
 
     fn end_block(&mut self, block: OpenBlock, end: u32) -> Result<(), OutOfMemory>
-        ensures { IfOk result (λ _. assembler_view self.new ≡ with_block end block (assembler_view self.old)) }
+        ensures { IfOk result (λ _. assembler_view self.new ≡
+            with_block end block (assembler_view self.old)) }
     {
         match block {
             OpenBlock::Main(entry, max_stack) => {
@@ -112,7 +116,8 @@ impl Assembler {
 
     /// Ends the block that is open at the address.
     fn close(&mut self, end: u32) -> Result<(), OutOfMemory>
-        ensures { IfOk result (λ _. assembler_view self.new ≡ closed end self.old.block (assembler_view self.old)) }
+        ensures { IfOk result (λ _. assembler_view self.new ≡
+            closed end self.old.block (assembler_view self.old)) }
     {
         self.section = Section::After;
         match self.block.take() {
@@ -123,18 +128,16 @@ impl Assembler {
 
     /// The end of a block.
     pub fn put_end(&mut self, words: &[Word]) -> Result<Result<(), Reason>, OutOfMemory>
-        ensures { IfOk result (λ r. result_view r (assembler_view self.new) ≡ put_line lines.End words.now (assembler_view self.old)) }
+        requires { HasRoom (assembler_view self.old) }
+        ensures { IfOk result (λ r. result_view r (assembler_view self.new) ≡
+            put_line lines.End words.now (assembler_view self.old)) }
     {
-        match self.code_address() {
-            Err(reason) => Ok(Err(reason)),
-            Ok(address) => {
-                if let Err(reason) = alone(words) {
-                    return Ok(Err(reason));
-                }
-                self.close(address)?;
-                Ok(Ok(()))
-            }
+        if let Err(reason) = alone(words) {
+            return Ok(Err(reason));
         }
+        let address = self.code_address();
+        self.close(address)?;
+        Ok(Ok(()))
     }
 
     /// A label.
@@ -144,7 +147,9 @@ impl Assembler {
         label: &str,
         words: &[Word],
     ) -> Result<Result<(), Reason>, OutOfMemory>
-        ensures { IfOk result (λ r. result_view r (assembler_view self.new) ≡ put_label label.now words.now (assembler_view self.old)) }
+        requires { HasRoom (assembler_view self.old) }
+        ensures { IfOk result (λ r. result_view r (assembler_view self.new) ≡
+            put_label label.now words.now (assembler_view self.old)) }
     {
         if !is_block(self.section) {
             return Ok(Err(Reason::OutOfPlace));
@@ -152,15 +157,11 @@ impl Assembler {
         if self.labels.get(label).is_some() {
             return Ok(Err(Reason::LabelTwice));
         }
-        match self.code_address() {
-            Err(reason) => Ok(Err(reason)),
-            Ok(address) => {
-                if let Err(reason) = alone(words) {
-                    return Ok(Err(reason));
-                }
-                self.labels.insert(alloc, label, address)?;
-                Ok(Ok(()))
-            }
+        if let Err(reason) = alone(words) {
+            return Ok(Err(reason));
         }
+        let address = self.code_address();
+        self.labels.insert(alloc, label, address)?;
+        Ok(Ok(()))
     }
 }

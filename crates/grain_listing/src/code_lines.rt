@@ -3,7 +3,7 @@
 ghost use Rattle.std.specs.Prelude.{◌≡◌, [], IfOk};
 ghost use Rattle.grain_listing.specs.declared.table.Line.TheVariants as lines;
 ghost use Rattle.grain_listing.specs.views.AssemblerView.{assembler_view, result_view};
-ghost use Rattle.grain_listing.specs.views.Assembling.{with_code, with_fixup, put_bare, put_operand, put_operands, put_line};
+ghost use Rattle.grain_listing.specs.views.Assembling.{HasRoom, with_code, with_fixup, put_bare, put_operand, put_operands, put_line};
 
 use crate::assembler::{Assembler, Fixup};
 use crate::operands::{byte_of, position_after};
@@ -15,14 +15,16 @@ use std::alloc::Global;
 
 impl Assembler {
     fn put_bytes(&mut self, bytes: &[u8]) -> Result<(), OutOfMemory>
-        ensures { IfOk result (λ _. assembler_view self.new ≡ with_code bytes.now (assembler_view self.old)) }
+        ensures { IfOk result (λ _. assembler_view self.new ≡
+            with_code bytes.now (assembler_view self.old)) }
     {
         self.code.extend_from_slice(bytes)?;
         Ok(())
     }
 
     fn put_fixup(&mut self, alloc: Global, label: &str) -> Result<(), OutOfMemory>
-        ensures { IfOk result (λ _. assembler_view self.new ≡ with_fixup label.now (assembler_view self.old)) }
+        ensures { IfOk result (λ _. assembler_view self.new ≡
+            with_fixup label.now (assembler_view self.old)) }
     {
         let at = self.code.len();
         let label = Text::copy_of(alloc, label)?;
@@ -41,7 +43,8 @@ impl Assembler {
         kind: OperandKind,
         word: &str,
     ) -> Result<Result<(), Reason>, OutOfMemory>
-        ensures { IfOk result (λ r. result_view r (assembler_view self.new) ≡ put_bare kind word.now (assembler_view self.old)) }
+        ensures { IfOk result (λ r. result_view r (assembler_view self.new) ≡
+            put_bare kind word.now (assembler_view self.old)) }
     {
         match kind {
             OperandKind::Byte => match number(255, word.as_bytes()) {
@@ -72,7 +75,8 @@ impl Assembler {
         kind: OperandKind,
         word: &Word,
     ) -> Result<Result<(), Reason>, OutOfMemory>
-        ensures { IfOk result (λ r. result_view r (assembler_view self.new) ≡ put_operand kind word.now (assembler_view self.old)) }
+        ensures { IfOk result (λ r. result_view r (assembler_view self.new) ≡
+            put_operand kind word.now (assembler_view self.old)) }
     {
         match word {
             Word::Bare(text) => self.put_bare(alloc, kind, text.as_str()),
@@ -81,7 +85,8 @@ impl Assembler {
     }
 
     fn put_last(&mut self, address: u32, words: &[Word]) -> Result<Result<(), Reason>, OutOfMemory>
-        ensures { IfOk result (λ r. result_view r (assembler_view self.new) ≡ put_operands address [] words.now (assembler_view self.old)) }
+        ensures { IfOk result (λ r. result_view r (assembler_view self.new) ≡
+            put_operands address [] words.now (assembler_view self.old)) }
     {
         match position_after(words) {
             Err(reason) => Ok(Err(reason)),
@@ -99,7 +104,8 @@ impl Assembler {
         kinds: &[Option<OperandKind>],
         words: &[Word],
     ) -> Result<Result<(), Reason>, OutOfMemory>
-        ensures { IfOk result (λ r. result_view r (assembler_view self.new) ≡ put_operands address kinds.now words.now (assembler_view self.old)) }
+        ensures { IfOk result (λ r. result_view r (assembler_view self.new) ≡
+            put_operands address kinds.now words.now (assembler_view self.old)) }
     {
         let mut rest = words;
         for kind in kinds {
@@ -123,31 +129,29 @@ impl Assembler {
         encoding: Encoding,
         words: &[Word],
     ) -> Result<Result<(), Reason>, OutOfMemory>
-        ensures { IfOk result (λ r. result_view r (assembler_view self.new) ≡ put_line (lines.Instruction encoding) words.now (assembler_view self.old)) }
+        requires { HasRoom (assembler_view self.old) }
+        ensures { IfOk result (λ r. result_view r (assembler_view self.new) ≡
+            put_line (lines.Instruction encoding) words.now (assembler_view self.old)) }
     {
-        match self.code_address() {
-            Err(reason) => Ok(Err(reason)),
-            Ok(address) => {
-                self.code.push(encoding.tag)?;
-                self.put_operands(alloc, address, &encoding.operands, words)
-            }
-        }
+        let address = self.code_address();
+        self.code.push(encoding.tag)?;
+        self.put_operands(alloc, address, &encoding.operands, words)
     }
 
     /// The line of a single byte, by what stands after `byte`.
     pub fn put_byte(&mut self, words: &[Word]) -> Result<Result<(), Reason>, OutOfMemory>
-        ensures { IfOk result (λ r. result_view r (assembler_view self.new) ≡ put_line lines.Byte words.now (assembler_view self.old)) }
+        requires { HasRoom (assembler_view self.old) }
+        ensures { IfOk result (λ r. result_view r (assembler_view self.new) ≡
+            put_line lines.Byte words.now (assembler_view self.old)) }
     {
-        match self.code_address() {
+        match byte_of(words) {
             Err(reason) => Ok(Err(reason)),
-            Ok(address) => match byte_of(words) {
-                Err(reason) => Ok(Err(reason)),
-                Ok((byte, position)) => {
-                    self.code.push(byte)?;
-                    self.put_position(address, position)?;
-                    Ok(Ok(()))
-                }
-            },
+            Ok((byte, position)) => {
+                let address = self.code_address();
+                self.code.push(byte)?;
+                self.put_position(address, position)?;
+                Ok(Ok(()))
+            }
         }
     }
 }

@@ -11,7 +11,8 @@ use grain_value::OutOfMemory;
 use grain_words::Word;
 use std::alloc::Global;
 
-/// An `assign` line: two operators by their places among the `op` lines, each with its name by its index.
+/// An `assign` line: two operators by their places among the `op` lines, each with its name by its
+/// index.
 #[derive(Clone, Copy, Debug, PartialEq, Eq)]
 pub struct AssignLine {
     pub line: usize,
@@ -21,7 +22,8 @@ pub struct AssignLine {
     pub op_name: u32,
 }
 
-/// A `fn` line: the function's name and its parameters' names by their indices, and how many operands it may have.
+/// A `fn` line: the function's name and its parameters' names by their indices, and how many
+/// operands it may have.
 #[derive(Drop)]
 pub struct FunctionHeader {
     pub name: u32,

@@ -4,7 +4,7 @@ ghost use Rattle.std.specs.Prelude.{◌≡◌, IfOk, option_map};
 ghost use Rattle.grain_listing.specs.Table.{line_of};
 ghost use Rattle.grain_listing.specs.LineMeanings.{before_colon};
 ghost use Rattle.grain_listing.specs.views.AssemblerView.{assembler_view, result_view};
-ghost use Rattle.grain_listing.specs.views.Assembling.{put_line, label_line, known_line, header, after_header, take_line, is_start};
+ghost use Rattle.grain_listing.specs.views.Assembling.{HasRoom, put_line, label_line, known_line, header, after_header, take_line, is_start};
 
 use crate::assembler::Assembler;
 use crate::operands::is_bare;
@@ -38,7 +38,9 @@ impl Assembler {
         line: Line,
         words: &[Word],
     ) -> Result<Result<(), Reason>, OutOfMemory>
-        ensures { IfOk result (λ r. result_view r (assembler_view self.new) ≡ put_line line words.now (assembler_view self.old)) }
+        requires { HasRoom (assembler_view self.old) }
+        ensures { IfOk result (λ r. result_view r (assembler_view self.new) ≡
+            put_line line words.now (assembler_view self.old)) }
     {
         match line {
             Line::Header => Ok(Err(Reason::OutOfPlace)),
@@ -64,7 +66,9 @@ impl Assembler {
         word: &str,
         words: &[Word],
     ) -> Result<Result<(), Reason>, OutOfMemory>
-        ensures { IfOk result (λ r. result_view r (assembler_view self.new) ≡ label_line (before_colon word.now) words.now (assembler_view self.old)) }
+        requires { HasRoom (assembler_view self.old) }
+        ensures { IfOk result (λ r. result_view r (assembler_view self.new) ≡
+            label_line (before_colon word.now) words.now (assembler_view self.old)) }
     {
         match before_colon(word) {
             None => Ok(Err(Reason::UnknownWord)),
@@ -79,7 +83,8 @@ impl Assembler {
     }
 
     fn header(&mut self, words: &[Word]) -> Result<(), Reason>
-        ensures { result_view result (assembler_view self.new) ≡ header words.now (assembler_view self.old) }
+        ensures { result_view result (assembler_view self.new) ≡
+            header words.now (assembler_view self.old) }
     {
         let [first, second] = words else {
             return Err(Reason::MissingHeader);
@@ -98,7 +103,9 @@ impl Assembler {
         word: &str,
         words: &[Word],
     ) -> Result<Result<(), Reason>, OutOfMemory>
-        ensures { IfOk result (λ r. result_view r (assembler_view self.new) ≡ known_line (line_of word.now) word.now words.now (assembler_view self.old)) }
+        requires { HasRoom (assembler_view self.old) }
+        ensures { IfOk result (λ r. result_view r (assembler_view self.new) ≡
+            known_line (line_of word.now) word.now words.now (assembler_view self.old)) }
     {
         match line_of(word) {
             None => self.label_line(alloc, word, words),
@@ -118,7 +125,9 @@ impl Assembler {
         word: &Word,
         words: &[Word],
     ) -> Result<Result<(), Reason>, OutOfMemory>
-        ensures { IfOk result (λ r. result_view r (assembler_view self.new) ≡ after_header word.now words.now (assembler_view self.old)) }
+        requires { HasRoom (assembler_view self.old) }
+        ensures { IfOk result (λ r. result_view r (assembler_view self.new) ≡
+            after_header word.now words.now (assembler_view self.old)) }
     {
         match word {
             Word::Bare(text) => self.known_line(alloc, text.as_str(), words),
@@ -132,7 +141,9 @@ impl Assembler {
         alloc: Global,
         words: &[Word],
     ) -> Result<Result<(), Reason>, OutOfMemory>
-        ensures { IfOk result (λ r. result_view r (assembler_view self.new) ≡ take_line words.now (assembler_view self.old)) }
+        requires { HasRoom (assembler_view self.old) }
+        ensures { IfOk result (λ r. result_view r (assembler_view self.new) ≡
+            take_line words.now (assembler_view self.old)) }
     {
         match words.split_first() {
             None => Ok(Ok(())),

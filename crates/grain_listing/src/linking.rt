@@ -178,7 +178,8 @@ fn last_line(n: usize) -> usize
 /// What the assembler says after the nth line, which is its last one.
 fn finish(n: usize, assembler: Assembler, assign_ops: AssignOps) -> Result<Setup, BadLine>
     requires { IsOrdered (assembler_view assembler) }
-    ensures setup { outcome result ≡ finish n assembler.section (assembler_view assembler) assign_ops }
+    ensures setup { outcome result ≡
+        finish n assembler.section (assembler_view assembler) assign_ops }
     ensures ready { IfOk result IsReady }
 {
     match assembler.section {
@@ -199,7 +200,11 @@ fn finish(n: usize, assembler: Assembler, assign_ops: AssignOps) -> Result<Setup
 }
 
 /// What the assembler has after the nth line, which is the last one.
-pub fn ending(alloc: Global, n: usize, assembler: Assembler) -> Result<Result<Setup, BadLine>, OutOfMemory>
+pub fn ending(
+    alloc: Global,
+    n: usize,
+    assembler: Assembler,
+) -> Result<Result<Setup, BadLine>, OutOfMemory>
     requires { IsOrdered (assembler_view assembler) }
     ensures setup { IfOk result (λ r. outcome r ≡ ending n (assembler_view assembler)) }
     ensures ready { IfOk result (λ r. IfOk r IsReady) }

@@ -44,7 +44,8 @@ impl Assembler {
 
     /// A limit.
     pub fn put_limit(&mut self, words: &[Word]) -> Result<Result<(), Reason>, OutOfMemory>
-        ensures { IfOk result (λ r. result_view r (assembler_view self.new) ≡ put_line lines.Limit words.now (assembler_view self.old)) }
+        ensures { IfOk result (λ r. result_view r (assembler_view self.new) ≡
+            put_line lines.Limit words.now (assembler_view self.old)) }
     {
         match self.limit_line(words) {
             Err(reason) => Ok(Err(reason)),
@@ -57,7 +58,8 @@ impl Assembler {
 
     /// The capabilities.
     pub fn put_capabilities(&mut self, words: &[Word]) -> Result<(), Reason>
-        ensures { result_view result (assembler_view self.new) ≡ put_line lines.Capabilities words.now (assembler_view self.old) }
+        ensures { result_view result (assembler_view self.new) ≡
+            put_line lines.Capabilities words.now (assembler_view self.old) }
     {
         if self.caps.is_some() {
             return Err(Reason::OutOfPlace);
@@ -73,7 +75,8 @@ impl Assembler {
         alloc: Global,
         words: &[Word],
     ) -> Result<Result<(), Reason>, OutOfMemory>
-        ensures { IfOk result (λ r. result_view r (assembler_view self.new) ≡ put_line lines.Constant words.now (assembler_view self.old)) }
+        ensures { IfOk result (λ r. result_view r (assembler_view self.new) ≡
+            put_line lines.Constant words.now (assembler_view self.old)) }
     {
         if self.consts.len() >= POOL_ROOM {
             return Ok(Err(Reason::TooMany));
@@ -93,7 +96,8 @@ impl Assembler {
         alloc: Global,
         words: &[Word],
     ) -> Result<Result<(), Reason>, OutOfMemory>
-        ensures { IfOk result (λ r. result_view r (assembler_view self.new) ≡ put_line lines.Name words.now (assembler_view self.old)) }
+        ensures { IfOk result (λ r. result_view r (assembler_view self.new) ≡
+            put_line lines.Name words.now (assembler_view self.old)) }
     {
         if self.names.len() >= POOL_ROOM {
             return Ok(Err(Reason::TooMany));
@@ -110,7 +114,8 @@ impl Assembler {
 
     /// An operator.
     pub fn put_operator(&mut self, words: &[Word]) -> Result<Result<(), Reason>, OutOfMemory>
-        ensures { IfOk result (λ r. result_view r (assembler_view self.new) ≡ put_line lines.Operator words.now (assembler_view self.old)) }
+        ensures { IfOk result (λ r. result_view r (assembler_view self.new) ≡
+            put_line lines.Operator words.now (assembler_view self.old)) }
     {
         if self.tokens.len() >= POOL_ROOM {
             return Ok(Err(Reason::TooMany));
@@ -126,7 +131,8 @@ impl Assembler {
 
     /// An op-assignment.
     pub fn put_assign(&mut self, words: &[Word]) -> Result<Result<(), Reason>, OutOfMemory>
-        ensures { IfOk result (λ r. result_view r (assembler_view self.new) ≡ put_line lines.Assign words.now (assembler_view self.old)) }
+        ensures { IfOk result (λ r. result_view r (assembler_view self.new) ≡
+            put_line lines.Assign words.now (assembler_view self.old)) }
     {
         if self.assigns.len() >= POOL_ROOM {
             return Ok(Err(Reason::TooMany));
@@ -146,7 +152,8 @@ impl Assembler {
         alloc: Global,
         words: &[Word],
     ) -> Result<Result<(), Reason>, OutOfMemory>
-        ensures { IfOk result (λ r. result_view r (assembler_view self.new) ≡ put_line lines.Entry words.now (assembler_view self.old)) }
+        ensures { IfOk result (λ r. result_view r (assembler_view self.new) ≡
+            put_line lines.Entry words.now (assembler_view self.old)) }
     {
         match entry_of(words) {
             Err(reason) => Ok(Err(reason)),

@@ -17,6 +17,7 @@ use std::alloc::Global;
 pub const MOST_BYTES: usize = 16_777_216;
 
 fn read_lines(alloc: Global, text: &[char]) -> Result<Result<Setup, BadLine>, OutOfMemory>
+    requires { length text.now ≤ 16777216 }
     ensures setup { IfOk result (λ r. outcome r ≡ meaning (lines_of text.now)) }
     ensures ready { IfOk result (λ r. IfOk r IsReady) }
 {
@@ -36,7 +37,7 @@ fn read_lines(alloc: Global, text: &[char]) -> Result<Result<Setup, BadLine>, Ou
     ending(alloc, n, assembler)
 }
 
-/// The line of the first byte that is not UTF-8, which stands after so many others.
+/// The line of the first byte that is not UTF-8, which stands after `valid` others.
 fn broken_line(bytes: &[u8], valid: usize) -> usize
     requires { valid ≤ length bytes.now }
     ensures { result ≡ count_by (λ b. b == 10) (take valid bytes.now) + 1 }

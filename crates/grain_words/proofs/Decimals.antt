@@ -28,7 +28,8 @@ either_true : (b : Bool) → not b || true ≡ true
 either_true true = refl
 either_true false = refl
 
-number_from-append : (a d : ℕ) (ds : List ℕ) → number_from a (ds ++ d ∷ []) ≡ number_from a ds * 10 + (d - 48)
+number_from-append : (a d : ℕ) (ds : List ℕ) →
+    number_from a (ds ++ d ∷ []) ≡ number_from a ds * 10 + (d - 48)
 number_from-append a d [] = refl
 number_from-append a d (c ∷ cs) = number_from-append (a * 10 + (c - 48)) d cs
 
@@ -43,16 +44,19 @@ second_true : (b c : Bool) → b && c ≡ true → c ≡ true
 second_true true c h = h
 second_true false c h = absurd cc
 
-are_digits-append : (d : ℕ) (ds : List ℕ) → is_digit d ≡ true → are_digits ds ≡ true → are_digits (ds ++ d ∷ []) ≡ true
+are_digits-append : (d : ℕ) (ds : List ℕ) → is_digit d ≡ true → are_digits ds ≡ true →
+    are_digits (ds ++ d ∷ []) ≡ true
 are_digits-append d [] h all = both_true (is_digit d) true h refl
 are_digits-append d (c ∷ cs) h all =
-    both_true (is_digit c) (are_digits (cs ++ d ∷ [])) (first_true (is_digit c) (are_digits cs) all) (are_digits-append d cs h (second_true (is_digit c) (are_digits cs) all))
+    both_true (is_digit c) (are_digits (cs ++ d ∷ [])) (first_true (is_digit c) (are_digits cs) all)
+    (are_digits-append d cs h (second_true (is_digit c) (are_digits cs) all))
 
 one_digit : (n : ℕ) → n < 10 → Says n ((48 + n) ∷ [])
 one_digit n h = record {
   value = omega arith;
   digits = both_true (is_digit (48 + n)) true (is_digit_of n h) refl;
-  numeral = both_true (is_digit (48 + n) && true) (not (48 + n == 48) || true) (both_true (is_digit (48 + n)) true (is_digit_of n h) refl) (either_true (48 + n == 48));
+  numeral = both_true (is_digit (48 + n) && true) (not (48 + n == 48) || true)
+      (both_true (is_digit (48 + n)) true (is_digit_of n h) refl) (either_true (48 + n == 48));
   above = λ p. let other : 48 + n ≢ 48 = omega arith in ne_eqb (48 + n) 48 other;
 }
 
@@ -61,11 +65,13 @@ one_more n [] h says = absurd (says.above (omega arith))
 one_more n (c ∷ cs) h says =
     let last : n % 10 < 10 = omega arith in
     let first : (c == 48) ≡ false = says.above (omega arith) in
-    let all : are_digits (c ∷ cs ++ ((48 + n % 10) ∷ [])) ≡ true = are_digits-append (48 + n % 10) (c ∷ cs) (is_digit_of (n % 10) last) says.digits in
+    let all : are_digits (c ∷ cs ++ ((48 + n % 10) ∷ [])) ≡ true =
+    are_digits-append (48 + n % 10) (c ∷ cs) (is_digit_of (n % 10) last) says.digits in
     record {
       value = number_from-append 0 (48 + n % 10) (c ∷ cs) ∙ omega (arith, says.value);
       digits = all;
-      numeral = both_true (are_digits (c ∷ cs ++ ((48 + n % 10) ∷ []))) (not (c == 48) || is_empty (cs ++ ((48 + n % 10) ∷ []))) all (rw first refl);
+      numeral = both_true (are_digits (c ∷ cs ++ ((48 + n % 10) ∷ [])))
+      (not (c == 48) || is_empty (cs ++ ((48 + n % 10) ∷ []))) all (rw first refl);
       above = λ p. first;
     }
 
@@ -81,7 +87,9 @@ number_of_decimal most n fits h =
 unsigned : (w : List ℕ) → is_numeral w ≡ true → integer w ≡ option_map pos (number (2 ^ 63 - 1) w)
 unsigned [] h = absurd cc
 unsigned (c ∷ cs) h = at (c == 45) refl where
-  at : (b : Bool) → (c == 45) ≡ b → cond b (option_map minus (number (2 ^ 63) cs)) (option_map pos (number (2 ^ 63 - 1) (c ∷ cs))) ≡ option_map pos (number (2 ^ 63 - 1) (c ∷ cs))
+  at : (b : Bool) → (c == 45) ≡ b →
+      cond b (option_map minus (number (2 ^ 63) cs)) (option_map pos (number (2 ^ 63 - 1) (c ∷ cs)))
+      ≡ option_map pos (number (2 ^ 63 - 1) (c ∷ cs))
   at false e = refl
   at true e =
       let minus_first : is_numeral (45 ∷ cs) ≡ true = rw (eqb-true c 45 e) at h in
@@ -90,8 +98,10 @@ unsigned (c ∷ cs) h = at (c == 45) refl where
 pub integer_of_decimal : (z : ℤ) → IsLong z → integer (signed_decimal z) ≡ Some z
 integer_of_decimal (pos n) h =
     let s = said n (omega arith) in
-    unsigned (decimal n) s.numeral ∙ ap (option_map pos) (number_of_decimal (2 ^ 63 - 1) n (omega arith) (omega arith))
-integer_of_decimal (negsuc n) h = ap (option_map minus) (number_of_decimal (2 ^ 63) (suc n) (omega arith) (omega arith))
+    unsigned (decimal n) s.numeral ∙
+    ap (option_map pos) (number_of_decimal (2 ^ 63 - 1) n (omega arith) (omega arith))
+integer_of_decimal (negsuc n) h =
+    ap (option_map minus) (number_of_decimal (2 ^ 63) (suc n) (omega arith) (omega arith))
 
 plain_digit : (c : ℕ) → is_digit c ≡ true → is_plain c ≡ true
 plain_digit c h =
@@ -103,11 +113,14 @@ plain_digit c h =
 plain_digits : (ds : List ℕ) → are_digits ds ≡ true → list_all is_plain ds ≡ true
 plain_digits [] h = refl
 plain_digits (c ∷ cs) h =
-    both_true (is_plain c) (list_all is_plain cs) (plain_digit c (first_true (is_digit c) (are_digits cs) h)) (plain_digits cs (second_true (is_digit c) (are_digits cs) h))
+    both_true (is_plain c) (list_all is_plain cs)
+    (plain_digit c (first_true (is_digit c) (are_digits cs) h))
+    (plain_digits cs (second_true (is_digit c) (are_digits cs) h))
 
 plain_numeral : (ds : List ℕ) → is_numeral ds ≡ true → is_plain_word ds ≡ true
 plain_numeral [] h = absurd cc
-plain_numeral (c ∷ cs) h = plain_digits (c ∷ cs) (first_true (are_digits (c ∷ cs)) (not (c == 48) || is_empty cs) h)
+plain_numeral (c ∷ cs) h = plain_digits (c ∷ cs)
+    (first_true (are_digits (c ∷ cs)) (not (c == 48) || is_empty cs) h)
 
 pub decimal_plain : (n : ℕ) → n < 2 ^ 64 → is_plain_word (decimal n) ≡ true
 decimal_plain n h = plain_numeral (decimal n) (said n h).numeral

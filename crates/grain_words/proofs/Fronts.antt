@@ -13,27 +13,35 @@ twice t u (Quoted s ∷ ws) = ap (λ x. Quoted x ∷ ws) (sym (append_assoc t u 
 twice t u (Character ∷ ws) = refl
 twice t u (Broken ∷ ws) = refl
 
-pub bare_step : (c : ℕ) (cs : List ℕ) → is_gap c ≡ false → c ≢ 59 → bare (c ∷ cs) ≡ in_front (encode_utf8 c) (bare cs)
+pub bare_step : (c : ℕ) (cs : List ℕ) → is_gap c ≡ false → c ≢ 59 →
+    bare (c ∷ cs) ≡ in_front (encode_utf8 c) (bare cs)
 bare_step c cs gap comment = rw (gap, ne_eqb c 59 comment) refl
 
-pub bare_more : (t : List ℕ) (c : ℕ) (rest after : List ℕ) (all : List Word) → rest ≡ c ∷ after → is_gap c ≡ false → c ≢ 59 →
+pub bare_more : (t : List ℕ) (c : ℕ) (rest after : List ℕ) (all : List Word) → rest ≡ c ∷ after →
+    is_gap c ≡ false → c ≢ 59 →
     in_front t (bare rest) ≡ all → in_front (t ++ encode_utf8 c) (bare after) ≡ all
 bare_more t c rest after all r gap comment e =
-    sym (twice t (encode_utf8 c) (bare after)) ∙ ap (in_front t) (sym (bare_step c after gap comment) ∙ ap bare (sym r)) ∙ e
+    sym (twice t (encode_utf8 c) (bare after)) ∙
+    ap (in_front t) (sym (bare_step c after gap comment) ∙ ap bare (sym r)) ∙ e
 
-pub bare_over : (t : List ℕ) (c : ℕ) (rest after : List ℕ) (all : List Word) → rest ≡ c ∷ after → is_gap c ≡ true →
+pub bare_over : (t : List ℕ) (c : ℕ) (rest after : List ℕ) (all : List Word) → rest ≡ c ∷ after →
+    is_gap c ≡ true →
     in_front t (bare rest) ≡ all → Bare t ∷ words_of after ≡ all
 bare_over t c rest after all r gap e =
     let s : bare (c ∷ after) ≡ Bare [] ∷ words_of after = rw gap refl in
-    ap (λ x. Bare x ∷ words_of after) (sym (append-nil t)) ∙ ap (in_front t) (sym s ∙ ap bare (sym r)) ∙ e
+    ap (λ x. Bare x ∷ words_of after) (sym (append-nil t)) ∙
+    ap (in_front t) (sym s ∙ ap bare (sym r)) ∙ e
 
-pub bare_comment : (t : List ℕ) (c : ℕ) (rest after : List ℕ) (all : List Word) → rest ≡ c ∷ after → is_gap c ≡ false → c ≡ 59 →
+pub bare_comment : (t : List ℕ) (c : ℕ) (rest after : List ℕ) (all : List Word) → rest ≡ c ∷ after →
+    is_gap c ≡ false → c ≡ 59 →
     in_front t (bare rest) ≡ all → Bare t ∷ words_of [] ≡ all
 bare_comment t c rest after all r gap comment e =
     let s : bare (c ∷ after) ≡ Bare [] ∷ [] = rw comment refl in
     ap (λ x. Bare x ∷ []) (sym (append-nil t)) ∙ ap (in_front t) (sym s ∙ ap bare (sym r)) ∙ e
 
-pub quoted_more : (t u : List ℕ) (c : ℕ) (rest after others : List ℕ) (all : List Word) → rest ≡ c ∷ after →
-    quoted (c ∷ after) ≡ in_front u (quoted others) → in_front t (quoted rest) ≡ all → in_front (t ++ u) (quoted others) ≡ all
+pub quoted_more : (t u : List ℕ) (c : ℕ) (rest after others : List ℕ) (all : List Word) →
+    rest ≡ c ∷ after →
+    quoted (c ∷ after) ≡ in_front u (quoted others) → in_front t (quoted rest) ≡ all →
+    in_front (t ++ u) (quoted others) ≡ all
 quoted_more t u c rest after others all r h e =
     sym (twice t u (quoted others)) ∙ ap (in_front t) (sym h ∙ ap quoted (sym r)) ∙ e

@@ -22,26 +22,41 @@ not_end true m n h = absurd (omega arith)
 not_end false m n h = refl
 
 -- a character that is no CR before LF stays
-kept : (a b : Bool) (ls more all : List (List ℕ)) → b ≡ false → more ≡ all → cond (a && b) ls more ≡ all
+kept : (a b : Bool) (ls more all : List (List ℕ)) → b ≡ false → more ≡ all →
+    cond (a && b) ls more ≡ all
 kept true b ls more all t h = rw t h
 kept false b ls more all t h = h
 
 -- a character before LF stays unless it is a CR
-dropped : (a b : Bool) (c : ℕ) (ls others : List (List ℕ)) → b ≡ true → ls ≡ [] ∷ others → cond (a && b) ls (onto c ls) ≡ cond a [] (c ∷ []) ∷ others
+dropped : (a b : Bool) (c : ℕ) (ls others : List (List ℕ)) → b ≡ true → ls ≡ [] ∷ others →
+    cond (a && b) ls (onto c ls) ≡ cond a [] (c ∷ []) ∷ others
 dropped true b c ls others t e = rw t e
 dropped false b c ls others t e = ap (onto c) e
 
-longer : (c k : ℕ) (cs : List ℕ) → k ≡ before_end cs → k < length cs → lines_of cs ≡ without_return (take k cs) ∷ lines_of (drop (k + 1) cs) →
-    cond ((c == 13) && begins 10 cs) (lines_of cs) (onto c (lines_of cs)) ≡ without_return (c ∷ take k cs) ∷ lines_of (drop (k + 1) cs)
+longer : (c k : ℕ) (cs : List ℕ) → k ≡ before_end cs → k < length cs →
+    lines_of cs ≡ without_return (take k cs) ∷ lines_of (drop (k + 1) cs) →
+    cond ((c == 13) && begins 10 cs) (lines_of cs) (onto c (lines_of cs)) ≡
+    without_return (c ∷ take k cs) ∷ lines_of (drop (k + 1) cs)
 longer c k [] is h e = absurd (omega arith)
-longer c zero (d ∷ ds) is h e = dropped (c == 13) (d == 10) c (lines_of (d ∷ ds)) (lines_of ds) (is_end (d == 10) (before_end ds) is) e
-longer c (suc j) (d ∷ ds) is h e = kept (c == 13) (d == 10) (lines_of (d ∷ ds)) (onto c (lines_of (d ∷ ds))) _ (is_more (d == 10) j (before_end ds) is) (ap (onto c) e)
+longer c zero (d ∷ ds) is h e =
+    dropped (c == 13) (d == 10) c (lines_of (d ∷ ds)) (lines_of ds)
+    (is_end (d == 10) (before_end ds) is) e
+longer c (suc j) (d ∷ ds) is h e =
+    kept (c == 13) (d == 10) (lines_of (d ∷ ds)) (onto c (lines_of (d ∷ ds))) _
+    (is_more (d == 10) j (before_end ds) is) (ap (onto c) e)
 
-cut : (text : List ℕ) → before_end text < length text → lines_of text ≡ without_return (take (before_end text) text) ∷ lines_of (drop (before_end text + 1) text)
+cut : (text : List ℕ) → before_end text < length text →
+    lines_of text ≡ without_return (take (before_end text) text) ∷
+    lines_of (drop (before_end text + 1) text)
 cut [] h = absurd (omega arith)
 cut (c ∷ cs) h = at (c == 10) (cut cs) h where
-  at : (b : Bool) → (before_end cs < length cs → lines_of cs ≡ without_return (take (before_end cs) cs) ∷ lines_of (drop (before_end cs + 1) cs)) → cond (not b) (1 + before_end cs) 0 < suc (length cs) →
-      cond b ([] ∷ lines_of cs) (cond ((c == 13) && begins 10 cs) (lines_of cs) (onto c (lines_of cs))) ≡ without_return (take (cond (not b) (1 + before_end cs) 0) (c ∷ cs)) ∷ lines_of (drop (cond (not b) (1 + before_end cs) 0 + 1) (c ∷ cs))
+  at : (b : Bool) → (before_end cs < length cs →
+      lines_of cs ≡ without_return (take (before_end cs) cs) ∷
+      lines_of (drop (before_end cs + 1) cs)) →
+      cond (not b) (1 + before_end cs) 0 < suc (length cs) →
+      cond b ([] ∷ lines_of cs) (cond ((c == 13) && begins 10 cs) (lines_of cs)
+      (onto c (lines_of cs))) ≡ without_return (take (cond (not b) (1 + before_end cs) 0) (c ∷ cs))
+      ∷ lines_of (drop (cond (not b) (1 + before_end cs) 0 + 1) (c ∷ cs))
   at true others h = refl
   at false others h =
       let inside : before_end cs < length cs = omega arith in
@@ -49,19 +64,25 @@ cut (c ∷ cs) h = at (c == 10) (cut cs) h where
       let two : suc (before_end cs) + 1 ≡ suc (before_end cs + 1) = omega arith in
       rw one (rw two (longer c (before_end cs) cs refl inside (others inside)))
 
-whole : (text : List ℕ) → length text ≤ before_end text → 0 < length text → lines_of text ≡ text ∷ []
+whole : (text : List ℕ) → length text ≤ before_end text → 0 < length text →
+    lines_of text ≡ text ∷ []
 whole [] h some = absurd (omega arith)
 whole (c ∷ []) h some = at (c == 10) h where
-  at : (b : Bool) → 1 ≤ cond (not b) (1 + 0) 0 → cond b ([] ∷ []) (cond ((c == 13) && false) [] ((c ∷ []) ∷ [])) ≡ (c ∷ []) ∷ []
+  at : (b : Bool) → 1 ≤ cond (not b) (1 + 0) 0 →
+      cond b ([] ∷ []) (cond ((c == 13) && false) [] ((c ∷ []) ∷ [])) ≡ (c ∷ []) ∷ []
   at true h = absurd (omega arith)
   at false h = kept (c == 13) false [] ((c ∷ []) ∷ []) ((c ∷ []) ∷ []) refl refl
 whole (c ∷ d ∷ cs) h some = at (c == 10) (λ e. whole (d ∷ cs) e (omega arith)) h where
-  at : (b : Bool) → (length (d ∷ cs) ≤ before_end (d ∷ cs) → lines_of (d ∷ cs) ≡ (d ∷ cs) ∷ []) → suc (length (d ∷ cs)) ≤ cond (not b) (1 + before_end (d ∷ cs)) 0 →
-      cond b ([] ∷ lines_of (d ∷ cs)) (cond ((c == 13) && (d == 10)) (lines_of (d ∷ cs)) (onto c (lines_of (d ∷ cs)))) ≡ (c ∷ d ∷ cs) ∷ []
+  at : (b : Bool) → (length (d ∷ cs) ≤ before_end (d ∷ cs) → lines_of (d ∷ cs) ≡ (d ∷ cs) ∷ []) →
+      suc (length (d ∷ cs)) ≤ cond (not b) (1 + before_end (d ∷ cs)) 0 →
+      cond b ([] ∷ lines_of (d ∷ cs))
+      (cond ((c == 13) && (d == 10)) (lines_of (d ∷ cs)) (onto c (lines_of (d ∷ cs)))) ≡
+      (c ∷ d ∷ cs) ∷ []
   at true others h = absurd (omega arith)
   at false others h =
       let more : length (d ∷ cs) ≤ before_end (d ∷ cs) = omega arith in
-      kept (c == 13) (d == 10) (lines_of (d ∷ cs)) (onto c (lines_of (d ∷ cs))) ((c ∷ d ∷ cs) ∷ []) (not_end (d == 10) (length cs) (before_end cs) more) (ap (onto c) (others more))
+      kept (c == 13) (d == 10) (lines_of (d ∷ cs)) (onto c (lines_of (d ∷ cs))) ((c ∷ d ∷ cs) ∷ [])
+      (not_end (d == 10) (length cs) (before_end cs) more) (ap (onto c) (others more))
 
 found : (b : Bool) (k n : ℕ) → cond b (Some k) None ≡ Some n → (b ≡ true) × (k ≡ n)
 found true k n e = (refl, cc)
@@ -85,15 +106,18 @@ found_within text n e =
     omega (arith, w, f.1)
 
 -- the first line ends at the first LF, or at a CR before it
-pub line_cut : (text : List ℕ) (n : ℕ) → position (λ c. c == 10) text ≡ Some n → lines_of text ≡ without_return (take n text) ∷ lines_of (drop (n + 1) text)
+pub line_cut : (text : List ℕ) (n : ℕ) → position (λ c. c == 10) text ≡ Some n →
+    lines_of text ≡ without_return (take n text) ∷ lines_of (drop (n + 1) text)
 line_cut text n e =
     let f = found (nat_lt (before_end text) (length text)) (before_end text) n e in
     let w = below (before_end text) (length text) f.0 in
-    let s : lines_of text ≡ without_return (take (before_end text) text) ∷ lines_of (drop (before_end text + 1) text) = cut text w in
+    let s : lines_of text ≡ without_return (take (before_end text) text) ∷
+    lines_of (drop (before_end text + 1) text) = cut text w in
     rw f.1 at s
 
 -- without LF all is one line
-pub line_whole : (text : List ℕ) → position (λ c. c == 10) text ≡ None → 0 < length text → lines_of text ≡ text ∷ []
+pub line_whole : (text : List ℕ) → position (λ c. c == 10) text ≡ None → 0 < length text →
+    lines_of text ≡ text ∷ []
 line_whole text e some =
     let m = missed (nat_lt (before_end text) (length text)) (before_end text) e in
     whole text (beyond (before_end text) (length text) m) some
@@ -109,11 +133,14 @@ kept_last (c ∷ []) x h = rw (ne_eqb x 13 h) refl
 kept_last (c ∷ d ∷ cs) x h = ap (λ l. c ∷ l) (kept_last (d ∷ cs) x h)
 
 -- a CR at the end is dropped
-pub return_dropped : (line front : List ℕ) (x : ℕ) → line ≡ front ++ x ∷ [] → x ≡ 13 → front ≡ without_return line
-return_dropped line front x e is = sym (ap without_return e ∙ ap (λ y. without_return (front ++ y ∷ [])) is ∙ dropped_last front)
+pub return_dropped : (line front : List ℕ) (x : ℕ) → line ≡ front ++ x ∷ [] → x ≡ 13 →
+    front ≡ without_return line
+return_dropped line front x e is =
+    sym (ap without_return e ∙ ap (λ y. without_return (front ++ y ∷ [])) is ∙ dropped_last front)
 
 -- what ends otherwise stays
-pub return_missing : (line front : List ℕ) (x : ℕ) → line ≡ front ++ x ∷ [] → x ≢ 13 → line ≡ without_return line
+pub return_missing : (line front : List ℕ) (x : ℕ) → line ≡ front ++ x ∷ [] → x ≢ 13 →
+    line ≡ without_return line
 return_missing line front x e other = e ∙ sym (ap without_return e ∙ kept_last front x other)
 
 pub nothing_dropped : (line : List ℕ) → length line ≡ 0 → line ≡ without_return line

@@ -1,4 +1,5 @@
--- The words of a listing. All of these files are cited by contracts: read `Lines` and `Words` first.
+-- The words of a listing. All of these files are cited by contracts: read `Lines` and `Words`
+-- first.
 pub mod Lines
 pub mod Words
 pub mod Numerals

@@ -13,7 +13,8 @@ begins c (d ∷ ds) = d == c
 -- a line ends with LF, and a CR before it is dropped; the last line needs no LF
 abbrev pub lines_of : List ℕ → List (List ℕ)
 lines_of [] = []
-lines_of (c ∷ cs) = if c == 10 then [] ∷ lines_of cs else (if (c == 13) && begins 10 cs then lines_of cs else onto c (lines_of cs))
+lines_of (c ∷ cs) = if c == 10 then [] ∷ lines_of cs else
+    (if (c == 13) && begins 10 cs then lines_of cs else onto c (lines_of cs))
 
 -- what stands before a CR at the end
 abbrev pub without_return : List ℕ → List ℕ

@@ -4,10 +4,11 @@ use Rattle.grain_fault.specs.declared.places.Position.{Position}
 use Rattle.grain_fault.specs.Places.{place_at}
 use Rattle.grain_words.specs.Numerals.{number}
 
--- what stands before the first colon, and behind it
+-- what stands before the first colon, and after it
 abbrev pub at_colon : List ℕ → Option (List ℕ × List ℕ)
 at_colon [] = None
-at_colon (c ∷ cs) = if c == 58 then Some ([], cs) else option_map (λ x. (c ∷ x.0, x.1)) (at_colon cs)
+at_colon (c ∷ cs) = if c == 58 then Some ([], cs) else
+    option_map (λ x. (c ∷ x.0, x.1)) (at_colon cs)
 
 -- no position has the line 0
 abbrev pub position_at : Option ℕ → Option ℕ → Option Position

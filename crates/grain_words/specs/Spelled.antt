@@ -2,7 +2,8 @@
 use Rattle.std.specs.Prelude.{ℕ, ◌<◌, ◌^◌, ℤ, pos, negsuc, Bool, false, ◌&&◌, not, nat_lt, List, [], ◌∷◌, ◌++◌, ◌==◌, if◌then◌else◌}
 use Rattle.std.specs.List.{flat_map, list_all}
 
--- a character as it is spelled between quotes: a quote, a backslash, LF, CR and a tab have a backslash before a sign of theirs
+-- a character as it is spelled between quotes: a quote, a backslash, LF, CR and a tab have a
+-- backslash before a sign of theirs
 abbrev pub between_quotes : ℕ → List ℕ
 between_quotes c =
     if c == 34 then 92 ∷ 34 ∷ []

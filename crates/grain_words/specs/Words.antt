@@ -25,8 +25,10 @@ is_character n = nat_lt n 0xd800 || (nat_lt 0xdfff n && nat_lt n 0x110000)
 abbrev pub is_hexadecimal : ℕ → Bool
 is_hexadecimal c = nat_lt (digit_value c) 16
 
--- One that begins with a quote ends at the next quote, and escapes stand for characters between them. A semicolon outside quotes begins
--- a comment, which goes on to the line's end. A word that begins with an apostrophe is a character in quotes, of which nothing is read so far.
+-- One that begins with a quote ends at the next quote, and escapes stand for characters between
+-- them. A semicolon outside quotes begins
+-- a comment, which goes on to the line's end. A word that begins with an apostrophe is a character
+-- in quotes, of which nothing is read so far.
 abbrev mutual
   pub words_of : List ℕ → List Word
   words_of [] = []
@@ -53,12 +55,13 @@ abbrev mutual
       else (if c == 92 then escaped cs
       else in_front (encode_utf8 c) (quoted cs))
 
-  -- behind the second quote: a space, a tab, a comment or the line's end
+  -- after the second quote: a space, a tab, a comment or the line's end
   pub closed : List ℕ → List Word
   closed [] = Quoted [] ∷ []
-  closed (c ∷ cs) = if is_gap c then Quoted [] ∷ words_of cs else (if c == 59 then Quoted [] ∷ [] else broken)
+  closed (c ∷ cs) = if is_gap c then Quoted [] ∷ words_of cs else
+      (if c == 59 then Quoted [] ∷ [] else broken)
 
-  -- behind a backslash
+  -- after a backslash
   pub escaped : List ℕ → List Word
   escaped [] = broken
   escaped (c ∷ cs) =
@@ -70,17 +73,17 @@ abbrev mutual
       else (if c == 117 then braced cs
       else broken)))))
 
-  -- behind \u: a brace
+  -- after \u: a brace
   pub braced : List ℕ → List Word
   braced [] = broken
   braced (c ∷ cs) = if c == 123 then first_digit cs else broken
 
-  -- behind the brace: at least one hexadecimal digit
+  -- after the brace: at least one hexadecimal digit
   pub first_digit : List ℕ → List Word
   first_digit [] = broken
   first_digit (c ∷ cs) = if is_hexadecimal c then digits (digit_value c) cs else broken
 
-  -- behind digits that say n: more of them, up to a brace
+  -- after digits that say n: more of them, up to a brace
   pub digits : ℕ → List ℕ → List Word
   digits n [] = broken
   digits n (c ∷ cs) =

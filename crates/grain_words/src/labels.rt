@@ -42,7 +42,8 @@ impl Labels {
 
     /// Gives the label its address. Where memory is out, the labels are as they were.
     pub fn insert(&mut self, alloc: Global, label: &str, address: u32) -> Result<(), OutOfMemory>
-        ensures { self.new ≡ (if is_ok result then with_label label.now address self.old else self.old) }
+        ensures { self.new ≡ (if is_ok result then with_label label.now address self.old else
+            self.old) }
     {
         let label = String::from_str(alloc, label)?;
         self.addresses.insert(label, address)?;

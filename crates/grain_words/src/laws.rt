@@ -21,15 +21,19 @@ pub fn decimals_are_read()
 
 /// The words of a quoted text are that text alone, whatever characters it has.
 pub fn quoted_texts_are_read()
-    ensures { (cs : List ℕ) → words_of (quoted_characters cs) ≡ words.Quoted (encode_utf8_all cs) ∷ [] }
+    ensures { (cs : List ℕ) → words_of (quoted_characters cs) ≡
+        words.Quoted (encode_utf8_all cs) ∷ [] }
 {}
 
 /// Plain words with a space before each but the first are read as those words, and lines with LF
 /// after each, none of which has LF or CR, as those lines. Plain words have neither.
 pub fn plain_texts_are_read()
-    ensures words { (w : List ℕ) (ws : List (List ℕ)) → is_plain_word w ≡ true → list_all is_plain_word ws ≡ true →
+    ensures words { (w : List ℕ) (ws : List (List ℕ)) → is_plain_word w ≡ true →
+        list_all is_plain_word ws ≡ true →
         words_of (spaced w ws) ≡ words.Bare w ∷ map (λ v. words.Bare v) ws }
-    ensures inside { (w : List ℕ) (ws : List (List ℕ)) → is_plain_word w ≡ true → list_all is_plain_word ws ≡ true →
+    ensures inside { (w : List ℕ) (ws : List (List ℕ)) → is_plain_word w ≡ true →
+        list_all is_plain_word ws ≡ true →
         list_all is_inside (spaced w ws) ≡ true }
-    ensures lines { (ls : List (List ℕ)) → list_all (list_all is_inside) ls ≡ true → lines_of (text_of ls) ≡ ls }
+    ensures lines { (ls : List (List ℕ)) → list_all (list_all is_inside) ls ≡ true →
+        lines_of (text_of ls) ≡ ls }
 {}

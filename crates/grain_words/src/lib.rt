@@ -1,4 +1,5 @@
-//! The lines of a text, the words of a line, and what words say by themselves: numbers, positions and labels.
+//! The lines of a text, the words of a line, and what words say by themselves: numbers, positions
+//! and labels.
 #![tactic(auto)]
 
 mod labels;

@@ -25,7 +25,8 @@ fn is_numeral(word: &[u8]) -> bool
 
 /// The number with one more digit, where that fits.
 fn grown(number: u64, digit: u8) -> Option<u64>
-    ensures { MatchOption result (2 ^ 64 ≤ number * 10 + (digit - 48)) (λ n. n ≡ number * 10 + (digit - 48)) }
+    ensures { MatchOption result (2 ^ 64 ≤ number * 10 + (digit - 48)) (λ n. n ≡
+        number * 10 + (digit - 48)) }
 {
     let digit = u64::from(digit.saturating_sub(b'0'));
     number.checked_mul(10)?.checked_add(digit)

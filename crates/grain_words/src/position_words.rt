@@ -6,7 +6,7 @@ ghost use Rattle.grain_words.specs.PositionWords.{at_colon, position_word};
 use crate::numerals::number;
 use grain_fault::Position;
 
-/// What stands before the first colon, and behind it.
+/// What stands before the first colon, and after it.
 #[tactic(auto, using(crate::proofs::FirstColons::colon_here, crate::proofs::FirstColons::colon_later, crate::proofs::FirstColons::no_colon))]
 fn at_colon(word: &[u8]) -> Option<(&[u8], &[u8])>
     ensures { option_map (λ x. (x.0.now, x.1.now)) result ≡ at_colon word.now }

@@ -29,7 +29,8 @@ fn is_gap(c: char) -> bool
 /// The bare word that begins with `first`, and what follows it.
 #[tactic(auto, using(crate::proofs::Fronts::bare_more, crate::proofs::Fronts::bare_over, crate::proofs::Fronts::bare_comment))]
 fn bare(alloc: Global, first: char, chars: &[char]) -> Result<(Word, &[char]), OutOfMemory>
-    ensures { IfOk result (λ r. (r.0 ∷ words_of r.1.now ≡ in_front (encode_utf8 first) (bare chars.now)) × (length r.1.now ≤ length chars.now)) }
+    ensures { IfOk result (λ r. (r.0 ∷ words_of r.1.now ≡
+        in_front (encode_utf8 first) (bare chars.now)) × (length r.1.now ≤ length chars.now)) }
 {
     let mut text = Text::new(alloc);
     text.push(first)?;
@@ -51,7 +52,8 @@ fn bare(alloc: Global, first: char, chars: &[char]) -> Result<(Word, &[char]), O
 fn grown(number: u32, digit: u32) -> Option<u32>
     requires number { number ≤ 0x10ffff }
     requires digit { digit < 16 }
-    ensures { MatchOption result (0x10ffff < number * 16 + digit) (λ n. (n ≡ number * 16 + digit) × (n ≤ 0x10ffff)) }
+    ensures { MatchOption result (0x10ffff < number * 16 + digit) (λ n. (n ≡ number * 16 + digit) ×
+        (n ≤ 0x10ffff)) }
 {
     let more = number * 16 + digit;
     if more > 0x10ffff { None } else { Some(more) }
@@ -60,7 +62,9 @@ fn grown(number: u32, digit: u32) -> Option<u32>
 /// The character whose hexadecimal digits begin with `first`, and what follows its brace.
 fn digits(first: u32, chars: &[char]) -> Option<(char, &[char])>
     requires { first < 16 }
-    ensures { MatchOption result (digits first chars.now ≡ broken) (λ r. (digits first chars.now ≡ in_front (encode_utf8 r.0) (quoted r.1.now)) × (length r.1.now ≤ length chars.now)) }
+    ensures { MatchOption result (digits first chars.now ≡ broken)
+        (λ r. (digits first chars.now ≡ in_front (encode_utf8 r.0) (quoted r.1.now)) ×
+        (length r.1.now ≤ length chars.now)) }
 {
     let mut number = first;
     let mut rest = chars;
@@ -76,18 +80,22 @@ fn digits(first: u32, chars: &[char]) -> Option<(char, &[char])>
     None
 }
 
-/// What stands behind `\u{`: a character's digits, and what follows its brace.
+/// What stands after `\u{`: a character's digits, and what follows its brace.
 fn first_digit(chars: &[char]) -> Option<(char, &[char])>
-    ensures { MatchOption result (first_digit chars.now ≡ broken) (λ r. (first_digit chars.now ≡ in_front (encode_utf8 r.0) (quoted r.1.now)) × (length r.1.now ≤ length chars.now)) }
+    ensures { MatchOption result (first_digit chars.now ≡ broken)
+        (λ r. (first_digit chars.now ≡ in_front (encode_utf8 r.0) (quoted r.1.now)) ×
+        (length r.1.now ≤ length chars.now)) }
 {
     let (c, after) = chars.split_first()?;
     let digit = c.to_digit(16)?;
     digits(digit, after)
 }
 
-/// What stands behind a backslash: a character, and what follows it.
+/// What stands after a backslash: a character, and what follows it.
 fn escaped(chars: &[char]) -> Option<(char, &[char])>
-    ensures { MatchOption result (escaped chars.now ≡ broken) (λ r. (escaped chars.now ≡ in_front (encode_utf8 r.0) (quoted r.1.now)) × (length r.1.now ≤ length chars.now)) }
+    ensures { MatchOption result (escaped chars.now ≡ broken)
+        (λ r. (escaped chars.now ≡ in_front (encode_utf8 r.0) (quoted r.1.now)) ×
+        (length r.1.now ≤ length chars.now)) }
 {
     match chars {
         ['"', after @ ..] => Some(('"', after)),
@@ -103,7 +111,9 @@ fn escaped(chars: &[char]) -> Option<(char, &[char])>
 /// The next character between quotes, which begins with `c`, and what follows it.
 fn inner(c: char, after: &[char]) -> Option<(char, &[char])>
     requires { c ≢ 34 }
-    ensures { MatchOption result (quoted (c ∷ after.now) ≡ broken) (λ r. (quoted (c ∷ after.now) ≡ in_front (encode_utf8 r.0) (quoted r.1.now)) × (length r.1.now ≤ length after.now)) }
+    ensures { MatchOption result (quoted (c ∷ after.now) ≡ broken)
+        (λ r. (quoted (c ∷ after.now) ≡ in_front (encode_utf8 r.0) (quoted r.1.now)) ×
+        (length r.1.now ≤ length after.now)) }
 {
     if c == '\\' {
         escaped(after)
@@ -129,10 +139,11 @@ fn closed(text: Text, after: &[char]) -> (Word, &[char])
     }
 }
 
-/// The text behind a quote, and what follows it.
+/// The text after a quote, and what follows it.
 #[tactic(auto, using(crate::proofs::Fronts::quoted_more))]
 fn quoted(alloc: Global, chars: &[char]) -> Result<(Word, &[char]), OutOfMemory>
-    ensures { IfOk result (λ r. (r.0 ∷ words_of r.1.now ≡ quoted chars.now) × (length r.1.now ≤ length chars.now)) }
+    ensures { IfOk result (λ r. (r.0 ∷ words_of r.1.now ≡ quoted chars.now) ×
+        (length r.1.now ≤ length chars.now)) }
 {
     let mut text = Text::new(alloc);
     let mut rest = chars;
@@ -153,7 +164,8 @@ fn quoted(alloc: Global, chars: &[char]) -> Result<(Word, &[char]), OutOfMemory>
 fn next_word(alloc: Global, first: char, after: &[char]) -> Result<(Word, &[char]), OutOfMemory>
     requires gap { is_gap first ≡ false }
     requires comment { first ≢ 59 }
-    ensures { IfOk result (λ r. (r.0 ∷ words_of r.1.now ≡ words_of (first ∷ after.now)) × (length r.1.now ≤ length after.now)) }
+    ensures { IfOk result (λ r. (r.0 ∷ words_of r.1.now ≡ words_of (first ∷ after.now)) ×
+        (length r.1.now ≤ length after.now)) }
 {
     if first == '"' {
         quoted(alloc, after)

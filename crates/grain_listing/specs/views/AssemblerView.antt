@@ -26,6 +26,7 @@ assembler_view a =
     }
 
 -- what a step answered, with what it left where it was not refused
-abbrev pub result_view : {A : Type 0} → Result A Reason → AssemblerView → Result AssemblerView Reason
+abbrev pub result_view : {A : Type 0} → Result A Reason → AssemblerView →
+    Result AssemblerView Reason
 result_view (Ok x) v = Ok v
 result_view (Err e) v = Err e

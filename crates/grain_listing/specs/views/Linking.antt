@@ -22,7 +22,9 @@ write_at at bytes code = write_on at 0 bytes code
 -- the code, in which each label has its address, the lowest byte first
 abbrev pub fill : Addresses → List Fixup → List ℕ → Result (List ℕ) BadLine
 fill labels [] code = Ok code
-fill labels (f ∷ fs) code = and_then (present (bad_line f.line UnknownLabel) (address_of f.label labels)) (λ a. fill labels fs (write_at f.at (to_le_bytes w32 a) code))
+fill labels (f ∷ fs) code = and_then
+    (present (bad_line f.line UnknownLabel) (address_of f.label labels))
+    (λ a. fill labels fs (write_at f.at (to_le_bytes w32 a) code))
 
 -- what the assembler has, with these op-assignments and this code
 abbrev pub set_up : AssemblerView → List AssignOp → List ℕ → SetUp
@@ -44,14 +46,16 @@ set_up v assign_ops code =
     }
 
 abbrev pub filled : AssemblerView → List AssignOp → Result SetUp BadLine
-filled v assign_ops = and_then (fill v.labels v.fixups v.code) (λ code. Ok (set_up v assign_ops code))
+filled v assign_ops = and_then (fill v.labels v.fixups v.code)
+    (λ code. Ok (set_up v assign_ops code))
 
 -- after the last line, the nth
 abbrev pub finish : ℕ → Section → AssemblerView → List AssignOp → Result SetUp BadLine
 finish n section v assign_ops = complete n section (filled v assign_ops)
 
 abbrev pub ending : ℕ → AssemblerView → Result SetUp BadLine
-ending n v = and_then (assign_ops_of v.tokens v.assigns) (λ assign_ops. finish n v.section v assign_ops)
+ending n v = and_then (assign_ops_of v.tokens v.assigns)
+    (λ assign_ops. finish n v.section v assign_ops)
 
 -- a step on the code, with what it left where it was not refused
 abbrev pub left : {A E : Type 0} → Result A E → List ℕ → Result (List ℕ) E

@@ -10,7 +10,8 @@ use Rattle.grain_value.specs.declared.scopes.Entry.{Entry}
 use Rattle.grain_words.specs.declared.words.Word.{Word}
 use Rattle.grain_listing.specs.declared.reasons.Reason.{Reason}
 
-abbrev pub first_view : Result (Bor Word × Bor (List Word)) Reason → Result (Word × List Word) Reason
+abbrev pub first_view : Result (Bor Word × Bor (List Word)) Reason →
+    Result (Word × List Word) Reason
 first_view (Ok x) = Ok (x.0.now, x.1.now)
 first_view (Err e) = Err e
 
@@ -36,7 +37,8 @@ literal_view (Ok s) = Ok (literal_value s)
 literal_view (Err e) = Err e
 
 abbrev pub entry_value : ScopeEntry → Entry
-entry_value e = record { name = e.name.now; held = record { value = literal_value e.value; read_only = e.read_only } }
+entry_value e = record { name = e.name.now; held =
+    record { value = literal_value e.value; read_only = e.read_only } }
 
 abbrev pub entry_view : Result ScopeEntry Reason → Result Entry Reason
 entry_view (Ok e) = Ok (entry_value e)

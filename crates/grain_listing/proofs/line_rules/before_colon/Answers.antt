@@ -4,4 +4,5 @@ use Rattle.grain_listing.proofs.Colons.{stripped}
 use Rattle.grain_listing.proofs.line_rules.before_colon.Goals as goal
 
 pub returns : goal.returns
-returns c = stripped c.args.word.now c.strip_suffix.result (strip_suffix_char 58 c.args.word.now c.strip_suffix.result (search rules) (lit< tt))
+returns c = stripped c.args.word.now c.strip_suffix.result
+    (strip_suffix_char 58 c.args.word.now c.strip_suffix.result (search rules) (lit< tt))
