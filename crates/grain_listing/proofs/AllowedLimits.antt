@@ -29,12 +29,12 @@ still_allowed : (xs : List LimitLine) (x : LimitLine) →
 still_allowed [] x all h = alone (place x.limit == 0) x refl h
 still_allowed (y ∷ ys) x all h =
     at (place y.limit == 0) all (λ more. still_allowed ys x more h) where
-  at : (b : Bool) → IsAllowed (cond b (Some y.number) (number_in limit.Operations ys)) →
-      (IsAllowed (number_in limit.Operations ys) →
-      IsAllowed (number_in limit.Operations (ys ++ x ∷ []))) →
-      IsAllowed (cond b (Some y.number) (number_in limit.Operations (ys ++ x ∷ [])))
-  at true a more = a
-  at false a more = more a
+      at : (b : Bool) → IsAllowed (cond b (Some y.number) (number_in limit.Operations ys)) →
+          (IsAllowed (number_in limit.Operations ys) →
+          IsAllowed (number_in limit.Operations (ys ++ x ∷ []))) →
+          IsAllowed (cond b (Some y.number) (number_in limit.Operations (ys ++ x ∷ [])))
+      at true a more = a
+      at false a more = more a
 
 -- the limits after one more was put among them, or was not for want of memory
 pub allowed_after : (b : Bool) (xs ys : List LimitLine) (x : LimitLine) →

@@ -114,8 +114,11 @@ fixups_are (s ∷ before) = fixups_are before
 
 -- pieces at the end of the code
 abbrev pub with_pieces : List Piece → AssemblerView → AssemblerView
-with_pieces ps v = record v { code = v.code ++ blanks ps; fixups =
-    v.fixups ++ fixups_from (length v.code) ps }
+with_pieces ps v = record v {
+  code = v.code ++ blanks ps;
+  fixups =
+      v.fixups ++ fixups_from (length v.code) ps;
+}
 
 abbrev coded : AssemblerView → List ℕ → List Fixup → AssemblerView
 coded v code fixups = record v { code = code; fixups = fixups }
@@ -135,15 +138,15 @@ put_twice ps qs v =
     let e : length (v.code ++ blanks ps) ≡ length v.code + width ps =
     length-append v.code (blanks ps) ∙ ap (λ n. length v.code + n) (length-blanks ps) in
     let code : (v.code ++ blanks ps) ++ blanks qs ≡ v.code ++ blanks (ps ++ qs) =
-        append_assoc v.code (blanks ps) (blanks qs) ∙
-        ap (λ l. v.code ++ l) (sym (blanks-append ps qs)) in
+    append_assoc v.code (blanks ps) (blanks qs) ∙
+    ap (λ l. v.code ++ l) (sym (blanks-append ps qs)) in
     let labels : (v.fixups ++ fixups_from (length v.code) ps) ++
     fixups_from (length (v.code ++ blanks ps)) qs ≡
     v.fixups ++ fixups_from (length v.code) (ps ++ qs) =
-        append_assoc v.fixups (fixups_from (length v.code) ps)
-        (fixups_from (length (v.code ++ blanks ps)) qs) ∙
-        ap (λ n. v.fixups ++ (fixups_from (length v.code) ps ++ fixups_from n qs)) e ∙
-        ap (λ l. v.fixups ++ l) (sym (fixups-append (length v.code) ps qs)) in
+    append_assoc v.fixups (fixups_from (length v.code) ps)
+    (fixups_from (length (v.code ++ blanks ps)) qs) ∙
+    ap (λ n. v.fixups ++ (fixups_from (length v.code) ps ++ fixups_from n qs)) e ∙
+    ap (λ l. v.fixups ++ l) (sym (fixups-append (length v.code) ps qs)) in
     ap (λ c. coded v c ((v.fixups ++ fixups_from (length v.code) ps) ++
     fixups_from (length (v.code ++ blanks ps)) qs)) code ∙
     ap (λ f. coded v (v.code ++ blanks (ps ++ qs)) f) labels

@@ -2,9 +2,7 @@
 use Rattle.std.proofs.Common.{◌≡◌, ℕ, Bool, true, false, cond, List, [], ◌∷◌, Option, Some, None, Ordering, Less, Equal, Greater, nat_cmp, is_eq, refl, sym, ap, ◌∙◌}
 use Rattle.std.specs.Str.{bytes_eq}
 use Rattle.std.specs.Cmp.Lexicographic.{slice_cmp}
-use Rattle.std.specs.Map.{lookup}
 use Rattle.std.specs.Ordering.{match_ordering}
-use Rattle.std.specs.BTreeMap.{insert_entry, is_at}
 use Rattle.std.proofs.lemmas.Map.Text.{is_eq-slice_cmp}
 use Rattle.std.proofs.lemmas.Slice.Eq.{bytes_eq-Decides}
 use Rattle.grain_words.specs.Labels.{Addresses, address_of, with_label}
@@ -53,11 +51,11 @@ one_more t u a (e ∷ es) =
     let later : more ≡ cond new (Some a) rest = one_more t u a es ∙
     ap (λ b. cond b (Some a) rest) (sym (is_eq-slice_cmp t u)) in
     let one : new ≡ true → first ≡ is_eq o =
-        λ h. is_eq-slice_cmp t e.0 ∙ agrees t u e.0 (sym (is_eq-slice_cmp t u) ∙ h) ∙
-        sym (is_eq-slice_cmp u e.0) in
+    λ h. is_eq-slice_cmp t e.0 ∙ agrees t u e.0 (sym (is_eq-slice_cmp t u) ∙ h) ∙
+    sym (is_eq-slice_cmp u e.0) in
     let two : is_eq o ≡ true → new ≡ first =
-        λ h. is_eq-slice_cmp t u ∙ agrees_too t u e.0 (sym (is_eq-slice_cmp u e.0) ∙ h) ∙
-        sym (is_eq-slice_cmp t e.0) in
+    λ h. is_eq-slice_cmp t u ∙ agrees_too t u e.0 (sym (is_eq-slice_cmp u e.0) ∙ h) ∙
+    sym (is_eq-slice_cmp t e.0) in
     looked_up t o _ _ _ ∙ chosen o new first a e.1 rest more one two later ∙
     ap (λ b. cond b (Some a) (cond first (Some e.1) rest)) (is_eq-slice_cmp t u)
 

@@ -1,6 +1,5 @@
 -- The lines of instructions are read as those instructions.
-use Rattle.std.proofs.Common.{◌≡◌, ℕ, suc, ◌+◌, ◌-◌, ◌^◌, ◌<◌, ◌≤◌, Bool, true, false, ◌&&◌, cond, not, nat_lt, List, [], ◌∷◌, ◌++◌, length, map, Option, Some, None, Result, Ok, Err, refl, sym, ap, ◌∙◌, arith, lt-ltb, append_assoc, append-nil, length-append}
-use Rattle.std.proofs.lemmas.Bool.Decides.{Decides-ltb}
+use Rattle.std.proofs.Common.{◌≡◌, ℕ, suc, ◌+◌, ◌-◌, ◌^◌, ◌<◌, ◌≤◌, true, false, ◌&&◌, cond, List, [], ◌∷◌, ◌++◌, length, map, Option, Some, None, Result, Ok, Err, refl, sym, ap, ◌∙◌, arith, append_assoc, append-nil}
 use Rattle.std.specs.List.{flat_map, list_all, All}
 use Rattle.std.specs.Fmt.{decimal}
 use Rattle.std.specs.Int.{w16, w32, to_le_bytes}
@@ -11,26 +10,23 @@ use Rattle.grain_program.specs.Reading.{Operand, one, two, four}
 use Rattle.grain_program.specs.Spelling.{Field, tag_of, fields_of, spelled, fields_spelled, spelling, NumberFits, FieldsFit, OpFits}
 use Rattle.grain_words.specs.Lines.{lines_of}
 use Rattle.grain_words.specs.Words.{words_of}
-use Rattle.grain_words.specs.Numerals.{number, is_numeral, begins_letter, is_letter, is_digit}
-use Rattle.grain_words.specs.Spelled.{is_plain, is_plain_word, spaced, is_inside, text_of}
+use Rattle.grain_words.specs.Numerals.{number, begins_letter}
+use Rattle.grain_words.specs.Spelled.{is_plain_word, spaced, is_inside, text_of}
 use Rattle.grain_words.specs.declared.words.Word.{Word}
 use Rattle.grain_words.specs.declared.words.Word.TheVariants.{Bare}
 use Rattle.grain_listing.specs.Steps.{and_then, present}
 use Rattle.grain_listing.specs.Instructions.{word_of, kind_of, kinds_of, encoding_of, encoding_named}
 use Rattle.grain_listing.specs.InstructionLines.{numbers_of, instruction_line, instruction_text}
 use Rattle.grain_listing.specs.Table.{is_block, line_of, own_line, instruction_line_of, later_line, or_else}
-use Rattle.grain_listing.specs.Statements.{Piece, Byte, Goto, Statement, code_line, section, pieces, width, address}
-use Rattle.grain_listing.specs.LineMeanings.{bytes, operand, operand_word, operands, statement, known, begun_by, in_section, says, at_line, statements}
+use Rattle.grain_listing.specs.Statements.{Piece, Byte, Goto, Statement, code_line, section, pieces}
+use Rattle.grain_listing.specs.LineMeanings.{bytes, operand, operands, known, in_section, says, at_line, statements}
 use Rattle.grain_listing.specs.declared.table.Line.{Line}
 use Rattle.grain_listing.specs.declared.table.Line.TheVariants as lines
 use Rattle.grain_listing.specs.declared.table.OperandKind.{OperandKind}
-use Rattle.grain_listing.specs.declared.table.OperandKind.TheVariants as kinds
-use Rattle.grain_listing.specs.declared.table.Section.{Section}
 use Rattle.grain_listing.specs.declared.table.Section.TheVariants as sections
 use Rattle.grain_listing.specs.declared.reasons.BadLine.{BadLine}
 use Rattle.grain_listing.specs.declared.reasons.Reason.{Reason}
-use Rattle.grain_listing.specs.declared.reasons.Reason.TheVariants.{BadOperand, OutOfPlace, TooMany}
-use Rattle.grain_listing.proofs.Assembled.{width-append}
+use Rattle.grain_listing.specs.declared.reasons.Reason.TheVariants.{BadOperand, OutOfPlace}
 use Rattle.grain_listing.proofs.Spelled.{in_table}
 
 -- no instruction's word begins another line

@@ -31,8 +31,15 @@ pub record LinesRead (text rest : List ℕ) (n : ℕ) (v : AssemblerView) : Type
   pub narrow : address said ≤ 13 * n
 
 pub none_read : (text : List ℕ) (v : AssemblerView) → v ≡ empty → LinesRead text text 0 v
-none_read text v e = record { said = []; has = e; onward = refl; count = omega arith; room =
-    omega arith; narrow = omega arith }
+none_read text v e = record {
+  said = [];
+  has = e;
+  onward = refl;
+  count = omega arith;
+  room =
+      omega arith;
+  narrow = omega arith;
+}
 
 -- a step that went on has given something
 passed : {A B E : Type 0} (r : Result A E) (go : A → Result B E) (p : B) → Ok p ≡ and_then r go →

@@ -26,8 +26,8 @@ wrote [] (z ∷ zs) rest front at i same is = absurd (omega arith)
 wrote (b ∷ bs) [] rest front at i same is = absurd (omega arith)
 wrote (b ∷ bs) (z ∷ zs) rest front at i same is =
     let here : slice_set (front ++ (z ∷ (zs ++ rest))) (at + i) b ≡ front ++ (b ∷ (zs ++ rest)) =
-        ap (λ k. slice_set (front ++ (z ∷ (zs ++ rest))) k b) (sym is) ∙
-        set-append_seam front z (zs ++ rest) b in
+    ap (λ k. slice_set (front ++ (z ∷ (zs ++ rest))) k b) (sym is) ∙
+    set-append_seam front z (zs ++ rest) b in
     let longer : length (front ++ (b ∷ [])) ≡ at + (i + 1) =
     omega (arith, length-append front (b ∷ []), is) in
     ap (write_on at (i + 1) bs) (here ∙ sym (append_assoc front (b ∷ []) (zs ++ rest))) ∙
@@ -60,31 +60,31 @@ linked map table same (Goto line label ∷ ps) front =
     (write_at (length front) (to_le_bytes w32 a) (front ++ (0 ∷ 0 ∷ 0 ∷ 0 ∷ blanks ps)))))
     (same label) ∙
     at (label_address label table) (λ a. linked map table same ps (front ++ to_le_bytes w32 a))
-    where
-  at : (o : Option ℕ) → ((a : ℕ) →
-      fill map (fixups_from (length (front ++ to_le_bytes w32 a)) ps)
-      ((front ++ to_le_bytes w32 a) ++ blanks ps) ≡
-      and_then (code_of table ps) (λ code. Ok ((front ++ to_le_bytes w32 a) ++ code))) →
-      and_then (present (bad_line line UnknownLabel) o)
-      (λ a. fill map (fixups_from (length front + 4) ps)
-      (write_at (length front) (to_le_bytes w32 a) (front ++ (0 ∷ 0 ∷ 0 ∷ 0 ∷ blanks ps)))) ≡
-      and_then (and_then (present (bad_line line UnknownLabel) o)
-      (λ a. and_then (code_of table ps) (λ code. Ok (to_le_bytes w32 a ++ code))))
-      (λ code. Ok (front ++ code))
-  at None later = refl
-  at (Some a) later =
-      let four : length (to_le_bytes w32 a) ≡ 4 = refl in
-      let more : length front + 4 ≡ length (front ++ to_le_bytes w32 a) =
-      omega (arith, length-append front (to_le_bytes w32 a), four) in
-      let written : write_at (length front) (to_le_bytes w32 a)
-      (front ++ (0 ∷ 0 ∷ 0 ∷ 0 ∷ blanks ps)) ≡ front ++ (to_le_bytes w32 a ++ blanks ps) =
-          wrote (to_le_bytes w32 a) (0 ∷ 0 ∷ 0 ∷ 0 ∷ []) (blanks ps) front (length front) 0 refl
-          (omega arith) in
-      ap (λ n. fill map (fixups_from n ps)
-      (write_at (length front) (to_le_bytes w32 a) (front ++ (0 ∷ 0 ∷ 0 ∷ 0 ∷ blanks ps)))) more ∙
-      ap (fill map (fixups_from (length (front ++ to_le_bytes w32 a)) ps)) (written ∙
-      sym (append_assoc front (to_le_bytes w32 a) (blanks ps))) ∙
-      later a ∙ moved front (to_le_bytes w32 a) (code_of table ps)
+  where
+    at : (o : Option ℕ) → ((a : ℕ) →
+        fill map (fixups_from (length (front ++ to_le_bytes w32 a)) ps)
+        ((front ++ to_le_bytes w32 a) ++ blanks ps) ≡
+        and_then (code_of table ps) (λ code. Ok ((front ++ to_le_bytes w32 a) ++ code))) →
+        and_then (present (bad_line line UnknownLabel) o)
+        (λ a. fill map (fixups_from (length front + 4) ps)
+        (write_at (length front) (to_le_bytes w32 a) (front ++ (0 ∷ 0 ∷ 0 ∷ 0 ∷ blanks ps)))) ≡
+        and_then (and_then (present (bad_line line UnknownLabel) o)
+        (λ a. and_then (code_of table ps) (λ code. Ok (to_le_bytes w32 a ++ code))))
+        (λ code. Ok (front ++ code))
+    at None later = refl
+    at (Some a) later =
+        let four : length (to_le_bytes w32 a) ≡ 4 = refl in
+        let more : length front + 4 ≡ length (front ++ to_le_bytes w32 a) =
+        omega (arith, length-append front (to_le_bytes w32 a), four) in
+        let written : write_at (length front) (to_le_bytes w32 a)
+        (front ++ (0 ∷ 0 ∷ 0 ∷ 0 ∷ blanks ps)) ≡ front ++ (to_le_bytes w32 a ++ blanks ps) =
+        wrote (to_le_bytes w32 a) (0 ∷ 0 ∷ 0 ∷ 0 ∷ []) (blanks ps) front (length front) 0 refl
+        (omega arith) in
+        ap (λ n. fill map (fixups_from n ps)
+        (write_at (length front) (to_le_bytes w32 a) (front ++ (0 ∷ 0 ∷ 0 ∷ 0 ∷ blanks ps)))) more ∙
+        ap (fill map (fixups_from (length (front ++ to_le_bytes w32 a)) ps)) (written ∙
+        sym (append_assoc front (to_le_bytes w32 a) (blanks ps))) ∙
+        later a ∙ moved front (to_le_bytes w32 a) (code_of table ps)
 
 alone : (r : Code) → and_then r (λ code. Ok ([] ++ code)) ≡ r
 alone (Ok code) = refl

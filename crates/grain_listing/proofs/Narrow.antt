@@ -1,5 +1,5 @@
 -- No line gives more than 13 bytes of code: a tag, and three operands of up to four bytes.
-use Rattle.std.proofs.Common.{◌≡◌, ℕ, ◌+◌, ◌*◌, ◌-◌, ◌^◌, ◌≤◌, Bool, true, false, ◌&&◌, cond, nat_lt, bytes_eq, codes, is_some, List, [], ◌∷◌, ◌++◌, length, drop, Option, Some, None, Result, Ok, Err, refl, sym, ap, ◌∙◌, subst, arith}
+use Rattle.std.proofs.Common.{◌≡◌, ℕ, ◌+◌, ◌*◌, ◌-◌, ◌^◌, ◌≤◌, Bool, true, false, ◌&&◌, cond, nat_lt, bytes_eq, codes, is_some, List, [], ◌∷◌, ◌++◌, length, drop, Option, Some, None, Result, Ok, Err, refl, subst, arith}
 use Rattle.std.specs.Int.{w16, w32, to_le_bytes}
 use Rattle.grain_fault.specs.declared.places.Position.{Position}
 use Rattle.grain_program.specs.declared.instructions.Op.{Op}
@@ -15,8 +15,8 @@ use Rattle.grain_listing.specs.Settings.{capabilities}
 use Rattle.grain_listing.specs.Headers.{stack_of, assign_of, parameters, header_of}
 use Rattle.grain_listing.specs.Instructions.{word_of, kinds_of, encoding_of, encoding_in, value_instructions, flow_instructions, value_encoding, flow_encoding, or_encoding, encoding_named}
 use Rattle.grain_listing.specs.Table.{own_line, instruction_line_of, later_line, or_else, line_of, stands, is_block}
-use Rattle.grain_listing.specs.Statements.{Piece, Byte, Goto, Statement, blank, header, caps_line, limit_line, const_line, name_line, op_line, assign_line, scope_line, main_line, fn_line, end_line, code_line, label_line, section, caps, limits, consts, names, tokens, assigns, functions, labels, label_address, pieces, width, address}
-use Rattle.grain_listing.specs.LineMeanings.{bytes, operand, operand_word, operands, limit_set, statement, before_colon, label_said, labelled, known, header_said, begun_by, in_section, says}
+use Rattle.grain_listing.specs.Statements.{Piece, Byte, Goto, Statement, header, caps_line, limit_line, const_line, name_line, op_line, assign_line, scope_line, main_line, fn_line, end_line, code_line, label_line, section, caps, limits, consts, names, tokens, assigns, functions, labels, label_address, pieces, width, address}
+use Rattle.grain_listing.specs.LineMeanings.{bytes, operand, operand_word, operands, limit_set, statement, before_colon, labelled, known, header_said, begun_by, in_section, says}
 use Rattle.grain_listing.specs.declared.table.Encoding.{Encoding}
 use Rattle.grain_listing.specs.declared.table.Line.{Line}
 use Rattle.grain_listing.specs.declared.table.Line.TheVariants as lines
@@ -25,7 +25,7 @@ use Rattle.grain_listing.specs.declared.table.OperandKind.TheVariants as kinds
 use Rattle.grain_listing.specs.declared.table.Section.{Section}
 use Rattle.grain_listing.specs.declared.table.Section.TheVariants as sections
 use Rattle.grain_listing.specs.declared.reasons.Reason.{Reason}
-use Rattle.grain_listing.specs.declared.reasons.Reason.TheVariants.{MissingHeader, UnknownWord, OutOfPlace, TooMany, BadOperand, LabelTwice, NotBuilt}
+use Rattle.grain_listing.specs.declared.reasons.Reason.TheVariants.{MissingHeader, UnknownWord, OutOfPlace, TooMany, BadOperand, LabelTwice}
 use Rattle.grain_listing.proofs.Assembled.{width-append}
 
 -- an instruction has at most three operands

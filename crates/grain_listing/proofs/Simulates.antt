@@ -1,5 +1,5 @@
 -- One more line: what it says is what the assembler takes.
-use Rattle.std.proofs.Common.{◌≡◌, ℕ, ◌+◌, ◌-◌, ◌^◌, Bool, true, false, ◌&&◌, cond, nat_lt, codes, is_some, List, [], ◌∷◌, ◌++◌, length, drop, Option, Some, None, Result, Ok, Err, refl, sym, ap, ◌∙◌, append-nil}
+use Rattle.std.proofs.Common.{◌≡◌, ℕ, ◌-◌, ◌^◌, Bool, true, false, ◌&&◌, cond, nat_lt, codes, is_some, List, [], ◌∷◌, ◌++◌, length, drop, Option, Some, None, Result, Ok, Err, refl, sym, ap, ◌∙◌, append-nil}
 use Rattle.std.specs.Int.{w16, w32, to_le_bytes}
 use Rattle.grain_fault.specs.declared.places.Position.{Position}
 use Rattle.grain_words.specs.Labels.{address_of, with_label}
@@ -12,13 +12,12 @@ use Rattle.grain_listing.specs.Literals.{constant_of, text_of, token_of, entry_o
 use Rattle.grain_listing.specs.Settings.{capabilities}
 use Rattle.grain_listing.specs.Headers.{stack_of, assign_of, parameters, header_of}
 use Rattle.grain_listing.specs.Table.{line_of, stands, is_block}
-use Rattle.grain_listing.specs.Statements.{Piece, Byte, Goto, Statement, blank, header, caps_line, limit_line, const_line, name_line, op_line, assign_line, scope_line, main_line, fn_line, end_line, code_line, label_line, section, caps, limits, consts, names, tokens, assigns, functions, labels, label_address, address, open_block}
-use Rattle.grain_listing.specs.LineMeanings.{bytes, operand, operand_word, operands, in_pool, in_list, limit_set, statement, before_colon, label_said, labelled, known, header_said, begun_by, in_section, says}
+use Rattle.grain_listing.specs.Statements.{Piece, Byte, Goto, Statement, header, caps_line, limit_line, const_line, name_line, op_line, assign_line, scope_line, main_line, fn_line, end_line, code_line, label_line, section, caps, limits, consts, names, tokens, assigns, functions, labels, label_address, address, open_block}
+use Rattle.grain_listing.specs.LineMeanings.{bytes, operand, operand_word, operands, in_list, limit_set, statement, before_colon, label_said, labelled, known, header_said, begun_by, in_section, says}
 use Rattle.grain_listing.specs.views.Assembling
 use Rattle.grain_listing.specs.views.Assembling.{AssemblerView, with_code, with_fixup, with_position, put_bare, put_operand, put_operands, closed, opened, put_line, put_label, known_line, is_start, after_header, take_line}
 use Rattle.grain_listing.specs.declared.blocks.OpenBlock.TheVariants as blocks
 use Rattle.grain_listing.specs.declared.headers.FunctionHeader.{FunctionHeader}
-use Rattle.grain_listing.specs.declared.limits.LimitLine.{LimitLine}
 use Rattle.grain_listing.specs.declared.table.Encoding.{Encoding}
 use Rattle.grain_listing.specs.declared.table.Line.{Line}
 use Rattle.grain_listing.specs.declared.table.Line.TheVariants as lines
@@ -138,13 +137,13 @@ operands_put a (Some k ∷ ks) [] v = refl
 operands_put a (Some k ∷ ks) (w ∷ ws) v =
     ap (λ r. and_then r (λ u. put_operands a ks ws u)) (operand_put k w v) ∙
     at (operand_word v.line k w) (λ ps. operands_put a ks ws (with_pieces ps v)) where
-  at : (r : Result (List Piece) Reason) →
-      ((ps : List Piece) → put_operands a ks ws (with_pieces ps v) ≡
-      and_then (operands v.line ks ws) (put a (with_pieces ps v))) →
-      and_then (and_then r (λ ps. given (with_pieces ps v))) (λ u. put_operands a ks ws u) ≡
-      and_then (and_then r (λ ps. pieces_first ps (operands v.line ks ws))) (put a v)
-  at (Ok ps) more = more ps ∙ onward a ps v (operands v.line ks ws)
-  at (Err e) more = refl
+      at : (r : Result (List Piece) Reason) →
+          ((ps : List Piece) → put_operands a ks ws (with_pieces ps v) ≡
+          and_then (operands v.line ks ws) (put a (with_pieces ps v))) →
+          and_then (and_then r (λ ps. given (with_pieces ps v))) (λ u. put_operands a ks ws u) ≡
+          and_then (and_then r (λ ps. pieces_first ps (operands v.line ks ws))) (put a v)
+      at (Ok ps) more = more ps ∙ onward a ps v (operands v.line ks ws)
+      at (Err e) more = refl
 
 -- code with a position or without one
 placed : (n : ℕ) (said : List Statement) (p : Piece) (ps : List Piece) (o : Option Position) →
@@ -164,11 +163,11 @@ instruction_said n said e ws =
     operands_put (address said) e.operands ws (with_pieces (Byte e.tag ∷ []) (assembled n said)) ∙
     onward (address said) (Byte e.tag ∷ []) (assembled n said) (operands n e.operands ws) ∙
     at (operands n e.operands ws)) where
-  at : (r : Result (List Piece × Option Position) Reason) →
-      and_then (pieces_first (Byte e.tag ∷ []) r) (put (address said) (assembled n said)) ≡
-      and_then (and_then r (λ o. Ok (code_line (Byte e.tag) o.0 o.1))) (next n said)
-  at (Ok x) = ap given (placed n said (Byte e.tag) x.0 x.1)
-  at (Err m) = refl
+      at : (r : Result (List Piece × Option Position) Reason) →
+          and_then (pieces_first (Byte e.tag ∷ []) r) (put (address said) (assembled n said)) ≡
+          and_then (and_then r (λ o. Ok (code_line (Byte e.tag) o.0 o.1))) (next n said)
+      at (Ok x) = ap given (placed n said (Byte e.tag) x.0 x.1)
+      at (Err m) = refl
 
 byte_said : (n : ℕ) (said : List Statement) (ws : List Word) →
     put_line lines.Byte ws (assembled n said) ≡
@@ -184,12 +183,18 @@ byte_said n said ws =
     placed n said (Byte b.0) [] b.1))
 
 abbrev main_opened : ℕ → List Statement → ℕ → ℕ → AssemblerView
-main_opened n said a m = record (assembled n said) { section = sections.Block; block =
-    Some (blocks.Main a m) }
+main_opened n said a m = record (assembled n said) {
+  section = sections.Block;
+  block =
+      Some (blocks.Main a m);
+}
 
 abbrev function_opened : ℕ → List Statement → ℕ → FunctionHeader → AssemblerView
-function_opened n said a h = record (assembled n said) { section = sections.Block; block =
-    Some (blocks.Function a h) }
+function_opened n said a h = record (assembled n said) {
+  section = sections.Block;
+  block =
+      Some (blocks.Function a h);
+}
 
 abbrev label_added : ℕ → List Statement → List ℕ → ℕ → AssemblerView
 label_added n said t a = record (assembled n said) { labels = with_label t a (label_map said) }
@@ -212,8 +217,10 @@ line_said lines.Constant n ws said =
     (and_then (constant_of ws) (λ v.
     Ok (record (assembled n said) { consts = consts said ++ v ∷ [] })))
     (and_then (constant_of ws) (λ v. Ok (const_line v)))
-    (step n said (constant_of ws) (λ v. record (assembled n said) { consts =
-    consts said ++ v ∷ [] }) (λ v. const_line v) (λ v. refl))
+    (step n said (constant_of ws) (λ v. record (assembled n said) {
+      consts =
+          consts said ++ v ∷ [];
+    }) (λ v. const_line v) (λ v. refl))
 line_said lines.Name n ws said =
     if_so n said (nat_lt (length (names said)) 65536) TooMany
     (and_then (text_of ws) (λ t. Ok (record (assembled n said) { names = names said ++ t ∷ [] })))
@@ -232,11 +239,15 @@ line_said lines.Assign n ws said =
     (and_then (assign_of n ws) (λ a.
     Ok (record (assembled n said) { assigns = assigns said ++ a ∷ [] })))
     (and_then (assign_of n ws) (λ a. Ok (assign_line a)))
-    (step n said (assign_of n ws) (λ a. record (assembled n said) { assigns =
-    assigns said ++ a ∷ [] }) (λ a. assign_line a) (λ a. refl))
+    (step n said (assign_of n ws) (λ a. record (assembled n said) {
+      assigns =
+          assigns said ++ a ∷ [];
+    }) (λ a. assign_line a) (λ a. refl))
 line_said lines.Entry n ws said =
-    step n said (entry_of ws) (λ e. record (assembled n said) { scope =
-    (assembled n said).scope ++ e ∷ [] }) (λ e. scope_line e) (λ e. refl)
+    step n said (entry_of ws) (λ e. record (assembled n said) {
+      scope =
+          (assembled n said).scope ++ e ∷ [];
+    }) (λ e. scope_line e) (λ e. refl)
 line_said lines.Main n ws said =
     at_next n said (λ a. and_then (stack_of ws) (λ m. Ok (main_opened n said a m)))
     (and_then (stack_of ws) (λ m. Ok (main_line m)))

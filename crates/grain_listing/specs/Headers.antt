@@ -18,8 +18,14 @@ abbrev pub assign_of : ℕ → List Word → Result AssignLine Reason
 assign_of line ws =
     and_then (index ws) (λ a. and_then (index a.1)
     (λ b. and_then (index b.1) (λ c. and_then (index c.1) (λ d.
-    alone d.1 (record { line = line; op_assign = a.0; op_assign_name = b.0; op = c.0; op_name =
-    d.0 })))))
+    alone d.1 (record {
+      line = line;
+      op_assign = a.0;
+      op_assign_name = b.0;
+      op = c.0;
+      op_name =
+          d.0;
+    })))))
 
 -- how many parameters there are, which `on` ends
 abbrev pub parameters : List Word → ℕ

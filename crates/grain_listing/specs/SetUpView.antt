@@ -1,5 +1,5 @@
 -- What was read, as the definition has it.
-use Rattle.std.specs.Prelude.{◌<◌, ℕ, List, Result, Ok, Err}
+use Rattle.std.specs.Prelude.{◌<◌, Result, Ok, Err}
 use Rattle.grain_program.specs.View.{view_of}
 use Rattle.grain_program.specs.Recorded.{HasOrder}
 use Rattle.grain_listing.specs.Reading.{SetUp}

@@ -1,6 +1,6 @@
 -- What lines say, and what the lines up to some line say together. The lines up to there are a
 -- list with the last line first, so that what stands before a line is the rest of the list.
-use Rattle.std.specs.Prelude.{ℕ, ◌+◌, List, [], ◌∷◌, ◌++◌, Option, Some, None, Result, Ok, Err, bytes_eq, if◌then◌else◌}
+use Rattle.std.specs.Prelude.{ℕ, ◌+◌, List, [], ◌∷◌, ◌++◌, Option, Some, None, Result, Ok, bytes_eq, if◌then◌else◌}
 use Rattle.std.specs.Int.{w32, to_le_bytes}
 use Rattle.grain_value.specs.declared.values.Dynamic.{Dynamic}
 use Rattle.grain_value.specs.declared.operators.Token.{Token}
@@ -141,8 +141,12 @@ main_ended (Some (blocks.Main entry n)) a main = record { entry = entry; end = a
 main_ended (Some (blocks.Function entry h)) a main = main
 
 abbrev pub function_of : ℕ → FunctionHeader → ℕ → Function
-function_of entry h a = record { name = h.name; params = h.params; chunk =
-    record { entry = entry; end = a; max_stack = h.stack } }
+function_of entry h a = record {
+  name = h.name;
+  params = h.params;
+  chunk =
+      record { entry = entry; end = a; max_stack = h.stack };
+}
 
 abbrev pub functions_ended : Option OpenBlock → ℕ → List Function → List Function
 functions_ended None a functions = functions

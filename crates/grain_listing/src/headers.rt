@@ -106,7 +106,10 @@ fn name_and_stack(words: &[Word]) -> Result<(u32, u16, &[Word]), Reason>
 }
 
 /// What stands after `fn`.
-pub fn header_of(alloc: Global, words: &[Word]) -> Result<Result<FunctionHeader, Reason>, OutOfMemory>
+pub fn header_of(
+    alloc: Global,
+    words: &[Word],
+) -> Result<Result<FunctionHeader, Reason>, OutOfMemory>
     ensures { IfOk result (λ r. r ≡ header_of words.now) }
 {
     match name_and_stack(words) {
@@ -121,4 +124,3 @@ pub fn header_of(alloc: Global, words: &[Word]) -> Result<Result<FunctionHeader,
         },
     }
 }
-

@@ -157,4 +157,3 @@ pub fn entry_of(words: &[Word]) -> Result<ScopeEntry<'_>, Reason>
         }
     }
 }
-

@@ -137,4 +137,3 @@ pub fn capabilities(words: &[Word]) -> Result<u8, Reason>
     }
     Ok(bits)
 }
-

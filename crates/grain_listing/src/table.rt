@@ -135,7 +135,11 @@ const VALUES: [(&str, Encoding); 13] = [
         "assign_local_op",
         Encoding {
             tag: 0x11,
-            operands: [Some(OperandKind::Index), Some(OperandKind::Index), Some(OperandKind::Index)],
+            operands: [
+                Some(OperandKind::Index),
+                Some(OperandKind::Index),
+                Some(OperandKind::Index),
+            ],
         },
     ),
     (
@@ -195,7 +199,11 @@ const FLOW: [(&str, Encoding); 12] = [
         "call_op",
         Encoding {
             tag: 0x23,
-            operands: [Some(OperandKind::Index), Some(OperandKind::Byte), Some(OperandKind::Index)],
+            operands: [
+                Some(OperandKind::Index),
+                Some(OperandKind::Byte),
+                Some(OperandKind::Index),
+            ],
         },
     ),
     (

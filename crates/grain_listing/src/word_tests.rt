@@ -42,9 +42,21 @@ fn later_lines(rt: HostRuntime) -> Result<(), OutOfMemory> {
 #[test]
 fn later_variables(rt: HostRuntime) -> Result<(), OutOfMemory> {
     let words = [
-        "store_shared", "load_named", "load_shared_named", "assign_named", "assign_named_op",
-        "declare_global_const", "load_this", "load_this_shared", "require_this", "assign_this",
-        "assign_this_op", "load_shared", "share", "share_named", "is_shared",
+        "store_shared",
+        "load_named",
+        "load_shared_named",
+        "assign_named",
+        "assign_named_op",
+        "declare_global_const",
+        "load_this",
+        "load_this_shared",
+        "require_this",
+        "assign_this",
+        "assign_this_op",
+        "load_shared",
+        "share",
+        "share_named",
+        "is_shared",
     ];
     not_built(&rt, rt.alloc(), "", words.as_slice(), "\n")
 }
@@ -52,9 +64,18 @@ fn later_variables(rt: HostRuntime) -> Result<(), OutOfMemory> {
 #[test]
 fn later_calls(rt: HostRuntime) -> Result<(), OutOfMemory> {
     let words = [
-        "call_local_ref", "call_named_ref", "call_this_ref", "make_closure", "make_fn_ptr",
-        "curry", "call_fn_ptr", "call_fn_ptr_capture", "call_fn_ptr_method",
-        "call_fn_ptr_on_local", "call_fn_ptr_on_named", "call_fn_ptr_on_this",
+        "call_local_ref",
+        "call_named_ref",
+        "call_this_ref",
+        "make_closure",
+        "make_fn_ptr",
+        "curry",
+        "call_fn_ptr",
+        "call_fn_ptr_capture",
+        "call_fn_ptr_method",
+        "call_fn_ptr_on_local",
+        "call_fn_ptr_on_named",
+        "call_fn_ptr_on_this",
     ];
     not_built(&rt, rt.alloc(), "", words.as_slice(), "\n")
 }
@@ -62,10 +83,26 @@ fn later_calls(rt: HostRuntime) -> Result<(), OutOfMemory> {
 #[test]
 fn later_instructions(rt: HostRuntime) -> Result<(), OutOfMemory> {
     let words = [
-        "make_array", "make_map", "check_array_size", "check_map_size", "interpolate_start",
-        "interpolate_append", "interpolate_end", "push_handler", "push_handler_var",
-        "pop_handler", "iter_init", "iter_drop", "iter_next", "iter_next_indexed",
-        "export_local", "export_named", "import", "custom_syntax", "eval_ast", "eval_ast_keep",
+        "make_array",
+        "make_map",
+        "check_array_size",
+        "check_map_size",
+        "interpolate_start",
+        "interpolate_append",
+        "interpolate_end",
+        "push_handler",
+        "push_handler_var",
+        "pop_handler",
+        "iter_init",
+        "iter_drop",
+        "iter_next",
+        "iter_next_indexed",
+        "export_local",
+        "export_named",
+        "import",
+        "custom_syntax",
+        "eval_ast",
+        "eval_ast_keep",
     ];
     not_built(&rt, rt.alloc(), "", words.as_slice(), "\n")
 }
@@ -88,18 +125,20 @@ fn later_operators(rt: HostRuntime) -> Result<(), OutOfMemory> {
 #[test]
 fn later_values(rt: HostRuntime) -> Result<(), OutOfMemory> {
     let words = [
-        "'a'", "[1]", "#{}", "blob(00)", "fn(\"f\")", "range(1", "range=(1", "foreign(16",
+        "'a'",
+        "[1]",
+        "#{}",
+        "blob(00)",
+        "fn(\"f\")",
+        "range(1",
+        "range=(1",
+        "foreign(16",
     ];
     not_built(&rt, rt.alloc(), "const ", words.as_slice(), "\n")
 }
 
 /// The code of one line in the main block.
-fn check_code(
-    rt: &impl Abort,
-    alloc: Global,
-    line: &str,
-    code: &[u8],
-) -> Result<(), OutOfMemory> {
+fn check_code(rt: &impl Abort, alloc: Global, line: &str, code: &[u8]) -> Result<(), OutOfMemory> {
     let mut listing = String::from_str(alloc, "grain 1\nmain 1\n")?;
     listing.push_str(line)?;
     listing.push_str("\nend\n")?;
@@ -122,7 +161,12 @@ fn codes_of_values(rt: HostRuntime) -> Result<(), OutOfMemory> {
     check_code(&rt, alloc, "store_const 513", [0x07, 1, 2].as_slice())?;
     check_code(&rt, alloc, "declare_local 513", [0x0d, 1, 2].as_slice())?;
     check_code(&rt, alloc, "declare_const 513", [0x0e, 1, 2].as_slice())?;
-    check_code(&rt, alloc, "assign_local 513 4", [0x10, 1, 2, 4, 0].as_slice())?;
+    check_code(
+        &rt,
+        alloc,
+        "assign_local 513 4",
+        [0x10, 1, 2, 4, 0].as_slice(),
+    )?;
     check_code(
         &rt,
         alloc,

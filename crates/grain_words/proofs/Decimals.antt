@@ -71,7 +71,7 @@ one_more n (c ∷ cs) h says =
       value = number_from-append 0 (48 + n % 10) (c ∷ cs) ∙ omega (arith, says.value);
       digits = all;
       numeral = both_true (are_digits (c ∷ cs ++ ((48 + n % 10) ∷ [])))
-      (not (c == 48) || is_empty (cs ++ ((48 + n % 10) ∷ []))) all (rw first refl);
+          (not (c == 48) || is_empty (cs ++ ((48 + n % 10) ∷ []))) all (rw first refl);
       above = λ p. first;
     }
 

@@ -27,12 +27,12 @@ pub too_large : (n : ℕ) (cs : List ℕ) → 0x10ffff < n → digits n cs ≡ b
 too_large n [] h = refl
 too_large n (c ∷ cs) h = at (c == 125) (is_hexadecimal c)
     (too_large (n * 16 + digit_value c) cs (omega arith)) where
-  at : (b d : Bool) → digits (n * 16 + digit_value c) cs ≡ broken →
-      cond b (cond (is_character n) (in_front (encode_utf8 n) (quoted cs)) broken)
-      (cond d (digits (n * 16 + digit_value c) cs) broken) ≡ broken
-  at true d more = rw (no_character n h) refl
-  at false true more = more
-  at false false more = refl
+      at : (b d : Bool) → digits (n * 16 + digit_value c) cs ≡ broken →
+          cond b (cond (is_character n) (in_front (encode_utf8 n) (quoted cs)) broken)
+          (cond d (digits (n * 16 + digit_value c) cs) broken) ≡ broken
+      at true d more = rw (no_character n h) refl
+      at false true more = more
+      at false false more = refl
 
 pub digits_over : (n c first : ℕ) (rest after chars : List ℕ) → rest ≡ c ∷ after → c ≢ 125 →
     digit_value c < 16 → 0x10ffff < n * 16 + digit_value c →

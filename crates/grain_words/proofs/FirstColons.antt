@@ -37,9 +37,11 @@ pub colon_later : (n c : ℕ) (word rest after : List ℕ) → rest ≡ c ∷ af
 colon_later n c word rest after r other d e =
     let s : at_colon (c ∷ after) ≡ option_map (λ x. (c ∷ x.0, x.1)) (at_colon after) =
     rw (ne_eqb c 58 other) refl in
-    let t = taken n c word after (d ∙ r) in
-    (ap (λ f. in_front f (at_colon after)) t.0 ∙ twice (take n word) c (at_colon after) ∙
-    ap (in_front (take n word)) (sym s ∙ ap at_colon (sym r)) ∙ e, t.1)
+    let t = taken n c word after (d ∙ r) in (
+      ap (λ f. in_front f (at_colon after)) t.0 ∙ twice (take n word) c (at_colon after) ∙
+          ap (in_front (take n word)) (sym s ∙ ap at_colon (sym r)) ∙ e,
+      t.1,
+    )
 
 pub no_colon : (n : ℕ) (word rest : List ℕ) → length rest ≡ 0 →
     in_front (take n word) (at_colon rest) ≡ at_colon word → None ≡ at_colon word

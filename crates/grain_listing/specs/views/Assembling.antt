@@ -1,5 +1,5 @@
 -- What the assembler has, as lists and numbers, and what each of its steps does.
-use Rattle.std.specs.Prelude.{ℕ, ◌<◌, ◌-◌, ◌^◌, Bool, true, false, ◌&&◌, List, [], ◌∷◌, ◌++◌, length, drop, Option, Some, None, is_some, Result, Ok, Err, codes, nat_lt, if◌then◌else◌}
+use Rattle.std.specs.Prelude.{ℕ, ◌<◌, ◌-◌, ◌^◌, Bool, true, false, ◌&&◌, List, [], ◌∷◌, ◌++◌, length, drop, Option, Some, None, is_some, Result, Ok, Err, codes, if◌then◌else◌}
 use Rattle.std.specs.Int.{w16, w32, to_le_bytes}
 use Rattle.grain_value.specs.declared.values.Dynamic.{Dynamic}
 use Rattle.grain_value.specs.declared.operators.Token.{Token}
@@ -34,7 +34,7 @@ use Rattle.grain_listing.specs.declared.table.OperandKind.TheVariants as kinds
 use Rattle.grain_listing.specs.declared.table.Section.{Section}
 use Rattle.grain_listing.specs.declared.table.Section.TheVariants as sections
 use Rattle.grain_listing.specs.declared.reasons.Reason.{Reason}
-use Rattle.grain_listing.specs.declared.reasons.Reason.TheVariants.{MissingHeader, UnknownWord, OutOfPlace, TooMany, BadOperand, LabelTwice, NotBuilt}
+use Rattle.grain_listing.specs.declared.reasons.Reason.TheVariants.{MissingHeader, UnknownWord, OutOfPlace, BadOperand, LabelTwice, NotBuilt}
 
 -- what the lines so far have given, and the number of the line that is read
 pub record AssemblerView : Type 0 where
@@ -131,13 +131,20 @@ limit_line ws v = limit_set ws v.limits
 
 -- the block is over at the address
 abbrev pub with_block : ℕ → OpenBlock → AssemblerView → AssemblerView
-with_block a b v = record v { main = main_ended (Some b) a v.main; functions =
-    functions_ended (Some b) a v.functions }
+with_block a b v = record v {
+  main = main_ended (Some b) a v.main;
+  functions =
+      functions_ended (Some b) a v.functions;
+}
 
 -- the block that is open, if one is, is over at the address
 abbrev pub closed : ℕ → Option OpenBlock → AssemblerView → AssemblerView
-closed a b v = record v { section = sections.After; block = None; main = main_ended b a v.main;
-    functions = functions_ended b a v.functions }
+closed a b v = record v {
+  section = sections.After;
+  block = None;
+  main = main_ended b a v.main;
+  functions = functions_ended b a v.functions;
+}
 
 -- after `fn`: a function's block begins at the address
 abbrev pub opened : ℕ → List Word → AssemblerView → Result AssemblerView Reason

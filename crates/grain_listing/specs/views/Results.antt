@@ -37,8 +37,11 @@ literal_view (Ok s) = Ok (literal_value s)
 literal_view (Err e) = Err e
 
 abbrev pub entry_value : ScopeEntry → Entry
-entry_value e = record { name = e.name.now; held =
-    record { value = literal_value e.value; read_only = e.read_only } }
+entry_value e = record {
+  name = e.name.now;
+  held =
+      record { value = literal_value e.value; read_only = e.read_only };
+}
 
 abbrev pub entry_view : Result ScopeEntry Reason → Result Entry Reason
 entry_view (Ok e) = Ok (entry_value e)

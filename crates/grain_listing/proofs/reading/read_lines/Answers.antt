@@ -1,4 +1,4 @@
-use Rattle.std.proofs.Common.{rules, arith, ◌≡◌, ◌+◌, length, Result, IfOk, subst}
+use Rattle.std.proofs.Common.{rules, ◌≡◌, ◌+◌, length, Result, IfOk, subst}
 use Rattle.grain_words.specs.Words.{words_of}
 use Rattle.grain_listing.specs.Reading.{SetUp}
 use Rattle.grain_listing.specs.SetUpView.{outcome}
