@@ -1,4 +1,4 @@
--- A write behind a list's end.
+-- A write after a list's end.
 use Rattle.std.proofs.Common.{◌≡◌, ℕ, zero, suc, ◌≤◌, List, [], ◌∷◌, length, refl, ap, arith, slice_set}
 
 pub set_beyond : (s : List ℕ) (i v : ℕ) → length s ≤ i → s ≡ slice_set s i v

@@ -2,10 +2,10 @@
 use Rattle.std.proofs.Common.{◌≡◌, Some, refl}
 use Rattle.grain_program.specs.declared.instructions.Op.{Op}
 use Rattle.grain_program.specs.declared.instructions.Op.TheVariants as op
-use Rattle.grain_listing.specs.Instructions.{word_of, form_of, form_named, value_form, flow_form}
+use Rattle.grain_listing.specs.Instructions.{word_of, encoding_of, encoding_named, value_encoding, flow_encoding}
 
-pub in_table : (o : Op) → form_named (word_of o) ≡ Some (form_of o)
-unfolding form_named value_form flow_form
+pub in_table : (o : Op) → encoding_named (word_of o) ≡ Some (encoding_of o)
+unfolding encoding_named value_encoding flow_encoding
 in_table (op.LoadConst c) = refl
 in_table op.Unit = refl
 in_table op.False = refl

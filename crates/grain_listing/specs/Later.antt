@@ -1,4 +1,4 @@
--- What the format has and nothing reads so far.
+-- What the format has and this crate does not read yet.
 use Rattle.std.specs.Prelude.{ℕ, Bool, false, ◌||◌, List, [], ◌∷◌, codes, bytes_eq, nat_eq}
 use Rattle.std.specs.List.{starts_with}
 
@@ -13,29 +13,39 @@ begins_among (t ∷ ts) w = starts_with nat_eq w t || begins_among ts w
 -- lines and blocks
 abbrev pub later_lines : List (List ℕ)
 later_lines =
-    codes "source" ∷ codes "flag" ∷ codes "chain" ∷ codes "step" ∷ codes "switch" ∷ codes "case" ∷ codes "range" ∷ codes "range=" ∷ codes "site" ∷ codes "input" ∷
-    codes "fragment" ∷ codes "module" ∷ codes "item" ∷ codes "var" ∷ codes "answer" ∷ codes "forbid" ∷ codes "fail" ∷ codes "stop" ∷ codes "chunk" ∷ []
+    codes "source" ∷ codes "flag" ∷ codes "chain" ∷ codes "step" ∷ codes "switch" ∷ codes "case" ∷
+    codes "range" ∷ codes "range=" ∷ codes "site" ∷ codes "input" ∷
+    codes "fragment" ∷ codes "module" ∷ codes "item" ∷ codes "var" ∷ codes "answer" ∷
+    codes "forbid" ∷ codes "fail" ∷ codes "stop" ∷ codes "chunk" ∷ []
 
 -- instructions that read and write variables
 abbrev pub later_variables : List (List ℕ)
 later_variables =
-    codes "store_shared" ∷ codes "load_named" ∷ codes "load_shared_named" ∷ codes "assign_named" ∷ codes "assign_named_op" ∷
-    codes "declare_global_const" ∷ codes "load_this" ∷ codes "load_this_shared" ∷ codes "require_this" ∷ codes "assign_this" ∷
-    codes "assign_this_op" ∷ codes "load_shared" ∷ codes "share" ∷ codes "share_named" ∷ codes "is_shared" ∷ []
+    codes "store_shared" ∷ codes "load_named" ∷ codes "load_shared_named" ∷ codes "assign_named" ∷
+    codes "assign_named_op" ∷
+    codes "declare_global_const" ∷ codes "load_this" ∷ codes "load_this_shared" ∷
+    codes "require_this" ∷ codes "assign_this" ∷
+    codes "assign_this_op" ∷ codes "load_shared" ∷ codes "share" ∷ codes "share_named" ∷
+    codes "is_shared" ∷ []
 
 -- instructions that call and make what is called
 abbrev pub later_calls : List (List ℕ)
 later_calls =
-    codes "call_local_ref" ∷ codes "call_named_ref" ∷ codes "call_this_ref" ∷ codes "make_closure" ∷ codes "make_fn_ptr" ∷ codes "curry" ∷
-    codes "call_fn_ptr" ∷ codes "call_fn_ptr_capture" ∷ codes "call_fn_ptr_method" ∷ codes "call_fn_ptr_on_local" ∷ codes "call_fn_ptr_on_named" ∷
+    codes "call_local_ref" ∷ codes "call_named_ref" ∷ codes "call_this_ref" ∷ codes "make_closure" ∷
+    codes "make_fn_ptr" ∷ codes "curry" ∷
+    codes "call_fn_ptr" ∷ codes "call_fn_ptr_capture" ∷ codes "call_fn_ptr_method" ∷
+    codes "call_fn_ptr_on_local" ∷ codes "call_fn_ptr_on_named" ∷
     codes "call_fn_ptr_on_this" ∷ []
 
 -- the other instructions
 abbrev pub later_others : List (List ℕ)
 later_others =
-    codes "make_array" ∷ codes "make_map" ∷ codes "check_array_size" ∷ codes "check_map_size" ∷ codes "interpolate_start" ∷
-    codes "interpolate_append" ∷ codes "interpolate_end" ∷ codes "push_handler" ∷ codes "push_handler_var" ∷ codes "pop_handler" ∷
-    codes "iter_init" ∷ codes "iter_drop" ∷ codes "iter_next" ∷ codes "iter_next_indexed" ∷ codes "export_local" ∷ codes "export_named" ∷
+    codes "make_array" ∷ codes "make_map" ∷ codes "check_array_size" ∷ codes "check_map_size" ∷
+    codes "interpolate_start" ∷
+    codes "interpolate_append" ∷ codes "interpolate_end" ∷ codes "push_handler" ∷
+    codes "push_handler_var" ∷ codes "pop_handler" ∷
+    codes "iter_init" ∷ codes "iter_drop" ∷ codes "iter_next" ∷ codes "iter_next_indexed" ∷
+    codes "export_local" ∷ codes "export_named" ∷
     codes "import" ∷ codes "custom_syntax" ∷ codes "eval_ast" ∷ codes "eval_ast_keep" ∷ []
 
 -- the words of `limit`
@@ -45,12 +55,15 @@ later_limits = codes "modules" ∷ codes "text" ∷ codes "array" ∷ codes "map
 -- the texts of `op`
 abbrev pub later_operators : List (List ℕ)
 later_operators =
-    codes "/" ∷ codes "%" ∷ codes "**" ∷ codes "<<" ∷ codes ">>" ∷ codes "&" ∷ codes "|" ∷ codes "^" ∷ codes ".." ∷ codes "..=" ∷
-    codes "!" ∷ codes "/=" ∷ codes "%=" ∷ codes "**=" ∷ codes "<<=" ∷ codes ">>=" ∷ codes "&=" ∷ codes "|=" ∷ codes "^=" ∷ []
+    codes "/" ∷ codes "%" ∷ codes "**" ∷ codes "<<" ∷ codes ">>" ∷ codes "&" ∷ codes "|" ∷
+    codes "^" ∷ codes ".." ∷ codes "..=" ∷
+    codes "!" ∷ codes "/=" ∷ codes "%=" ∷ codes "**=" ∷ codes "<<=" ∷ codes ">>=" ∷ codes "&=" ∷
+    codes "|=" ∷ codes "^=" ∷ []
 
 -- how values begin
 abbrev pub later_values : List (List ℕ)
-later_values = codes "[" ∷ codes "#{" ∷ codes "blob(" ∷ codes "fn(" ∷ codes "range(" ∷ codes "range=(" ∷ codes "foreign(" ∷ []
+later_values = codes "[" ∷ codes "#{" ∷ codes "blob(" ∷ codes "fn(" ∷ codes "range(" ∷
+    codes "range=(" ∷ codes "foreign(" ∷ []
 
 unfoldable pub is_later_line : List ℕ → Bool
 is_later_line w = is_among later_lines w

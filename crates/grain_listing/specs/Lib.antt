@@ -1,19 +1,18 @@
+-- To know what a listing says, read `Reading`, `LineMeanings` and `Statements`, and of the others
+-- what they cite. `views` has what the reader's own parts mean, which private contracts alone cite.
 pub mod Steps
 pub mod Reasons
-pub mod Lines
-pub mod Words
-pub mod Numerals
-pub mod Spots
-pub mod Forms
+pub mod Encodings
 pub mod Instructions
 pub mod Later
 pub mod Table
-pub mod Labels
-pub mod LabelView
 pub mod Operands
-pub mod Seen
-pub mod Outline
-pub mod OutlineView
+pub mod Literals
+pub mod Settings
+pub mod Headers
+pub mod InstructionLines
+pub mod Statements
+pub mod LineMeanings
 pub mod Reading
 pub mod SetUpView
-pub mod Ordered
+pub mod views

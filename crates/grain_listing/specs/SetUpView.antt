@@ -1,5 +1,5 @@
 -- What was read, as the definition has it.
-use Rattle.std.specs.Prelude.{◌<◌, ℕ, List, Result, Ok, Err}
+use Rattle.std.specs.Prelude.{◌<◌, Result, Ok, Err}
 use Rattle.grain_program.specs.View.{view_of}
 use Rattle.grain_program.specs.Recorded.{HasOrder}
 use Rattle.grain_listing.specs.Reading.{SetUp}
@@ -17,8 +17,3 @@ pub record IsReady (s : Setup) : Type 0 where
 abbrev pub outcome : Result Setup BadLine → Result SetUp BadLine
 outcome (Ok s) = Ok (set_up_of s)
 outcome (Err e) = Err e
-
--- a step on the code, with what it left where it was not refused
-abbrev pub left : {A E : Type 0} → Result A E → List ℕ → Result (List ℕ) E
-left (Ok x) code = Ok code
-left (Err e) code = Err e

@@ -1,10 +1,10 @@
 -- The lines of a listing, by their first words.
 use Rattle.std.specs.Prelude.{ℕ, Bool, true, false, List, Option, Some, None, if◌then◌else◌, codes, bytes_eq}
-use Rattle.grain_listing.specs.Instructions.{form_named}
+use Rattle.grain_listing.specs.Instructions.{encoding_named}
 use Rattle.grain_listing.specs.Later.{is_later}
-use Rattle.grain_listing.specs.declared.table.Place.{Place}
-use Rattle.grain_listing.specs.declared.table.Place.TheVariants as places
-use Rattle.grain_listing.specs.declared.table.Form.{Form}
+use Rattle.grain_listing.specs.declared.table.Section.{Section}
+use Rattle.grain_listing.specs.declared.table.Section.TheVariants as sections
+use Rattle.grain_listing.specs.declared.table.Encoding.{Encoding}
 use Rattle.grain_listing.specs.declared.table.Line.{Line}
 use Rattle.grain_listing.specs.declared.table.Line.TheVariants as lines
 
@@ -26,11 +26,11 @@ own_line w =
     else None)))))))))))
 
 -- an instruction's line
-abbrev pub instruction_line : Option Form → Option Line
-instruction_line None = None
-instruction_line (Some f) = Some (lines.Instruction f)
+abbrev pub instruction_line_of : Option Encoding → Option Line
+instruction_line_of None = None
+instruction_line_of (Some e) = Some (lines.Instruction e)
 
--- a line that nothing reads so far
+-- a line that is not read yet
 abbrev pub later_line : List ℕ → Option Line
 later_line w = if is_later w then Some lines.Later else None
 
@@ -40,27 +40,41 @@ or_else (Some l) o = Some l
 
 -- the line that begins with the word
 unfoldable pub line_of : List ℕ → Option Line
-line_of w = or_else (own_line w) (or_else (instruction_line (form_named w)) (later_line w))
+line_of w = or_else (own_line w) (or_else (instruction_line_of (encoding_named w)) (later_line w))
 
-abbrev pub is_block : Place → Bool
-is_block places.Block = true
-is_block p = false
+abbrev pub is_pools : Section → Bool
+is_pools sections.Start = false
+is_pools sections.Pools = true
+is_pools sections.Block = false
+is_pools sections.After = false
 
-abbrev pub is_pools : Place → Bool
-is_pools places.Pools = true
-is_pools p = false
+abbrev pub is_block : Section → Bool
+is_block sections.Start = false
+is_block sections.Pools = false
+is_block sections.Block = true
+is_block sections.After = false
 
-abbrev pub is_after : Place → Bool
-is_after places.After = true
-is_after p = false
+abbrev pub is_after : Section → Bool
+is_after sections.Start = false
+is_after sections.Pools = false
+is_after sections.Block = false
+is_after sections.After = true
 
--- Instructions, bytes and a block's end stand in a block, a function behind one, and the others before the first. The header stands
--- nowhere behind itself. Of what nothing reads so far it is not told where it stands.
-abbrev pub stands : Line → Place → Bool
-stands (lines.Instruction f) p = is_block p
-stands lines.Byte p = is_block p
-stands lines.End p = is_block p
-stands lines.Function p = is_after p
-stands lines.Header p = false
-stands lines.Later p = true
-stands l p = is_pools p
+-- Instructions, bytes and a block's end stand in a block, a function after one, and the others
+-- before the first. The header stands nowhere after itself. What is not read yet may stand
+-- anywhere: it is reported as that.
+abbrev pub stands : Line → Section → Bool
+stands lines.Header s = false
+stands lines.Capabilities s = is_pools s
+stands lines.Limit s = is_pools s
+stands lines.Constant s = is_pools s
+stands lines.Name s = is_pools s
+stands lines.Operator s = is_pools s
+stands lines.Assign s = is_pools s
+stands lines.Entry s = is_pools s
+stands lines.Main s = is_pools s
+stands lines.Function s = is_after s
+stands lines.Byte s = is_block s
+stands lines.End s = is_block s
+stands (lines.Instruction e) s = is_block s
+stands lines.Later s = true

@@ -1,4 +1,4 @@
-//! What the format has and nothing reads so far.
+//! What the format has and this crate does not read yet.
 
 ghost use Rattle.std.specs.Prelude.{◌≡◌, map, nat_eq};
 ghost use Rattle.std.specs.List.{starts_with};

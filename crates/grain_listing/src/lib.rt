@@ -1,22 +1,30 @@
 //! Listings: programs as texts, and how they are read.
 #![tactic(auto)]
 
-mod draft;
-mod labels;
+mod assembler;
+mod block_lines;
+mod blocks;
+mod code_lines;
+mod headers;
 mod later;
-mod lines;
-mod numerals;
+mod laws;
+mod limits;
+mod line_rules;
+mod linking;
+mod literals;
 mod operands;
+mod pool_lines;
 mod reading;
 mod reasons;
+mod settings;
 mod setups;
-mod spots;
 mod table;
-mod taking;
 #[cfg(test)]
 mod tests;
-mod words;
+#[cfg(test)]
+mod word_tests;
 
+pub use laws::instructions_are_read;
 pub use reading::{MOST_BYTES, read};
 pub use reasons::{BadLine, Reason};
 pub use setups::Setup;

@@ -34,7 +34,8 @@ pub enum Reason {
     NotBuilt,
 }
 
-/// A line that makes a listing none, and why. Lines are counted from 1; the line of a listing that is too long is 0.
+/// A line that makes a listing none, and why. Lines are counted from 1; the line of a listing that
+/// is too long is 0.
 #[derive(Clone, Copy, Debug, PartialEq, Eq)]
 pub struct BadLine {
     pub line: usize,

@@ -1,29 +1,29 @@
-//! The words that begin a line, and what stands behind them.
+//! The words that begin a line, and what may stand where.
 
 ghost use Rattle.std.specs.Prelude.{◌≡◌, map, Some};
 ghost use Rattle.grain_program.specs.declared.instructions.Op.{Op};
-ghost use Rattle.grain_listing.specs.Forms.{form_among};
-ghost use Rattle.grain_listing.specs.Instructions.{word_of, form_of, value_form, flow_form, form_named};
-ghost use Rattle.grain_listing.specs.Table.{own_line, line_of, stands};
+ghost use Rattle.grain_listing.specs.Encodings.{encoding_among};
+ghost use Rattle.grain_listing.specs.Instructions.{word_of, encoding_of, value_encoding, flow_encoding, encoding_named};
+ghost use Rattle.grain_listing.specs.Table.{own_line, line_of, is_pools, is_block, is_after, stands};
 
 use crate::later::is_later;
 
-/// A place among a listing's lines.
+/// Where the next line of a listing stands.
 #[derive(Clone, Copy, Debug, PartialEq, Eq)]
-pub enum Place {
+pub enum Section {
     /// Before the header.
     Start,
-    /// Behind the header, before the first block.
+    /// After the header, before the first block.
     Pools,
     /// In a block.
     Block,
-    /// Behind a block.
+    /// After a block.
     After,
 }
 
 /// An operand of an instruction.
 #[derive(Clone, Copy, Debug, PartialEq, Eq)]
-pub enum Kind {
+pub enum OperandKind {
     /// A number of one byte.
     Byte,
     /// A number of two bytes.
@@ -34,9 +34,9 @@ pub enum Kind {
 
 /// An instruction's byte and its operands, in the order of its words and of its bytes.
 #[derive(Clone, Copy)]
-pub struct Form {
+pub struct Encoding {
     pub tag: u8,
-    pub operands: [Option<Kind>; 3],
+    pub operands: [Option<OperandKind>; 3],
 }
 
 /// What a line does.
@@ -54,228 +54,236 @@ pub enum Line {
     Function,
     Byte,
     End,
-    Instruction(Form),
-    /// Nothing reads it so far.
+    Instruction(Encoding),
+    /// It is not read yet.
     Later,
 }
 
 /// The instructions of values and variables, by their words.
-const VALUES: [(&str, Form); 13] = [
+const VALUES: [(&str, Encoding); 13] = [
     (
         "load_const",
-        Form {
+        Encoding {
             tag: 0x01,
-            operands: [Some(Kind::Index), None, None],
+            operands: [Some(OperandKind::Index), None, None],
         },
     ),
     (
         "unit",
-        Form {
+        Encoding {
             tag: 0x02,
             operands: [None, None, None],
         },
     ),
     (
         "false",
-        Form {
+        Encoding {
             tag: 0x03,
             operands: [None, None, None],
         },
     ),
     (
         "true",
-        Form {
+        Encoding {
             tag: 0x04,
             operands: [None, None, None],
         },
     ),
     (
         "load_local",
-        Form {
+        Encoding {
             tag: 0x05,
-            operands: [Some(Kind::Index), None, None],
+            operands: [Some(OperandKind::Index), None, None],
         },
     ),
     (
         "store_local",
-        Form {
+        Encoding {
             tag: 0x06,
-            operands: [Some(Kind::Index), None, None],
+            operands: [Some(OperandKind::Index), None, None],
         },
     ),
     (
         "store_const",
-        Form {
+        Encoding {
             tag: 0x07,
-            operands: [Some(Kind::Index), None, None],
+            operands: [Some(OperandKind::Index), None, None],
         },
     ),
     (
         "declare_local",
-        Form {
+        Encoding {
             tag: 0x0d,
-            operands: [Some(Kind::Index), None, None],
+            operands: [Some(OperandKind::Index), None, None],
         },
     ),
     (
         "declare_const",
-        Form {
+        Encoding {
             tag: 0x0e,
-            operands: [Some(Kind::Index), None, None],
+            operands: [Some(OperandKind::Index), None, None],
         },
     ),
     (
         "assign_local",
-        Form {
+        Encoding {
             tag: 0x10,
-            operands: [Some(Kind::Index), Some(Kind::Index), None],
+            operands: [Some(OperandKind::Index), Some(OperandKind::Index), None],
         },
     ),
     (
         "assign_local_op",
-        Form {
+        Encoding {
             tag: 0x11,
-            operands: [Some(Kind::Index), Some(Kind::Index), Some(Kind::Index)],
+            operands: [
+                Some(OperandKind::Index),
+                Some(OperandKind::Index),
+                Some(OperandKind::Index),
+            ],
         },
     ),
     (
         "pop",
-        Form {
+        Encoding {
             tag: 0x1b,
             operands: [None, None, None],
         },
     ),
     (
         "rotate",
-        Form {
+        Encoding {
             tag: 0x1c,
-            operands: [Some(Kind::Byte), None, None],
+            operands: [Some(OperandKind::Byte), None, None],
         },
     ),
 ];
 
 /// The instructions that go elsewhere, call, count or cut, by their words.
-const FLOW: [(&str, Form); 12] = [
+const FLOW: [(&str, Encoding); 12] = [
     (
         "jump",
-        Form {
+        Encoding {
             tag: 0x1d,
-            operands: [Some(Kind::Target), None, None],
+            operands: [Some(OperandKind::Target), None, None],
         },
     ),
     (
         "jump_if_false",
-        Form {
+        Encoding {
             tag: 0x1e,
-            operands: [Some(Kind::Target), None, None],
+            operands: [Some(OperandKind::Target), None, None],
         },
     ),
     (
         "jump_if_true",
-        Form {
+        Encoding {
             tag: 0x1f,
-            operands: [Some(Kind::Target), None, None],
+            operands: [Some(OperandKind::Target), None, None],
         },
     ),
     (
         "skip_if_not_unit",
-        Form {
+        Encoding {
             tag: 0x20,
-            operands: [Some(Kind::Target), None, None],
+            operands: [Some(OperandKind::Target), None, None],
         },
     ),
     (
         "call",
-        Form {
+        Encoding {
             tag: 0x22,
-            operands: [Some(Kind::Index), Some(Kind::Byte), None],
+            operands: [Some(OperandKind::Index), Some(OperandKind::Byte), None],
         },
     ),
     (
         "call_op",
-        Form {
+        Encoding {
             tag: 0x23,
-            operands: [Some(Kind::Index), Some(Kind::Byte), Some(Kind::Index)],
+            operands: [
+                Some(OperandKind::Index),
+                Some(OperandKind::Byte),
+                Some(OperandKind::Index),
+            ],
         },
     ),
     (
         "unwind_to",
-        Form {
+        Encoding {
             tag: 0x38,
-            operands: [Some(Kind::Index), None, None],
+            operands: [Some(OperandKind::Index), None, None],
         },
     ),
     (
         "tick",
-        Form {
+        Encoding {
             tag: 0x39,
             operands: [None, None, None],
         },
     ),
     (
         "checkpoint",
-        Form {
+        Encoding {
             tag: 0x3a,
             operands: [None, None, None],
         },
     ),
     (
         "statement",
-        Form {
+        Encoding {
             tag: 0x3b,
-            operands: [Some(Kind::Index), None, None],
+            operands: [Some(OperandKind::Index), None, None],
         },
     ),
     (
         "throw",
-        Form {
+        Encoding {
             tag: 0x49,
             operands: [None, None, None],
         },
     ),
     (
         "return",
-        Form {
+        Encoding {
             tag: 0x4a,
             operands: [None, None, None],
         },
     ),
 ];
 
-fn find(forms: &[(&str, Form)], word: &str) -> Option<Form>
-    ensures { result ≡ form_among (map (λ f. (f.0.now, f.1)) forms.now) word.now }
+fn find(encodings: &[(&str, Encoding)], word: &str) -> Option<Encoding>
+    ensures { result ≡ encoding_among (map (λ e. (e.0.now, e.1)) encodings.now) word.now }
 {
-    for (first, form) in forms {
+    for (first, encoding) in encodings {
         if *first == word {
-            return Some(*form);
+            return Some(*encoding);
         }
     }
     None
 }
 
-#[tactic(auto, unfolding(crate::specs::Instructions::value_form))]
-fn value_form(word: &str) -> Option<Form>
-    ensures { result ≡ value_form word.now }
+#[tactic(auto, unfolding(crate::specs::Instructions::value_encoding))]
+fn value_encoding(word: &str) -> Option<Encoding>
+    ensures { result ≡ value_encoding word.now }
 {
     find(&VALUES, word)
 }
 
-#[tactic(auto, unfolding(crate::specs::Instructions::flow_form))]
-fn flow_form(word: &str) -> Option<Form>
-    ensures { result ≡ flow_form word.now }
+#[tactic(auto, unfolding(crate::specs::Instructions::flow_encoding))]
+fn flow_encoding(word: &str) -> Option<Encoding>
+    ensures { result ≡ flow_encoding word.now }
 {
     find(&FLOW, word)
 }
 
 /// How the line of the instruction with the word is read.
-#[tactic(auto, unfolding(crate::specs::Instructions::form_named))]
-fn form_named(word: &str) -> Option<Form>
-    ensures { result ≡ form_named word.now }
+#[tactic(auto, unfolding(crate::specs::Instructions::encoding_named))]
+fn encoding_named(word: &str) -> Option<Encoding>
+    ensures { result ≡ encoding_named word.now }
 {
-    if let Some(form) = value_form(word) {
-        return Some(form);
+    if let Some(encoding) = value_encoding(word) {
+        return Some(encoding);
     }
-    flow_form(word)
+    flow_encoding(word)
 }
 
 /// A line that is no instruction's.
@@ -320,8 +328,8 @@ pub fn line_of(word: &str) -> Option<Line>
     if let Some(line) = own_line(word) {
         return Some(line);
     }
-    if let Some(form) = form_named(word) {
-        return Some(Line::Instruction(form));
+    if let Some(encoding) = encoding_named(word) {
+        return Some(Line::Instruction(encoding));
     }
     if is_later(word) {
         Some(Line::Later)
@@ -330,29 +338,55 @@ pub fn line_of(word: &str) -> Option<Line>
     }
 }
 
-/// Whether the line may stand at the place.
-pub fn stands(line: Line, place: Place) -> bool
-    ensures { result ≡ stands line place }
+fn is_pools(section: Section) -> bool
+    ensures { result ≡ is_pools section }
+{
+    match section {
+        Section::Pools => true,
+        Section::Start | Section::Block | Section::After => false,
+    }
+}
+
+/// Whether a block is open.
+pub fn is_block(section: Section) -> bool
+    ensures { result ≡ is_block section }
+{
+    match section {
+        Section::Block => true,
+        Section::Start | Section::Pools | Section::After => false,
+    }
+}
+
+fn is_after(section: Section) -> bool
+    ensures { result ≡ is_after section }
+{
+    match section {
+        Section::After => true,
+        Section::Start | Section::Pools | Section::Block => false,
+    }
+}
+
+/// Whether the line may stand in the section.
+pub fn stands(line: Line, section: Section) -> bool
+    ensures { result ≡ stands line section }
 {
     match line {
-        Line::End | Line::Byte | Line::Instruction(_) => match place {
-            Place::Block => true,
-            _ => false,
-        },
-        Line::Function => match place {
-            Place::After => true,
-            _ => false,
-        },
         Line::Header => false,
+        Line::Capabilities
+        | Line::Limit
+        | Line::Constant
+        | Line::Name
+        | Line::Operator
+        | Line::Assign
+        | Line::Entry
+        | Line::Main => is_pools(section),
+        Line::Function => is_after(section),
+        Line::Byte | Line::End | Line::Instruction(_) => is_block(section),
         Line::Later => true,
-        _ => match place {
-            Place::Pools => true,
-            _ => false,
-        },
     }
 }
 
 /// Each instruction is read by its word, to the tag and the operands with which the code has it.
 pub fn instructions_are_in_the_table()
-    ensures { (o : Op) → form_named (word_of o) ≡ Some (form_of o) }
+    ensures { (o : Op) → encoding_named (word_of o) ≡ Some (encoding_of o) }
 {}

@@ -249,7 +249,8 @@ fn blanks_and_comments(rt: HostRuntime) -> Result<(), OutOfMemory> {
     let setup = set_up(
         &rt,
         rt.alloc(),
-        "; a comment\r\n\tgrain  1\t;1\r\n\r\nname \"a;b\";c\r\nmain 1\r\nb\"c: ;\r\njump b\"c;\r\nend\r\n",
+        "; a comment\r\n\tgrain  1\t;1\r\n\r\nname \"a;b\";c\r\n\
+         main 1\r\nb\"c: ;\r\njump b\"c;\r\nend\r\n",
     )?;
     match setup.parts.names.get(0) {
         Some(name) => assert_eq!(rt; name.as_str(), "a;b"),
@@ -293,7 +294,8 @@ fn limits_and_the_scope(rt: HostRuntime) -> Result<(), OutOfMemory> {
     let setup = set_up(
         &rt,
         rt.alloc(),
-        "grain 1\nscope \"x\" 5\nlimit levels 0\nscope const \"const\" true\nlimit variables 18446744073709551615\nmain 1\nend\n",
+        "grain 1\nscope \"x\" 5\nlimit levels 0\nscope const \"const\" true\n\
+         limit variables 18446744073709551615\nmain 1\nend\n",
     )?;
     assert_eq!(rt; setup.limits.operations, 1_000_000);
     assert_eq!(rt; setup.limits.levels, 0);
@@ -318,7 +320,8 @@ fn functions(rt: HostRuntime) -> Result<(), OutOfMemory> {
     let setup = set_up(
         &rt,
         rt.alloc(),
-        "grain 1\nmain 1\njump in\nend\nfn 3 2 4 5\nin:\ncall 0 1 @1:2\nthrow\nend\nfn 0 65535\nend\n",
+        "grain 1\nmain 1\njump in\nend\n\
+         fn 3 2 4 5\nin:\ncall 0 1 @1:2\nthrow\nend\nfn 0 65535\nend\n",
     )?;
     assert_eq!(rt; setup.parts.main.end, 5);
     assert_eq!(rt;

@@ -3,4 +3,5 @@ use Rattle.grain_listing.specs.Later.{is_among}
 use Rattle.grain_listing.proofs.later.is_among.Given as goal
 
 abbrev pub invariant-loop-other : goal.invariant-loop-other
-invariant-loop-other l = is_among (map (λ w. w.now) (drop l.other-index l.words)) l.word ≡ is_among (map (λ w. w.now) l.words) l.word
+invariant-loop-other l = is_among (map (λ w. w.now) (drop l.other-index l.words)) l.word ≡
+    is_among (map (λ w. w.now) l.words) l.word

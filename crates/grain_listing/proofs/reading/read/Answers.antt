@@ -17,4 +17,6 @@ pub returns-in_ok-chars-in-Ok-clause-setup : goal.returns-in_ok-chars-in-Ok-clau
 returns-in_ok-chars-in-Ok-clause-setup c =
     let l : length c.args.bytes.now ≤ 16777216 = omega arith in
     let k : c.as_slice.result.now ≡ chars c.args.bytes.now = search (rules, chars_from_encodes) in
-    subst (λ (z : Result SetUp BadLine). IfOk c.read_lines.result (λ r. outcome r ≡ z)) (is_text c.args.bytes.now c.as_slice.result.now l c.in-Ok.ensures.cases.1 k) c.read_lines.ensures.setup
+    subst (λ (z : Result SetUp BadLine). IfOk c.read_lines.result (λ r. outcome r ≡ z))
+    (is_text c.args.bytes.now c.as_slice.result.now l c.in-Ok.ensures.cases.1 k)
+    c.read_lines.ensures.setup

@@ -1,22 +1,47 @@
-use Rattle.std.proofs.Common.{rules, arith, ◌≡◌, ◌+◌}
-use Rattle.grain_listing.specs.Lines.{lines_of}
-use Rattle.grain_listing.specs.Words.{words_of}
-use Rattle.grain_listing.specs.Outline.{Outline, empty, take_line}
-use Rattle.grain_listing.specs.OutlineView.{outline}
-use Rattle.grain_listing.specs.Reading.{read_lines}
-use Rattle.grain_listing.proofs.Ascending.{given, ordered_line}
-use Rattle.grain_listing.proofs.Onward.{line_read}
+use Rattle.std.proofs.Common.{rules, ◌≡◌, ◌+◌, length, Result, IfOk, subst}
+use Rattle.grain_words.specs.Words.{words_of}
+use Rattle.grain_listing.specs.Reading.{SetUp}
+use Rattle.grain_listing.specs.SetUpView.{outcome}
+use Rattle.grain_listing.specs.views.AssemblerView.{assembler_view}
+use Rattle.grain_listing.specs.views.Assembling.{AssemblerView, take_line}
+use Rattle.grain_listing.specs.declared.reasons.BadLine.{BadLine}
+use Rattle.grain_listing.proofs.Simulates.{given}
+use Rattle.grain_listing.proofs.LinesRead.{refused_for, line_read, line_refused, all_read, in_order, has_room}
 use Rattle.grain_listing.proofs.reading.read_lines.Goals as goal
+
+pub returns-in-Err-clause-setup : goal.returns-in-Err-clause-setup
+returns-in-Err-clause-setup c =
+    let before : AssemblerView = assembler_view c.lines.assembler in
+    let words : c.as_slice.result.now ≡ words_of c.next_line.result.0.now = search rules in
+    let result = rw (c.in-Err.is, words) at c.in_ok-reason.ensures in
+    let took : refused_for c.in-Err.reason ≡
+    take_line (words_of c.next_line.result.0.now) (record before { line = c.lines.n + 1 }) =
+    result in
+    line_refused c.args.text.now c.lines.rest.now c.next_line.result.0.now c.next_line.result.1.now
+    c.lines.n before c.in-Err.reason c.next_line.ensures.line took c.lines.invariant
 
 pub lines-preserved : goal.lines-preserved
 lines-preserved c =
-    let before : Outline = outline c.lines.draft in
-    let numbered : Outline = record before { line = c.lines.n + 1 } in
-    let after : Outline = outline c.take_line.new.self in
+    let before : AssemblerView = assembler_view c.lines.assembler in
+    let after : AssemblerView = assembler_view c.take_line.new.self in
     let words : c.as_slice.result.now ≡ words_of c.next_line.result.0.now = search rules in
-    let told = rw (c.in-Ok.is, words) at c.in_ok-reason.ensures in
-    let took : given after ≡ take_line (words_of c.next_line.result.0.now) numbered = told in (
-      line_read c.lines.n c.next_line.result.0.now c.lines.rest.now c.next_line.result.1.now before after (read_lines 0 (lines_of c.args.text.now) empty) c.next_line.ensures.line took c.lines.invariant.0,
-      omega (arith, c.next_line.ensures.less, c.lines.invariant.1),
-      ordered_line (words_of c.next_line.result.0.now) numbered after took c.lines.invariant.2,
-    )
+    let result = rw (c.in-Ok.is, words) at c.in_ok-reason.ensures in
+    let took : given after ≡ take_line (words_of c.next_line.result.0.now)
+    (record before { line = c.lines.n + 1 }) = result in
+    line_read c.args.text.now c.lines.rest.now c.next_line.result.0.now c.next_line.result.1.now
+    c.lines.n before after c.next_line.ensures.line c.next_line.ensures.less took c.lines.invariant
+
+pub ending-requires : goal.ending-requires
+ending-requires c = in_order c.args.text.now c.lines.rest.now c.lines.n
+    (assembler_view c.lines.assembler) c.lines.invariant
+
+pub returns-clause-setup : goal.returns-clause-setup
+returns-clause-setup c =
+    let none : length c.lines.rest.now ≡ 0 = search rules in
+    subst (λ (z : Result SetUp BadLine). IfOk c.ending.result (λ r. outcome r ≡ z))
+    (all_read c.args.text.now c.lines.rest.now c.lines.n
+    (assembler_view c.lines.assembler) none c.lines.invariant) c.ending.ensures.setup
+
+pub take_line-requires : goal.take_line-requires
+take_line-requires c = has_room c.args.text.now c.lines.rest.now c.lines.n
+    (assembler_view c.lines.assembler) c.requires c.lines.invariant

@@ -1,0 +1,266 @@
+-- The lines of instructions are read as those instructions.
+use Rattle.std.proofs.Common.{◌≡◌, ℕ, suc, ◌+◌, ◌-◌, ◌^◌, ◌<◌, ◌≤◌, true, false, ◌&&◌, cond, List, [], ◌∷◌, ◌++◌, length, map, Option, Some, None, Result, Ok, Err, refl, sym, ap, ◌∙◌, arith, append_assoc, append-nil}
+use Rattle.std.specs.List.{flat_map, list_all, All}
+use Rattle.std.specs.Fmt.{decimal}
+use Rattle.std.specs.Int.{w16, w32, to_le_bytes}
+use Rattle.grain_fault.specs.declared.places.Position.{Position}
+use Rattle.grain_program.specs.declared.instructions.Op.{Op}
+use Rattle.grain_program.specs.declared.instructions.Op.TheVariants as op
+use Rattle.grain_program.specs.Reading.{Operand, one, two, four}
+use Rattle.grain_program.specs.Spelling.{Field, tag_of, fields_of, spelled, fields_spelled, spelling, NumberFits, FieldsFit, OpFits}
+use Rattle.grain_words.specs.Lines.{lines_of}
+use Rattle.grain_words.specs.Words.{words_of}
+use Rattle.grain_words.specs.Numerals.{number, begins_letter}
+use Rattle.grain_words.specs.Spelled.{is_plain_word, spaced, is_inside, text_of}
+use Rattle.grain_words.specs.declared.words.Word.{Word}
+use Rattle.grain_words.specs.declared.words.Word.TheVariants.{Bare}
+use Rattle.grain_listing.specs.Steps.{and_then, present}
+use Rattle.grain_listing.specs.Instructions.{word_of, kind_of, kinds_of, encoding_of, encoding_named}
+use Rattle.grain_listing.specs.InstructionLines.{numbers_of, instruction_line, instruction_text}
+use Rattle.grain_listing.specs.Table.{is_block, line_of, own_line, instruction_line_of, later_line, or_else}
+use Rattle.grain_listing.specs.Statements.{Piece, Byte, Goto, Statement, code_line, section, pieces}
+use Rattle.grain_listing.specs.LineMeanings.{bytes, operand, operands, known, in_section, says, at_line, statements}
+use Rattle.grain_listing.specs.declared.table.Line.{Line}
+use Rattle.grain_listing.specs.declared.table.Line.TheVariants as lines
+use Rattle.grain_listing.specs.declared.table.OperandKind.{OperandKind}
+use Rattle.grain_listing.specs.declared.table.Section.TheVariants as sections
+use Rattle.grain_listing.specs.declared.reasons.BadLine.{BadLine}
+use Rattle.grain_listing.specs.declared.reasons.Reason.{Reason}
+use Rattle.grain_listing.specs.declared.reasons.Reason.TheVariants.{BadOperand, OutOfPlace}
+use Rattle.grain_listing.proofs.Spelled.{in_table}
+
+-- no instruction's word begins another line
+other_line : (o : Op) → own_line (word_of o) ≡ None
+unfolding own_line
+other_line (op.LoadConst c) = refl
+other_line op.Unit = refl
+other_line op.False = refl
+other_line op.True = refl
+other_line (op.LoadLocal s) = refl
+other_line (op.StoreLocal s) = refl
+other_line (op.StoreConst s) = refl
+other_line (op.DeclareLocal n) = refl
+other_line (op.DeclareConst n) = refl
+other_line (op.AssignLocal s n) = refl
+other_line (op.AssignLocalOp s n a) = refl
+other_line op.Pop = refl
+other_line (op.Rotate u) = refl
+other_line (op.Jump t) = refl
+other_line (op.JumpIfFalse t) = refl
+other_line (op.JumpIfTrue t) = refl
+other_line (op.SkipIfNotUnit t) = refl
+other_line (op.Call n k) = refl
+other_line (op.CallOp n k o) = refl
+other_line (op.UnwindTo d) = refl
+other_line op.Tick = refl
+other_line op.Checkpoint = refl
+other_line (op.Statement d) = refl
+other_line op.Throw = refl
+other_line op.Return = refl
+
+plain_word : (o : Op) → is_plain_word (word_of o) ≡ true
+plain_word (op.LoadConst c) = refl
+plain_word op.Unit = refl
+plain_word op.False = refl
+plain_word op.True = refl
+plain_word (op.LoadLocal s) = refl
+plain_word (op.StoreLocal s) = refl
+plain_word (op.StoreConst s) = refl
+plain_word (op.DeclareLocal n) = refl
+plain_word (op.DeclareConst n) = refl
+plain_word (op.AssignLocal s n) = refl
+plain_word (op.AssignLocalOp s n a) = refl
+plain_word op.Pop = refl
+plain_word (op.Rotate u) = refl
+plain_word (op.Jump t) = refl
+plain_word (op.JumpIfFalse t) = refl
+plain_word (op.JumpIfTrue t) = refl
+plain_word (op.SkipIfNotUnit t) = refl
+plain_word (op.Call n k) = refl
+plain_word (op.CallOp n k o) = refl
+plain_word (op.UnwindTo d) = refl
+plain_word op.Tick = refl
+plain_word op.Checkpoint = refl
+plain_word (op.Statement d) = refl
+plain_word op.Throw = refl
+plain_word op.Return = refl
+
+few : (o : Op) → length (fields_of o) ≤ 3
+few (op.LoadConst c) = omega arith
+few op.Unit = omega arith
+few op.False = omega arith
+few op.True = omega arith
+few (op.LoadLocal s) = omega arith
+few (op.StoreLocal s) = omega arith
+few (op.StoreConst s) = omega arith
+few (op.DeclareLocal n) = omega arith
+few (op.DeclareConst n) = omega arith
+few (op.AssignLocal s n) = omega arith
+few (op.AssignLocalOp s n a) = omega arith
+few op.Pop = omega arith
+few (op.Rotate u) = omega arith
+few (op.Jump t) = omega arith
+few (op.JumpIfFalse t) = omega arith
+few (op.JumpIfTrue t) = omega arith
+few (op.SkipIfNotUnit t) = omega arith
+few (op.Call n k) = omega arith
+few (op.CallOp n k o) = omega arith
+few (op.UnwindTo d) = omega arith
+few op.Tick = omega arith
+few op.Checkpoint = omega arith
+few (op.Statement d) = omega arith
+few op.Throw = omega arith
+few op.Return = omega arith
+
+its_line : (o : Op) → line_of (word_of o) ≡ Some (lines.Instruction (encoding_of o))
+unfolding line_of
+its_line o =
+    ap (λ (l : Option Line). or_else l
+    (or_else (instruction_line_of (encoding_named (word_of o))) (later_line (word_of o))))
+    (other_line o) ∙
+    ap (λ e. or_else (instruction_line_of e) (later_line (word_of o))) (in_table o)
+
+-- what is taken from the laws of numbers and words
+pub record Laws : Type 0 where
+  pub numbers : (most n : ℕ) → n ≤ most → n < 2 ^ 64 → number most (decimal n) ≡ Some n
+  pub plain : (n : ℕ) → n < 2 ^ 64 → is_plain_word (decimal n) ≡ true
+  pub letterless : (n : ℕ) → n < 2 ^ 64 → begins_letter (decimal n) ≡ false
+  pub words : (w : List ℕ) (ws : List (List ℕ)) → is_plain_word w ≡ true →
+      list_all is_plain_word ws ≡ true → words_of (spaced w ws) ≡ Bare w ∷ map (λ v. Bare v) ws
+  pub inside : (w : List ℕ) (ws : List (List ℕ)) → is_plain_word w ≡ true →
+      list_all is_plain_word ws ≡ true → list_all is_inside (spaced w ws) ≡ true
+  pub lines : (ls : List (List ℕ)) → list_all (list_all is_inside) ls ≡ true →
+      lines_of (text_of ls) ≡ ls
+
+small : (a : Operand) (n : ℕ) → NumberFits a n → n < 2 ^ 64
+small one n h = omega arith
+small two n h = omega arith
+small four n h = omega arith
+
+-- the word of a number is read as its bytes
+field_read : Laws → (line : ℕ) (a : Operand) (n : ℕ) → NumberFits a n →
+    operand line (kind_of a) (decimal n) ≡ Ok (bytes (spelled a n))
+field_read laws line one n h = ap (λ o. and_then (present BadOperand o) (λ k. Ok (bytes (k ∷ []))))
+    (laws.numbers 255 n (omega arith) (omega arith))
+field_read laws line two n h = ap
+    (λ o. and_then (present BadOperand o) (λ k. Ok (bytes (to_le_bytes w16 k))))
+    (laws.numbers 65535 n (omega arith) (omega arith))
+field_read laws line four n h =
+    ap (λ b. cond b (Ok (Goto line (decimal n) ∷ []))
+    (and_then (present BadOperand (number (2 ^ 32 - 1) (decimal n)))
+    (λ k. Ok (bytes (to_le_bytes w32 k))))) (laws.letterless n (omega arith)) ∙
+    ap (λ o. and_then (present BadOperand o) (λ k. Ok (bytes (to_le_bytes w32 k))))
+    (laws.numbers (2 ^ 32 - 1) n (omega arith) (omega arith))
+
+abbrev Operands : Type 0
+Operands = Result (List Piece × Option Position) Reason
+
+pub bytes-append : (xs ys : List ℕ) → bytes (xs ++ ys) ≡ bytes xs ++ bytes ys
+bytes-append [] ys = refl
+bytes-append (x ∷ xs) ys = ap (λ l. Byte x ∷ l) (bytes-append xs ys)
+
+-- one more operand before the others
+first_read : Laws → (line : ℕ) (f : Field) (fs : List Field) (ks : List (Option OperandKind)) →
+    NumberFits f.operand f.number →
+    operands line ks (map (λ w. Bare w) (numbers_of fs)) ≡ Ok (bytes (fields_spelled fs), None) →
+    operands line (Some (kind_of f.operand) ∷ ks) (map (λ w. Bare w) (numbers_of (f ∷ fs))) ≡
+    Ok (bytes (fields_spelled (f ∷ fs)), None)
+first_read laws line f fs ks fits rest =
+    let others : Operands = operands line ks (map (λ w. Bare w) (numbers_of fs)) in
+    ap (λ (r : Result (List Piece) Reason).
+    and_then r (λ ps. and_then others (λ o. Ok (ps ++ o.0, o.1))))
+    (field_read laws line f.operand f.number fits) ∙
+    ap (λ (r : Operands). and_then r (λ o. Ok (bytes (spelled f.operand f.number) ++ o.0, o.1)))
+    rest ∙
+    ap (λ (ps : List Piece). Ok (ps, None))
+    (sym (bytes-append (spelled f.operand f.number) (fields_spelled fs)))
+
+fields_read : Laws → (line : ℕ) (fs : List Field) → FieldsFit fs → length fs ≤ 3 →
+    operands line (kinds_of fs) (map (λ w. Bare w) (numbers_of fs)) ≡
+    Ok (bytes (fields_spelled fs), None)
+fields_read laws line [] fit three = refl
+fields_read laws line (a ∷ []) fit three = first_read laws line a [] (None ∷ None ∷ []) fit.0 refl
+fields_read laws line (a ∷ b ∷ []) fit three =
+    first_read laws line a (b ∷ []) (Some (kind_of b.operand) ∷ None ∷ []) fit.0
+    (first_read laws line b [] (None ∷ []) fit.1.0 refl)
+fields_read laws line (a ∷ b ∷ c ∷ []) fit three =
+    first_read laws line a (b ∷ c ∷ []) (Some (kind_of b.operand) ∷ Some (kind_of c.operand) ∷ [])
+    fit.0
+    (first_read laws line b (c ∷ []) (Some (kind_of c.operand) ∷ []) fit.1.0
+    (first_read laws line c [] [] fit.1.1.0 refl))
+fields_read laws line (a ∷ b ∷ c ∷ d ∷ fs) fit three = absurd (omega arith)
+
+plain_numbers : Laws → (fs : List Field) → FieldsFit fs → list_all is_plain_word (numbers_of fs) ≡
+    true
+plain_numbers laws [] fit = refl
+plain_numbers laws (f ∷ fs) fit =
+    ap (λ b. b && list_all is_plain_word (numbers_of fs))
+    (laws.plain f.number (small f.operand f.number fit.0)) ∙ plain_numbers laws fs fit.1
+
+-- what the line of the instruction says
+abbrev instruction_said : Op → Statement
+instruction_said o = code_line (Byte (tag_of o)) (bytes (fields_spelled (fields_of o))) None
+
+one_read : Laws → (n : ℕ) (o : Op) (before : List Statement) → OpFits o →
+    section before ≡ sections.Block →
+    says n (words_of (instruction_line o)) before ≡ Ok (instruction_said o)
+one_read laws n o before fits block =
+    let ws : List Word = map (λ w. Bare w) (numbers_of (fields_of o)) in
+    let within : Result Statement Reason =
+    and_then (operands n (encoding_of o).operands ws)
+    (λ x. Ok (code_line (Byte (tag_of o)) x.0 x.1)) in
+    ap (λ l. says n l before) (laws.words (word_of o) (numbers_of (fields_of o)) (plain_word o)
+    (plain_numbers laws (fields_of o) fits)) ∙
+    ap (λ s. in_section s n (Bare (word_of o)) ws before) block ∙
+    ap (λ l. known l n (word_of o) ws before) (its_line o) ∙
+    ap (λ s. cond (is_block s) within (Err OutOfPlace)) block ∙
+    ap (λ (r : Operands). and_then r (λ x. Ok (code_line (Byte (tag_of o)) x.0 x.1)))
+    (fields_read laws n (fields_of o) fits (few o))
+
+first_fits : (o : Op) (os : List Op) → All OpFits (o ∷ os) → OpFits o
+first_fits o os fit = fit 0 o (omega arith)
+
+others_fit : (o : Op) (os : List Op) → All OpFits (o ∷ os) → All OpFits os
+others_fit o os fit = λ k d h. fit (suc k) d (omega arith)
+
+abbrev Pieces : Type 0
+Pieces = Result (List Piece) BadLine
+
+abbrev pieces_read : Result (List Statement) BadLine → Pieces
+pieces_read r = and_then r (λ said. Ok (pieces said))
+
+lines_read : Laws → (n : ℕ) (before : List Statement) (ops : List Op) →
+    section before ≡ sections.Block → All OpFits ops →
+    pieces_read (statements n before (map instruction_line ops)) ≡
+    Ok (pieces before ++ bytes (flat_map spelling ops))
+lines_read laws n before [] block fit =
+    ap (λ (ps : List Piece). Ok ps) (sym (append-nil (pieces before)))
+lines_read laws n before (o ∷ os) block fit =
+    let here : List Statement = instruction_said o ∷ before in
+    let first : says (n + 1) (words_of (instruction_line o)) before ≡ Ok (instruction_said o) =
+    one_read laws (n + 1) o before (first_fits o os fit) block in
+    ap (λ (r : Result Statement Reason).
+    pieces_read (and_then (at_line (n + 1) r)
+    (λ s. statements (n + 1) (s ∷ before) (map instruction_line os)))) first ∙
+    lines_read laws (n + 1) here os block (others_fit o os fit) ∙
+    ap (λ (ps : List Piece). Ok ps)
+    (append_assoc (pieces before) (bytes (spelling o)) (bytes (flat_map spelling os)) ∙
+    ap (λ l. pieces before ++ l) (sym (bytes-append (spelling o) (flat_map spelling os))))
+
+inside_all : Laws → (ops : List Op) → All OpFits ops →
+    list_all (list_all is_inside) (map instruction_line ops) ≡ true
+inside_all laws [] fit = refl
+inside_all laws (o ∷ os) fit =
+    ap (λ b. b && list_all (list_all is_inside) (map instruction_line os))
+    (laws.inside (word_of o) (numbers_of (fields_of o)) (plain_word o)
+    (plain_numbers laws (fields_of o) (first_fits o os fit))) ∙
+    inside_all laws os (others_fit o os fit)
+
+pub instructions_read : Laws → (n : ℕ) (before : List Statement) (ops : List Op) →
+    section before ≡ sections.Block → All OpFits ops →
+    and_then (statements n before (lines_of (instruction_text ops))) (λ said. Ok (pieces said)) ≡
+    Ok (pieces before ++ bytes (flat_map spelling ops))
+instructions_read laws n before ops block fit =
+    ap (λ ls. pieces_read (statements n before ls))
+    (laws.lines (map instruction_line ops) (inside_all laws ops fit)) ∙
+    lines_read laws n before ops block fit

@@ -1,0 +1,14 @@
+use Rattle.grain_listing.proofs.InstructionsRead.{Laws, instructions_read}
+use Rattle.grain_listing.proofs.laws.instructions_are_read.Goals as goal
+
+pub returns : goal.returns
+returns c =
+    let laws : Laws = record {
+      numbers = c.decimals_are_read.ensures.numbers;
+      plain = c.decimals_are_read.ensures.plain;
+      letterless = c.decimals_are_read.ensures.letterless;
+      words = c.plain_texts_are_read.ensures.words;
+      inside = c.plain_texts_are_read.ensures.inside;
+      lines = c.plain_texts_are_read.ensures.lines;
+    } in
+    instructions_read laws

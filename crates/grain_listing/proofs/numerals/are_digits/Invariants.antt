@@ -1,6 +1,0 @@
-use Rattle.std.proofs.Common.{◌≡◌, drop}
-use Rattle.grain_listing.specs.Numerals.{are_digits}
-use Rattle.grain_listing.proofs.numerals.are_digits.Given as goal
-
-abbrev pub invariant-loop-c : goal.invariant-loop-c
-invariant-loop-c l = are_digits (drop l.c-index l.word) ≡ are_digits l.word

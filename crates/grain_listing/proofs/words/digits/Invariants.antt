@@ -1,9 +1,0 @@
-use Rattle.std.proofs.Common.{◌≡◌, ◌≤◌, length}
-use Rattle.grain_listing.specs.Words.{digits}
-use Rattle.grain_listing.proofs.words.digits.Given as goal
-
-abbrev pub invariant-scan : goal.invariant-scan
-invariant-scan l = (digits l.number l.rest ≡ digits l.fn.first l.chars) × (l.number ≤ 0x10ffff) × (length l.rest ≤ length l.chars)
-
-abbrev pub decreases-scan : goal.decreases-scan
-decreases-scan l = length l.rest

@@ -1,0 +1,178 @@
+-- What lines say, and what the lines up to some line say together. The lines up to there are a
+-- list with the last line first, so that what stands before a line is the rest of the list.
+use Rattle.std.specs.Prelude.{ℕ, ◌+◌, List, [], ◌∷◌, ◌++◌, Option, Some, None, Result, Ok, bytes_eq, if◌then◌else◌}
+use Rattle.std.specs.Int.{w32, to_le_bytes}
+use Rattle.grain_value.specs.declared.values.Dynamic.{Dynamic}
+use Rattle.grain_value.specs.declared.operators.Token.{Token}
+use Rattle.grain_value.specs.declared.scopes.Entry.{Entry}
+use Rattle.grain_fault.specs.declared.places.Position.{Position}
+use Rattle.grain_program.specs.declared.input.Chunk.{Chunk}
+use Rattle.grain_program.specs.declared.input.PositionEntry.{PositionEntry}
+use Rattle.grain_program.specs.declared.functions.Function.{Function}
+use Rattle.grain_listing.specs.Steps.{and_then, present}
+use Rattle.grain_listing.specs.declared.blocks.OpenBlock.{OpenBlock}
+use Rattle.grain_listing.specs.declared.blocks.OpenBlock.TheVariants as blocks
+use Rattle.grain_listing.specs.declared.headers.AssignLine.{AssignLine}
+use Rattle.grain_listing.specs.declared.headers.FunctionHeader.{FunctionHeader}
+use Rattle.grain_listing.specs.declared.limits.LimitLine.{LimitLine}
+use Rattle.grain_listing.specs.declared.reasons.BadLine.{BadLine}
+use Rattle.grain_listing.specs.declared.reasons.Reason.{Reason}
+use Rattle.grain_listing.specs.declared.reasons.Reason.TheVariants.{UnknownLabel}
+use Rattle.grain_listing.specs.declared.table.Section.{Section}
+use Rattle.grain_listing.specs.declared.table.Section.TheVariants as sections
+
+-- a piece of code: a byte, or four bytes for the address of a label, which this line names
+pub data Piece : Type 0 where
+  Byte : ℕ → Piece
+  Goto : ℕ → List ℕ → Piece
+
+-- what a line says
+pub data Statement : Type 0 where
+  -- an empty line, and the header
+  blank : Statement
+  header : Statement
+  -- the bits of the capabilities, and a limit
+  caps_line : ℕ → Statement
+  limit_line : LimitLine → Statement
+  -- an entry of a pool, and one of the starting scope
+  const_line : Dynamic → Statement
+  name_line : List ℕ → Statement
+  op_line : Token → Statement
+  assign_line : AssignLine → Statement
+  scope_line : Entry → Statement
+  -- the beginning of a block, of which `main` may have this many operands, and the end of one
+  main_line : ℕ → Statement
+  fn_line : FunctionHeader → Statement
+  end_line : Statement
+  -- code, of at least one piece, with a position if there is one, and a label
+  code_line : Piece → List Piece → Option Position → Statement
+  label_line : List ℕ → Statement
+
+-- where the next line stands
+abbrev pub section : List Statement → Section
+section [] = sections.Start
+section (header ∷ before) = sections.Pools
+section (main_line n ∷ before) = sections.Block
+section (fn_line h ∷ before) = sections.Block
+section (end_line ∷ before) = sections.After
+section (s ∷ before) = section before
+
+-- the capabilities, the limits and the entries of the pools and of the starting scope
+abbrev pub caps : List Statement → Option ℕ
+caps [] = None
+caps (caps_line bits ∷ before) = Some bits
+caps (s ∷ before) = caps before
+
+abbrev pub limits : List Statement → List LimitLine
+limits [] = []
+limits (limit_line l ∷ before) = limits before ++ l ∷ []
+limits (s ∷ before) = limits before
+
+abbrev pub consts : List Statement → List Dynamic
+consts [] = []
+consts (const_line v ∷ before) = consts before ++ v ∷ []
+consts (s ∷ before) = consts before
+
+abbrev pub names : List Statement → List (List ℕ)
+names [] = []
+names (name_line t ∷ before) = names before ++ t ∷ []
+names (s ∷ before) = names before
+
+abbrev pub tokens : List Statement → List Token
+tokens [] = []
+tokens (op_line t ∷ before) = tokens before ++ t ∷ []
+tokens (s ∷ before) = tokens before
+
+abbrev pub assigns : List Statement → List AssignLine
+assigns [] = []
+assigns (assign_line a ∷ before) = assigns before ++ a ∷ []
+assigns (s ∷ before) = assigns before
+
+abbrev pub scope : List Statement → List Entry
+scope [] = []
+scope (scope_line e ∷ before) = scope before ++ e ∷ []
+scope (s ∷ before) = scope before
+
+-- the pieces of the code
+abbrev pub pieces : List Statement → List Piece
+pieces [] = []
+pieces (code_line p ps position ∷ before) = pieces before ++ p ∷ ps
+pieces (s ∷ before) = pieces before
+
+-- how many bytes the pieces have
+abbrev pub width : List Piece → ℕ
+width [] = 0
+width (Byte b ∷ ps) = 1 + width ps
+width (Goto line label ∷ ps) = 4 + width ps
+
+-- the address of what comes after these lines is the width of their pieces
+abbrev pub address : List Statement → ℕ
+address before = width (pieces before)
+
+-- the addresses of the labels
+abbrev pub labels : List Statement → List (List ℕ × ℕ)
+labels [] = []
+labels (label_line t ∷ before) = (t, address before) ∷ labels before
+labels (s ∷ before) = labels before
+
+abbrev pub label_address : List ℕ → List (List ℕ × ℕ) → Option ℕ
+label_address t [] = None
+label_address t (l ∷ ls) = if bytes_eq t l.0 then Some l.1 else label_address t ls
+
+-- the positions of the instructions and bytes that have one
+abbrev pub positions : List Statement → List PositionEntry
+positions [] = []
+positions (code_line p ps (Some at) ∷ before) =
+    positions before ++ record { address = address before; position = at } ∷ []
+positions (s ∷ before) = positions before
+
+-- the block that is open: the last `main` or `fn` begins it, unless an `end` comes after
+abbrev pub open_block : List Statement → Option OpenBlock
+open_block [] = None
+open_block (main_line n ∷ before) = Some (blocks.Main (address before) n)
+open_block (fn_line h ∷ before) = Some (blocks.Function (address before) h)
+open_block (end_line ∷ before) = None
+open_block (s ∷ before) = open_block before
+
+-- an `end` at the address ends the block that is open: the main one, or a function's
+abbrev pub main_ended : Option OpenBlock → ℕ → Chunk → Chunk
+main_ended None a main = main
+main_ended (Some (blocks.Main entry n)) a main = record { entry = entry; end = a; max_stack = n }
+main_ended (Some (blocks.Function entry h)) a main = main
+
+abbrev pub function_of : ℕ → FunctionHeader → ℕ → Function
+function_of entry h a = record {
+  name = h.name;
+  params = h.params;
+  chunk =
+      record { entry = entry; end = a; max_stack = h.stack };
+}
+
+abbrev pub functions_ended : Option OpenBlock → ℕ → List Function → List Function
+functions_ended None a functions = functions
+functions_ended (Some (blocks.Main entry n)) a functions = functions
+functions_ended (Some (blocks.Function entry h)) a functions =
+    functions ++ function_of entry h a ∷ []
+
+abbrev pub main_chunk : List Statement → Chunk
+main_chunk [] = record { entry = 0; end = 0; max_stack = 0 }
+main_chunk (end_line ∷ before) = main_ended (open_block before) (address before) (main_chunk before)
+main_chunk (s ∷ before) = main_chunk before
+
+abbrev pub functions : List Statement → List Function
+functions [] = []
+functions (end_line ∷ before) =
+    functions_ended (open_block before) (address before) (functions before)
+functions (s ∷ before) = functions before
+
+abbrev pub bad_line : ℕ → Reason → BadLine
+bad_line line reason = record { line = line; reason = reason }
+
+-- the code: the bytes, and at each label its address, the lowest byte first; or the first line
+-- that names an unknown label
+abbrev pub code_of : List (List ℕ × ℕ) → List Piece → Result (List ℕ) BadLine
+code_of labels [] = Ok []
+code_of labels (Byte b ∷ ps) = and_then (code_of labels ps) (λ code. Ok (b ∷ code))
+code_of labels (Goto line label ∷ ps) =
+    and_then (present (bad_line line UnknownLabel) (label_address label labels)) (λ a.
+    and_then (code_of labels ps) (λ code. Ok (to_le_bytes w32 a ++ code)))

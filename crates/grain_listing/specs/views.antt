@@ -1,0 +1,5 @@
+pub mod Results
+pub mod Assembling
+pub mod AssemblerView
+pub mod Linking
+pub mod Ordered

@@ -1,0 +1,32 @@
+-- An assembler as lists and numbers.
+use Rattle.std.specs.Prelude.{Result, Ok, Err}
+use Rattle.grain_listing.specs.views.Assembling.{AssemblerView}
+use Rattle.grain_listing.specs.declared.assembler.Assembler.{Assembler}
+use Rattle.grain_listing.specs.declared.reasons.Reason.{Reason}
+
+abbrev pub assembler_view : Assembler → AssemblerView
+assembler_view a =
+    record {
+      line = a.line;
+      section = a.section;
+      caps = a.caps;
+      limits = a.limits.items;
+      scope = a.scope;
+      consts = a.consts;
+      names = a.names;
+      tokens = a.tokens;
+      assigns = a.assigns.items;
+      block = a.block;
+      main = a.main;
+      functions = a.functions;
+      code = a.code.items;
+      positions = a.positions;
+      labels = a.labels;
+      fixups = a.fixups.items;
+    }
+
+-- what a step answered, with what it left where it was not refused
+abbrev pub result_view : {A : Type 0} → Result A Reason → AssemblerView →
+    Result AssemblerView Reason
+result_view (Ok x) v = Ok v
+result_view (Err e) v = Err e

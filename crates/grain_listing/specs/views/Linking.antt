@@ -1,0 +1,63 @@
+-- How the assembler's last state becomes what the listing says.
+use Rattle.std.specs.Prelude.{ℕ, ◌+◌, List, [], ◌∷◌, Result, Ok, Err, slice_set}
+use Rattle.std.specs.Int.{w32, to_le_bytes}
+use Rattle.grain_program.specs.declared.input.AssignOp.{AssignOp}
+use Rattle.grain_words.specs.Labels.{Addresses, address_of}
+use Rattle.grain_listing.specs.Steps.{and_then, present}
+use Rattle.grain_listing.specs.Reading.{SetUp, bad_line, limits_of, caps_of, assign_ops_of, complete}
+use Rattle.grain_listing.specs.views.Assembling.{AssemblerView}
+use Rattle.grain_listing.specs.declared.assembler.Fixup.{Fixup}
+use Rattle.grain_listing.specs.declared.table.Section.{Section}
+use Rattle.grain_listing.specs.declared.reasons.BadLine.{BadLine}
+use Rattle.grain_listing.specs.declared.reasons.Reason.TheVariants.{UnknownLabel}
+
+-- the bytes, written over those from `at + i` on
+abbrev pub write_on : ℕ → ℕ → List ℕ → List ℕ → List ℕ
+write_on at i [] code = code
+write_on at i (b ∷ bs) code = write_on at (i + 1) bs (slice_set code (at + i) b)
+
+abbrev pub write_at : ℕ → List ℕ → List ℕ → List ℕ
+write_at at bytes code = write_on at 0 bytes code
+
+-- the code, in which each label has its address, the lowest byte first
+abbrev pub fill : Addresses → List Fixup → List ℕ → Result (List ℕ) BadLine
+fill labels [] code = Ok code
+fill labels (f ∷ fs) code = and_then
+    (present (bad_line f.line UnknownLabel) (address_of f.label labels))
+    (λ a. fill labels fs (write_at f.at (to_le_bytes w32 a) code))
+
+-- what the assembler has, with these op-assignments and this code
+abbrev pub set_up : AssemblerView → List AssignOp → List ℕ → SetUp
+set_up v assign_ops code =
+    record {
+      parts = record {
+        caps = caps_of v.caps;
+        code = code;
+        main = v.main;
+        functions = v.functions;
+        consts = v.consts;
+        names = v.names;
+        tokens = v.tokens;
+        assign_ops = assign_ops;
+        positions = v.positions;
+      };
+      limits = limits_of v.limits;
+      scope = v.scope;
+    }
+
+abbrev pub filled : AssemblerView → List AssignOp → Result SetUp BadLine
+filled v assign_ops = and_then (fill v.labels v.fixups v.code)
+    (λ code. Ok (set_up v assign_ops code))
+
+-- after the last line, the nth
+abbrev pub finish : ℕ → Section → AssemblerView → List AssignOp → Result SetUp BadLine
+finish n section v assign_ops = complete n section (filled v assign_ops)
+
+abbrev pub ending : ℕ → AssemblerView → Result SetUp BadLine
+ending n v = and_then (assign_ops_of v.tokens v.assigns)
+    (λ assign_ops. finish n v.section v assign_ops)
+
+-- a step on the code, with what it left where it was not refused
+abbrev pub left : {A E : Type 0} → Result A E → List ℕ → Result (List ℕ) E
+left (Ok x) code = Ok code
+left (Err e) code = Err e

@@ -1,0 +1,216 @@
+//! From what the lines have given to what the listing says: operators and labels are looked up.
+
+ghost use Rattle.std.specs.Prelude.{◌≡◌, ◌+◌, IfOk, ◌<◌, slice_set, length};
+ghost use Rattle.grain_listing.specs.Reading.{assign_op_of, assign_ops_of, token_at, limits_of, caps_of, last_line};
+ghost use Rattle.std.specs.Option.{ForSome};
+ghost use Rattle.grain_listing.specs.Settings.{number_in};
+ghost use Rattle.grain_listing.specs.declared.limits.Limit.TheVariants as limit;
+ghost use Rattle.grain_listing.specs.SetUpView.{outcome, IsReady};
+ghost use Rattle.grain_listing.specs.views.AssemblerView.{assembler_view};
+ghost use Rattle.grain_listing.specs.views.Linking.{ending, finish, filled, fill, write_at, left};
+ghost use Rattle.grain_listing.specs.views.Ordered.{IsOrdered};
+
+use crate::assembler::{Assembler, Fixup};
+use crate::headers::AssignLine;
+use crate::limits::{Limit, LimitLine};
+use crate::reasons::{BadLine, Reason};
+use crate::settings::number_in;
+use crate::setups::Setup;
+use crate::table::Section;
+use bitflags::Flags;
+use grain_program::{AssignOp, AssignOps, Caps, Parts, Tokens};
+use grain_value::{Blob, Limits, OutOfMemory, Token};
+use grain_words::Labels;
+use std::alloc::Global;
+
+fn token_at(tokens: &Tokens, line: usize, index: u32) -> Result<Token, BadLine>
+    ensures { result ≡ token_at tokens.now line index }
+{
+    match tokens.get(index as usize) {
+        None => Err(BadLine {
+            line,
+            reason: Reason::BadOperand,
+        }),
+        Some(token) => Ok(*token),
+    }
+}
+
+fn assign_op_of(tokens: &Tokens, assign: AssignLine) -> Result<AssignOp, BadLine>
+    ensures { result ≡ assign_op_of tokens.now assign }
+{
+    let op_assign = token_at(tokens, assign.line, assign.op_assign)?;
+    let op = token_at(tokens, assign.line, assign.op)?;
+    Ok(AssignOp {
+        op_assign,
+        op_assign_name: assign.op_assign_name,
+        op,
+        op_name: assign.op_name,
+    })
+}
+
+fn assign_ops_of(
+    alloc: Global,
+    tokens: &Tokens,
+    assigns: &[AssignLine],
+) -> Result<Result<AssignOps, BadLine>, OutOfMemory>
+    ensures { IfOk result (λ r. r ≡ assign_ops_of tokens.now assigns.now) }
+{
+    let mut found = AssignOps::new(alloc);
+    for assign in assigns {
+        match assign_op_of(tokens, *assign) {
+            Err(bad) => return Ok(Err(bad)),
+            Ok(assign_op) => found.push(assign_op)?,
+        }
+    }
+    Ok(Ok(found))
+}
+
+#[tactic(auto, using(crate::proofs::Beyond::set_beyond))]
+fn put_at(code: &mut Vec<u8>, at: usize, i: usize, byte: u8)
+    ensures { code.new.items ≡ slice_set code.old.items (at + i) byte }
+{
+    if at < code.len() && i < code.len() - at {
+        code[at + i] = byte;
+    }
+}
+
+fn write_at(code: &mut Vec<u8>, at: usize, bytes: &[u8])
+    ensures { code.new.items ≡ write_at at bytes.now code.old.items }
+{
+    for (i, byte) in bytes.iter().enumerate() {
+        put_at(code, at, i, *byte);
+    }
+}
+
+/// Writes the address of its label at each fixup.
+fn fill(labels: &Labels, fixups: &[Fixup], code: &mut Vec<u8>) -> Result<(), BadLine>
+    ensures code { left result code.new.items ≡ fill labels.now fixups.now code.old.items }
+    ensures length { IfOk result (λ _. length code.new.items ≡ length code.old.items) }
+{
+    for fixup in fixups {
+        match labels.get(fixup.label.as_str()) {
+            None => {
+                return Err(BadLine {
+                    line: fixup.line,
+                    reason: Reason::UnknownLabel,
+                });
+            }
+            Some(address) => write_at(code, fixup.at, &address.to_le_bytes()),
+        }
+    }
+    Ok(())
+}
+
+fn limits_of(lines: &[LimitLine]) -> Limits
+    requires { ForSome (number_in limit.Operations lines.now) (λ n. 0 < n) }
+    ensures limits { result ≡ limits_of lines.now }
+    ensures allowed { 0 < result.operations }
+{
+    Limits {
+        operations: number_in(Limit::Operations, lines).unwrap_or(1_000_000),
+        levels: number_in(Limit::Levels, lines).unwrap_or(64) as usize,
+        variables: number_in(Limit::Variables, lines).unwrap_or(10_000) as usize,
+        modules: 1_000,
+        text: 0,
+        array: 0,
+        map: 0,
+    }
+}
+
+fn caps_of(bits: Option<u8>) -> Caps
+    ensures { result.0 ≡ caps_of bits }
+{
+    match bits {
+        None => Caps::all(),
+        Some(bits) => <Caps as Flags>::from_bits_retain(bits),
+    }
+}
+
+/// What the assembler says, whose last block is over.
+fn set_up(assembler: Assembler, assign_ops: AssignOps) -> Result<Setup, BadLine>
+    requires { IsOrdered (assembler_view assembler) }
+    ensures setup { outcome result ≡ filled (assembler_view assembler) assign_ops }
+    ensures ready { IfOk result IsReady }
+{
+    let Assembler {
+        line: _,
+        section: _,
+        caps,
+        limits,
+        scope,
+        consts,
+        names,
+        tokens,
+        assigns: _,
+        block: _,
+        main,
+        functions,
+        mut code,
+        positions,
+        labels,
+        fixups,
+    } = assembler;
+    fill(&labels, fixups.as_slice(), &mut code)?;
+    let parts = Parts {
+        caps: caps_of(caps),
+        code: Blob::from_vec(code),
+        main,
+        functions,
+        consts,
+        names,
+        tokens,
+        assign_ops,
+        positions,
+    };
+    Ok(Setup {
+        parts,
+        limits: limits_of(limits.as_slice()),
+        scope,
+    })
+}
+
+fn last_line(n: usize) -> usize
+    ensures { result ≡ last_line n }
+{
+    if n == 0 { 1 } else { n }
+}
+
+/// What the assembler says after the nth line, which is its last one.
+fn finish(n: usize, assembler: Assembler, assign_ops: AssignOps) -> Result<Setup, BadLine>
+    requires { IsOrdered (assembler_view assembler) }
+    ensures setup { outcome result ≡
+        finish n assembler.section (assembler_view assembler) assign_ops }
+    ensures ready { IfOk result IsReady }
+{
+    match assembler.section {
+        Section::Start => Err(BadLine {
+            line: last_line(n),
+            reason: Reason::MissingHeader,
+        }),
+        Section::Pools => Err(BadLine {
+            line: n,
+            reason: Reason::MissingMain,
+        }),
+        Section::Block => Err(BadLine {
+            line: n,
+            reason: Reason::UnfinishedChunk,
+        }),
+        Section::After => set_up(assembler, assign_ops),
+    }
+}
+
+/// What the assembler has after the nth line, which is the last one.
+pub fn ending(
+    alloc: Global,
+    n: usize,
+    assembler: Assembler,
+) -> Result<Result<Setup, BadLine>, OutOfMemory>
+    requires { IsOrdered (assembler_view assembler) }
+    ensures setup { IfOk result (λ r. outcome r ≡ ending n (assembler_view assembler)) }
+    ensures ready { IfOk result (λ r. IfOk r IsReady) }
+{
+    match assign_ops_of(alloc, &assembler.tokens, assembler.assigns.as_slice())? {
+        Err(bad) => Ok(Err(bad)),
+        Ok(assign_ops) => Ok(finish(n, assembler, assign_ops)),
+    }
+}
