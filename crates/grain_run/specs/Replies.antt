@@ -1,5 +1,5 @@
 -- What the program answers: a status and a text.
-use Rattle.std.specs.Prelude.{◌≡◌, ℕ, Bool, true, false, List, [], ◌∷◌, ◌++◌, Option, Result, Ok, Err, IfSome, codes, bytes_eq}
+use Rattle.std.specs.Prelude.{◌≡◌, ◌⊎◌, ℕ, Bool, true, false, List, [], ◌∷◌, ◌++◌, Option, Result, Ok, Err, IfSome, codes, bytes_eq}
 use Rattle.std.specs.Fmt.{decimal}
 use Rattle.grain_program.specs.Rules.{address_of}
 use Rattle.grain_program.specs.Typing.{IsProgram, IsRefusal}
@@ -7,9 +7,11 @@ use Rattle.grain_program.specs.declared.refusals.Refusal.{Refusal}
 use Rattle.grain_program.specs.declared.refusals.Refusal.TheVariants as refusals
 use Rattle.grain_listing.specs.Reading.{SetUp, reads}
 use Rattle.grain_listing.specs.Reasons.{reason_text}
+use Rattle.grain_run.specs.Puts.{PutWhole, PutPart}
 use Rattle.grain_run.specs.Reports.{line_end}
 use Rattle.grain_run.specs.Runs.{Reported}
 use Rattle.grain_run.specs.Streams.{Rose, added, PartAdded}
+use Rattle.grain_run.specs.declared.sinks.Put.{Put}
 use Rattle.grain_listing.specs.declared.reasons.BadLine.{BadLine}
 
 -- the one command so far is the one word `run`
@@ -56,14 +58,14 @@ pub data Answers (words : List (List ℕ)) (input : Option (List ℕ)) : ℕ →
   replied : {said : Result SetUp BadLine} {status : ℕ} {text : List ℕ} → is_run words ≡ true → IfSome input (λ bytes. reads bytes ≡ said) → Replies said status text →
       Answers words input status text
 
--- the counts of faults of a source and of a sink, before a call and behind it
+-- the counts of faults of a source and of a sink, before a call and after it
 pub record Counts : Type 0 where
   pub source_before : ℕ
   pub source_now : ℕ
   pub sink_before : ℕ
   pub sink_now : ℕ
 
--- how a call of the program ends: with a status, and with what is written, before and behind it
+-- how a call of the program ends: with a status, and with what is written, before and after it
 pub data Ended (words : List (List ℕ)) (input before now : Option (List ℕ)) (counts : Counts) : ℕ → Type 0 where
   -- the answer's text is written, and nothing else
   wrote : {status : ℕ} {text : List ℕ} → Answers words input status text → now ≡ added text before → Ended words input before now counts status
@@ -73,3 +75,12 @@ pub data Ended (words : List (List ℕ)) (input before now : Option (List ℕ)) 
   sink_failed : {status : ℕ} {text : List ℕ} → Answers words input status text → PartAdded text before now → Rose counts.sink_before counts.sink_now → Ended words input before now counts 6
   -- memory was out, and nothing is written
   no_memory : now ≡ before → Ended words input before now counts 7
+
+-- What a call puts to the sink, by its status.
+pub data Handed {S : Type 0} (puts : S → List ℕ → Put → S → Type 0) (words : List (List ℕ)) (input : Option (List ℕ)) (first last : S) : ℕ → Type 0 where
+  -- all of the answer's text, and nothing else
+  whole : {status : ℕ} {text : List ℕ} → Answers words input status text → PutWhole puts text first last → Handed puts words input first last status
+  -- a part of it: the sink failed
+  part : {status : ℕ} {text : List ℕ} → Answers words input status text → PutPart puts text first last → Handed puts words input first last 6
+  -- nothing: the source failed, or memory was out
+  nothing : {status : ℕ} → (status ≡ 5) ⊎ (status ≡ 7) → last ≡ first → Handed puts words input first last status

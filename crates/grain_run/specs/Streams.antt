@@ -1,5 +1,5 @@
 -- What a source does at a read, and a sink at a put.
-use Rattle.std.specs.Prelude.{◌≡◌, ℕ, ◌+◌, ◌-◌, ◌^◌, ◌<◌, ◌≤◌, min, List, [], ◌++◌, length, take, Option, option_map, IfSome}
+use Rattle.std.specs.Prelude.{◌≡◌, ℕ, ◌+◌, ◌-◌, ◌^◌, ◌<◌, ◌≤◌, min, Bool, true, false, if◌then◌else◌, List, [], ◌++◌, length, take, Option, option_map, IfSome}
 use Rattle.grain_run.specs.declared.sources.Read.{Read}
 use Rattle.grain_run.specs.declared.sources.Read.TheVariants.{Got, End, Failed}
 use Rattle.grain_run.specs.declared.sinks.Put.{Put}
@@ -8,6 +8,19 @@ use Rattle.grain_run.specs.declared.sinks.Put.TheVariants as put
 -- one more, up to the greatest number of its type
 abbrev pub one_more : ℕ → ℕ
 one_more n = min (n + 1) (2 ^ 64 - 1)
+
+-- whether a read or a put failed
+abbrev pub read_failed : Read → Bool
+read_failed Failed = true
+read_failed answer = false
+
+abbrev pub put_failed : Put → Bool
+put_failed put.Failed = true
+put_failed answer = false
+
+-- a count of faults after another call, which failed or did not
+abbrev pub faults_after : Bool → ℕ → ℕ
+faults_after failed before = if failed then one_more before else before
 
 -- the count rose, or stands at the greatest number of its type
 abbrev pub Rose : ℕ → ℕ → Type 0

@@ -4,18 +4,20 @@ mod calls;
 mod memory;
 mod streams;
 
-use crate::memory::{CallNumbers, MemorySink, MemorySource};
-use crate::run_counted;
+use crate::call_numbers::CallNumbers;
+use crate::memory_sink::MemorySink;
+use crate::memory_source::MemorySource;
+use crate::program::{Exit, run_args};
 use grain_value::{Blob, OutOfMemory};
 use std::alloc::Global;
 use std::marker::Brand;
-use std::process::Abort;
+use std::process::{Abort, ExitCode, Termination};
 use std::sync::ledger::Blank;
 
 const SUM: &str =
     "grain 1\nconst 0\nconst 1\nconst 10\nname \"s\"\nname \"i\"\nname \"+=\"\nname \"+\"\nname \"<=\"\nop \"+=\"\nop \"+\"\nop \"<=\"\nassign 0 2 1 3\nmain 2\nload_const 0\ndeclare_local 0\nload_const 1\ndeclare_local 1\ntop:\nload_local 1\nload_const 2\ncall_op 4 2 2\njump_if_false done\nload_local 1\nassign_local_op 0 0 0\nload_const 1\nassign_local_op 1 1 0\njump top\ndone:\nload_local 0\nreturn\nend\n";
 
-/// The calls at which a source and a sink fail, and the sink's room.
+/// The numbers of the calls at which a source and a sink fail, and the sink's room.
 #[derive(Clone, Copy)]
 struct StreamFaults<'a> {
     source_fails: &'a [u64],
@@ -23,7 +25,7 @@ struct StreamFaults<'a> {
     room: usize,
 }
 
-/// StreamFaults that do not fail.
+/// Streams that do not fail.
 const SOUND: StreamFaults<'static> = StreamFaults {
     source_fails: &[],
     sink_fails: &[],
@@ -38,33 +40,34 @@ fn numbers(alloc: Global, all: &[u64]) -> Result<CallNumbers, OutOfMemory> {
     Ok(numbers)
 }
 
-/// The status of a call with one word, whose source holds the listing, and its sink.
+/// What a call with one word ends with, whose source holds the listing, and its sink.
 fn call(
     alloc: Global,
     word: &str,
     listing: &str,
     streams: StreamFaults,
-) -> Result<(u8, MemorySink), OutOfMemory> {
-    let mut words = Vec::new(alloc);
-    words.push(String::from_str(alloc, word)?)?;
+) -> Result<(Exit, MemorySink), OutOfMemory> {
+    let mut args = Vec::new(alloc);
+    args.push(String::from_str(alloc, "grain_run")?)?;
+    args.push(String::from_str(alloc, word)?)?;
     let bytes = Vec::from_slice(alloc, listing.as_bytes())?;
     let source_fails = numbers(alloc, streams.source_fails)?;
     let mut source = MemorySource::new(Blob::from_vec(bytes), source_fails);
     let sink_fails = numbers(alloc, streams.sink_fails)?;
     let mut sink = MemorySink::new(alloc, streams.room, sink_fails)?;
-    let status = run_counted::<MemorySource, MemorySink, Brand>(
+    let exit = run_args::<MemorySource, MemorySink, Brand>(
         alloc,
-        &words,
+        Ok(args.into_iter()),
         &mut source,
         &mut sink,
         Blank::new(8),
     );
-    Ok((status.number, sink))
+    Ok((exit, sink))
 }
 
 /// Compares the status of a call over these streams, and what it writes.
 fn check_over(
-    rt: &impl Abort,
+    rt: &(impl Abort + Eprint),
     alloc: Global,
     word: &str,
     listing: &str,
@@ -72,15 +75,15 @@ fn check_over(
     status: u8,
     text: &str,
 ) -> Result<(), OutOfMemory> {
-    let (number, sink) = call(alloc, word, listing, streams)?;
-    assert_eq!(rt; number, status);
+    let (exit, sink) = call(alloc, word, listing, streams)?;
+    assert_eq!(rt; exit.report(rt), ExitCode::from(status));
     assert_eq!(rt; sink.bytes(), text.as_bytes());
     Ok(())
 }
 
 /// Compares the status of a call whose source and sink do not fail, and what it writes.
 fn check(
-    rt: &impl Abort,
+    rt: &(impl Abort + Eprint),
     alloc: Global,
     word: &str,
     listing: &str,

@@ -11,7 +11,7 @@ const FIB: &str =
 
 /// Compares the report of `FIB` under a line that stands before it.
 fn check_fib(
-    rt: &impl Abort,
+    rt: &(impl Abort + Eprint),
     alloc: Global,
     line: &str,
     status: u8,
