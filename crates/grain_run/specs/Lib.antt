@@ -1,4 +1,5 @@
--- What the contracts of this crate cite. For what a call of the program does, read `Statuses`, then what it names in `Replies`, `Reports` and `Runs`; for streams `Streams`, `Reads` and `Memory`.
+-- What the contracts of this crate cite. For what a call of the program does, read `Statuses`, then
+-- what it names in `Replies`, `Reports` and `Runs`; for streams `Streams`, `Reads` and `Memory`.
 pub mod Streams
 pub mod Reads
 pub mod Puts

@@ -1,4 +1,5 @@
--- Sources and sinks in memory: what clauses see of them, what their next call answers, and what it leaves.
+-- Sources and sinks in memory: what clauses see of them, what their next call answers, and what it
+-- leaves.
 use Rattle.std.specs.Prelude.{ℕ, ◌-◌, min, Bool, List, ◌++◌, length, take, drop, ◌==◌, ◌&&◌, ◌||◌, nat_lt, if◌then◌else◌}
 use Rattle.std.specs.List.{list_any}
 use Rattle.grain_run.specs.Streams.{one_more, faults_after, read_failed, put_failed}
@@ -7,14 +8,16 @@ use Rattle.grain_run.specs.declared.sources.Read.TheVariants.{Got, End, Failed}
 use Rattle.grain_run.specs.declared.sinks.Put.{Put}
 use Rattle.grain_run.specs.declared.sinks.Put.TheVariants as put
 
--- a source: the bytes that are left, the numbers of the calls that fail, and how many calls and faults there were
+-- a source: the bytes that are left, the numbers of the calls that fail, and how many calls and
+-- faults there were
 pub record SourceView : Type 0 where
   pub left : List ℕ
   pub failing : List ℕ
   pub calls : ℕ
   pub faults : ℕ
 
--- a sink: the bytes that were written, how many still fit, the numbers of the calls that fail, and how many calls and faults there were
+-- a sink: the bytes that were written, how many still fit, the numbers of the calls that fail, and
+-- how many calls and faults there were
 pub record SinkView : Type 0 where
   pub written : List ℕ
   pub room : ℕ
@@ -47,7 +50,8 @@ after_read s answer = record {
   faults = faults_after (read_failed answer) s.faults;
 }
 
--- what the next put of a piece of this length answers: it fails where its number says so, or where the piece has bytes and no room is left
+-- what the next put of a piece of this length answers: it fails where its number says so, or where
+-- the piece has bytes and no room is left
 abbrev pub next_put : SinkView → ℕ → Put
 next_put s bytes =
     if is_failing s.failing s.calls || (nat_lt 0 bytes && (s.room == 0)) then put.Failed

@@ -4,8 +4,10 @@ use Rattle.grain_run.specs.Replies.{Counts, Ended}
 use Rattle.grain_run.specs.Statuses.{IsReadThrough}
 use Rattle.grain_run.specs.Streams.{TakenWithin}
 
--- a call of the program: what is left of the source and what is written, before and now, where they are told, and the status
-pub record Call (words : List (List ℕ)) (input left before now : Option (List ℕ)) (counts : Counts) (status : ℕ) : Type 0 where
+-- A call of the program: what was left of the source and is left now, what was written to the sink
+-- and is now, if they say it, the counts of faults, and the status.
+pub record Call (words : List (List ℕ)) (input left before now : Option (List ℕ)) (counts : Counts)
+    (status : ℕ) : Type 0 where
   -- at most one byte more than a listing may have is read
   pub bounded : TakenWithin 16777217 input left
   -- a source whose run ended was read to its end
@@ -15,7 +17,8 @@ pub record Call (words : List (List ℕ)) (input left before now : Option (List 
   pub ended : Ended words input before now counts status
 
 -- the program was not given its words, so it reads nothing and writes nothing
-pub record NoCall {S K : Type 0} (source_before source_now : S) (sink_before sink_now : K) (status : ℕ) : Type 0 where
+pub record NoCall {S K : Type 0} (source_before source_now : S) (sink_before sink_now : K)
+    (status : ℕ) : Type 0 where
   pub source : source_now ≡ source_before
   pub sink : sink_now ≡ sink_before
   pub number : status ≡ 9

@@ -46,14 +46,14 @@ impl CallNumbers {
         self.numbers.is_empty()
     }
 
-    /// The number at the index, where there is one.
+    /// The number at the index, if any.
     pub fn get(&self, index: usize) -> Option<&u64>
         ensures { option_copied result ≡ slice_get self.now index }
     {
         self.numbers.get(index)
     }
 
-    /// Puts a number at the end. Where memory is out, the list is as it was.
+    /// Puts a number at the end. If memory is out, the list is as it was.
     pub fn push(&mut self, number: u64) -> Result<(), OutOfMemory>
         ensures { self.new ≡ (if is_ok result then self.old ++ number ∷ [] else self.old) }
     {

@@ -1,8 +1,8 @@
-//! The call that does all that the program does.
+//! The commands: the call that does all that the program does.
 
 ghost use Rattle.std.specs.Prelude.{◌≡◌, ◌≤◌, true, false, IfOk, OnErr, map, string_bytes};
 ghost use Rattle.grain_run.specs.Reads.{ReadInTurn};
-ghost use Rattle.grain_run.specs.Replies.{is_run, Answers, Ended, Handed};
+ghost use Rattle.grain_run.specs.Replies.{is_run, counts_of, Answers, Ended, Handed};
 ghost use Rattle.grain_run.specs.Statuses.{Beside, Completes, IsReadThrough};
 ghost use Rattle.grain_run.specs.Streams.{Rose, TakenWithin};
 
@@ -25,7 +25,8 @@ fn answer<S: Source, L: Ledger>(
     source: &mut S,
     steps: &mut Steps<L>,
 ) -> Result<Result<Reply, SourceFailed>, OutOfMemory>
-    ensures answers { IfOk result (λ o. IfOk o (λ r. Answers (map string_bytes words.now) (S.left source.old) r.status r.text)) }
+    ensures answers { IfOk result (λ o. IfOk o (λ r.
+        Answers (map string_bytes words.now) (S.left source.old) r.status r.text)) }
     ensures failed { IfOk result (λ o. OnErr o (Rose (S.faults source.old) (S.faults source.new))) }
     ensures command { IfOk result (λ o. OnErr o (is_run (map string_bytes words.now) ≡ true)) }
     ensures through { IfOk result (λ o. IfOk o (λ r. IsReadThrough r.status (S.left source.new))) }
@@ -58,11 +59,16 @@ fn answer_and_write<S: Source, K: Sink, L: Ledger>(
     ensures bounded { TakenWithin 16777217 (S.left source.old) (S.left source.new) }
     ensures through { IsReadThrough result.number (S.left source.new) }
     ensures idle { is_run (map string_bytes words.now) ≡ false → source.new ≡ source.old }
-    ensures counted { (S.faults source.old ≤ S.faults source.new) × (K.faults sink.old ≤ K.faults sink.new) }
-    ensures ended { Ended (map string_bytes words.now) (S.left source.old) (K.written sink.old) (K.written sink.new)
-        (record { source_before = S.faults source.old; source_now = S.faults source.new; sink_before = K.faults sink.old; sink_now = K.faults sink.new }) result.number }
+    ensures counted { (S.faults source.old ≤ S.faults source.new) ×
+        (K.faults sink.old ≤ K.faults sink.new) }
+    ensures ended { Ended (map string_bytes words.now)
+        (S.left source.old) (K.written sink.old) (K.written sink.new)
+        (counts_of (S.faults source.old) (S.faults source.new)
+        (K.faults sink.old) (K.faults sink.new))
+        result.number }
     ensures reads { ReadInTurn S.reads 16777217 source.old source.new }
-    ensures handed { Handed K.puts (map string_bytes words.now) (S.left source.old) sink.old sink.new result.number }
+    ensures handed { Handed K.puts (map string_bytes words.now)
+        (S.left source.old) sink.old sink.new result.number }
 {
     match answer(alloc, words, source, steps) {
         Err(OutOfMemory) => Status { number: 7 },
@@ -78,8 +84,9 @@ fn answer_and_write<S: Source, K: Sink, L: Ledger>(
     }
 }
 
-/// Does what the words say. For `run` it reads a listing from the source, verifies it, runs it, and writes the report
-/// of its end to the sink. At most 16,777,217 bytes are read. The status, and what is written:
+/// Does what the words say. For `run` it reads a listing from the source, verifies it, runs it, and
+/// writes the report of its end to the sink. At most 16,777,217 bytes are read. The status, and
+/// what is written:
 /// - 0, the run ended in a value: its report;
 /// - 1, the run ended in a fault of the script: its report;
 /// - 2, the words are no command: the usage;
@@ -89,7 +96,7 @@ fn answer_and_write<S: Source, K: Sink, L: Ledger>(
 /// - 6, the sink failed: a part of the text, from its front;
 /// - 7, memory was out: nothing.
 ///
-/// Where no stream fails, the status that is due comes, or 7.
+/// If no stream fails, the status is the one that is due, or 7.
 pub fn run_words<S: Source, K: Sink, L: Ledger>(
     alloc: Global,
     words: &Vec<String>,
@@ -101,19 +108,30 @@ pub fn run_words<S: Source, K: Sink, L: Ledger>(
     // a source whose run ended was read to its end, and words that are no command read nothing
     ensures through { IsReadThrough result.number (S.left source.new) }
     ensures idle { is_run (map string_bytes words.now.items) ≡ false → source.new ≡ source.old }
-    ensures counted { (S.faults source.old ≤ S.faults source.new) × (K.faults sink.old ≤ K.faults sink.new) }
+    ensures counted { (S.faults source.old ≤ S.faults source.new) ×
+        (K.faults sink.old ≤ K.faults sink.new) }
     // the answer, and whether it was written
-    ensures ended { Ended (map string_bytes words.now.items) (S.left source.old) (K.written sink.old) (K.written sink.new)
-        (record { source_before = S.faults source.old; source_now = S.faults source.new; sink_before = K.faults sink.old; sink_now = K.faults sink.new }) result.number }
-    // what stands beside each status
-    ensures beside { Beside (map string_bytes words.now.items) (S.left source.old) (K.written sink.old) (K.written sink.new)
-        (record { source_before = S.faults source.old; source_now = S.faults source.new; sink_before = K.faults sink.old; sink_now = K.faults sink.new }) result.number }
+    ensures ended { Ended (map string_bytes words.now.items)
+        (S.left source.old) (K.written sink.old) (K.written sink.new)
+        (counts_of (S.faults source.old) (S.faults source.new)
+        (K.faults sink.old) (K.faults sink.new))
+        result.number }
+    // what is written, by the status
+    ensures beside { Beside (map string_bytes words.now.items)
+        (S.left source.old) (K.written sink.old) (K.written sink.new)
+        (counts_of (S.faults source.old) (S.faults source.new)
+        (K.faults sink.old) (K.faults sink.new))
+        result.number }
     // which status is due
-    ensures complete { Completes (map string_bytes words.now.items) (S.left source.old) (K.written sink.old) (K.written sink.new)
-        (record { source_before = S.faults source.old; source_now = S.faults source.new; sink_before = K.faults sink.old; sink_now = K.faults sink.new }) result.number }
+    ensures complete { Completes (map string_bytes words.now.items)
+        (S.left source.old) (K.written sink.old) (K.written sink.new)
+        (counts_of (S.faults source.old) (S.faults source.new)
+        (K.faults sink.old) (K.faults sink.new))
+        result.number }
     // which reads and which puts were made
     ensures reads { ReadInTurn S.reads 16777217 source.old source.new }
-    ensures handed { Handed K.puts (map string_bytes words.now.items) (S.left source.old) sink.old sink.new result.number }
+    ensures handed { Handed K.puts (map string_bytes words.now.items)
+        (S.left source.old) sink.old sink.new result.number }
 {
     statuses_are_due();
     answer_and_write(alloc, words.as_slice(), source, sink, steps)

@@ -1,4 +1,4 @@
-//! Runs of programs, and the replies that tell their ends.
+//! Runs of programs, and the replies that report their ends.
 
 ghost use Rattle.std.specs.Prelude.{◌≡◌, ◌≢◌, ◌<◌, IfOk};
 ghost use Rattle.grain_fault.specs.Problems.{problem_of};
@@ -24,7 +24,8 @@ fn value_reply(alloc: Global, value: &Dynamic) -> Result<Reply, OutOfMemory>
     Ok(Reply { status: 0, text })
 }
 
-/// The reply to a run that ended in a fault: 1 and its report. Where the fault is want of memory, there is none.
+/// The reply to a run that ended in a fault: 1 and its report. If the fault is want of memory,
+/// there is none.
 fn fault_reply(alloc: Global, fault: &EvalAltResult, trace: &[Fault]) -> Result<Reply, OutOfMemory>
     ensures status { IfOk result (λ r. r.status ≡ 1) }
     ensures text { IfOk result (λ r. r.text ≡ report_fault (problem_of fault.now) trace.now) }
@@ -37,7 +38,7 @@ fn fault_reply(alloc: Global, fault: &EvalAltResult, trace: &[Fault]) -> Result<
     Ok(Reply { status: 1, text })
 }
 
-/// Runs the program on the scope, and tells the end. At least one operation is allowed.
+/// Runs the program on the scope, and reports the end. At least one operation is allowed.
 pub fn run_program<L: Ledger>(
     alloc: Global,
     program: &Program,

@@ -18,8 +18,10 @@ pub fn read_all<S: Source>(
     alloc: Global,
     source: &mut S,
 ) -> Result<Result<Vec<u8>, SourceFailed>, OutOfMemory>
-    ensures all { IfOk result (λ r. IfOk r (λ v. option_map (λ others. v.items ++ others) (S.left source.new) ≡ S.left source.old)) }
-    ensures end { IfOk result (λ r. IfOk r (λ v. length v.items ≤ 16777216 → IsSpent (S.left source.new))) }
+    ensures all { IfOk result (λ r. IfOk r (λ v.
+        option_map (λ others. v.items ++ others) (S.left source.new) ≡ S.left source.old)) }
+    ensures end { IfOk result (λ r. IfOk r (λ v.
+        length v.items ≤ 16777216 → IsSpent (S.left source.new))) }
     ensures failed { IfOk result (λ r. OnErr r (Rose (S.faults source.old) (S.faults source.new))) }
     ensures counted { S.faults source.old ≤ S.faults source.new }
     ensures bounded { TakenWithin 16777217 (S.left source.old) (S.left source.new) }

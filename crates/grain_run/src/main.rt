@@ -1,4 +1,5 @@
-//! The program: it reads a listing from standard input, verifies it, runs it and writes how the run ended.
+//! The program: it reads a listing from standard input, verifies it, runs it and writes how the run
+//! ended.
 #![tactic(auto)]
 
 mod call_numbers;
@@ -25,8 +26,8 @@ use std::env;
 use std::marker::Brand;
 use std::sync::ledger::Blank;
 
-/// Into how many shares the counts of instructions and marks can be split: two of each are held, and each run splits
-/// one off for a moment.
+/// Into how many shares the counts of instructions and marks can be split: two of each are held,
+/// and each run splits one off for a moment.
 const SHARES: u64 = 8;
 
 fn main(rt: HostRuntime) -> Exit {

@@ -9,9 +9,9 @@ use grain_value::OutOfMemory;
 use std::alloc::Global;
 use std::marker::Model;
 
-/// A sink that keeps what is written, up to a room in bytes that it reserves when it is made. A put takes as many bytes
-/// as still fit. It fails if its number is among those that are to fail, and if the piece has bytes and no room is
-/// left. It takes no memory.
+/// A sink that keeps what is written, up to a room in bytes that it reserves when it is made. A put
+/// takes as many bytes as still fit. It fails if its number is among those that are to fail, and if
+/// the piece has bytes and no room is left. It takes no memory.
 #[derive(Drop)]
 pub struct MemorySink {
     taken: Vec<u8>,
@@ -28,12 +28,19 @@ impl Model for MemorySink {
 
     ghost Value = { SinkView };
 
-    ghost view = { λ s. record { written = s.taken.items; room = s.room; failing = s.failing; calls = s.calls; faults = s.failures } };
+    ghost view = { λ s. record {
+      written = s.taken.items;
+      room = s.room;
+      failing = s.failing;
+      calls = s.calls;
+      faults = s.failures;
+    } };
 
     ghost invariant = { λ s. length s.taken.items + s.room ≤ vec_capacity s.taken };
 }
 
-/// Puts as many bytes as the room allows after those that were taken, and says how many. It takes no memory.
+/// Puts as many bytes as the room allows after those that were taken, and says how many. It takes
+/// no memory.
 fn take_front(taken: &mut Vec<u8>, room: usize, piece: &[u8]) -> usize
     requires { length taken.old.items + room ≤ vec_capacity taken.old }
     ensures count { result ≡ min room (length piece.now) }
@@ -50,7 +57,8 @@ fn take_front(taken: &mut Vec<u8>, room: usize, piece: &[u8]) -> usize
 impl MemorySink {
     /// A sink with room for this many bytes, whose puts with these numbers fail.
     pub fn new(alloc: Global, room: usize, failing: CallNumbers) -> Result<MemorySink, OutOfMemory>
-        ensures { IfOk result (λ s. s ≡ record { written = []; room = room; failing = failing; calls = 0; faults = 0 }) }
+        ensures { IfOk result (λ s. s ≡
+            record { written = []; room = room; failing = failing; calls = 0; faults = 0 }) }
     {
         let taken = Vec::with_capacity(alloc, room)?;
         Ok(MemorySink {
@@ -78,7 +86,8 @@ impl Sink for MemorySink {
 
     ghost faults = { λ s. s.faults };
 
-    ghost puts = { λ s piece answer t. (answer ≡ next_put s (length piece)) × (t ≡ after_put s piece answer) };
+    ghost puts = { λ s piece answer t. (answer ≡ next_put s (length piece)) ×
+        (t ≡ after_put s piece answer) };
 
     fn put(&mut self, bytes: &[u8]) -> Put {
         self.calls = self.calls.saturating_add(1);

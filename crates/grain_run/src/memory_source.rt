@@ -7,8 +7,8 @@ use crate::sources::{Read, Source};
 use grain_value::Blob;
 use std::marker::Model;
 
-/// A source that holds its bytes. A read fills as much of the slice as the bytes allow, and fails if its number is
-/// among those that are to fail. It takes no memory.
+/// A source that holds its bytes. A read fills as much of the slice as the bytes allow, and fails
+/// if its number is among those that are to fail. It takes no memory.
 #[derive(Drop)]
 pub struct MemorySource {
     bytes: Blob,
@@ -24,7 +24,12 @@ impl Model for MemorySource {
 
     ghost Value = { SourceView };
 
-    ghost view = { λ s. record { left = drop s.place s.bytes; failing = s.failing; calls = s.calls; faults = s.failures } };
+    ghost view = { λ s. record {
+      left = drop s.place s.bytes;
+      failing = s.failing;
+      calls = s.calls;
+      faults = s.failures;
+    } };
 
     ghost invariant = { λ s. s.place ≤ length s.bytes };
 }

@@ -5,7 +5,7 @@ ghost use Rattle.std.specs.Process.{exit_status};
 ghost use Rattle.std.specs.Vec.Iter.{into_iter_items};
 ghost use Rattle.grain_run.specs.Programs.{Call, NoCall};
 ghost use Rattle.grain_run.specs.Reads.{ReadInTurn};
-ghost use Rattle.grain_run.specs.Replies.{Handed};
+ghost use Rattle.grain_run.specs.Replies.{counts_of, Handed};
 
 use crate::commands::run_words;
 use crate::sinks::Sink;
@@ -22,8 +22,8 @@ use std::sync::ledger::{Blank, Ledger};
 /// The status of a program that is not given its words. No call ends with it.
 const NO_WORDS: Status = Status { number: 9 };
 
-/// How a call of the program ended. Clauses see the number of its status. Only `run_args` makes one, so `main` can end
-/// with no other.
+/// How a call of the program ended. Clauses see the number of its status. Only `run_args` makes
+/// one, so `main` can end with no other.
 #[derive(Drop)]
 pub struct Exit {
     status: Status,
@@ -54,9 +54,9 @@ fn words_after_name(alloc: Global, mut args: Args) -> Result<Vec<String>, AllocE
     Vec::from_iter(alloc, args)
 }
 
-/// Does what the words after the program's name say, with counts of instructions and marks that begin at 0, and ends
-/// with the status of the call. If the arguments are not given, or memory is out while they are copied, it makes no
-/// call, and ends with 9.
+/// Does what the words after the program's name say, with counts of instructions and marks that
+/// begin at 0, and ends with the status of the call. If the arguments are not given, or memory is
+/// out while they are copied, it makes no call, and ends with 9.
 pub fn run_args<S: Source, K: Sink, L: Ledger>(
     alloc: Global,
     args: io::Result<Args>,
@@ -72,12 +72,9 @@ pub fn run_args<S: Source, K: Sink, L: Ledger>(
         NoCall source.old source.new sink.old sink.new result ⊎
         Call (map string_bytes (drop 1 (into_iter_items all)))
         (S.left source.old) (S.left source.new) (K.written sink.old) (K.written sink.new)
-        (record {
-          source_before = S.faults source.old;
-          source_now = S.faults source.new;
-          sink_before = K.faults sink.old;
-          sink_now = K.faults sink.new;
-        }) result) }
+        (counts_of (S.faults source.old) (S.faults source.new)
+        (K.faults sink.old) (K.faults sink.new))
+        result) }
     ensures reads { ReadInTurn S.reads 16777217 source.old source.new }
     ensures handed { IfOk args (λ all.
         NoCall source.old source.new sink.old sink.new result ⊎

@@ -49,7 +49,8 @@ fn push_line(
     colon: &str,
     name: &str,
 ) -> Result<(), OutOfMemory>
-    ensures { IfOk result (λ _. out.new ≡ out.old ++ (lead.now ++ decimal number ++ colon.now ++ name.now ++ line_end)) }
+    ensures { IfOk result (λ _. out.new ≡
+        out.old ++ (lead.now ++ decimal number ++ colon.now ++ name.now ++ line_end)) }
 {
     out.push_str(lead)?;
     out.push_number(number as u64)?;

@@ -13,9 +13,11 @@ pub enum Put {
     Failed,
 }
 
-/// A sink of bytes. It counts its faults, and it may tell which bytes were written. The count never falls.
+/// A sink of bytes. It counts its faults, and it may say which bytes were written. The count never
+/// falls.
 ///
-/// `puts s piece answer t` says that in the state `s` a put of this piece may give this answer and leave the state `t`.
+/// `puts s piece answer t` says that in the state `s` a put of this piece may give this answer and
+/// leave the state `t`.
 pub trait Sink {
     ghost written: { Self → Option (List ℕ) };
 
@@ -23,8 +25,8 @@ pub trait Sink {
 
     ghost puts: { Self → List ℕ → Put → Self → Type 0 };
 
-    /// Writes bytes from the front of the piece, and says how many. It fails only if its count of faults rises, and
-    /// then writes none.
+    /// Writes bytes from the front of the piece, and says how many. It fails only if its count of
+    /// faults rises, and then writes none.
     fn put(&mut self, bytes: &[u8]) -> Put
         ensures step { puts self.old bytes.now result self.new }
         ensures bytes { WasPut result (written self.old) (written self.new) bytes.now }

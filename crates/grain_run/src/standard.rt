@@ -7,7 +7,8 @@ use crate::sources::{Read, Source};
 use std::io::{Read as StreamRead, Stdin, Stdout, Write};
 use std::marker::Model;
 
-/// Standard input. It tells no bytes. A read that fails adds one to its count of faults, which is what clauses see.
+/// Standard input. It does not say which bytes are left. A read that fails adds one to its count of
+/// faults, which is what clauses see.
 #[derive(Drop)]
 pub struct StdSource {
     stdin: Stdin,
@@ -51,8 +52,8 @@ impl Source for StdSource {
     }
 }
 
-/// Standard output. It tells no bytes. A write that fails, or takes none of a piece that has bytes, adds one to its
-/// count of faults, which is what clauses see.
+/// Standard output. It does not say which bytes were written. A write that fails, or takes none of
+/// a piece that has bytes, adds one to its count of faults, which is what clauses see.
 #[derive(Drop)]
 pub struct StdSink {
     stdout: Stdout,

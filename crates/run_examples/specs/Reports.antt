@@ -25,11 +25,13 @@ addresses (entry ∷ entries) = (codes " " ++ decimal entry.address) ++ addresse
 abbrev pub report : Result Dynamic EvalAltResult → List Fault → List ℕ
 report (Ok value) trace = codes "value " ++ quoted value ++ line_end
 report (Err fault) trace =
-    codes "fault " ++ fault_name (problem_of fault) ++ line_end ++ fault_text (problem_of fault) ++ line_end ++
+    codes "fault " ++ fault_name (problem_of fault) ++ line_end ++ fault_text
+    (problem_of fault) ++ line_end ++
     codes "trace" ++ addresses trace ++ line_end
 
 -- the text is the report of how the program's run ends
-pub record Reported (program : View) (limits : Limits) (scope : List Entry) (text : List ℕ) : Type 0 where
+pub record Reported (program : View) (limits : Limits) (scope : List Entry)
+    (text : List ℕ) : Type 0 where
   pub after : List Entry
   pub result : Result Dynamic EvalAltResult
   pub trace : List Fault

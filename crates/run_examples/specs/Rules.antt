@@ -27,7 +27,8 @@ capped limits = record {
 }
 
 -- what the bytes read to is this valid program, with these limits and this scope
-pub record IsRule (said : Result SetUp BadLine) (program : View) (limits : Limits) (scope : List Entry) : Type 0 where
+pub record IsRule (said : Result SetUp BadLine) (program : View) (limits : Limits)
+    (scope : List Entry) : Type 0 where
   pub set_up : SetUp
   pub read : said ≡ Ok set_up
   pub parts : program ≡ set_up.parts
@@ -49,10 +50,19 @@ engine_of limits = record { limits = limits; fast_operators = true }
 abbrev pub start : List Entry → Begin
 start scope = record { scope = scope; count = 0; level = 0 }
 
--- The program's run within the limits, from the scope before, ends with this result and this trace and leaves the scope after. Where memory was out, it is the run stopped at some point.
-pub record Ran (program : View) (limits : Limits) (before after : List Entry) (result : Result Dynamic EvalAltResult) (trace : List Fault) : Type 0 where
+-- The program's run within the limits, from the scope before, ends with this result and this trace
+-- and leaves the scope after. Where memory was out, it is the run stopped at some point.
+pub record Ran (program : View) (limits : Limits) (before after : List Entry)
+    (result : Result Dynamic EvalAltResult) (trace : List Fault) : Type 0 where
   pub instructions : ℕ
   pub count : ℕ
   pub level : ℕ
   pub evaluates : Evaluates program (engine_of limits) (start before) result
-      (λ answer. record { answer = answer; trace = trace; scope = after; count = count; level = level }) instructions
+      (λ answer. record {
+        answer = answer;
+        trace = trace;
+        scope = after;
+        count = count;
+        level =
+            level;
+      }) instructions

@@ -1,4 +1,5 @@
-//! Runs the shipped examples as a host runs its rules, and compares each report with the one that is expected.
+//! Runs the shipped examples as a host runs its rules, and compares each report with the one that
+//! is expected.
 #![tactic(auto)]
 
 ghost use Rattle.std.specs.Prelude.{◌≡◌, ◌<◌, IfOk};

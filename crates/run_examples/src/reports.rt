@@ -23,7 +23,9 @@ fn push_addresses(out: &mut Text, trace: &[Fault]) -> Result<(), OutOfMemory>
 
 /// A fault's name and its text, a line for each.
 fn push_fault(out: &mut Text, fault: &EvalAltResult) -> Result<(), OutOfMemory>
-    ensures { IfOk result (λ _. out.new ≡ out.old ++ (codes "fault " ++ fault_name (problem_of fault.now) ++ line_end ++ fault_text (problem_of fault.now) ++ line_end)) }
+    ensures { IfOk result (λ _. out.new ≡
+        out.old ++ (codes "fault " ++ fault_name (problem_of fault.now) ++ line_end ++
+        fault_text (problem_of fault.now) ++ line_end)) }
 {
     out.push_str("fault ")?;
     out.push_str(fault.name())?;

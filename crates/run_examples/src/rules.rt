@@ -31,7 +31,8 @@ pub struct Rule {
 pub enum RuleError {
     /// The bytes are no listing: the first line that is wrong, and why.
     NoListing(BadLine),
-    /// The listing's program could go wrong where it runs: the first rule that it breaks, and its address.
+    /// The listing's program could go wrong where it runs: the first rule that it breaks, and its
+    /// address.
     Refused(Refusal),
     /// Memory is out.
     OutOfMemory,
@@ -86,7 +87,7 @@ fn capped(limits: Limits) -> Limits
 /// Verifies what a listing says.
 fn verified(alloc: Global, setup: Setup) -> Result<Rule, RuleError>
     requires { IsReady setup }
-    ensures rule { IfOk result (λ rule. IsRule (Ok (set_up_of setup)) rule.program rule.limits rule.scope) }
+    ensures rule { IfOk result (λ r. IsRule (Ok (set_up_of setup)) r.program r.limits r.scope) }
     ensures reason { IfErr result (IsReason (Ok (set_up_of setup))) }
     ensures allowed { IfOk result (λ rule. 0 < rule.limits.operations) }
 {
@@ -108,7 +109,7 @@ fn verified(alloc: Global, setup: Setup) -> Result<Rule, RuleError>
 
 /// The rule that a listing says.
 pub fn load(alloc: Global, listing: &[u8]) -> Result<Rule, RuleError>
-    ensures rule { IfOk result (λ rule. IsRule (reads listing.now) rule.program rule.limits rule.scope) }
+    ensures rule { IfOk result (λ r. IsRule (reads listing.now) r.program r.limits r.scope) }
     ensures reason { IfErr result (IsReason (reads listing.now)) }
     ensures allowed { IfOk result (λ rule. 0 < rule.limits.operations) }
 {
@@ -118,7 +119,8 @@ pub fn load(alloc: Global, listing: &[u8]) -> Result<Rule, RuleError>
     }
 }
 
-/// Runs a program within limits on a scope, which then holds what the run left. At least one operation is allowed.
+/// Runs a program within limits on a scope, which then holds what the run left. At least one
+/// operation is allowed.
 pub fn run<L: Ledger>(
     alloc: Global,
     program: &Program,
@@ -127,7 +129,7 @@ pub fn run<L: Ledger>(
     steps: &mut Steps<L>,
 ) -> Result<Outcome, OutOfMemory>
     requires { 0 < limits.operations }
-    ensures { IfOk result (λ outcome. Ran program.now limits scope.old scope.new outcome.result outcome.trace.items) }
+    ensures { IfOk result (λ o. Ran program.now limits scope.old scope.new o.result o.trace.items) }
 {
     let engine = Engine::new(alloc, limits);
     let mut vm = Vm::new(alloc, &engine)?;

@@ -14,16 +14,22 @@ returns-then-not-is_run-clause-answers g c =
 pub returns-in_ok-reply-in-Ok-clause-answers : goal.returns-in_ok-reply-in-Ok-clause-answers
 returns-in_ok-reply-in-Ok-clause-answers g c =
     let yes : is_run (map string_bytes c.args.words.now) ≡ true = search rules in
-    let reply : Replies (reads c.in-Ok.bytes.items) c.in_ok-reply-in-Ok.reply.status c.in_ok-reply-in-Ok.reply.text = rw (← c.as_slice.ensures.value) c.in_ok-reply-in-Ok.ensures in
+    let reply : Replies (reads c.in-Ok.bytes.items) c.in_ok-reply-in-Ok.reply.status
+    c.in_ok-reply-in-Ok.reply.text = rw (← c.as_slice.ensures.value)
+    c.in_ok-reply-in-Ok.ensures in
     let all = rw c.in-Ok.is at c.in_ok-failed.ensures.all in
     let end = rw c.in-Ok.is at c.in_ok-failed.ensures.end in
-    replied yes (same_reading c.in-Ok.bytes.items (g.S.Source.left c.read_all.new.source) (g.S.Source.left c.args.source.now) all end) reply
+    replied yes (same_reading c.in-Ok.bytes.items (g.S.Source.left c.read_all.new.source)
+    (g.S.Source.left c.args.source.now) all end) reply
 
 pub returns-in_ok-reply-in-Ok-clause-through : goal.returns-in_ok-reply-in-Ok-clause-through
 returns-in_ok-reply-in-Ok-clause-through g c =
-    let reply : Replies (reads c.in-Ok.bytes.items) c.in_ok-reply-in-Ok.reply.status c.in_ok-reply-in-Ok.reply.text = rw (← c.as_slice.ensures.value) c.in_ok-reply-in-Ok.ensures in
+    let reply : Replies (reads c.in-Ok.bytes.items) c.in_ok-reply-in-Ok.reply.status
+    c.in_ok-reply-in-Ok.reply.text = rw (← c.as_slice.ensures.value)
+    c.in_ok-reply-in-Ok.ensures in
     let end = rw c.in-Ok.is at c.in_ok-failed.ensures.end in
-    read_through c.in-Ok.bytes.items (g.S.Source.left c.read_all.new.source) c.in_ok-reply-in-Ok.reply.status c.in_ok-reply-in-Ok.reply.text end reply
+    read_through c.in-Ok.bytes.items (g.S.Source.left c.read_all.new.source)
+    c.in_ok-reply-in-Ok.reply.status c.in_ok-reply-in-Ok.reply.text end reply
 
 pub returns-in_err-reply-clause-reads : goal.returns-in_err-reply-clause-reads
 returns-in_err-reply-clause-reads g c = no_read g.S.Source.reads 16777217 c.args.source.now

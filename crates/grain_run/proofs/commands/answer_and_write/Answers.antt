@@ -21,7 +21,8 @@ pub returns-clause-ended : goal.returns-clause-ended
 returns-clause-ended g c =
     let answers = rw c.in-Ok-answered.is at c.in-Ok.ensures.answers in
     let text : c.as_bytes.result.now ≡ c.in-Ok-answered.reply.text = search rules in
-    sink_failed answers (rw text at c.in-Err-write_all.ensures.part) c.in-Err-write_all.ensures.failed
+    sink_failed answers (rw text at c.in-Err-write_all.ensures.part)
+    c.in-Err-write_all.ensures.failed
 
 pub returns-in-Err-clause-handed : goal.returns-in-Err-clause-handed
 returns-in-Err-clause-handed g c = nothing (inr refl) refl

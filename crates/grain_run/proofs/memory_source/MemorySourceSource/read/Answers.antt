@@ -12,5 +12,8 @@ returns-clause-bytes c =
     let copied : take n slice ≡ take n (drop place bytes) = search rules in
     let count : n ≡ min (length (drop place bytes)) (length slice) = search rules in
     let within : n ≤ length slice = grind (arith, common_steps) in
-    let left : drop place bytes ≡ c.args.self.now.left = ap (λ v. v.left) c.self.view_is in
-    (within, ap Some (moved place n bytes slice copied ∙ left), spent place n (length slice) bytes count)
+    let left : drop place bytes ≡ c.args.self.now.left = ap (λ v. v.left) c.self.view_is in (
+      within,
+      ap Some (moved place n bytes slice copied ∙ left),
+      spent place n (length slice) bytes count,
+    )
