@@ -1,11 +1,11 @@
 //! The whole program, over any source and sink: from its arguments to its exit code.
 
-ghost use Rattle.std.specs.Prelude.{◌≡◌, ◌⊎◌, ◌<◌, IfOk, OnErr, drop, map, string_bytes};
+ghost use Rattle.std.specs.Prelude.{◌≡◌, ◌⊎◌, ◌<◌, false, IfOk, OnErr, drop, map, string_bytes};
 ghost use Rattle.std.specs.Process.{exit_status};
 ghost use Rattle.std.specs.Vec.Iter.{into_iter_items};
 ghost use Rattle.grain_run.specs.Programs.{Call, NoCall};
 ghost use Rattle.grain_run.specs.Reads.{ReadInTurn};
-ghost use Rattle.grain_run.specs.Replies.{counts_of, Handed};
+ghost use Rattle.grain_run.specs.Replies.{is_run, counts_of, Handed};
 
 use crate::commands::run_words;
 use crate::sinks::Sink;
@@ -75,6 +75,9 @@ pub fn run_args<S: Source, K: Sink, L: Ledger>(
         (counts_of (S.faults source.old) (S.faults source.new)
         (K.faults sink.old) (K.faults sink.new))
         result) }
+    ensures idle { IfOk args (λ all.
+        is_run (map string_bytes (drop 1 (into_iter_items all))) ≡ false →
+        source.new ≡ source.old) }
     ensures reads { ReadInTurn S.reads 16777217 source.old source.new }
     ensures handed { IfOk args (λ all.
         NoCall source.old source.new sink.old sink.new result ⊎

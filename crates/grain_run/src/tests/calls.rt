@@ -123,7 +123,7 @@ fn arguments_are_bound_in_order(rt: HostRuntime) -> Result<(), OutOfMemory> {
 }
 
 #[test]
-fn the_rest_of_one_frame(rt: HostRuntime) -> Result<(), OutOfMemory> {
+fn values_are_stored(rt: HostRuntime) -> Result<(), OutOfMemory> {
     let rows = [
         (
             "grain 1\nconst 1\nconst 2\nconst 3\nmain 3\nload_const 0\nload_const 1\n\
@@ -149,6 +149,16 @@ fn the_rest_of_one_frame(rt: HostRuntime) -> Result<(), OutOfMemory> {
             1,
             "fault ErrorAssignmentToConstant\nCannot modify constant x\ntrace 11\n",
         ),
+    ];
+    for (listing, status, text) in rows {
+        check(&rt, rt.alloc(), "run", listing, status, text)?;
+    }
+    Ok(())
+}
+
+#[test]
+fn operands_and_the_scope(rt: HostRuntime) -> Result<(), OutOfMemory> {
+    let rows = [
         (
             "grain 1\nconst 4\nmain 1\nload_const 0\nskip_if_not_unit done\npop\nunit\n\
              done:\nreturn\nend\n",
@@ -187,7 +197,7 @@ fn the_rest_of_one_frame(rt: HostRuntime) -> Result<(), OutOfMemory> {
 }
 
 #[test]
-fn texts_and_refusals(rt: HostRuntime) -> Result<(), OutOfMemory> {
+fn texts_and_slots(rt: HostRuntime) -> Result<(), OutOfMemory> {
     let rows = [
         (
             "grain 1\nconst \"a\\\"\\n\\u{e9}\"\nmain 1\nload_const 0\nreturn\nend\n",
@@ -199,6 +209,16 @@ fn texts_and_refusals(rt: HostRuntime) -> Result<(), OutOfMemory> {
             1,
             "fault Malformed\nMalformed program: slot 2 past a scope of 2\ntrace 0\n",
         ),
+    ];
+    for (listing, status, text) in rows {
+        check(&rt, rt.alloc(), "run", listing, status, text)?;
+    }
+    Ok(())
+}
+
+#[test]
+fn refusals_have_their_reason(rt: HostRuntime) -> Result<(), OutOfMemory> {
+    let rows = [
         (
             "grain 1\nmain 1\njump 1\nend\n",
             4,
