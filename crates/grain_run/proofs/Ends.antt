@@ -19,7 +19,9 @@ use Rattle.grain_run.specs.Runs.{Reported, engine_of, start}
 use Rattle.grain_run.specs.declared.replies.Reply.{Reply}
 
 -- a fault other than want of memory is the end that the program means
-meant : (p : View) (e : Engine) (b : Begin) (x : EvalAltResult) (finish : Answer → Finish) (ran : ℕ) → x ≢ faults.Memory → Evaluates p e b (Err x) finish ran → Means p e b (finish (Failed (problem_of x))) ran
+meant : (p : View) (e : Engine) (b : Begin) (x : EvalAltResult) (finish : Answer →
+    Finish) (ran : ℕ) → x ≢ faults.Memory → Evaluates p e b (Err x) finish ran →
+    Means p e b (finish (Failed (problem_of x))) ran
 meant p e b (faults.ErrorFunctionNotFound s q) finish ran other h = h
 meant p e b (faults.ErrorMismatchDataType r a q) finish ran other h = h
 meant p e b (faults.ErrorAssignmentToConstant s q) finish ran other h = h
@@ -53,23 +55,49 @@ abbrev pub EndsAs : (Answer → Finish) → List Fault → Type 0
 EndsAs finish trace = (a : Answer) → ((finish a).answer ≡ a) × ((finish a).trace ≡ trace)
 
 pub engine_is : (e : Engine) (l : Limits) → e.limits ≡ l → e.fast_operators ≡ true → e ≡ engine_of l
-engine_is e l limits fast = ap (λ (x : Limits). record { limits = x; fast_operators = e.fast_operators }) limits ∙ ap (λ (b : Bool). record { limits = l; fast_operators = b }) fast
+engine_is e l limits fast = ap
+    (λ (x : Limits). record { limits = x; fast_operators = e.fast_operators }) limits ∙
+    ap (λ (b : Bool). record { limits = l; fast_operators = b }) fast
 
-pub begin_is : (scope : List Entry) (m : MachineView) (e : Engine) → m ≡ record { engine = e; global = record { num_operations = 0; level = 0 }; trace = [] } → begin scope m.global ≡ start scope
+pub begin_is : (scope : List Entry) (m : MachineView) (e : Engine) →
+    m ≡ record { engine = e; global = record { num_operations = 0; level = 0 }; trace = [] } →
+    begin scope m.global ≡ start scope
 begin_is scope m e fresh = ap (λ (x : MachineView). begin scope x.global) fresh
 
-pub value_told : (p : View) (l : Limits) (s : List Entry) (v : Dynamic) (e : Engine) (b : Begin) (finish : Answer → Finish) (trace : List Fault) (ran : ℕ) (r : Result Reply OutOfMemory) → e ≡ engine_of l → b ≡ start s →
-    EndsAs finish trace → Evaluates p e b (Ok v) finish ran → IfOk r (λ x. x.status ≡ 0) → IfOk r (λ x. x.text ≡ report_value v) → IfOk r (λ x. Reported p l s x.status x.text)
+pub value_told : (p : View) (l : Limits) (s : List Entry) (v : Dynamic) (e : Engine) (b : Begin)
+    (finish : Answer → Finish) (trace : List Fault) (ran : ℕ) (r : Result Reply OutOfMemory) →
+    e ≡ engine_of l → b ≡ start s →
+    EndsAs finish trace → Evaluates p e b (Ok v) finish ran → IfOk r (λ x. x.status ≡ 0) →
+    IfOk r (λ x. x.text ≡ report_value v) → IfOk r (λ x. Reported p l s x.status x.text)
 value_told p l s v e b finish trace ran (Err m) engine begun ends h status text = tt
 value_told p l s v e b finish trace ran (Ok x) engine begun ends h status text =
     let is = ends (Came v) in
-    record { end = finish (Came v); instructions = ran; means = rw (engine, begun) at h; number = rw is.0 status; written = rw is.0 text; memory = rw is.0 (no_value v) }
+    record {
+      end = finish (Came v);
+      instructions = ran;
+      means = rw (engine, begun) at h;
+      number =
+          rw is.0 status;
+      written = rw is.0 text;
+      memory = rw is.0 (no_value v);
+    }
 
-pub fault_told : (p : View) (l : Limits) (s : List Entry) (f : EvalAltResult) (e : Engine) (b : Begin) (finish : Answer → Finish) (trace : List Fault) (ran : ℕ) (r : Result Reply OutOfMemory) → e ≡ engine_of l → b ≡ start s →
-    EndsAs finish trace → Evaluates p e b (Err f) finish ran → IfOk r (λ x. x.status ≡ 1) → IfOk r (λ x. x.text ≡ report_fault (problem_of f) trace) → IfOk r (λ x. f ≢ faults.Memory) →
+pub fault_told : (p : View) (l : Limits) (s : List Entry) (f : EvalAltResult) (e : Engine)
+    (b : Begin) (finish : Answer → Finish) (trace : List Fault) (ran : ℕ)
+    (r : Result Reply OutOfMemory) → e ≡ engine_of l → b ≡ start s →
+    EndsAs finish trace → Evaluates p e b (Err f) finish ran → IfOk r (λ x. x.status ≡ 1) →
+    IfOk r (λ x. x.text ≡ report_fault (problem_of f) trace) → IfOk r (λ x. f ≢ faults.Memory) →
     IfOk r (λ x. Reported p l s x.status x.text)
 fault_told p l s f e b finish trace ran (Err m) engine begun ends h status text other = tt
 fault_told p l s f e b finish trace ran (Ok x) engine begun ends h status text other =
     let is = ends (Failed (problem_of f)) in
     let means = meant p e b f finish ran other h in
-    record { end = finish (Failed (problem_of f)); instructions = ran; means = rw (engine, begun) at means; number = rw is.0 status; written = rw (is.0, is.1) text; memory = rw is.0 (no_want f other) }
+    record {
+      end = finish (Failed (problem_of f));
+      instructions = ran;
+      means =
+          rw (engine, begun) at means;
+      number = rw is.0 status;
+      written = rw (is.0, is.1) text;
+      memory = rw is.0 (no_want f other);
+    }

@@ -7,7 +7,8 @@ use Rattle.grain_run.specs.Statuses.{IsReadThrough}
 use Rattle.grain_run.specs.Streams.{IsSpent}
 use Rattle.grain_listing.specs.declared.reasons.BadLine.{BadLine}
 
-no_error : (b : Bool) (e : BadLine) (other : Result SetUp BadLine) (s : SetUp) → cond b (Err e) other ≡ Ok s → b ≡ false
+no_error : (b : Bool) (e : BadLine) (other : Result SetUp BadLine) (s : SetUp) →
+    cond b (Err e) other ≡ Ok s → b ≡ false
 no_error true e other s h = absurd cc
 no_error false e other s h = refl
 
@@ -18,7 +19,9 @@ within bytes h = grind (arith, nat_tests)
 fits : (bytes : List ℕ) (s : SetUp) → reads bytes ≡ Ok s → length bytes ≤ 16777216
 fits bytes s h = within bytes (no_error (nat_lt most_bytes (length bytes)) _ _ s h)
 
-pub read_through : (bytes : List ℕ) (left : Option (List ℕ)) (status : ℕ) (text : List ℕ) → (length bytes ≤ 16777216 → IsSpent left) → Replies (reads bytes) status text → IsReadThrough status left
+pub read_through : (bytes : List ℕ) (left : Option (List ℕ)) (status : ℕ) (text : List ℕ) →
+    (length bytes ≤ 16777216 → IsSpent left) → Replies (reads bytes) status text →
+    IsReadThrough status left
 read_through bytes left status text spent (no_listing e) = λ h. absurd (omega arith)
 read_through bytes left status text spent (refused e invalid first) = λ h. absurd (omega arith)
 read_through bytes left status text spent (reported {s} e valid told) = λ h. spent (fits bytes s e)

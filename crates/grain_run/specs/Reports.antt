@@ -15,7 +15,7 @@ line_end = 10 ∷ []
 abbrev pub report_value : Dynamic → List ℕ
 report_value value = codes "value " ++ quoted value ++ line_end
 
--- the slot of a chain's step stands behind a colon
+-- the slot of a chain's step stands after a colon
 abbrev pub slot_text : Option ℕ → List ℕ
 slot_text None = []
 slot_text (Some slot) = codes ":" ++ decimal slot
@@ -28,7 +28,9 @@ abbrev pub entries_text : List Fault → List ℕ
 entries_text [] = []
 entries_text (entry ∷ entries) = entry_text entry ++ entries_text entries
 
--- a fault's report has three lines: `fault` and its name, its text, and `trace` and where the frames stopped
+-- a fault's report has three lines: `fault` and its name, its text, and `trace` and where the
+-- frames stopped
 abbrev pub report_fault : Problem → List Fault → List ℕ
 report_fault problem trace =
-    (codes "fault " ++ fault_name problem ++ line_end) ++ (fault_text problem ++ line_end) ++ (codes "trace" ++ entries_text trace ++ line_end)
+    (codes "fault " ++ fault_name problem ++ line_end) ++ (fault_text problem ++ line_end) ++
+    (codes "trace" ++ entries_text trace ++ line_end)

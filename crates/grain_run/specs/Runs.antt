@@ -31,8 +31,10 @@ answer_report (Failed p) trace = report_fault p trace
 abbrev pub report : Finish → List ℕ
 report end = answer_report end.answer end.trace
 
--- a status and a text tell the end that the program means on the scope within the limits, which is not want of memory
-pub record Reported (program : View) (limits : Limits) (scope : List Entry) (status : ℕ) (text : List ℕ) : Type 0 where
+-- a status and a text tell the end that the program means on the scope within the limits, which is
+-- not want of memory
+pub record Reported (program : View) (limits : Limits) (scope : List Entry) (status : ℕ)
+    (text : List ℕ) : Type 0 where
   pub end : Finish
   pub instructions : ℕ
   pub means : Means program (engine_of limits) (start scope) end instructions

@@ -1,5 +1,5 @@
 -- What a source does at a read, and a sink at a put.
-use Rattle.std.specs.Prelude.{◌≡◌, ℕ, ◌+◌, ◌-◌, ◌^◌, ◌<◌, ◌≤◌, min, List, [], ◌++◌, length, take, Option, option_map, IfSome}
+use Rattle.std.specs.Prelude.{◌≡◌, ℕ, ◌+◌, ◌-◌, ◌^◌, ◌<◌, ◌≤◌, min, Bool, true, false, if◌then◌else◌, List, [], ◌++◌, length, take, Option, option_map, IfSome}
 use Rattle.grain_run.specs.declared.sources.Read.{Read}
 use Rattle.grain_run.specs.declared.sources.Read.TheVariants.{Got, End, Failed}
 use Rattle.grain_run.specs.declared.sinks.Put.{Put}
@@ -9,11 +9,24 @@ use Rattle.grain_run.specs.declared.sinks.Put.TheVariants as put
 abbrev pub one_more : ℕ → ℕ
 one_more n = min (n + 1) (2 ^ 64 - 1)
 
+-- whether a read or a put failed
+abbrev pub read_failed : Read → Bool
+read_failed Failed = true
+read_failed answer = false
+
+abbrev pub put_failed : Put → Bool
+put_failed put.Failed = true
+put_failed answer = false
+
+-- a count of faults after another call, which failed or did not
+abbrev pub faults_after : Bool → ℕ → ℕ
+faults_after failed before = if failed then one_more before else before
+
 -- the count rose, or stands at the greatest number of its type
 abbrev pub Rose : ℕ → ℕ → Type 0
 Rose before now = one_more before ≤ now
 
--- where the source tells what is left, that is nothing
+-- if the source says what is left, that is nothing
 abbrev pub IsSpent : Option (List ℕ) → Type 0
 IsSpent left = IfSome left (λ bytes. bytes ≡ [])
 
@@ -21,9 +34,11 @@ IsSpent left = IfSome left (λ bytes. bytes ≡ [])
 abbrev pub Moved : ℕ → Option (List ℕ) → Option (List ℕ) → List ℕ → Type 0
 Moved n before now slice = option_map (λ others. take n slice ++ others) now ≡ before
 
--- what a read may answer, by what was left before and is left now, and by the slice afterwards; nothing for a slice with room is the end
+-- what a read may answer, by what was left before and is left now, and by the slice afterwards;
+-- nothing for a slice with room is the end
 abbrev pub WasRead : Read → Option (List ℕ) → Option (List ℕ) → List ℕ → Type 0
-WasRead (Got n) before now slice = (n ≤ length slice) × Moved n before now slice × (n ≡ 0 → 0 < length slice → IsSpent now)
+WasRead (Got n) before now slice = (n ≤ length slice) × Moved n before now slice ×
+    (n ≡ 0 → 0 < length slice → IsSpent now)
 WasRead End before now slice = (now ≡ before) × IsSpent now
 WasRead Failed before now slice = now ≡ before
 
@@ -32,9 +47,11 @@ abbrev pub CountsRead : Read → ℕ → ℕ → Type 0
 CountsRead Failed before now = (before ≤ now) × Rose before now
 CountsRead answer before now = before ≤ now
 
--- what a put may answer, by what was written before and is written now: the first n bytes of the piece were added, at least one of a piece that has any, or none
+-- what a put may answer, by what was written before and is written now: the first n bytes of the
+-- piece were added, at least one of a piece that has any, or none
 abbrev pub WasPut : Put → Option (List ℕ) → Option (List ℕ) → List ℕ → Type 0
-WasPut (put.Took n) before now piece = (n ≤ length piece) × (n ≡ 0 → length piece ≡ 0) × (now ≡ option_map (λ bytes. bytes ++ take n piece) before)
+WasPut (put.Took n) before now piece = (n ≤ length piece) × (n ≡ 0 → length piece ≡ 0) ×
+    (now ≡ option_map (λ bytes. bytes ++ take n piece) before)
 WasPut put.Failed before now piece = now ≡ before
 
 -- the count of faults never falls, and a put fails only where it rises
@@ -42,7 +59,7 @@ abbrev pub CountsPut : Put → ℕ → ℕ → Type 0
 CountsPut put.Failed before now = (before ≤ now) × Rose before now
 CountsPut answer before now = before ≤ now
 
--- what is written with the text behind it, where the sink tells it
+-- what is written and then the text, if the sink says it
 abbrev pub added : List ℕ → Option (List ℕ) → Option (List ℕ)
 added text before = option_map (λ bytes. bytes ++ text) before
 
@@ -52,6 +69,7 @@ pub record PartAdded (text : List ℕ) (before now : Option (List ℕ)) : Type 0
   pub part : count < length text
   pub written : now ≡ added (take count text) before
 
--- at most so many bytes were taken from the source, where it tells what is left
+-- at most that many bytes were taken from the source, if it says what is left
 abbrev pub TakenWithin : ℕ → Option (List ℕ) → Option (List ℕ) → Type 0
-TakenWithin most before now = (taken : List ℕ) × ((length taken ≤ most) × (option_map (λ others. taken ++ others) now ≡ before))
+TakenWithin most before now = (taken : List ℕ) ×
+    ((length taken ≤ most) × (option_map (λ others. taken ++ others) now ≡ before))

@@ -7,10 +7,15 @@ ghost use Rattle.grain_run.specs.Statuses.{Beside, Completes};
 use grain_program::one_refusal;
 use grain_vm::means::one_meaning;
 
-/// How a call ended settles what its status says and what stands beside it, and which status was due.
+/// How a call ended settles what its status says and what stands beside it, and which status was
+/// due.
 pub fn statuses_are_due()
-    ensures beside { (words : List (List ℕ)) (input before now : Option (List ℕ)) (counts : Counts) (status : ℕ) → Ended words input before now counts status → Beside words input before now counts status }
-    ensures complete { (words : List (List ℕ)) (input before now : Option (List ℕ)) (counts : Counts) (status : ℕ) → Ended words input before now counts status → Completes words input before now counts status }
+    ensures beside { (words : List (List ℕ)) (input before now : Option (List ℕ))
+        (counts : Counts) (status : ℕ) → Ended words input before now counts status →
+        Beside words input before now counts status }
+    ensures complete { (words : List (List ℕ)) (input before now : Option (List ℕ))
+        (counts : Counts) (status : ℕ) → Ended words input before now counts status →
+        Completes words input before now counts status }
 {
     one_meaning();
     one_refusal();

@@ -8,7 +8,7 @@ ghost use Rattle.grain_run.specs.Reports.{line_end};
 ghost use Rattle.grain_run.specs.Replies.{is_run, usage_text, bad_line_text, refusal_name, refusal_text, Replies};
 ghost use Rattle.grain_listing.specs.SetUpView.{set_up_of, IsReady};
 
-use crate::runs::run_program;
+use crate::execution::run_program;
 use grain_listing::{BadLine, Setup, read};
 use grain_program::{Refusal, verify};
 use grain_value::{OutOfMemory, Text};
@@ -49,7 +49,8 @@ fn push_line(
     colon: &str,
     name: &str,
 ) -> Result<(), OutOfMemory>
-    ensures { IfOk result (λ _. out.new ≡ out.old ++ (lead.now ++ decimal number ++ colon.now ++ name.now ++ line_end)) }
+    ensures { IfOk result (λ _. out.new ≡
+        out.old ++ (lead.now ++ decimal number ++ colon.now ++ name.now ++ line_end)) }
 {
     out.push_str(lead)?;
     out.push_number(number as u64)?;

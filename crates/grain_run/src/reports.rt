@@ -20,7 +20,7 @@ pub fn report_value(alloc: Global, value: &Dynamic) -> Result<Text, OutOfMemory>
     Ok(out)
 }
 
-/// The slot of a chain's step, behind a colon, where there is one.
+/// The slot of a chain's step, after a colon, if any.
 fn push_slot(out: &mut Text, slot: Option<u32>) -> Result<(), OutOfMemory>
     ensures { IfOk result (λ _. out.new ≡ out.old ++ slot_text slot) }
 {
@@ -54,7 +54,8 @@ fn push_entries(out: &mut Text, entries: &[Fault]) -> Result<(), OutOfMemory>
 
 /// A fault's first line: its name.
 fn push_name(out: &mut Text, fault: &EvalAltResult) -> Result<(), OutOfMemory>
-    ensures { IfOk result (λ _. out.new ≡ out.old ++ (codes "fault " ++ fault_name (problem_of fault.now) ++ line_end)) }
+    ensures { IfOk result (λ _. out.new ≡
+        out.old ++ (codes "fault " ++ fault_name (problem_of fault.now) ++ line_end)) }
 {
     out.push_str("fault ")?;
     out.push_str(fault.name())?;
@@ -63,22 +64,25 @@ fn push_name(out: &mut Text, fault: &EvalAltResult) -> Result<(), OutOfMemory>
 
 /// A fault's second line: its text.
 fn push_text(out: &mut Text, fault: &EvalAltResult) -> Result<(), OutOfMemory>
-    ensures { IfOk result (λ _. out.new ≡ out.old ++ (fault_text (problem_of fault.now) ++ line_end)) }
+    ensures { IfOk result (λ _. out.new ≡
+        out.old ++ (fault_text (problem_of fault.now) ++ line_end)) }
 {
     fault.write_text(out)?;
     out.push_str("\n")
 }
 
-/// A fault's third line: where the frames stopped that it left.
+/// A fault's third line: where the frames that it left stopped.
 fn push_trace(out: &mut Text, trace: &[Fault]) -> Result<(), OutOfMemory>
-    ensures { IfOk result (λ _. out.new ≡ out.old ++ (codes "trace" ++ entries_text trace.now ++ line_end)) }
+    ensures { IfOk result (λ _. out.new ≡
+        out.old ++ (codes "trace" ++ entries_text trace.now ++ line_end)) }
 {
     out.push_str("trace")?;
     push_entries(out, trace)?;
     out.push_str("\n")
 }
 
-/// The report of a fault: `fault` and its name, its text, and where the frames stopped that it left.
+/// The report of a fault: `fault` and its name, its text, and where the frames that it left
+/// stopped.
 pub fn report_fault(
     alloc: Global,
     fault: &EvalAltResult,

@@ -1,21 +1,30 @@
 //! Whole calls, over sources and sinks in memory.
 
 mod calls;
+mod edges;
 mod memory;
 mod streams;
 
-use crate::memory::{CallNumbers, MemorySink, MemorySource};
-use crate::run_counted;
+use crate::call_numbers::CallNumbers;
+use crate::memory_sink::MemorySink;
+use crate::memory_source::MemorySource;
+use crate::program::{Exit, run_args};
 use grain_value::{Blob, OutOfMemory};
 use std::alloc::Global;
+use std::env::Args;
+use std::io;
 use std::marker::Brand;
-use std::process::Abort;
+use std::process::{Abort, ExitCode, Termination};
 use std::sync::ledger::Blank;
 
-const SUM: &str =
-    "grain 1\nconst 0\nconst 1\nconst 10\nname \"s\"\nname \"i\"\nname \"+=\"\nname \"+\"\nname \"<=\"\nop \"+=\"\nop \"+\"\nop \"<=\"\nassign 0 2 1 3\nmain 2\nload_const 0\ndeclare_local 0\nload_const 1\ndeclare_local 1\ntop:\nload_local 1\nload_const 2\ncall_op 4 2 2\njump_if_false done\nload_local 1\nassign_local_op 0 0 0\nload_const 1\nassign_local_op 1 1 0\njump top\ndone:\nload_local 0\nreturn\nend\n";
+const SUM: &str = "grain 1\nconst 0\nconst 1\nconst 10\nname \"s\"\nname \"i\"\nname \"+=\"\n\
+     name \"+\"\nname \"<=\"\nop \"+=\"\nop \"+\"\nop \"<=\"\nassign 0 2 1 3\n\
+     main 2\nload_const 0\ndeclare_local 0\nload_const 1\ndeclare_local 1\ntop:\n\
+     load_local 1\nload_const 2\ncall_op 4 2 2\njump_if_false done\n\
+     load_local 1\nassign_local_op 0 0 0\nload_const 1\nassign_local_op 1 1 0\n\
+     jump top\ndone:\nload_local 0\nreturn\nend\n";
 
-/// The calls at which a source and a sink fail, and the sink's room.
+/// The numbers of the calls at which a source and a sink fail, and the sink's room.
 #[derive(Clone, Copy)]
 struct StreamFaults<'a> {
     source_fails: &'a [u64],
@@ -23,7 +32,7 @@ struct StreamFaults<'a> {
     room: usize,
 }
 
-/// StreamFaults that do not fail.
+/// Streams that do not fail.
 const SOUND: StreamFaults<'static> = StreamFaults {
     source_fails: &[],
     sink_fails: &[],
@@ -38,33 +47,37 @@ fn numbers(alloc: Global, all: &[u64]) -> Result<CallNumbers, OutOfMemory> {
     Ok(numbers)
 }
 
-/// The status of a call with one word, whose source holds the listing, and its sink.
-fn call(
+/// How the program ends over a source and a sink in memory.
+fn exit_of(
+    alloc: Global,
+    args: io::Result<Args>,
+    source: &mut MemorySource,
+    sink: &mut MemorySink,
+) -> Exit {
+    run_args::<MemorySource, MemorySink, Brand>(alloc, args, source, sink, Blank::new(8))
+}
+
+/// How the program ends with one word, whose source holds the bytes, and its sink.
+fn report_of(
     alloc: Global,
     word: &str,
-    listing: &str,
+    bytes: Vec<u8>,
     streams: StreamFaults,
-) -> Result<(u8, MemorySink), OutOfMemory> {
-    let mut words = Vec::new(alloc);
-    words.push(String::from_str(alloc, word)?)?;
-    let bytes = Vec::from_slice(alloc, listing.as_bytes())?;
+) -> Result<(Exit, MemorySink), OutOfMemory> {
+    let mut args = Vec::new(alloc);
+    args.push(String::from_str(alloc, "grain_run")?)?;
+    args.push(String::from_str(alloc, word)?)?;
     let source_fails = numbers(alloc, streams.source_fails)?;
     let mut source = MemorySource::new(Blob::from_vec(bytes), source_fails);
     let sink_fails = numbers(alloc, streams.sink_fails)?;
     let mut sink = MemorySink::new(alloc, streams.room, sink_fails)?;
-    let status = run_counted::<MemorySource, MemorySink, Brand>(
-        alloc,
-        &words,
-        &mut source,
-        &mut sink,
-        Blank::new(8),
-    );
-    Ok((status.number, sink))
+    let exit = exit_of(alloc, Ok(args.into_iter()), &mut source, &mut sink);
+    Ok((exit, sink))
 }
 
 /// Compares the status of a call over these streams, and what it writes.
 fn check_over(
-    rt: &impl Abort,
+    rt: &(impl Abort + Eprint),
     alloc: Global,
     word: &str,
     listing: &str,
@@ -72,15 +85,16 @@ fn check_over(
     status: u8,
     text: &str,
 ) -> Result<(), OutOfMemory> {
-    let (number, sink) = call(alloc, word, listing, streams)?;
-    assert_eq!(rt; number, status);
+    let bytes = Vec::from_slice(alloc, listing.as_bytes())?;
+    let (exit, sink) = report_of(alloc, word, bytes, streams)?;
+    assert_eq!(rt; exit.report(rt), ExitCode::from(status));
     assert_eq!(rt; sink.bytes(), text.as_bytes());
     Ok(())
 }
 
 /// Compares the status of a call whose source and sink do not fail, and what it writes.
 fn check(
-    rt: &impl Abort,
+    rt: &(impl Abort + Eprint),
     alloc: Global,
     word: &str,
     listing: &str,
@@ -106,7 +120,8 @@ fn ends_are_reported(rt: HostRuntime) -> Result<(), OutOfMemory> {
             "value -9223372036854775808\n",
         ),
         (
-            "\n\n grain  1 \n\nconst -0\nname \"\\u{0041}\\\"\\n\"\nmain 1\na\"b: \nload_const 0\nreturn\nend\n\n",
+            "\n\n grain  1 \n\nconst -0\nname \"\\u{0041}\\\"\\n\"\nmain 1\na\"b: \n\
+             load_const 0\nreturn\nend\n\n",
             0,
             "value 0\n",
         ),
@@ -166,15 +181,18 @@ fn runs_begin_on_the_scope(rt: HostRuntime) -> Result<(), OutOfMemory> {
         (
             "grain 1\nscope const \"x\" 5\nmain 1\nload_local 0 @3:4\nreturn\nend\n",
             1,
-            "fault Malformed\nMalformed program: slot 1 past a scope of 1 (line 3, position 4)\ntrace 0\n",
+            "fault Malformed\n\
+             Malformed program: slot 1 past a scope of 1 (line 3, position 4)\ntrace 0\n",
         ),
         (
-            "grain 1\nlimit variables 1\nname \"x\"\nscope \"x\" 5\nmain 1\ntrue\ndeclare_local 0 @7:0\nload_local 0\nreturn\nend\n",
+            "grain 1\nlimit variables 1\nname \"x\"\nscope \"x\" 5\nmain 1\ntrue\n\
+             declare_local 0 @7:0\nload_local 0\nreturn\nend\n",
             1,
             "fault ErrorTooManyVariables\nToo many variables defined (line 7)\ntrace 1\n",
         ),
         (
-            "grain 1\nlimit variables 2\nname \"x\"\nscope \"x\" 5\nmain 1\ntrue\ndeclare_local 0 @7:0\nload_local 0\nreturn\nend\n",
+            "grain 1\nlimit variables 2\nname \"x\"\nscope \"x\" 5\nmain 1\ntrue\n\
+             declare_local 0 @7:0\nload_local 0\nreturn\nend\n",
             0,
             "value true\n",
         ),
@@ -189,23 +207,33 @@ fn runs_begin_on_the_scope(rt: HostRuntime) -> Result<(), OutOfMemory> {
 fn faults_of_operators_are_reported(rt: HostRuntime) -> Result<(), OutOfMemory> {
     let rows = [
         (
-            "grain 1\nconst 9223372036854775807\nconst 1\nname \"+\"\nop \"+\"\nmain 2\nload_const 0\nload_const 1\ncall_op 0 2 0\nreturn\nend\n",
+            "grain 1\nconst 9223372036854775807\nconst 1\nname \"+\"\nop \"+\"\nmain 2\n\
+             load_const 0\nload_const 1\ncall_op 0 2 0\nreturn\nend\n",
             "fault ErrorArithmetic\nAddition overflow: 9223372036854775807 + 1\ntrace 6\n",
         ),
         (
-            "grain 1\nconst -9223372036854775808\nconst -1\nname \"x\"\nname \"+=\"\nname \"+\"\nop \"+=\"\nop \"+\"\nassign 0 1 1 2\nmain 2\nload_const 0\ndeclare_local 0\nload_const 1\nassign_local_op 0 0 0\nload_local 0\nreturn\nend\n",
+            "grain 1\nconst -9223372036854775808\nconst -1\nname \"x\"\nname \"+=\"\n\
+             name \"+\"\nop \"+=\"\nop \"+\"\nassign 0 1 1 2\nmain 2\nload_const 0\n\
+             declare_local 0\nload_const 1\nassign_local_op 0 0 0\nload_local 0\nreturn\n\
+             end\n",
             "fault ErrorArithmetic\nAddition overflow: -9223372036854775808 + -1\ntrace 9\n",
         ),
         (
-            "grain 1\nconst 1\nname \"<=\"\nname \"+\"\nop \"<=\"\nop \"+\"\nmain 2\nload_const 0\nload_const 0\ncall_op 0 2 0\nload_const 0\ncall_op 1 2 1\nreturn\nend\n",
+            "grain 1\nconst 1\nname \"<=\"\nname \"+\"\nop \"<=\"\nop \"+\"\nmain 2\n\
+             load_const 0\nload_const 0\ncall_op 0 2 0\nload_const 0\ncall_op 1 2 1\n\
+             return\nend\n",
             "fault ErrorFunctionNotFound\nFunction not found: + (bool, i64)\ntrace 15\n",
         ),
         (
-            "grain 1\nconst 1\nname \"x\"\nname \"+=\"\nname \"+\"\nname \"<=\"\nop \"+=\"\nop \"+\"\nop \"<=\"\nassign 0 1 1 2\nmain 2\nload_const 0\ndeclare_local 0\nload_const 0\nload_const 0\ncall_op 3 2 2\nassign_local_op 0 0 0\nload_local 0\nreturn\nend\n",
+            "grain 1\nconst 1\nname \"x\"\nname \"+=\"\nname \"+\"\nname \"<=\"\n\
+             op \"+=\"\nop \"+\"\nop \"<=\"\nassign 0 1 1 2\nmain 2\nload_const 0\n\
+             declare_local 0\nload_const 0\nload_const 0\ncall_op 3 2 2\n\
+             assign_local_op 0 0 0\nload_local 0\nreturn\nend\n",
             "fault ErrorFunctionNotFound\nFunction not found: + (i64, bool)\ntrace 18\n",
         ),
         (
-            "grain 1\nconst 1\nname \"-\"\nop \"other\"\nmain 2\nload_const 0\nload_const 0\ncall_op 0 2 0\nreturn\nend\n",
+            "grain 1\nconst 1\nname \"-\"\nop \"other\"\nmain 2\nload_const 0\n\
+             load_const 0\ncall_op 0 2 0\nreturn\nend\n",
             "fault ErrorFunctionNotFound\nFunction not found: - (i64, i64)\ntrace 6\n",
         ),
     ];
@@ -227,7 +255,8 @@ fn faults_of_programs_are_reported(rt: HostRuntime) -> Result<(), OutOfMemory> {
             "fault Malformed\nMalformed program: slot 0 past a scope of 0\ntrace 0\n",
         ),
         (
-            "grain 1\nconst 0\nname \"x\"\nmain 1\ntop:\nload_const 0\ndeclare_local 0\njump top\nend\n",
+            "grain 1\nconst 0\nname \"x\"\nmain 1\ntop:\nload_const 0\ndeclare_local 0\n\
+             jump top\nend\n",
             "fault ErrorTooManyVariables\nToo many variables defined\ntrace 3\n",
         ),
     ];
@@ -251,7 +280,8 @@ fn operators_on_integers(rt: HostRuntime) -> Result<(), OutOfMemory> {
     ];
     for (op, text) in rows {
         let listing = format!(in rt.alloc();
-            "grain 1\nconst 7\nconst 2\nname \"{op}\"\nop \"{op}\"\nmain 2\nload_const 0\nload_const 1\ncall_op 0 2 0\nreturn\nend\n"
+            "grain 1\nconst 7\nconst 2\nname \"{op}\"\nop \"{op}\"\nmain 2\n\
+             load_const 0\nload_const 1\ncall_op 0 2 0\nreturn\nend\n"
         )?;
         check(&rt, rt.alloc(), "run", listing.as_str(), 0, text)?;
     }
@@ -268,7 +298,10 @@ fn assignments_change_the_entry(rt: HostRuntime) -> Result<(), OutOfMemory> {
     ];
     for (line, text) in rows {
         let listing = format!(in rt.alloc();
-            "grain 1\nconst 7\nconst 2\nname \"x\"\nname \"-=\"\nname \"-\"\nname \"*=\"\nname \"*\"\nop \"-=\"\nop \"-\"\nop \"*=\"\nop \"*\"\nassign 0 1 1 2\nassign 2 3 3 4\nmain 1\nload_const 0\ndeclare_local 0\nload_const 1\n{line}\nload_local 0\nreturn\nend\n"
+            "grain 1\nconst 7\nconst 2\nname \"x\"\nname \"-=\"\nname \"-\"\n\
+             name \"*=\"\nname \"*\"\nop \"-=\"\nop \"-\"\nop \"*=\"\nop \"*\"\n\
+             assign 0 1 1 2\nassign 2 3 3 4\nmain 1\nload_const 0\ndeclare_local 0\n\
+             load_const 1\n{line}\nload_local 0\nreturn\nend\n"
         )?;
         check(&rt, rt.alloc(), "run", listing.as_str(), 0, text)?;
     }
@@ -317,14 +350,16 @@ fn truth_values_and_ticks(rt: HostRuntime) -> Result<(), OutOfMemory> {
 }
 
 #[test]
-fn overflows_are_told(rt: HostRuntime) -> Result<(), OutOfMemory> {
+fn overflows_are_reported(rt: HostRuntime) -> Result<(), OutOfMemory> {
     let rows = [
         (
-            "grain 1\nconst -9223372036854775808\nconst 1\nname \"-\"\nop \"-\"\nmain 2\nload_const 0\nload_const 1\ncall_op 0 2 0\nreturn\nend\n",
+            "grain 1\nconst -9223372036854775808\nconst 1\nname \"-\"\nop \"-\"\nmain 2\n\
+             load_const 0\nload_const 1\ncall_op 0 2 0\nreturn\nend\n",
             "fault ErrorArithmetic\nSubtraction overflow: -9223372036854775808 - 1\ntrace 6\n",
         ),
         (
-            "grain 1\nconst 9223372036854775807\nconst 2\nname \"*\"\nop \"*\"\nmain 2\nload_const 0\nload_const 1\ncall_op 0 2 0\nreturn\nend\n",
+            "grain 1\nconst 9223372036854775807\nconst 2\nname \"*\"\nop \"*\"\nmain 2\n\
+             load_const 0\nload_const 1\ncall_op 0 2 0\nreturn\nend\n",
             "fault ErrorArithmetic\nMultiplication overflow: 9223372036854775807 * 2\ntrace 6\n",
         ),
     ];

@@ -1,4 +1,4 @@
 use Rattle.grain_run.proofs.main.Given as goal
 
-abbrev pub ghosts-run_counted : goal.ghosts-run_counted
-ghosts-run_counted a = record { name = a.blank.name; parts = a.blank.parts }
+abbrev pub ghosts-run_args : goal.ghosts-run_args
+ghosts-run_args a = record { name = a.blank.name; parts = a.blank.parts }

@@ -1,7 +1,8 @@
 //! Single calls of the source and the sink in memory.
 
 use super::numbers;
-use crate::memory::{MemorySink, MemorySource};
+use crate::memory_sink::MemorySink;
+use crate::memory_source::MemorySource;
 use crate::sinks::{Put, Sink};
 use crate::sources::{Read, Source};
 use grain_value::{Blob, OutOfMemory};

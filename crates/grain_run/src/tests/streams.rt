@@ -6,7 +6,7 @@ use grain_value::OutOfMemory;
 const USAGE: &str = "usage: run, check, list or self N\n";
 
 #[test]
-fn an_unknown_command_is_told_the_usage(rt: HostRuntime) -> Result<(), OutOfMemory> {
+fn an_unknown_command_gets_the_usage(rt: HostRuntime) -> Result<(), OutOfMemory> {
     for word in ["walk", "", "check", "Run"] {
         check(&rt, rt.alloc(), word, SUM, 2, USAGE)?;
     }

@@ -3,7 +3,8 @@ use Rattle.grain_run.proofs.Says.{beside}
 use Rattle.grain_run.proofs.laws.statuses_are_due.Goals as goal
 
 pub returns-clause-beside : goal.returns-clause-beside
-returns-clause-beside c words input before now counts status ended = beside words input before now counts status ended
+returns-clause-beside c words input before now counts status ended =
+    beside words input before now counts status ended
 
 pub returns-clause-complete : goal.returns-clause-complete
 returns-clause-complete c words input before now counts status ended =

@@ -6,4 +6,5 @@ use Rattle.grain_run.proofs.replies.run_listing.Goals as goal
 pub returns-in-Err : goal.returns-in-Err
 returns-in-Err g c =
     let is : Err c.in-Err.bad ≡ reads c.args.bytes.now = search rules in
-    answers_reason (reads c.args.bytes.now) c.in-Err.bad c.no_listing.result c.no_listing.ensures.status c.no_listing.ensures.text is
+    answers_reason (reads c.args.bytes.now) c.in-Err.bad c.no_listing.result
+    c.no_listing.ensures.status c.no_listing.ensures.text is

@@ -6,7 +6,9 @@ use Rattle.grain_run.proofs.replies.run_set_up.Goals as goal
 
 pub returns-in-Err : goal.returns-in-Err
 returns-in-Err g c =
-    answers_refusal (set_up_of c.args.setup) c.in-Err.refusal c.refused.result c.refused.ensures.status c.refused.ensures.text c.refused.ensures.rule c.in-Err.ensures.complete c.in-Err.ensures.first
+    answers_refusal (set_up_of c.args.setup) c.in-Err.refusal c.refused.result
+    c.refused.ensures.status c.refused.ensures.text c.refused.ensures.rule
+    c.in-Err.ensures.complete c.in-Err.ensures.first
 
 pub returns-in-Ok : goal.returns-in-Ok
 returns-in-Ok g c =

@@ -3,4 +3,5 @@ use Rattle.grain_run.specs.Reports.{entries_text}
 use Rattle.grain_run.proofs.reports.push_entries.Given as goal
 
 abbrev pub invariant-loop-entry : goal.invariant-loop-entry
-invariant-loop-entry l = l.out ++ entries_text (drop l.entry-index l.entries) ≡ l.initial.out ++ entries_text l.entries
+invariant-loop-entry l = l.out ++ entries_text
+    (drop l.entry-index l.entries) ≡ l.initial.out ++ entries_text l.entries

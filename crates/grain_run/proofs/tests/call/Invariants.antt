@@ -1,4 +1,0 @@
-use Rattle.grain_run.proofs.tests.call.Given as goal
-
-abbrev pub ghosts-run_counted : goal.ghosts-run_counted
-ghosts-run_counted a = record { name = a.blank.name; parts = a.blank.parts }
