@@ -4,3 +4,4 @@ pub mod Writing
 pub mod Operators
 pub mod Scopes
 pub mod Lending
+pub mod Operands
