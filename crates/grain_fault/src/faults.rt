@@ -16,7 +16,7 @@ pub type RhaiResult = Result<Dynamic, EvalAltResult>;
 pub type RhaiResultOf<T> = Result<T, EvalAltResult>;
 
 /// What is wrong with a program that the verifier cannot see.
-#[derive(Clone, Copy, Debug, PartialEq, Eq)]
+#[derive(Debug, PartialEq, Eq, Drop)]
 pub enum MalformedKind {
     /// A slot names the entry `index`, counted from 0, of a scope of `length` entries.
     SlotPastScope { index: usize, length: usize },

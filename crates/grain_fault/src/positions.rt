@@ -77,9 +77,11 @@ impl EvalAltResult {
         fault
     }
 
-    /// The fault inside its wrappers: goes through `ErrorInFunctionCall` alone.
+    /// The fault inside its wrappers: goes through `ErrorInFunctionCall` alone. That fault is its own
+    /// inner one.
     pub fn unwrap_inner(&self) -> &EvalAltResult
-        ensures { problem_of result.now ≡ unwrapped (problem_of self.now) }
+        ensures inner { problem_of result.now ≡ unwrapped (problem_of self.now) }
+        ensures again { unwrapped (problem_of result.now) ≡ problem_of result.now }
     {
         match self {
             EvalAltResult::ErrorInFunctionCall(_, _, inner, _) => inner.unwrap_inner(),

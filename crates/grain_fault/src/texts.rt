@@ -1,6 +1,6 @@
 //! The names and the texts of faults.
 
-ghost use Rattle.std.specs.Prelude.{◌≡◌, ◌++◌, IfOk, Some};
+ghost use Rattle.std.specs.Prelude.{◌≡◌, ◌++◌, Some, is_ok, if◌then◌else◌};
 ghost use Rattle.std.specs.Fmt.{WritesOnOk};
 ghost use Rattle.grain_fault.specs.Problems.{problem_of};
 ghost use Rattle.grain_fault.specs.Texts.{fault_name, fault_text, message, mismatch_text, kind_text, place_text, ending, call_text, origin_text, thrown_text};
@@ -30,9 +30,11 @@ impl EvalAltResult {
         }
     }
 
-    /// Puts the fault's text at the end, as `{}` prints it: what happened, and where.
+    /// Puts the fault's text at the end, as `{}` prints it: what happened, and where. After want of
+    /// memory `out` is as it was.
     pub fn write_text(&self, out: &mut Text) -> Result<(), OutOfMemory>
-        ensures { IfOk result (λ _. out.new ≡ out.old ++ fault_text (problem_of self.now)) }
+        ensures { out.new
+            ≡ (if is_ok result then out.old ++ fault_text (problem_of self.now) else out.old) }
     {
         out.push_display(self)
     }

@@ -5,3 +5,4 @@ pub mod Operators
 pub mod Scopes
 pub mod Lending
 pub mod Operands
+pub mod Growing

@@ -1,11 +1,15 @@
 //! The values of the script machine: texts, lists, held values, scopes and limits.
 #![tactic(auto)]
 
+mod appending;
 mod arrays;
 mod blobs;
+mod lists;
 mod memory;
 mod operators;
+mod quoting;
 mod scopes;
+mod stores;
 #[cfg(test)]
 mod tests;
 mod texts;
@@ -13,8 +17,10 @@ mod values;
 
 pub use arrays::Array;
 pub use blobs::Blob;
+pub use lists::List;
 pub use memory::OutOfMemory;
 pub use operators::Token;
 pub use scopes::{Entry, Scope};
+pub use stores::{Cell, Store};
 pub use texts::Text;
 pub use values::{Dynamic, Held, Limits};

@@ -1,16 +1,16 @@
 //! Texts: names, the fields of faults, and what is written.
 
-ghost use Rattle.std.specs.Prelude.{◌≡◌, ◌==◌, ◌++◌, [], length, Some, IfOk, IfSome, is_ok, if◌then◌else◌, slice_get};
+ghost use Rattle.std.specs.Prelude.{◌≡◌, ◌==◌, ◌++◌, [], length, Some, IfOk, IfErr, IfSome, is_ok, if◌then◌else◌, slice_get};
 ghost use Rattle.std.specs.Char.{encode_utf8};
 ghost use Rattle.std.specs.Str.{chars};
 ghost use Rattle.std.specs.Fmt.{decimal, signed_decimal};
-ghost use Rattle.std.specs.List.{flat_map};
-ghost use Rattle.grain_value.specs.Quoting.{escaped, quoted_text};
+ghost use Rattle.grain_value.specs.Quoting.{quoted_text};
 
+use crate::appending::append;
 use crate::memory::OutOfMemory;
+use crate::quoting::Quoted;
 use std::alloc::Global;
 use std::fmt;
-use std::fmt::Write;
 use std::marker::Model;
 
 /// A text. Clauses see its bytes, which are UTF-8.
@@ -103,60 +103,36 @@ impl Text {
         Ok(())
     }
 
-    /// Puts a number's decimal digits at the end.
+    /// Puts a number's decimal digits at the end. After want of memory the text is as it was.
     pub fn push_number(&mut self, number: u64) -> Result<(), OutOfMemory>
-        ensures { IfOk result (λ _. self.new ≡ self.old ++ decimal number) }
+        ensures { self.new ≡ (if is_ok result then self.old ++ decimal number else self.old) }
     {
-        write!(self.text, "{number}")?;
-        Ok(())
+        self.push_display(&number)
     }
 
-    /// Puts an integer's decimal digits at the end, behind a minus where it is below zero.
+    /// Puts an integer's decimal digits at the end, after a minus if it is below zero. After want
+    /// of memory the text is as it was.
     pub fn push_integer(&mut self, integer: i64) -> Result<(), OutOfMemory>
-        ensures { IfOk result (λ _. self.new ≡ self.old ++ signed_decimal integer) }
+        ensures { self.new ≡ (if is_ok result then self.old ++ signed_decimal integer else self.old) }
     {
-        write!(self.text, "{integer}")?;
-        Ok(())
+        self.push_display(&integer)
     }
 
-    /// Puts a character at the end as it stands between quotes.
-    fn push_escaped(&mut self, character: char) -> Result<(), OutOfMemory>
-        ensures { IfOk result (λ _. self.new ≡ self.old ++ escaped character) }
-    {
-        match character {
-            '"' => self.push_str("\\\""),
-            '\\' => self.push_str("\\\\"),
-            '\n' => self.push_str("\\n"),
-            '\r' => self.push_str("\\r"),
-            '\t' => self.push_str("\\t"),
-            character => self.push(character),
-        }
-    }
-
-    fn push_all_escaped(&mut self, s: &str) -> Result<(), OutOfMemory>
-        ensures { IfOk result (λ _. self.new ≡ self.old ++ flat_map escaped (chars s.now)) }
-    {
-        for character in s.chars() {
-            self.push_escaped(character)?;
-        }
-        Ok(())
-    }
-
-    /// Puts these characters at the end between quotes, with the escapes `\"`, `\\`, `\n`, `\r` and `\t`.
+    /// Puts these characters at the end between quotes, with the escapes `\"`, `\\`, `\n`, `\r`
+    /// and `\t`. After want of memory the text is as it was.
     pub fn push_quoted(&mut self, s: &str) -> Result<(), OutOfMemory>
-        ensures { IfOk result (λ _. self.new ≡ self.old ++ quoted_text s.now) }
+        ensures { self.new ≡ (if is_ok result then self.old ++ quoted_text s.now else self.old) }
     {
-        self.push_str("\"")?;
-        self.push_all_escaped(s)?;
-        self.push_str("\"")
+        self.push_display(&Quoted(s))
     }
 
-    /// Puts at the end what `{}` prints of a value.
+    /// Puts at the end what `{}` prints of a value. After want of memory the text is as it was.
     pub fn push_display<D: fmt::Display>(&mut self, value: &D) -> Result<(), OutOfMemory>
-        ensures { IfOk result (λ _. IfSome (D.output value.now) (λ text. self.new ≡ self.old ++ text)) }
+        ensures pushed { IfSome (D.output value.now) (λ text.
+            self.new ≡ (if is_ok result then self.old ++ text else self.old)) }
+        ensures kept { IfErr result (λ _. self.new ≡ self.old) }
     {
-        write!(self.text, "{value}")?;
-        Ok(())
+        append(&mut self.text, value)
     }
 }
 

@@ -1,6 +1,6 @@
 //! Script values, held values, and the limits of a run.
 
-ghost use Rattle.std.specs.Prelude.{◌≡◌, ◌++◌, IfOk, Some, false};
+ghost use Rattle.std.specs.Prelude.{◌≡◌, ◌++◌, IfOk, Some, false, is_ok, if◌then◌else◌};
 ghost use Rattle.grain_value.specs.Looking.{is_unit, truth_of, integer_of};
 ghost use Rattle.grain_value.specs.Writing.{kind_of, type_name_of, plain, quoted};
 ghost use Rattle.grain_value.specs.declared.values.Dynamic.TheVariants as dynamic;
@@ -133,17 +133,18 @@ impl Dynamic {
         }
     }
 
-    /// Puts the value's plain text at the end, as `{}` prints it: unit is empty, a text is as it stands, and every
-    /// other value is as it is quoted.
+    /// Puts the value's plain text at the end, as `{}` prints it: unit is empty, a text is as it
+    /// stands, and every other value is as it is quoted. After want of memory `out` is as it was.
     pub fn write_plain(&self, out: &mut Text) -> Result<(), OutOfMemory>
-        ensures { IfOk result (λ _. out.new ≡ out.old ++ plain self.now) }
+        ensures { out.new ≡ (if is_ok result then out.old ++ plain self.now else out.old) }
     {
         out.push_display(self)
     }
 
-    /// Puts the value's quoted text at the end, which is as a listing has it: a text stands between quotes, with escapes.
+    /// Puts the value's quoted text at the end, which is as a listing has it: a text stands between
+    /// quotes, with escapes. After want of memory `out` is as it was.
     pub fn write_quoted(&self, out: &mut Text) -> Result<(), OutOfMemory>
-        ensures { IfOk result (λ _. out.new ≡ out.old ++ quoted self.now) }
+        ensures { out.new ≡ (if is_ok result then out.old ++ quoted self.now else out.old) }
     {
         match self {
             Dynamic::Unit => out.push_str("()"),

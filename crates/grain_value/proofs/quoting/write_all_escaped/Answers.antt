@@ -1,14 +1,16 @@
-use Rattle.std.proofs.Common.{◌≡◌, ◌++◌, sym, ap, ◌∙◌}
+-- What `chars` gives of a text are its characters.
+use Rattle.std.proofs.Common.{◌≡◌, ◌∙◌, sym, ap}
+use Rattle.std.proofs.Output.{has_written_of_eq}
 use Rattle.std.proofs.lemmas.Iterator.{YieldsList-from_chars}
 use Rattle.std.proofs.lemmas.Iterator.Consumers.{YieldsList-end}
 use Rattle.std.proofs.lemmas.List.{map-id}
 use Rattle.std.specs.List.{flat_map}
 use Rattle.std.specs.Str.{chars}
 use Rattle.grain_value.specs.Quoting.{escaped}
-use Rattle.grain_value.proofs.texts.Text.push_all_escaped.Goals as goal
+use Rattle.grain_value.proofs.quoting.write_all_escaped.Goals as goal
 
 pub returns : goal.returns
-returns c =
+returns g c = λ plain ok.
     let t = YieldsList-end (YieldsList-from_chars c.args.s.now c.utf8.s cc) c.loop-character.yielded _ c.loop-character.yielded_by _ _ c.in-None.is c.next.ensures.steps in
     let all : c.loop-character.yielded ≡ chars c.args.s.now = sym (map-id c.loop-character.yielded) ∙ t.0 in
-    c.loop-character.invariant ∙ ap (λ l. c.args.self.now ++ flat_map escaped l) all
+    has_written_of_eq _ _ _ _ _ (ap (flat_map escaped) all) (c.loop-character.invariant plain)
