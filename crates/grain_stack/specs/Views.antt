@@ -1,5 +1,5 @@
 -- What a caller sees of the stacks: the operands of each frame, the trace, and how often a frame was entered.
-use Rattle.std.specs.Prelude.{ℕ, ◌+◌, ◌-◌, ◌^◌, nat_lt, if◌then◌else◌, Bool, false, List, [], ◌∷◌}
+use Rattle.std.specs.Prelude.{◌≡◌, ℕ, ◌+◌, ◌-◌, ◌^◌, nat_lt, if◌then◌else◌, Bool, false, List, [], ◌∷◌}
 use Rattle.grain_value.specs.declared.values.Held.{Held}
 use Rattle.grain_fault.specs.declared.traces.Fault.{Fault}
 
@@ -40,3 +40,7 @@ with_frame room s =
 abbrev pub without_frame : List StackFrame → StacksView → StacksView
 without_frame [] s = s
 without_frame (f ∷ fs) s = record s { operands = f.operands; room = f.room; noted = f.noted; outer = fs }
+
+-- the frames are as they were: only the trace and the number of entries may differ
+abbrev pub IsLeft : (old new : StacksView) → Type 0
+IsLeft old new = new ≡ record old { trace = new.trace; entered = new.entered }
