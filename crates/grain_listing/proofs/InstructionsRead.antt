@@ -4,8 +4,8 @@ use Rattle.std.specs.List.{flat_map, list_all, All}
 use Rattle.std.specs.Fmt.{decimal}
 use Rattle.std.specs.Int.{w16, w32, to_le_bytes}
 use Rattle.grain_fault.specs.declared.places.Position.{Position}
-use Rattle.grain_program.specs.declared.instructions.Op.{Op}
-use Rattle.grain_program.specs.declared.instructions.Op.TheVariants as op
+use Rattle.grain_program.specs.declared.code.instructions.Op.{Op}
+use Rattle.grain_program.specs.declared.code.instructions.Op.TheVariants as op
 use Rattle.grain_program.specs.Reading.{Operand, one, two, four}
 use Rattle.grain_program.specs.Spelling.{Field, tag_of, fields_of, spelled, fields_spelled, spelling, NumberFits, FieldsFit, OpFits}
 use Rattle.grain_words.specs.Lines.{lines_of}

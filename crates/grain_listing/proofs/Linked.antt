@@ -4,8 +4,8 @@ use Rattle.std.proofs.Math.Seq.{set-append_seam}
 use Rattle.std.specs.Int.{w32, to_le_bytes}
 use Rattle.grain_fault.specs.declared.places.Position.{Position}
 use Rattle.grain_program.specs.Recorded.{Ascends}
-use Rattle.grain_program.specs.declared.input.AssignOp.{AssignOp}
-use Rattle.grain_program.specs.declared.input.PositionEntry.{PositionEntry}
+use Rattle.grain_program.specs.declared.code.parts.AssignOp.{AssignOp}
+use Rattle.grain_program.specs.declared.code.parts.PositionEntry.{PositionEntry}
 use Rattle.grain_words.specs.Labels.{Addresses, address_of}
 use Rattle.grain_listing.specs.Steps.{and_then, present}
 use Rattle.grain_listing.specs.Statements.{Piece, Byte, Goto, Statement, code_line, section, tokens, assigns, pieces, width, address, labels, label_address, positions, code_of, bad_line}

@@ -2,7 +2,7 @@
 use Rattle.std.proofs.Common.{◌≡◌, ℕ, ◌+◌, ◌*◌, ◌-◌, ◌^◌, ◌≤◌, Bool, true, false, ◌&&◌, cond, nat_lt, bytes_eq, codes, is_some, List, [], ◌∷◌, ◌++◌, length, drop, Option, Some, None, Result, Ok, Err, refl, subst, arith}
 use Rattle.std.specs.Int.{w16, w32, to_le_bytes}
 use Rattle.grain_fault.specs.declared.places.Position.{Position}
-use Rattle.grain_program.specs.declared.instructions.Op.{Op}
+use Rattle.grain_program.specs.declared.code.instructions.Op.{Op}
 use Rattle.grain_program.specs.Spelling.{Field, fields_of}
 use Rattle.grain_words.specs.Numerals.{number, begins_letter}
 use Rattle.grain_words.specs.declared.words.Word.{Word}

@@ -3,7 +3,7 @@
 use Rattle.std.specs.Prelude.{ℕ, List, map}
 use Rattle.std.specs.Fmt.{decimal}
 use Rattle.grain_words.specs.Spelled.{spaced, text_of}
-use Rattle.grain_program.specs.declared.instructions.Op.{Op}
+use Rattle.grain_program.specs.declared.code.instructions.Op.{Op}
 use Rattle.grain_program.specs.Spelling.{Field, fields_of}
 use Rattle.grain_listing.specs.Instructions.{word_of}
 

@@ -1,7 +1,7 @@
 -- The instructions' words, and how their lines are read.
 use Rattle.std.specs.Prelude.{ℕ, List, [], ◌∷◌, Option, Some, None, codes, bytes_eq, if◌then◌else◌}
-use Rattle.grain_program.specs.declared.instructions.Op.{Op}
-use Rattle.grain_program.specs.declared.instructions.Op.TheVariants as op
+use Rattle.grain_program.specs.declared.code.instructions.Op.{Op}
+use Rattle.grain_program.specs.declared.code.instructions.Op.TheVariants as op
 use Rattle.grain_program.specs.Reading.{Operand, one, two, four}
 use Rattle.grain_program.specs.Spelling.{Field, tag_of, fields_of}
 use Rattle.grain_listing.specs.declared.table.OperandKind.{OperandKind}

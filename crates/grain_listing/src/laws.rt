@@ -3,7 +3,7 @@
 ghost use Rattle.std.specs.Prelude.{◌≡◌, ◌++◌, ℕ, List, All, Ok};
 ghost use Rattle.std.specs.List.{flat_map};
 ghost use Rattle.grain_words.specs.Lines.{lines_of};
-ghost use Rattle.grain_program.specs.declared.instructions.Op.{Op};
+ghost use Rattle.grain_program.specs.declared.code.instructions.Op.{Op};
 ghost use Rattle.grain_program.specs.Spelling.{OpFits, spelling};
 ghost use Rattle.grain_listing.specs.Steps.{and_then};
 ghost use Rattle.grain_listing.specs.InstructionLines.{instruction_text};

@@ -1,7 +1,7 @@
 //! The words that begin a line, and what may stand where.
 
 ghost use Rattle.std.specs.Prelude.{◌≡◌, map, Some};
-ghost use Rattle.grain_program.specs.declared.instructions.Op.{Op};
+ghost use Rattle.grain_program.specs.declared.code.instructions.Op.{Op};
 ghost use Rattle.grain_listing.specs.Encodings.{encoding_among};
 ghost use Rattle.grain_listing.specs.Instructions.{word_of, encoding_of, value_encoding, flow_encoding, encoding_named};
 ghost use Rattle.grain_listing.specs.Table.{own_line, line_of, is_pools, is_block, is_after, stands};

@@ -2,7 +2,7 @@
 use Rattle.std.proofs.Common.{◌≡◌, inl, inr, ℕ, true, false, List, Option, Some, Result, Ok, Err, IfSome, refl, sym, ap, ◌∙◌, subst}
 use Rattle.grain_program.specs.View.{View}
 use Rattle.grain_program.specs.Typing.{IsProgram, IsRefusal}
-use Rattle.grain_program.specs.declared.refusals.Refusal.{Refusal}
+use Rattle.grain_program.specs.declared.verifier.refusals.Refusal.{Refusal}
 use Rattle.grain_vm.specs.declared.global.Engine.{Engine}
 use Rattle.grain_vm.specs.means.Acts.{Answer, Came, Failed}
 use Rattle.grain_vm.specs.means.Means.{Begin, Finish, Means}

@@ -2,7 +2,7 @@
 use Rattle.std.proofs.Common.{◌≡◌, ℕ, true, false, List, Option, Some, None, Result, Err, IfSome, refl, sym, ◌∙◌, subst, arith}
 use Rattle.grain_value.specs.declared.values.Dynamic.{Dynamic}
 use Rattle.grain_fault.specs.Problems.{Problem}
-use Rattle.grain_program.specs.declared.refusals.Refusal.{Refusal}
+use Rattle.grain_program.specs.declared.verifier.refusals.Refusal.{Refusal}
 use Rattle.grain_vm.specs.means.Acts.{Answer, Came, Failed}
 use Rattle.grain_vm.specs.means.Means.{Finish}
 use Rattle.grain_listing.specs.Reading.{SetUp, reads}

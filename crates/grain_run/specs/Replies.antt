@@ -3,8 +3,8 @@ use Rattle.std.specs.Prelude.{◌≡◌, ◌⊎◌, ℕ, Bool, true, false, List
 use Rattle.std.specs.Fmt.{decimal}
 use Rattle.grain_program.specs.Rules.{address_of}
 use Rattle.grain_program.specs.Typing.{IsProgram, IsRefusal}
-use Rattle.grain_program.specs.declared.refusals.Refusal.{Refusal}
-use Rattle.grain_program.specs.declared.refusals.Refusal.TheVariants as refusals
+use Rattle.grain_program.specs.declared.verifier.refusals.Refusal.{Refusal}
+use Rattle.grain_program.specs.declared.verifier.refusals.Refusal.TheVariants as refusals
 use Rattle.grain_listing.specs.Reading.{SetUp, reads}
 use Rattle.grain_listing.specs.Reasons.{reason_text}
 use Rattle.grain_run.specs.Puts.{PutWhole, PutPart}

@@ -4,7 +4,7 @@ use Rattle.std.specs.Prelude.{◌≡◌, ◌≤◌, ◌⊎◌, ℕ, true, false,
 use Rattle.grain_value.specs.declared.values.Dynamic.{Dynamic}
 use Rattle.grain_fault.specs.Problems.{Problem}
 use Rattle.grain_program.specs.Typing.{IsProgram, IsRefusal}
-use Rattle.grain_program.specs.declared.refusals.Refusal.{Refusal}
+use Rattle.grain_program.specs.declared.verifier.refusals.Refusal.{Refusal}
 use Rattle.grain_vm.specs.means.Acts.{Came, Failed}
 use Rattle.grain_vm.specs.means.Means.{Finish, Means}
 use Rattle.grain_listing.specs.Reading.{SetUp, reads}

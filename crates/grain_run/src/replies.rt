@@ -2,7 +2,7 @@
 
 ghost use Rattle.std.specs.Prelude.{◌≡◌, ◌≢◌, ◌++◌, Ok, IfOk, map, string_bytes};
 ghost use Rattle.std.specs.Fmt.{decimal};
-ghost use Rattle.grain_program.specs.declared.refusals.Refusal.TheVariants as refusals;
+ghost use Rattle.grain_program.specs.declared.verifier.refusals.Refusal.TheVariants as refusals;
 ghost use Rattle.grain_listing.specs.Reading.{reads};
 ghost use Rattle.grain_run.specs.Reports.{line_end};
 ghost use Rattle.grain_run.specs.Replies.{is_run, usage_text, bad_line_text, refusal_name, refusal_text, Replies};

@@ -7,3 +7,4 @@ pub mod Operators
 pub mod Scopes
 pub mod Lending
 pub mod Extensions
+pub mod Operands

@@ -22,6 +22,6 @@ pub use lists::List;
 pub use memory::OutOfMemory;
 pub use operators::Token;
 pub use scopes::{Entry, Scope};
-pub use stores::Store;
+pub use stores::{Cell, Store};
 pub use texts::Text;
 pub use values::{Dynamic, Held, Limits};

@@ -1,24 +1,30 @@
-//! The store of cells, which several places of a run may share.
+//! The store of cells: the values that closures share.
 
-ghost use Rattle.std.specs.Prelude.{◌≡◌, [], length};
+ghost use Rattle.std.specs.Prelude.{◌≡◌, ◌==◌, [], length};
 
 use crate::lists::List;
 use crate::values::Held;
 use std::alloc::Global;
 use std::marker::Model;
 
-/// The cells of a run. A cell is named by its number, which counts from 0. Clauses see the list of
-/// what the cells hold.
+/// What a cell holds, and whether its content is lent.
+#[derive(Drop)]
+pub struct Cell {
+    pub held: Held,
+    pub busy: bool,
+}
+
+/// Cells, each of which is named by its position. Clauses see the list of them.
 #[derive(Drop)]
 pub struct Store {
-    cells: List<Held>,
+    cells: List<Cell>,
 }
 
 impl Model for Store {
     ghost use Rattle.std.specs.Prelude.{List};
-    ghost use Rattle.grain_value.specs.declared.values.Held.{Held};
+    ghost use Rattle.grain_value.specs.declared.stores.Cell.{Cell};
 
-    ghost Value = { List Held };
+    ghost Value = { List Cell };
 
     ghost view = { λ s. s.cells };
 }
@@ -38,5 +44,12 @@ impl Store {
         ensures { result ≡ length self.now }
     {
         self.cells.len()
+    }
+
+    /// Whether there are no cells.
+    pub fn is_empty(&self) -> bool
+        ensures { result ≡ (length self.now == 0) }
+    {
+        self.cells.len() == 0
     }
 }

@@ -1,15 +1,10 @@
-//! The machine that runs a verified program.
+//! The machine that an embedder calls.
 #![tactic(auto)]
 
-pub mod frame;
-pub mod global;
-pub mod means;
-mod operators;
-pub mod stack;
 #[cfg(test)]
 mod tests;
 mod vms;
 
-pub use frame::steps::Steps;
-pub use global::{Engine, GlobalRuntimeState};
+pub use grain_frame::Steps;
+pub use grain_global::{Engine, GlobalRuntimeState};
 pub use vms::Vm;

@@ -4,15 +4,15 @@ ghost use Rattle.std.specs.Prelude.{◌≡◌, ◌<◌, IfOk};
 ghost use Rattle.grain_program.specs.View.{view_of};
 ghost use Rattle.grain_program.specs.Recorded.{HasOrder};
 
-use crate::frame::steps::Steps;
-use crate::global::Engine;
 use crate::vms::Vm;
+use grain_frame::Steps;
+use grain_global::Engine;
 use grain_fault::{EvalAltResult, Fault, Position};
 use grain_program::{
     AssignOps, Caps, Chunk, Function, Functions, Indices, Names, Op, Parts, Positions, Program,
     Tokens, assemble, verify,
 };
-use grain_value::{Array, Dynamic, Limits, OutOfMemory, Scope, Text};
+use grain_value::{Array, Dynamic, Limits, OutOfMemory, Scope, Store, Text};
 use std::alloc::Global;
 use std::marker::Brand;
 use std::process::Abort;
@@ -85,8 +85,10 @@ fn gives_a_value<L: Ledger>(rt: &impl Abort, alloc: Global, blank: Blank) -> Res
     let engine = Engine::new(alloc, LIMITS);
     let mut vm = Vm::new(alloc, &engine)?;
     let mut scope = Scope::new(alloc);
+    let mut cells = Store::new(alloc);
+    let mut host = ();
     let mut steps = Steps::<L>::new(blank);
-    let answer = vm.eval_with_callbacks(alloc, &mut scope, &program, &mut steps);
+    let answer = vm.eval_with_callbacks(alloc, &mut host, &mut cells, &mut scope, &program, &mut steps);
     assert!(rt; matches!(answer, Ok(Dynamic::Int(7))));
     assert!(rt; vm.fault_pc().is_none());
     assert_eq!(rt; vm.into_global_state().num_operations(), 0);
@@ -102,8 +104,10 @@ fn stops_at_the_limit<L: Ledger>(rt: &impl Abort, alloc: Global, blank: Blank) -
     let engine = Engine::new(alloc, LIMITS);
     let mut vm = Vm::new(alloc, &engine)?;
     let mut scope = Scope::new(alloc);
+    let mut cells = Store::new(alloc);
+    let mut host = ();
     let mut steps = Steps::<L>::new(blank);
-    let answer = vm.eval_with_callbacks(alloc, &mut scope, &program, &mut steps);
+    let answer = vm.eval_with_callbacks(alloc, &mut host, &mut cells, &mut scope, &program, &mut steps);
     assert!(rt;
         matches!(
             answer,
@@ -130,8 +134,10 @@ fn wraps_what_a_function_throws<L: Ledger>(
     let engine = Engine::new(alloc, LIMITS);
     let mut vm = Vm::new(alloc, &engine)?;
     let mut scope = Scope::new(alloc);
+    let mut cells = Store::new(alloc);
+    let mut host = ();
     let mut steps = Steps::<L>::new(blank);
-    let answer = vm.eval_with_callbacks(alloc, &mut scope, &program, &mut steps);
+    let answer = vm.eval_with_callbacks(alloc, &mut host, &mut cells, &mut scope, &program, &mut steps);
     let Err(fault) = answer else {
         return Err("no fault".into());
     };
@@ -168,8 +174,10 @@ fn stops_at_the_level<L: Ledger>(rt: &impl Abort, alloc: Global, blank: Blank) -
     let global = engine.new_global_runtime_state(alloc)?;
     let mut vm = Vm::with_global_state(alloc, &engine, global);
     let mut scope = Scope::new(alloc);
+    let mut cells = Store::new(alloc);
+    let mut host = ();
     let mut steps = Steps::<L>::new(blank);
-    let answer = vm.eval_with_callbacks(alloc, &mut scope, &program, &mut steps);
+    let answer = vm.eval_with_callbacks(alloc, &mut host, &mut cells, &mut scope, &program, &mut steps);
     assert!(rt;
         matches!(
             answer,

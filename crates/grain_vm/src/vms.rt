@@ -1,44 +1,36 @@
 //! The machine that an embedder calls.
 
-ghost use Rattle.std.specs.Prelude.{◌≡◌, ◌+◌, ◌<◌, ℕ, [], false, IfOk, option_map, slice_get};
-ghost use Rattle.grain_vm.specs.means.Causes.{HasCause};
-ghost use Rattle.grain_vm.specs.means.Comes.{Provided};
-ghost use Rattle.grain_vm.specs.means.Leavings.{Leaves};
-ghost use Rattle.grain_vm.specs.means.Means.{Evaluates};
-ghost use Rattle.grain_vm.specs.frame.Counts.{instructions};
-ghost use Rattle.grain_vm.specs.Machines.{begin, finish, answered};
+ghost use Rattle.std.specs.Prelude.{◌≡◌, ◌+◌, ◌<◌, ℕ, [], IfOk, option_map, slice_get};
+ghost use Rattle.grain_means.specs.Causes.{HasCause};
+ghost use Rattle.grain_means.specs.Comes.{Provided};
+ghost use Rattle.grain_means.specs.Leavings.{Leaves};
+ghost use Rattle.grain_means.specs.Means.{Evaluates};
+ghost use Rattle.grain_frame.specs.Counts.{instructions};
+ghost use Rattle.grain_frame.specs.Machines.{begin, finish};
 
-use crate::frame::contexts::Context;
-use crate::frame::states::State;
-use crate::frame::steps::Steps;
-use crate::global::{Engine, GlobalRuntimeState};
-use crate::stack::Stacks;
-use grain_fault::{EvalAltResult, Fault, RhaiResult};
+use grain_fault::{Fault, RhaiResult};
+use grain_frame::{Machine, Steps};
+use grain_global::{Engine, GlobalRuntimeState};
 use grain_program::Program;
-use grain_value::{Dynamic, OutOfMemory, Scope};
+use grain_value::{OutOfMemory, Scope, Store};
 use std::alloc::Global;
 use std::marker::Model;
-use std::mem;
 use std::sync::ledger::Ledger;
 
-/// A machine: its engine, the state that outlives a run, and the trace of the last run. It holds no operands
-/// between two runs.
+/// A machine: its engine, the state that outlives a run, and the trace of the last run. Between two runs no frame is
+/// entered.
 #[derive(Drop)]
 pub struct Vm<'e> {
-    engine: &'e Engine,
+    machine: Machine<'e>,
     global: GlobalRuntimeState,
-    stacks: Stacks,
 }
 
 impl<'e> Model for Vm<'e> {
-    ghost use Rattle.std.specs.Prelude.{◌≡◌, []};
-    ghost use Rattle.grain_vm.specs.MachineView.{MachineView};
+    ghost use Rattle.grain_vm.specs.VmView.{VmView};
 
-    ghost Value = { MachineView };
+    ghost Value = { VmView };
 
-    ghost view = { λ v. record { engine = v.engine.now; global = v.global; trace = v.stacks.trace.items } };
-
-    ghost invariant = { λ v. (v.stacks.operands.items ≡ []) × (v.stacks.frames ≡ 0) };
+    ghost view = { λ v. record { engine = v.machine.engine; global = v.global; trace = v.machine.stacks.trace } };
 }
 
 impl<'e> Vm<'e> {
@@ -59,9 +51,8 @@ impl<'e> Vm<'e> {
         ensures { result ≡ record { engine = engine.now; global = global; trace = [] } }
     {
         Vm {
-            engine,
+            machine: Machine::new(alloc, engine),
             global,
-            stacks: Stacks::new(alloc),
         }
     }
 
@@ -76,76 +67,41 @@ impl<'e> Vm<'e> {
     pub fn fault_trace(&self) -> &[Fault]
         ensures { result.now ≡ self.now.trace }
     {
-        &self.stacks.trace
+        self.machine.trace()
     }
 
     /// Where the innermost of these frames stopped.
     pub fn fault_pc(&self) -> Option<usize>
         ensures { result ≡ option_map (λ f. f.address) (slice_get self.now.trace 0) }
     {
-        match self.stacks.trace.first() {
+        match self.machine.trace().first() {
             Some(fault) => Some(fault.address),
             None => None,
         }
     }
 
-    /// Runs a program's main on a scope. The operations that are charged count on from the state's, and the entries
-    /// that main declares stay after a value; a fault cuts the scope back to its length. Where memory runs out, the
-    /// run is the one that is stopped at a mark. The scope's entries keep their names and order, whatever the end is.
-    pub fn eval_with_callbacks<L: Ledger>(
+    /// Runs a program's main on a scope, with a host and cells, which no instruction reaches yet. The operations that
+    /// are charged count on from the state's, and the entries that main declares stay after a value; a fault cuts the
+    /// scope back to its length. After want of memory the run is the one that is stopped at a mark. The scope's entries
+    /// keep their names and order, whatever the end is.
+    pub fn eval_with_callbacks<H, L: Ledger>(
         &mut self,
         alloc: Global,
+        host: &mut H,
+        cells: &mut Store,
         scope: &mut Scope,
         program: &Program,
         steps: &mut Steps<L>,
     ) -> RhaiResult
         requires positive { 0 < self.old.engine.limits.operations }
-        ensures evaluates { (ran : ℕ) × (Evaluates program.now self.old.engine (begin scope.old self.old.global) result (finish scope.new self.new) ran × (instructions steps.new ≡ instructions steps.old + ran)) }
-        ensures causes { HasCause program.now self.old.engine (begin scope.old self.old.global) result }
-        ensures provided { Provided program.now self.old.engine (begin scope.old self.old.global) }
-        ensures leaves { Leaves program.now self.old.engine (begin scope.old self.old.global) result scope.new self.new.trace }
+        ensures evaluates { (ran : ℕ) × (Evaluates program.now self.old.engine (begin scope.old cells.old host.old self.old.global) result (finish self.new.trace scope.new cells.new host.new self.new.global) ran × (instructions steps.new ≡ instructions steps.old + ran)) }
+        ensures causes { HasCause program.now self.old.engine (begin scope.old cells.old host.old self.old.global) result }
+        ensures provided { Provided program.now self.old.engine (begin scope.old cells.old host.old self.old.global) }
+        ensures leaves { Leaves program.now self.old.engine (begin scope.old cells.old host.old self.old.global) result scope.new self.new.trace }
         ensures level { self.new.global.level ≡ self.old.global.level }
         ensures engine { self.new.engine ≡ self.old.engine }
     {
-        steps.start();
-        self.stacks.clear_trace();
-        let context = Context {
-            engine: self.engine,
-            program,
-        };
-        let mut state = State {
-            alloc,
-            stacks: mem::replace(&mut self.stacks, Stacks::new(alloc)),
-            scope: mem::replace(scope, Scope::new(alloc)),
-            count: self.global.num_operations,
-            level: self.global.level,
-            outcome: Ok(Dynamic::Unit),
-        };
-        let back = state.run_main(context, steps);
-        let State {
-            alloc: _,
-            stacks,
-            scope: after,
-            count,
-            level,
-            outcome: _,
-        } = state;
-        self.stacks = stacks;
-        *scope = after;
-        self.global = GlobalRuntimeState {
-            num_operations: count,
-            level,
-        };
-        answered(back)
-    }
-}
-
-// Want of memory as a fault.
-fn answered(back: Result<RhaiResult, OutOfMemory>) -> RhaiResult
-    ensures { result ≡ answered back }
-{
-    match back {
-        Ok(done) => done,
-        Err(_) => Err(EvalAltResult::Memory),
+        self.machine
+            .run_main(alloc, host, cells, &mut self.global, scope, program, steps)
     }
 }

@@ -5,9 +5,9 @@ use Rattle.grain_value.specs.declared.values.Dynamic.{Dynamic}
 use Rattle.grain_value.specs.declared.operators.Token.{Token}
 use Rattle.grain_value.specs.declared.scopes.Entry.{Entry}
 use Rattle.grain_fault.specs.declared.places.Position.{Position}
-use Rattle.grain_program.specs.declared.input.Chunk.{Chunk}
-use Rattle.grain_program.specs.declared.input.PositionEntry.{PositionEntry}
-use Rattle.grain_program.specs.declared.functions.Function.{Function}
+use Rattle.grain_program.specs.declared.code.parts.Chunk.{Chunk}
+use Rattle.grain_program.specs.declared.code.parts.PositionEntry.{PositionEntry}
+use Rattle.grain_program.specs.declared.code.functions.Function.{Function}
 use Rattle.grain_words.specs.Numerals.{number, begins_letter}
 use Rattle.grain_words.specs.Labels.{Addresses, address_of, with_label}
 use Rattle.grain_words.specs.declared.words.Word.{Word}

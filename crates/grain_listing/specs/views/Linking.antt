@@ -1,7 +1,7 @@
 -- How the assembler's last state becomes what the listing says.
 use Rattle.std.specs.Prelude.{ℕ, ◌+◌, List, [], ◌∷◌, Result, Ok, Err, slice_set}
 use Rattle.std.specs.Int.{w32, to_le_bytes}
-use Rattle.grain_program.specs.declared.input.AssignOp.{AssignOp}
+use Rattle.grain_program.specs.declared.code.parts.AssignOp.{AssignOp}
 use Rattle.grain_words.specs.Labels.{Addresses, address_of}
 use Rattle.grain_listing.specs.Steps.{and_then, present}
 use Rattle.grain_listing.specs.Reading.{SetUp, bad_line, limits_of, caps_of, assign_ops_of, complete}

@@ -1,0 +1,145 @@
+-- From what a method of an instruction did to one turn of the frame.
+use Rattle.std.proofs.Common.{◌≡◌, ◌≤◌, ◌+◌, ◌-◌, ℕ, List, [], ◌∷◌, Option, Some, Bool, true, false, cond, nat_lt, inl, inr, Result, Ok, Err, length, refl, sym, subst, ap, ◌∙◌, arith}
+use Rattle.grain_value.specs.declared.values.Held.{Held}
+use Rattle.grain_value.specs.declared.scopes.Entry.{Entry}
+use Rattle.grain_value.specs.Scopes.{set_held}
+use Rattle.grain_fault.specs.Problems.{problem_of}
+use Rattle.grain_fault.specs.declared.faults.EvalAltResult.{EvalAltResult}
+use Rattle.grain_program.specs.Typing.{In}
+use Rattle.grain_stack.specs.Views.{StacksView}
+use Rattle.grain_value.specs.declared.memory.OutOfMemory.{OutOfMemory}
+use Rattle.grain_program.specs.declared.code.parts.Chunk.{Chunk}
+use Rattle.grain_program.specs.declared.code.instructions.Op.{Op}
+use Rattle.grain_program.specs.Effects.{takes_of, gives_of, leads_of}
+use Rattle.grain_program.specs.laws.TypedAt.{IsTypedAt, Verified}
+use Rattle.grain_program.specs.Reading.{op_at}
+use Rattle.grain_program.specs.View.{View}
+use Rattle.grain_global.specs.declared.engines.Engine.{Engine}
+use Rattle.grain_means.specs.Worlds.{Setup, Place}
+use Rattle.grain_means.specs.Rules.{instr, raised}
+use Rattle.grain_means.specs.Simulation.{Computation, Environment, Simulates, SimulatesExactly, stopped, world}
+use Rattle.grain_means.specs.Means.{setup}
+use Rattle.grain_means.specs.lemmas.Stretches.{same, exactly}
+use Rattle.grain_means.specs.lemmas.Branches.{of_two}
+use Rattle.grain_means.specs.lemmas.Scopes.{length_set_held}
+use Rattle.grain_frame.specs.Counts.{Counts}
+use Rattle.grain_frame.specs.Abstraction.{abstraction, frame_in, is_out, continuation, KeepsFrame, ContinuesAt, Ready, Runs, Implements, Performs, Raises, StaysTyped, Stepped, OnTrue}
+use Rattle.grain_frame.specs.declared.activations.Activation.{Activation}
+use Rattle.grain_frame.specs.declared.runs.Progress.{Progress}
+use Rattle.grain_frame.specs.declared.runs.Progress.TheVariants.{Continues, Finished}
+use Rattle.grain_frame.specs.declared.runs.Run.{Run}
+use Rattle.grain_frame.proofs.Turns.{performs}
+
+-- what follows from what a try did
+pub tried : {X Y : Type 0} (b : Bool) → OnTrue b X → (X → Y) → OnTrue b Y
+tried true x g = g x
+tried false x g = tt
+
+module _ {H : Type 0} (p : View) (engine : Engine) (f : Activation) (s : Run H) (said o : Op) (width depth : ℕ) (is : said ≡ o) (deep : depth ≡ length s.stacks.operands) (runs : Runs p f s) (seen : Verified p f.chunk f.address depth said width) where
+  -- the instruction can begin
+  pub ready : Ready f s o (f.address + width)
+  ready =
+      let at : Verified p f.chunk f.address depth o width = subst (λ (q : Op). Verified p f.chunk f.address depth q width) is seen in
+      let room : length s.stacks.operands - takes_of o + gives_of o ≤ f.chunk.max_stack = subst (λ (k : ℕ). k - takes_of o + gives_of o ≤ f.chunk.max_stack) deep at.room in
+      record { inside = runs.inside; operands = omega (arith, at.enough, deep); room = omega (arith, room, runs.room); ahead = omega (arith, at.wide) }
+
+  module _ (read : op_at p.code f.address ≡ Some (said, width)) (n : Counts) (f' : Activation) (s' : Run H) (n' : Counts) where
+    stays : (r : Result Progress OutOfMemory) → KeepsFrame f s f' s' → ContinuesAt engine s f s' f' (leads_of o (f.address + width)) (length s.stacks.operands - takes_of o + gives_of o) r → StaysTyped p engine s f s' f' r
+    stays (Ok Continues) kept lands =
+        let at : Verified p f.chunk f.address depth o width = subst (λ (q : Op). Verified p f.chunk f.address depth q width) is seen in
+        let fits = at.goes f'.address lands.0 in
+        let height : depth - takes_of o + gives_of o ≡ length s'.stacks.operands = ap (λ (k : ℕ). k - takes_of o + gives_of o) deep ∙ sym lands.1 in
+        let inside = at.inside in
+        let wide = at.wide in
+        (
+          subst (λ (c : Chunk). IsTypedAt p c f'.address (length s'.stacks.operands)) (sym kept.chunk) (subst (λ (k : ℕ). IsTypedAt p f.chunk f'.address k) height fits),
+          lands.2,
+          omega (arith, inside, wide),
+        )
+    stays (Ok Finished) kept lands = tt
+    stays (Err e) kept lands = tt
+
+    -- the instruction was done
+    pub stepped : (host : H) {r : Result Progress OutOfMemory} → Performs p engine f s n o (f.address + width) r f' s' n' host → Stepped p engine f s n r f' s' n' host host
+    stepped host {r} does = record {
+      goes = performs (frame_in f s) o f.address width (λ place. refl) (read ∙ ap (λ (q : Op). Some (q, width)) is) (same does.same);
+      kept = does.kept;
+      stays = stays r does.kept does.lands;
+      before = does.before;
+    }
+
+    -- an instruction that reaches the host was done
+    pub stepped_on : (host host' : H) {r : Result Progress OutOfMemory} → Simulates (setup p engine) (abstraction s n host) (λ m place w. instr m o (f.address + width) (frame_in f s place) w) (is_out r) (abstraction s' n' host') (continuation r s'.outcome (frame_in f' s')) → KeepsFrame f s f' s' →
+        ContinuesAt engine s f s' f' (leads_of o (f.address + width)) (length s.stacks.operands - takes_of o + gives_of o) r → n'.before ≡ n.before → Stepped p engine f s n r f' s' n' host host'
+    stepped_on host host' {r} goes kept lands before = record {
+      goes = performs (frame_in f s) o f.address width (λ place. refl) (read ∙ ap (λ (q : Op). Some (q, width)) is) goes;
+      kept = kept;
+      stays = stays r kept lands;
+      before = before;
+    }
+
+-- where a branch leads
+pub to_target : (t next b : ℕ) → In b (t ∷ []) → In b (cond (nat_lt t next) (t ∷ next ∷ []) (next ∷ t ∷ []))
+to_target t next b (inl e) = of_two t next b (inl e)
+to_target t next b (inr i) = absurd i
+
+pub to_next : (t next b : ℕ) → In b (next ∷ []) → In b (cond (nat_lt t next) (t ∷ next ∷ []) (next ∷ t ∷ []))
+to_next t next b (inl e) = of_two t next b (inr e)
+to_next t next b (inr i) = absurd i
+
+-- the same from a state with other operands
+lands_on : {H : Type 0} (engine : Engine) (s s' : Run H) (v : StacksView) (f f' : Activation) (ts us : List ℕ) (h k : ℕ) (r : Result Progress OutOfMemory) → h ≡ k → ((b : ℕ) → In b ts → In b us) → ContinuesAt engine (record s { stacks = v }) f s' f' ts h r → ContinuesAt engine s f s' f' us k r
+lands_on engine s s' v f f' ts us h k (Ok Continues) e among l = (among f'.address l.0, l.1 ∙ e, l.2)
+lands_on engine s s' v f f' ts us h k (Ok Finished) e among l = tt
+lands_on engine s s' v f f' ts us h k (Err x) e among l = tt
+
+-- what a method did from a state with other operands, for the instruction of which it is a part
+pub implements_after : {H : Type 0} (p : View) (engine : Engine) (f f' : Activation) (s s' : Run H) (n n' : Counts) (v : StacksView) (ops : List Held) {first rule : Computation H} {ts us : List ℕ} {h k : ℕ} {r : Result Progress OutOfMemory} (host : H) →
+    v ≡ record s.stacks { operands = ops } → Implements p engine f (record s { stacks = v }) n first ts h r f' s' n' host →
+    ((stop : Option ℕ) (u : Environment) (place : Option Place) → rule (stopped (setup p engine) stop) place (world (abstraction s n host) u) ≡ first (stopped (setup p engine) stop) place (world (abstraction s n host) u)) →
+    ((b : ℕ) → In b ts → In b us) → h ≡ k → Implements p engine f s n rule us k r f' s' n' host
+implements_after {H = H} p engine f f' s s' n n' v ops {first} {rule} {ts} {us} {h} {k} {r} host rest does alike among height = record {
+  same = exactly (abstract_alike v ops rest) alike does.same;
+  kept = record {
+    chunk = does.kept.chunk;
+    base = does.kept.base;
+    scope = does.kept.scope;
+    room = does.kept.room ∙ ap (λ (q : StacksView). q.room) rest;
+    noted = does.kept.noted ∙ ap (λ (q : StacksView). q.noted) rest;
+    outer = does.kept.outer ∙ ap (λ (q : StacksView). q.outer) rest;
+    later = does.kept.later;
+  };
+  lands = lands_on engine s s' v f f' ts us h k r height among does.lands;
+  before = does.before;
+} where
+  abstract_alike : (v : StacksView) (ops : List Held) → v ≡ record s.stacks { operands = ops } → abstraction (record s { stacks = v }) n host ≡ abstraction s n host
+  abstract_alike v ops rest = rw (ap (λ (q : StacksView). q.trace) rest) refl
+
+-- a fault is raised
+pub raises_exactly : {H : Type 0} {m : Setup H} (f : Activation) (s s' : Run H) (n n' : Counts) (host : H) (x : EvalAltResult) {rule : Computation H} (r : Result Progress OutOfMemory) → Raises s n x r s' n' →
+    ((stop : Option ℕ) (u : Environment) (place : Option Place) → rule (stopped m stop) place (world (abstraction s n host) u) ≡ raised (stopped m stop) (frame_in f s place) (problem_of x) (world (abstraction s n host) u)) →
+    SimulatesExactly m (abstraction s n host) rule (is_out r) (abstraction s' n' host) (continuation r s'.outcome (frame_in f s'))
+raises_exactly {m = m} f s s' n n' host x {rule} (Ok progress) h alike = at progress h.0 s' h.1 n' h.2 where
+  at : (progress : Progress) → progress ≡ Finished → (s' : Run _) → s' ≡ record s { outcome = Err x } → (n' : Counts) → n' ≡ record n { passed = n.passed + 1 } → SimulatesExactly m (abstraction s n host) rule false (abstraction s' n' host) (continuation (Ok progress) s'.outcome (frame_in f s'))
+  at progress ep s' es n' en = rw (ep, es, en) (record {
+    this = refl;
+    order = omega arith;
+    equal = λ stop clear halts u place. alike stop u place ∙ rw (clear n.passed (omega arith) (omega arith)) refl;
+  })
+raises_exactly {m = m} f s s' n n' host x {rule} (Err e) h alike = rw (h.0, h.1) (record {
+  this = refl;
+  order = omega arith;
+  equal = λ stop clear halts u place. alike stop u place ∙ rw halts refl;
+})
+
+-- a write of an entry
+pub kept_write : {H : Type 0} (f f' : Activation) (s : Run H) (v : StacksView) (ops : List Held) (scope : List Entry) (i : ℕ) (h : Held) → f'.chunk ≡ f.chunk → f'.base ≡ f.base → v ≡ record s.stacks { operands = ops } → scope ≡ set_held s.scope i h → f.base ≤ length s.scope → KeepsFrame f s f' (record s { stacks = v; scope = scope })
+kept_write f f' s v ops scope i h ec eb rest written inside = record {
+  chunk = ec;
+  base = eb;
+  scope = omega (arith, inside, ap (λ (es : List Entry). length es) written, length_set_held s.scope i h);
+  room = ap (λ (q : StacksView). q.room) rest;
+  noted = ap (λ (q : StacksView). q.noted) rest;
+  outer = ap (λ (q : StacksView). q.outer) rest;
+  later = omega arith;
+}

@@ -1,0 +1,167 @@
+-- A call, its body, and what follows it.
+use Rattle.std.proofs.Common.{◌≡◌, ◌<◌, ◌≤◌, ◌+◌, ◌-◌, ◌∙◌, ℕ, List, [], ◌∷◌, Option, Some, None, Bool, true, false, Result, Ok, Err, length, refl, sym, subst, ap, inl, arith}
+use Rattle.std.proofs.lemmas.List.{length-take}
+use Rattle.std.specs.Prelude.{slice_get}
+use Rattle.grain_value.specs.declared.values.Dynamic.{Dynamic}
+use Rattle.grain_value.specs.declared.values.Held.{Held}
+use Rattle.grain_value.specs.declared.scopes.Entry.{Entry}
+use Rattle.grain_value.specs.declared.memory.OutOfMemory.{OutOfMemory}
+use Rattle.grain_value.specs.Operands.{arguments, under}
+use Rattle.grain_fault.specs.declared.faults.EvalAltResult.{EvalAltResult}
+use Rattle.grain_program.specs.View.{View}
+use Rattle.grain_program.specs.Lookups.{function_of, Called}
+use Rattle.grain_program.specs.declared.code.functions.Function.{Function}
+use Rattle.grain_program.specs.declared.code.instructions.Op.TheVariants as op
+use Rattle.grain_global.specs.declared.engines.Engine.{Engine}
+use Rattle.grain_stack.specs.Views.{StackFrame, StacksView, innermost, without_frame}
+use Rattle.grain_means.specs.Worlds.{Go, End, Then, Answer, Setup, Frame, InFrame, Place}
+use Rattle.grain_means.specs.Rules.{without, frame_at, function_numbered, function_found, instr, enter_function, resume_caller}
+use Rattle.grain_means.specs.Simulation.{LocalState, Computation, Simulates, SimulatesExactly, StopPersists}
+use Rattle.grain_means.specs.lemmas.Stretches.{same, compose, continued, alone}
+use Rattle.grain_frame.specs.Counts.{Counts}
+use Rattle.grain_frame.specs.Abstraction.{abstraction, frame_exit, frame_in, call_continuation, KeepsFrame, ContinuesAt, CallEntered, EnterResult, CallReturned}
+use Rattle.grain_frame.specs.declared.activations.Activation.{Activation}
+use Rattle.grain_frame.specs.declared.calls.Outer.{Outer}
+use Rattle.grain_frame.specs.declared.runs.Run.{Run}
+use Rattle.grain_frame.specs.declared.runs.Progress.{Progress}
+use Rattle.grain_frame.specs.declared.runs.Progress.TheVariants.{Continues, Finished}
+
+module _ {H : Type 0} {m : Setup H} (f : Option Place → Frame) (n k next : ℕ) (g : Function) (found : function_found m.program n k ≡ Some g) where
+  -- the function is found
+  finds : (old : LocalState H) → Simulates m old (λ p place w. instr p (op.Call n k) next (f place) w) false old
+      (λ p place w. enter_function p g (arguments k (f place).operands) (without k (f place)) next w)
+  finds old = same (record { this = refl; order = omega arith; equal = λ stop clear halts u place. rw found refl })
+
+  -- the call did not come to its body
+  pub call_over : {old new : LocalState H} {l : ℕ} {out : Bool} {last : Computation H} → l ≡ k →
+      SimulatesExactly m old (λ p place w. enter_function p g (arguments l (f place).operands) (without l (f place)) next w) out new last → Simulates m old (λ p place w. instr p (op.Call n k) next (f place) w) out new last
+  call_over {old} {new} {out = out} {last} all h =
+      compose (finds old) (same (subst (λ (q : ℕ). SimulatesExactly m old (λ p place w. enter_function p g (arguments q (f place).operands) (without q (f place)) next w) out new last) all h)) tt
+
+  -- the body was run, and the caller goes on
+  pub call_ran : {old mid after there new : LocalState H} {inner outer : Option Place → Frame} (scope : List Entry) (level : ℕ) {l : ℕ} {b : Answer} {one two : Bool} {last : Computation H} → l ≡ k →
+      SimulatesExactly m old (λ p place w. enter_function p g (arguments l (f place).operands) (without l (f place)) next w) false mid
+      (λ p place w. Then (Go (InFrame (frame_at g.chunk 0 None)) w) (λ a w2. resume_caller p g (without l (f place)) next a (record w2 { scope = scope; level = level }))) →
+      ((place : Option Place) → inner place ≡ frame_at g.chunk 0 place) → mid.this ≡ None → Simulates m mid (λ p place w. Go (InFrame (inner place)) w) one after (λ p place w. End b w) →
+      there ≡ record after { scope = scope; level = level } → ((place : Option Place) → outer place ≡ without k (f place)) → SimulatesExactly m there (λ p place w. resume_caller p g (outer place) next b w) two new last → StopPersists one after.passed two new.passed →
+      Simulates m old (λ p place w. instr p (op.Call n k) next (f place) w) two new last
+  call_ran {old} {mid} {after} {there} {new} {inner} {outer} scope level {b = b} {one} {two} {last} all begins at none ran is rest resumes persists =
+      let body : Simulates m mid (λ p place w. Go (InFrame (frame_at g.chunk 0 None)) w) one after (λ p place w. End b w) =
+      alone {first = λ p place w. Go (InFrame (frame_at g.chunk 0 place)) w} none (by_frame at ran) in
+      let here : SimulatesExactly m (record after { scope = scope; level = level }) (λ p place w. resume_caller p g (outer place) next b w) two new last = subst (λ (q : LocalState H). SimulatesExactly m q (λ p place w. resume_caller p g (outer place) next b w) two new last) is resumes in
+      compose (finds old) (compose (same (subst (λ (q : ℕ). SimulatesExactly m old (λ p place w. enter_function p g (arguments q (f place).operands) (without q (f place)) next w) false mid
+      (λ p place w. Then (Go (InFrame (frame_at g.chunk 0 None)) w) (λ a w2. resume_caller p g (without q (f place)) next a (record w2 { scope = scope; level = level })))) all begins))
+      (compose (continued (λ p place a w2. resume_caller p g (without k (f place)) next a (record w2 { scope = scope; level = level })) body) (same (goes_on here rest)) persists) tt) tt where
+        by_frame : ((place : Option Place) → inner place ≡ frame_at g.chunk 0 place) → Simulates m mid (λ p place w. Go (InFrame (inner place)) w) one after (λ p place w. End b w) → Simulates m mid (λ p place w. Go (InFrame (frame_at g.chunk 0 place)) w) one after (λ p place w. End b w)
+        by_frame at ran = compose {one = false} (same (record { this = refl; order = omega arith; equal = λ stop clear halts u place. rw (at place) refl })) ran tt
+
+        -- the caller's scope and level are back
+        goes_on : SimulatesExactly m (record after { scope = scope; level = level }) (λ p place w. resume_caller p g (outer place) next b w) two new last → ((place : Option Place) → outer place ≡ without k (f place)) →
+            SimulatesExactly m after (λ p place w. resume_caller p g (without k (f place)) next b (record w { scope = scope; level = level })) two new last
+        goes_on h rest = record { this = h.this; order = h.order; equal = λ stop clear halts u place. rw (← rest place) (h.equal stop clear halts u place) }
+
+-- nothing was put aside: a fault left the frame
+pub not_entered : {H : Type 0} {m : Setup H} {old new : LocalState H} {start : Computation H} {x : Option Outer} (o : Result Dynamic EvalAltResult) (g : Function) (f : Option Place → Frame) (next : ℕ) → x ≡ None → SimulatesExactly m old start false new (call_continuation (Ok x) o g f next) → SimulatesExactly m old start false new (frame_exit o f)
+not_entered {m = m} {old} {new} {start} o g f next e h = subst (λ (q : Option Outer). SimulatesExactly m old start false new (call_continuation (Ok q) o g f next)) e h
+
+-- the call has begun
+pub has_begun : {H : Type 0} {m : Setup H} {old new : LocalState H} {start : Computation H} {x : Option Outer} {outer : Outer} (o : Result Dynamic EvalAltResult) (g : Function) (f : Option Place → Frame) (next : ℕ) → x ≡ Some outer → SimulatesExactly m old start false new (call_continuation (Ok x) o g f next) →
+    SimulatesExactly m old start false new (call_continuation (Ok (Some outer)) o g f next)
+has_begun {m = m} {old} {new} {start} o g f next e h = subst (λ (q : Option Outer). SimulatesExactly m old start false new (call_continuation (Ok q) o g f next)) e h
+
+-- what came out of a frame does not depend on its operands
+pub exit_alike : {H : Type 0} {m : Setup H} {old new : LocalState H} {start : Computation H} {out : Bool} (o : Result Dynamic EvalAltResult) (f f' : Option Place → Frame) → ((place : Option Place) → (f' place).address ≡ (f place).address) → ((place : Option Place) → (f' place).floor ≡ (f place).floor) → Simulates m old start out new (frame_exit o f) → Simulates m old start out new (frame_exit o f')
+exit_alike (Ok v) f f' a b h = h
+exit_alike {new = new} {out = out} (Err x) f f' a b h =
+    compose h (same (record { this = refl; order = omega arith; equal = λ stop clear halts u place. rw (a place, b place) refl })) (persists out) where
+      persists : (out : Bool) → StopPersists out new.passed out new.passed
+      persists false = tt
+      persists true = (refl, refl)
+
+-- the function that the code found is the meaning's
+pub found_is : (p : View) (name count name' count' number : ℕ) (g : Function) → name' ≡ name → count' ≡ count → Some number ≡ function_of p name' count' → slice_get p.functions number ≡ Some g → function_found p name count ≡ Some g
+found_is p name count name' count' number g en ec e is =
+    let here : function_of p name count ≡ Some number = subst (λ (q : ℕ). function_of p q count ≡ Some number) en (subst (λ (q : ℕ). function_of p name' q ≡ Some number) ec (sym e)) in
+    ap (function_numbered p) here ∙ is
+
+-- it has as many parameters as there are arguments
+pub params_are : (p : View) (name count count' number : ℕ) (g : Function) → count' ≡ count → Called p name count' number → slice_get p.functions number ≡ Some g → length g.params ≡ count
+params_are p name count count' number g ec called is =
+    let both : Some called.function ≡ Some g = sym called.is ∙ is in
+    let alike : called.function ≡ g = cc in
+    ap (λ (k : Function). length k.params) (sym alike) ∙ (called.count_is ∙ ec)
+
+pub entered_with : {H : Type 0} (engine : Engine) (g : Function) (s s1 : Run H) {x : Option Outer} {o : Outer} → x ≡ Some o → EnterResult engine g s s1 (Ok x) → CallEntered engine g s s1 o
+entered_with engine g s s1 e h = subst (λ (q : Option Outer). EnterResult engine g s s1 (Ok q)) e h
+
+module _ {H : Type 0} (engine : Engine) (f f' : Activation) (s s1 s2 s3 s' : Run H) (g : Function) (o : Outer) (k next : ℕ) (entered : CallEntered engine g s s1 o) (outer : s2.stacks.outer ≡ s1.stacks.outer) (left : s3 ≡ record s2 { stacks = without_frame s2.stacks.outer s2.stacks; scope = o.scope; level = o.level }) where
+  -- the caller's frame is the innermost again
+  stacks_back : s3.stacks ≡ record s2.stacks { operands = under (length g.params) s.stacks.operands; room = s.stacks.room; noted = s.stacks.noted; outer = s.stacks.outer }
+  stacks_back = ap (λ (q : Run H). q.stacks) left ∙ ap (λ (fs : List StackFrame). without_frame fs s2.stacks) (outer ∙ entered.caller)
+
+  operands_back : s3.stacks.operands ≡ under (length g.params) s.stacks.operands
+  operands_back = ap (λ (v : StacksView). v.operands) stacks_back
+
+  -- what the code has once the caller's scope and level are back
+  pub there_is : (n : Counts) (host : H) → abstraction s3 n host ≡ record (abstraction s2 n host) { scope = o.scope; level = o.level }
+  there_is n host =
+      rw (ap (λ (q : Run H). q.scope) left, ap (λ (q : Run H). q.cells) left, ap (λ (q : Run H). q.count) left, ap (λ (q : Run H). q.level) left, ap (λ (v : StacksView). v.trace) stacks_back) refl
+
+  -- the caller's frame is without the arguments
+  pub outer_is : length g.params ≡ k → (place : Option Place) → frame_in f s3 place ≡ without k (frame_in f s place)
+  outer_is all place = rw (operands_back, all) refl
+
+  kept3 : f.base ≤ length s.scope → s1.count ≤ s2.count → KeepsFrame f s f s3
+  kept3 base later = record {
+    chunk = refl;
+    base = refl;
+    scope = rw (ap (λ (q : Run H). q.scope) left, entered.scope) base;
+    room = ap (λ (v : StacksView). v.room) stacks_back;
+    noted = ap (λ (v : StacksView). v.noted) stacks_back;
+    outer = ap (λ (v : StacksView). v.outer) stacks_back;
+    later = omega (arith, ap (λ (q : Run H). q.count) left, later, entered.count);
+  }
+
+  over_kept : f.base ≤ length s.scope → s1.count ≤ s2.count → f' ≡ f → s' ≡ record s3 { outcome = s'.outcome } → KeepsFrame f s f' s'
+  over_kept base later ef es =
+      let k3 = kept3 base later in
+      record {
+        chunk = ap (λ (a : Activation). a.chunk) ef;
+        base = ap (λ (a : Activation). a.base) ef;
+        scope = omega (arith, k3.scope, ap (λ (q : Run H). length q.scope) es);
+        room = ap (λ (q : Run H). q.stacks.room) es ∙ k3.room;
+        noted = ap (λ (q : Run H). q.stacks.noted) es ∙ k3.noted;
+        outer = ap (λ (q : Run H). q.stacks.outer) es ∙ k3.outer;
+        later = omega (arith, k3.later, ap (λ (q : Run H). q.count) es);
+      }
+
+  -- the caller's frame is kept
+  pub call_kept : (r : Result Progress OutOfMemory) → f.base ≤ length s.scope → s1.count ≤ s2.count → CallReturned f s3 f' s' next r → KeepsFrame f s f' s'
+  call_kept (Ok Continues) base later h =
+      let k3 = kept3 base later in
+      record {
+        chunk = ap (λ (a : Activation). a.chunk) h.0;
+        base = ap (λ (a : Activation). a.base) h.0;
+        scope = omega (arith, k3.scope, ap (λ (q : Run H). length q.scope) h.2);
+        room = ap (λ (q : Run H). q.stacks.room) h.2 ∙ k3.room;
+        noted = ap (λ (q : Run H). q.stacks.noted) h.2 ∙ k3.noted;
+        outer = ap (λ (q : Run H). q.stacks.outer) h.2 ∙ k3.outer;
+        later = omega (arith, k3.later, ap (λ (q : Run H). q.count) h.2);
+      }
+  call_kept (Ok Finished) base later h = over_kept base later h.0 h.1
+  call_kept (Err e) base later h = over_kept base later h.0 h.1
+
+  -- the caller goes on after the call, with one operand in the place of the arguments
+  pub call_lands : (r : Result Progress OutOfMemory) → length g.params ≡ k → s1.count ≤ s2.count → CallReturned f s3 f' s' next r → ContinuesAt engine s f s' f' (next ∷ []) (length s.stacks.operands - k + 1) r
+  call_lands (Ok Continues) all later h = (
+    inl (ap (λ (a : Activation). a.address) h.0),
+    omega (arith, h.1, ap (λ (xs : List Held). length xs) operands_back, length-take (length s.stacks.operands - length g.params) s.stacks.operands, all),
+    inl (omega (arith, ap (λ (q : Run H). q.count) left, ap (λ (q : Run H). q.count) h.2, later, entered.count), entered.allowed),
+  )
+  call_lands (Ok Finished) all later h = tt
+  call_lands (Err e) all later h = tt
+
+  -- there is room for what the call gives
+  pub call_room : k ≤ length s.stacks.operands → length s.stacks.operands - k + 1 ≤ s.stacks.room → length g.params ≡ k → length s3.stacks.operands < s3.stacks.room
+  call_room enough room all =
+      omega (arith, enough, room, all, ap (λ (xs : List Held). length xs) operands_back, ap (λ (v : StacksView). v.room) stacks_back, length-take (length s.stacks.operands - length g.params) s.stacks.operands)

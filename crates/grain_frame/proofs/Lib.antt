@@ -1,0 +1,6 @@
+pub mod Measure
+pub mod Turns
+pub mod Mains
+pub mod Arms
+pub mod Calling
+pub mod Evaluated

@@ -1,0 +1,86 @@
+-- One turn of a frame's loop, and how a frame is left.
+use Rattle.std.proofs.Common.{◌≡◌, ◌+◌, ℕ, Option, Some, None, [], ◌∷◌, ◌++◌, Bool, true, false, Result, Ok, List, length, ◌<◌, ◌≤◌, ◌∙◌, take, refl, sym, subst, ap, arith}
+use Rattle.grain_value.specs.declared.values.Dynamic.{Dynamic}
+use Rattle.grain_fault.specs.declared.faults.EvalAltResult.{EvalAltResult}
+use Rattle.grain_fault.specs.Problems.{Problem}
+use Rattle.grain_program.specs.declared.code.instructions.Op.{Op}
+use Rattle.grain_program.specs.Reading.{op_at}
+use Rattle.grain_program.specs.View.{View}
+use Rattle.grain_program.specs.TypedAt.{IsTypedAt}
+use Rattle.grain_program.specs.declared.code.parts.Chunk.{Chunk}
+use Rattle.grain_stack.specs.Views.{StackFrame}
+use Rattle.grain_means.specs.Worlds.{Go, End, Failed, Setup, Frame, InFrame, Place}
+use Rattle.grain_means.specs.Rules.{or_return, start_instruction, instr, leave_by_fault}
+use Rattle.grain_means.specs.Ends.{went}
+use Rattle.grain_means.specs.Simulation.{LocalState, Computation, Simulates, SimulatesExactly, StopPersists}
+use Rattle.grain_means.specs.lemmas.Stretches.{same, compose, before}
+use Rattle.grain_frame.specs.Abstraction.{instruction_here, continuation, frame_exit, KeepsFrame, Runs, OnTrue, OnFalse, Unchanged}
+use Rattle.grain_frame.specs.declared.runs.Progress.{Progress}
+use Rattle.grain_frame.specs.declared.runs.Run.{Run}
+use Rattle.grain_frame.specs.declared.activations.Activation.{Activation}
+use Rattle.grain_frame.specs.Counts.{Counts}
+
+-- what a try did
+pub done : {T : Type 0} (b : Bool) → b ≡ true → OnTrue b T → T
+done true e t = t
+done false e t = absurd cc
+
+-- a try that did nothing counted nothing
+pub idle : {H : Type 0} (f f' : Activation) (s s' : Run H) (n n' : Counts) (b : Bool) → b ≡ false → OnFalse b (Unchanged f s n f' s' n') → n' ≡ n
+idle f f' s s' n n' true e u = absurd cc
+idle f f' s s' n n' false e u = u.2
+
+-- where a try did nothing, what holds of the state that it left holds of the one before
+pub unmoved : {H : Type 0} (P : Run H → Activation → Counts → Type 0) {s s' : Run H} {f f' : Activation} {n n' : Counts} (b : Bool) → b ≡ false → OnFalse b (Unchanged f s n f' s' n') → P s' f' n' → P s f n
+unmoved P true e u h = absurd cc
+unmoved {H = H} P {s} {s'} {f} {f'} {n} {n'} false e u h =
+    subst (λ (k : Counts). P s f k) u.2 (subst (λ (a : Activation). P s a n') u.1 (subst (λ (t : Run H). P t f' n') u.0 h))
+
+module _ {H : Type 0} {m : Setup H} where
+  -- an instruction begins: it is counted, and a mark is passed
+  begins : (now : LocalState H) (f : Option Place → Frame) → Simulates m now (λ n place w. Go (InFrame (f place)) w) false (record now { ran = now.ran + 1; passed = now.passed + 1 }) (instruction_here f)
+  begins now f =
+      before {start = λ n place w. start_instruction n (or_return (op_at n.program.code (f place).address)) (f place) (record w { ran = w.ran + 1 })} {first = λ n place w. Go (InFrame (f place)) w} (λ n place w v a run. went run)
+      (same (record { this = refl; order = omega arith; equal = λ stop clear halts u place. rw (clear now.passed (omega arith) (omega arith)) refl }))
+
+  -- the instruction that stands there
+  pub performs : {now : LocalState H} (f : Option Place → Frame) (o : Op) (at width : ℕ) {out : Bool} {new : LocalState H} {last : Computation H} → ((place : Option Place) → (f place).address ≡ at) → op_at m.program.code at ≡ Some (o, width) →
+      Simulates m now (λ n place w. instr n o (at + width) (f place) w) out new last → Simulates m now (instruction_here f) out new last
+  performs {now} f o at width here e h =
+      compose {one = false} (same (record { this = refl; order = omega arith; equal = λ stop clear halts u place. rw (here place, e) refl })) h tt
+
+  -- an instruction begins, and the code does it
+  pub turn : {old : LocalState H} {start : Computation H} (now : LocalState H) {here : LocalState H} {f : Option Place → Frame} {out : Bool} {new : LocalState H} {last : Computation H} → here ≡ record now { ran = now.ran + 1; passed = now.passed + 1 } →
+      Simulates m old start false now (λ n place w. Go (InFrame (f place)) w) → Simulates m here (instruction_here f) out new last → Simulates m old start out new last
+  turn now {f = f} {out} {new} {last} e h s =
+      compose h (compose (begins now f) (subst (λ (q : LocalState H). Simulates m q (instruction_here f) out new last) e s) tt) tt
+
+  -- where it led, by its progress and by what came out
+  pub flowed : {old : LocalState H} {start : Computation H} {new : LocalState H} (f : Option Place → Frame) (o : Result Dynamic EvalAltResult) {one other : Progress} → one ≡ other → Simulates m old start false new (continuation (Ok one) o f) → Simulates m old start false new (continuation (Ok other) o f)
+  flowed {old} {start} {new} f o e h = subst (λ (q : Progress). Simulates m old start false new (continuation (Ok q) o f)) e h
+
+  pub came : {old : LocalState H} {start : Computation H} {new : LocalState H} (f : Option Place → Frame) {o p : Result Dynamic EvalAltResult} → o ≡ p → Simulates m old start false new (frame_exit o f) → Simulates m old start false new (frame_exit p f)
+  came {old} {start} {new} f e h = subst (λ (q : Result Dynamic EvalAltResult). Simulates m old start false new (frame_exit q f)) e h
+
+  -- a fault leaves a frame
+  pub left_out : {old : LocalState H} {start : Computation H} {out : Bool} (mid new : LocalState H) (f : Option Place → Frame) (floor at : ℕ) {x : Problem} → ((place : Option Place) → (f place).floor ≡ floor) → ((place : Option Place) → (f place).address ≡ at) →
+      new ≡ record mid { scope = take floor mid.scope; trace = mid.trace ++ record { address = at; slot = None } ∷ [] } →
+      Simulates m old start out mid (λ n place w. leave_by_fault n None (f place) x w) → Simulates m old start out new (λ n place w. End (Failed x) w)
+  left_out {out = out} mid new f floor at {x} low here e h =
+      compose h (same (leaves out)) (carried out) where
+        leaves : (out : Bool) → SimulatesExactly m mid (λ n place w. leave_by_fault n None (f place) x w) out new (λ n place w. End (Failed x) w)
+        leaves out = record { this = ap (λ (k : LocalState H). k.this) e; order = omega (arith, ap (λ (k : LocalState H). k.passed) e); equal = λ stop clear halts u place. rw (e, low place, here place) refl }
+
+        carried : (out : Bool) → StopPersists out mid.passed out new.passed
+        carried false = tt
+        carried true = (refl, ap (λ (k : LocalState H). k.passed) e)
+
+-- the frame runs on
+pub next_runs : {H : Type 0} (p : View) (f f' : Activation) (s s' : Run H) → Runs p f s → KeepsFrame f s f' s' → IsTypedAt p f'.chunk f'.address (length s'.stacks.operands) → Runs p f' s'
+next_runs p f f' s s' runs kept typed = record {
+  inside = omega (arith, kept.base, kept.scope);
+  typed = typed;
+  room = ap (λ (c : Chunk). c.max_stack) kept.chunk ∙ (runs.room ∙ sym kept.room);
+  unnoted = kept.noted ∙ runs.unnoted;
+  entered = omega (arith, runs.entered, ap (λ (fs : List StackFrame). length fs) kept.outer);
+}

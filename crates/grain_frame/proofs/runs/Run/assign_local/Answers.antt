@@ -1,0 +1,9 @@
+use Rattle.std.proofs.Common.{rules, refl, sym, ap, arith, ◌≡◌, ◌∙◌, ◌+◌, ◌-◌, length, true, false, Some, Ok, inl, inr}
+use Rattle.grain_value.specs.declared.values.Held.{Held}
+use Rattle.grain_value.specs.Operands.{top, below, under, arguments}
+use Rattle.grain_stack.specs.Views.{StacksView}
+use Rattle.grain_frame.proofs.Arms.{implements_after, raises_exactly, kept_write, to_target, to_next}
+use Rattle.grain_frame.proofs.runs.Run.assign_local.Goals as goal
+
+pub returns-else-read_only : goal.returns-else-read_only
+returns-else-read_only g c = record { performs = λ host. record { same = search rules; kept = kept_write c.args.frame.now _ c.args.self.now c.pop-value.new.self _ c.set.new.self _ _ refl refl c.pop-value.ensures.rest c.set.ensures c.requires.ready.inside; lands = search rules; before = search rules } }

@@ -1,0 +1,22 @@
+use Rattle.std.proofs.Common.{rules, refl, sym, ap, arith, ◌≡◌, ◌∙◌, ◌+◌, ◌-◌, length, true, false, Some, Ok, inl, inr}
+use Rattle.grain_value.specs.declared.values.Held.{Held}
+use Rattle.grain_value.specs.Operands.{top, below, under, arguments}
+use Rattle.grain_value.specs.Looking.{truth_of, is_unit}
+use Rattle.grain_stack.specs.Views.{StacksView}
+use Rattle.grain_ops.specs.Outcomes.{NotBuiltIn, Gave, ArithmeticFault}
+use Rattle.grain_means.specs.Rules.{operated, agrees}
+use Rattle.std.proofs.lemmas.List.{length-take}
+use Rattle.grain_frame.proofs.Arms.{implements_after, raises_exactly, kept_write, to_target, to_next}
+use Rattle.grain_frame.proofs.runs.Run.skip_if_not_unit.Goals as goal
+
+pub returns-then-is_unit : goal.returns-then-is_unit
+returns-then-is_unit g c =
+    let unit : is_unit (top c.args.self.now.stacks.operands).value ≡ true = search rules in
+    record { performs = λ host. implements_after c.args.context.program.now c.args.context.engine.now c.args.frame.now c.go_on.new.frame c.args.self.now c.go_on.new.self c.args.steps.now c.go_on.new.steps c.args.self.now.stacks c.args.self.now.stacks.operands host refl (c.go_on.ensures.implements c.args.context.program.now c.args.context.engine.now host)
+      (λ stop u place. rw unit refl) (to_next c.args.target c.args.next) (omega (arith, c.requires.ready.operands)) }
+
+pub returns-else-is_unit : goal.returns-else-is_unit
+returns-else-is_unit g c =
+    let unit : is_unit (top c.args.self.now.stacks.operands).value ≡ false = search rules in
+    record { performs = λ host. implements_after c.args.context.program.now c.args.context.engine.now c.args.frame.now c.jump_to.new.frame c.args.self.now c.jump_to.new.self c.args.steps.now c.jump_to.new.steps c.args.self.now.stacks c.args.self.now.stacks.operands host refl (c.jump_to.ensures.implements host)
+      (λ stop u place. rw unit refl) (to_target c.args.target c.args.next) (omega (arith, c.requires.ready.operands)) }

@@ -1,0 +1,198 @@
+-- What the code has of a world, and where a stretch of it led.
+use Rattle.std.specs.Prelude.{◌≡◌, ◌⊎◌, ◌<◌, ◌≤◌, ◌+◌, ◌-◌, ℕ, List, [], ◌∷◌, Bool, true, false, Option, Some, None, Result, Ok, Err, length}
+use Rattle.grain_value.specs.declared.values.Dynamic.{Dynamic}
+use Rattle.grain_value.specs.declared.values.Held.{Held}
+use Rattle.grain_value.specs.declared.memory.OutOfMemory.{OutOfMemory}
+use Rattle.grain_value.specs.Operands.{under}
+use Rattle.grain_fault.specs.Problems.{NoMemory, problem_of}
+use Rattle.grain_fault.specs.declared.faults.EvalAltResult.{EvalAltResult}
+use Rattle.grain_program.specs.declared.code.instructions.Op.{Op}
+use Rattle.grain_program.specs.declared.code.functions.Function.{Function}
+use Rattle.grain_program.specs.Effects.{takes_of, gives_of, leads_of}
+use Rattle.grain_program.specs.TypedAt.{IsTypedAt}
+use Rattle.grain_program.specs.Reading.{op_at}
+use Rattle.grain_program.specs.Typing.{In}
+use Rattle.grain_program.specs.View.{View}
+use Rattle.grain_global.specs.declared.engines.Engine.{Engine}
+use Rattle.grain_stack.specs.Views.{innermost}
+use Rattle.grain_means.specs.Worlds.{Go, End, Then, Answer, Came, Failed, Frame, InFrame, Place}
+use Rattle.grain_means.specs.Rules.{leave_by_fault, instr, or_return, frame_at, resume_caller, without}
+use Rattle.grain_means.specs.Simulation.{LocalState, Computation, Simulates, SimulatesExactly}
+use Rattle.grain_means.specs.Means.{setup}
+use Rattle.grain_frame.specs.Counts.{Counts}
+use Rattle.grain_frame.specs.declared.activations.Activation.{Activation}
+use Rattle.grain_frame.specs.declared.runs.Run.{Run}
+use Rattle.grain_frame.specs.declared.runs.Progress.{Progress}
+use Rattle.grain_frame.specs.declared.runs.Progress.TheVariants.{Continues, Finished}
+use Rattle.grain_frame.specs.declared.calls.Outer.{Outer}
+
+-- the world's parts that a run has
+abbrev pub abstraction : {H : Type 0} → Run H → Counts → H → LocalState H
+abstraction s n host = record {
+  scope = s.scope;
+  cells = s.cells;
+  host = host;
+  this = None;
+  count = s.count;
+  level = s.level;
+  trace = s.stacks.trace;
+  ran = n.begun;
+  passed = n.passed;
+}
+
+-- the frame of the meaning, by the place of its `this`
+abbrev pub frame_in : {H : Type 0} → Activation → Run H → Option Place → Frame
+frame_in a s place =
+    record { address = a.address; operands = s.stacks.operands; base = a.base; floor = a.floor; this = place }
+
+-- memory is out
+abbrev pub is_out : {A : Type 0} → Result A OutOfMemory → Bool
+is_out (Ok x) = false
+is_out (Err e) = true
+
+-- a frame that is over: it gave a value, or a fault leaves it
+abbrev pub frame_exit : {H : Type 0} → Result Dynamic EvalAltResult → (Option Place → Frame) → Computation H
+frame_exit (Ok v) f m place w = End (Came v) w
+frame_exit (Err x) f m place w = leave_by_fault m None (f place) (problem_of x) w
+
+-- where an instruction led; what came out of a frame that is over lies in the run
+abbrev pub continuation : {H : Type 0} → Result Progress OutOfMemory → Result Dynamic EvalAltResult → (Option Place → Frame) → Computation H
+continuation (Ok Continues) outcome f m place w = Go (InFrame (f place)) w
+continuation (Ok Finished) outcome f m place w = frame_exit outcome f m place w
+continuation (Err e) outcome f m place w = leave_by_fault m None (f place) NoMemory w
+
+-- a run that is over
+abbrev pub answer_of : Result (Result Dynamic EvalAltResult) OutOfMemory → Answer
+answer_of (Ok (Ok v)) = Came v
+answer_of (Ok (Err x)) = Failed (problem_of x)
+answer_of (Err e) = Failed NoMemory
+
+abbrev pub finished_with : {H : Type 0} → Result (Result Dynamic EvalAltResult) OutOfMemory → Computation H
+finished_with r m place w = End (answer_of r) w
+
+-- the instruction at which a frame stands
+abbrev pub instruction_here : {H : Type 0} → (Option Place → Frame) → Computation H
+instruction_here f m place w =
+    let r = or_return (op_at m.program.code (f place).address) in instr m r.0 ((f place).address + r.1) (f place) w
+
+-- a fault is raised, unless memory is out
+abbrev pub Raises : {H : Type 0} → Run H → Counts → EvalAltResult → Result Progress OutOfMemory → Run H → Counts → Type 0
+Raises s n x (Ok progress) s' n' =
+    (progress ≡ Finished) × (s' ≡ record s { outcome = Err x }) × (n' ≡ record n { passed = n.passed + 1 })
+Raises s n x (Err e) s' n' = (s' ≡ s) × (n' ≡ n)
+
+-- where a try did what it tried, and where it did not
+abbrev pub OnTrue : Bool → Type 0 → Type 0
+OnTrue true T = T
+OnTrue false T = Unit {0}
+
+abbrev pub OnFalse : Bool → Type 0 → Type 0
+OnFalse true T = Unit {0}
+OnFalse false T = T
+
+-- an operation was taken, or the frame stands further on in the code
+abbrev pub Progresses : {H : Type 0} → Engine → Run H → Activation → Run H → Activation → Type 0
+Progresses engine s f s' f' =
+    ((s.count < s'.count) × (s.count < engine.limits.operations)) ⊎ ((s.count ≤ s'.count) × (f.address < f'.address))
+
+-- the frame goes on at one of these addresses with this number of operands; it takes an operation or lies further on
+abbrev pub ContinuesAt : {H : Type 0} → Engine → Run H → Activation → Run H → Activation → List ℕ → ℕ → Result Progress OutOfMemory → Type 0
+ContinuesAt engine s f s' f' targets height (Ok Continues) =
+    In f'.address targets × (length s'.stacks.operands ≡ height) × Progresses engine s f s' f'
+ContinuesAt engine s f s' f' targets height (Ok Finished) = Unit {0}
+ContinuesAt engine s f s' f' targets height (Err e) = Unit {0}
+
+-- the frame is the same but for its address and its floor, and the frames around it are as they were
+pub record KeepsFrame {H : Type 0} (f : Activation) (s : Run H) (f' : Activation) (s' : Run H) : Type 0 where
+  pub chunk : f'.chunk ≡ f.chunk
+  pub base : f'.base ≡ f.base
+  pub scope : f.base ≤ length s'.scope
+  pub room : s'.stacks.room ≡ s.stacks.room
+  pub noted : s'.stacks.noted ≡ s.stacks.noted
+  pub outer : s'.stacks.outer ≡ s.stacks.outer
+  pub later : s.count ≤ s'.count
+
+-- an instruction can begin in the frame: its operands and the room for what it gives are there
+pub record Ready {H : Type 0} (f : Activation) (s : Run H) (o : Op) (next : ℕ) : Type 0 where
+  pub inside : f.base ≤ length s.scope
+  pub operands : takes_of o ≤ length s.stacks.operands
+  pub room : length s.stacks.operands - takes_of o + gives_of o ≤ s.stacks.room
+  pub ahead : f.address < next
+
+-- the code did what a rule says: it goes on at one of the targets with this number of operands, or the frame is over
+pub record Implements {H : Type 0} (program : View) (engine : Engine) (f : Activation) (s : Run H) (n : Counts) (rule : Computation H) (targets : List ℕ) (height : ℕ) (result : Result Progress OutOfMemory) (f' : Activation) (s' : Run H) (n' : Counts) (host : H) : Type 0 where
+  pub same : SimulatesExactly (setup program engine) (abstraction s n host) rule (is_out result) (abstraction s' n' host) (continuation result s'.outcome (frame_in f' s'))
+  pub kept : KeepsFrame f s f' s'
+  pub lands : ContinuesAt engine s f s' f' targets height result
+  pub before : n'.before ≡ n.before
+
+-- the code did the instruction, and goes on where its row says, with as many operands as its row leaves
+abbrev pub Performs : {H : Type 0} → View → Engine → Activation → Run H → Counts → Op → ℕ → Result Progress OutOfMemory → Activation → Run H → Counts → H → Type 0
+Performs program engine f s n o next result f' s' n' host =
+    Implements program engine f s n (λ m place w. instr m o next (frame_in f s place) w) (leads_of o next) (length s.stacks.operands - takes_of o + gives_of o) result f' s' n' host
+
+-- a frame runs: it stands where the typing of its chunk knows it, and has noted no fault
+pub record Runs {H : Type 0} (program : View) (f : Activation) (s : Run H) : Type 0 where
+  pub inside : f.base ≤ length s.scope
+  pub typed : IsTypedAt program f.chunk f.address (length s.stacks.operands)
+  pub room : f.chunk.max_stack ≡ s.stacks.room
+  pub unnoted : s.stacks.noted ≡ false
+  pub entered : 0 < length s.stacks.outer
+
+-- if the frame goes on, it stands where the typing knows it
+abbrev pub StaysTyped : {H : Type 0} → View → Engine → Run H → Activation → Run H → Activation → Result Progress OutOfMemory → Type 0
+StaysTyped p engine s f s' f' (Ok Continues) =
+    IsTypedAt p f'.chunk f'.address (length s'.stacks.operands) × Progresses engine s f s' f' × (f.address < 16777216)
+StaysTyped p engine s f s' f' (Ok Finished) = Unit {0}
+StaysTyped p engine s f s' f' (Err e) = Unit {0}
+
+-- nothing of a call has begun: the scope and the frames are as they were, but for the arguments
+pub record CallNotEntered {H : Type 0} (s s' : Run H) : Type 0 where
+  pub scope : s'.scope ≡ s.scope
+  pub room : s'.stacks.room ≡ s.stacks.room
+  pub noted : s'.stacks.noted ≡ s.stacks.noted
+  pub outer : s'.stacks.outer ≡ s.stacks.outer
+
+-- A call has begun: its operation is taken, its frame is entered, around which the caller's stands without the
+-- arguments, and the caller's scope and level are put aside.
+pub record CallEntered {H : Type 0} (engine : Engine) (g : Function) (s s' : Run H) (o : Outer) : Type 0 where
+  pub scope : o.scope ≡ s.scope
+  pub level : o.level ≡ s.level
+  pub caller : s'.stacks.outer ≡ record (innermost s.stacks) { operands = under (length g.params) s.stacks.operands } ∷ s.stacks.outer
+  pub operands : s'.stacks.operands ≡ []
+  pub room : s'.stacks.room ≡ g.chunk.max_stack
+  pub unnoted : s'.stacks.noted ≡ false
+  pub count : s'.count ≡ s.count + 1
+  pub allowed : s.count < engine.limits.operations
+
+abbrev pub EnterResult : {H : Type 0} → Engine → Function → Run H → Run H → Result (Option Outer) OutOfMemory → Type 0
+EnterResult engine g s s' (Ok (Some o)) = CallEntered engine g s s' o
+EnterResult engine g s s' (Ok None) = CallNotEntered s s'
+EnterResult engine g s s' (Err e) = CallNotEntered s s'
+
+-- what is to be done once a call has begun: the body, and then the caller with its answer; or a fault left the frame
+abbrev pub call_continuation : {H : Type 0} → Result (Option Outer) OutOfMemory → Result Dynamic EvalAltResult → Function → (Option Place → Frame) → ℕ → Computation H
+call_continuation (Ok (Some o)) outcome g f next m place w =
+    Then (Go (InFrame (frame_at g.chunk 0 None)) w) (λ a w2. resume_caller m g (f place) next a (record w2 { scope = o.scope; level = o.level }))
+call_continuation (Ok None) outcome g f next m place w = frame_exit outcome f m place w
+call_continuation (Err e) outcome g f next m place w = leave_by_fault m None (f place) NoMemory w
+
+-- the caller's frame after a call: where it goes on, it has one operand more
+abbrev pub CallReturned : {H : Type 0} → Activation → Run H → Activation → Run H → ℕ → Result Progress OutOfMemory → Type 0
+CallReturned f s f' s' next (Ok Continues) =
+    (f' ≡ record f { address = next }) × (length s'.stacks.operands ≡ length s.stacks.operands + 1) ×
+    (s' ≡ record s { stacks = record s.stacks { operands = s'.stacks.operands } })
+CallReturned f s f' s' next (Ok Finished) = (f' ≡ f) × (s' ≡ record s { outcome = s'.outcome })
+CallReturned f s f' s' next (Err e) = (f' ≡ f) × (s' ≡ record s { outcome = s'.outcome })
+
+-- a try that did nothing changed nothing
+abbrev pub Unchanged : {H : Type 0} → Activation → Run H → Counts → Activation → Run H → Counts → Type 0
+Unchanged f s n f' s' n' = (s' ≡ s) × (f' ≡ f) × (n' ≡ n)
+
+-- One instruction of a frame: the code did it, the frames around it are as they were, and if the frame goes on, it
+-- stands where the typing knows it.
+pub record Stepped {H : Type 0} (program : View) (engine : Engine) (f : Activation) (s : Run H) (n : Counts) (result : Result Progress OutOfMemory) (f' : Activation) (s' : Run H) (n' : Counts) (host host' : H) : Type 0 where
+  pub goes : Simulates (setup program engine) (abstraction s n host) (instruction_here (frame_in f s)) (is_out result) (abstraction s' n' host') (continuation result s'.outcome (frame_in f' s'))
+  pub kept : KeepsFrame f s f' s'
+  pub stays : StaysTyped program engine s f s' f' result
+  pub before : n'.before ≡ n.before

@@ -1,0 +1,13 @@
+-- How the machine's code is joined to the meaning. A reader of the public contracts reads Counts and Machines;
+-- Abstraction has the words of the contracts inside.
+pub mod Counts
+pub mod MachineView
+pub mod Machines
+pub mod Abstraction
+pub mod Operated
+pub use Rattle.grain_means.specs.Means
+pub use Rattle.grain_means.specs.Causes
+pub use Rattle.grain_means.specs.Comes
+pub use Rattle.grain_means.specs.Leavings
+pub use Rattle.grain_means.specs.Worlds
+pub use Rattle.grain_stack.specs.Views

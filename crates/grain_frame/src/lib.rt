@@ -1,0 +1,21 @@
+//! The loop: how a frame runs, instruction by instruction, how functions are called, and how main is run.
+#![tactic(auto)]
+
+mod activations;
+mod calls;
+mod contexts;
+mod faults;
+mod locals;
+mod loops;
+mod machines;
+mod operands;
+mod operated;
+mod quick;
+mod runs;
+mod signatures;
+mod spares;
+mod steps;
+mod transfers;
+
+pub use machines::Machine;
+pub use steps::Steps;

@@ -1,0 +1,139 @@
+//! The machine that runs a program's main on its stacks.
+
+ghost use Rattle.std.specs.Prelude.{◌≡◌, ◌+◌, ◌<◌, ℕ};
+ghost use Rattle.grain_means.specs.Causes.{HasCause};
+ghost use Rattle.grain_means.specs.Comes.{Provided};
+ghost use Rattle.grain_means.specs.Leavings.{Leaves};
+ghost use Rattle.grain_means.specs.Means.{Evaluates};
+ghost use Rattle.grain_stack.specs.Views.{no_frames, IsLeft};
+ghost use Rattle.grain_frame.specs.Counts.{instructions};
+ghost use Rattle.grain_frame.specs.Machines.{begin, finish, answered};
+
+use crate::contexts::Context;
+use crate::runs::Run;
+use crate::spares::SpareScopes;
+use crate::steps::Steps;
+use grain_fault::{EvalAltResult, Fault, RhaiResult};
+use grain_global::{Engine, GlobalRuntimeState};
+use grain_program::Program;
+use grain_stack::Stacks;
+use grain_value::{Dynamic, OutOfMemory, Scope, Store};
+use std::alloc::Global;
+use std::marker::{Model, PhantomData};
+use std::mem;
+use std::sync::ledger::Ledger;
+
+/// Runs programs on one set of stacks. Between two runs no frame is entered.
+#[derive(Drop)]
+pub struct Machine<'e> {
+    engine: &'e Engine,
+    stacks: Stacks,
+    spares: SpareScopes,
+}
+
+impl<'e> Model for Machine<'e> {
+    ghost use Rattle.grain_frame.specs.MachineView.{MachineView};
+
+    ghost Value = { MachineView };
+
+    ghost view = { λ m. record { engine = m.engine.now; stacks = m.stacks } };
+}
+
+impl<'e> Machine<'e> {
+    /// A machine. It takes no memory.
+    pub fn new(alloc: Global, engine: &'e Engine) -> Machine<'e>
+        ensures { result ≡ record { engine = engine.now; stacks = no_frames } }
+    {
+        Machine {
+            engine,
+            stacks: Stacks::new(alloc),
+            spares: SpareScopes::new(alloc),
+        }
+    }
+
+    /// The machine's stacks. It takes no memory.
+    pub fn stacks(&self) -> &Stacks
+        ensures { result.now ≡ self.now.stacks }
+    {
+        &self.stacks
+    }
+
+    /// Where the frames stopped that the fault of the last run left, the innermost first. It is empty after a value.
+    pub fn trace(&self) -> &[Fault]
+        ensures { result.now ≡ self.now.stacks.trace }
+    {
+        self.stacks.trace()
+    }
+
+    /// Runs a program's main on a scope. The operations that are charged count on from the state's, and the entries
+    /// that main declares stay after a value; a fault cuts the scope back to its length. After want of memory the run
+    /// is the one that is stopped at a mark. The scope's entries keep their names and order, whatever the end is.
+    pub fn run_main<H, L: Ledger>(
+        &mut self,
+        alloc: Global,
+        host: &mut H,
+        cells: &mut Store,
+        global: &mut GlobalRuntimeState,
+        scope: &mut Scope,
+        program: &Program,
+        steps: &mut Steps<L>,
+    ) -> RhaiResult
+        requires positive { 0 < self.old.engine.limits.operations }
+        ensures evaluates { (ran : ℕ) × (Evaluates program.now self.old.engine (begin scope.old cells.old host.old global.old) result (finish self.new.stacks.trace scope.new cells.new host.new global.new) ran × (instructions steps.new ≡ instructions steps.old + ran)) }
+        ensures causes { HasCause program.now self.old.engine (begin scope.old cells.old host.old global.old) result }
+        ensures provided { Provided program.now self.old.engine (begin scope.old cells.old host.old global.old) }
+        ensures leaves { Leaves program.now self.old.engine (begin scope.old cells.old host.old global.old) result scope.new self.new.stacks.trace }
+        ensures level { global.new.level ≡ global.old.level }
+        ensures clean { IsLeft self.old.stacks self.new.stacks }
+        ensures engine { self.new.engine ≡ self.old.engine }
+    {
+        steps.start();
+        self.stacks.cut_trace(0);
+        let context = Context {
+            engine: self.engine,
+            program,
+        };
+        let mut run = Run {
+            alloc,
+            stacks: mem::replace(&mut self.stacks, Stacks::new(alloc)),
+            scope: mem::replace(scope, Scope::new(alloc)),
+            cells: mem::replace(cells, Store::new(alloc)),
+            spares: mem::replace(&mut self.spares, SpareScopes::new(alloc)),
+            count: global.num_operations,
+            level: global.level,
+            outcome: Ok(Dynamic::Unit),
+            host: PhantomData,
+        };
+        let back = run.run_main(context, host, steps);
+        let Run {
+            alloc: _,
+            stacks,
+            scope: scope_after,
+            cells: cells_after,
+            spares,
+            count,
+            level,
+            outcome: _,
+            host: _,
+        } = run;
+        self.stacks = stacks;
+        self.spares = spares;
+        *scope = scope_after;
+        *cells = cells_after;
+        global.num_operations = count;
+        global.level = level;
+        grain_means::counted::<H>();
+        grain_means::provided::<H>();
+        answered(back)
+    }
+}
+
+// Want of memory as a fault.
+fn answered(back: Result<RhaiResult, OutOfMemory>) -> RhaiResult
+    ensures { result ≡ answered back }
+{
+    match back {
+        Ok(done) => done,
+        Err(_) => Err(EvalAltResult::Memory),
+    }
+}

@@ -1,0 +1,166 @@
+//! Instructions on operands alone.
+
+ghost use Rattle.std.specs.Prelude.{◌≡◌, ◌<◌, ◌≤◌, ◌+◌, ◌-◌, ◌∷◌, [], length, Ok, IfOk, IfSome};
+ghost use Rattle.grain_program.specs.View.{View};
+ghost use Rattle.grain_program.specs.declared.code.instructions.Op.TheVariants as op;
+ghost use Rattle.grain_value.specs.declared.values.Dynamic.TheVariants as dynamic;
+ghost use Rattle.grain_value.specs.Operands.{arguments};
+ghost use Rattle.grain_global.specs.declared.engines.Engine.{Engine};
+ghost use Rattle.grain_ops.specs.Outcomes.{Gave};
+ghost use Rattle.grain_means.specs.Rules.{pushed, operated};
+ghost use Rattle.grain_frame.specs.Abstraction.{frame_in, Implements, Performs, Ready};
+ghost use Rattle.grain_frame.specs.Operated.{outcome_of};
+ghost use Rattle.grain_program.specs.Indices.{InPools};
+
+use crate::activations::Activation;
+use crate::contexts::Context;
+use crate::operated;
+use crate::operated::{Operated, operate};
+use crate::runs::{Progress, Run};
+use crate::steps::Steps;
+use grain_value::{Dynamic, Held, OutOfMemory};
+use std::sync::ledger::Ledger;
+
+impl<H> Run<H> {
+    // Gives a value, as the frame's last operand, and goes on at the next instruction.
+    #[inline(always)]
+    pub(crate) fn push_on<L: Ledger>(
+        &mut self,
+        steps: &mut Steps<L>,
+        frame: &mut Activation,
+        value: Dynamic,
+        next: usize,
+    ) -> Progress
+        requires inside { frame.old.base ≤ length self.old.scope }
+        requires room { length self.old.stacks.operands < self.old.stacks.room }
+        requires ahead { frame.old.address < next }
+        ensures implements { (program : View) (engine : Engine) (host : H) → Implements program engine frame.old self.old steps.old
+            (λ m place w. pushed m (frame_in frame.old self.old place) next self.old.stacks.operands value w)
+            (next ∷ []) (length self.old.stacks.operands - 0 + 1) (Ok result) frame.new self.new steps.new host }
+    {
+        self.stacks.push(Held::read_write(value));
+        frame.address = next;
+        steps.mark();
+        Progress::Continues
+    }
+
+    // `load_const`: a copy of the constant.
+    #[inline(always)]
+    pub(crate) fn load_const<L: Ledger>(
+        &mut self,
+        context: Context<'_>,
+        steps: &mut Steps<L>,
+        frame: &mut Activation,
+        constant: u16,
+        next: usize,
+    ) -> Result<Progress, OutOfMemory>
+        requires ready { Ready frame.old self.old (op.LoadConst constant) next }
+        requires pools { InPools context.program.now (op.LoadConst constant) }
+        ensures performs { (host : H) → Performs context.entry.program.now context.entry.engine.now frame.old self.old steps.old (op.LoadConst constant) next result frame.new self.new steps.new host }
+    {
+        self.stacks
+            .push_copy(self.alloc, context.program.constant(u32::from(constant)))?;
+        frame.address = next;
+        steps.mark();
+        Ok(Progress::Continues)
+    }
+
+    // `pop`: the last operand goes.
+    pub(crate) fn pop_on<L: Ledger>(
+        &mut self,
+        steps: &mut Steps<L>,
+        frame: &mut Activation,
+        next: usize,
+    ) -> Progress
+        requires ready { Ready frame.old self.old op.Pop next }
+        ensures performs { (program : View) (engine : Engine) (host : H) → Performs program engine frame.old self.old steps.old op.Pop next (Ok result) frame.new self.new steps.new host }
+    {
+        let _value = self.stacks.pop();
+        frame.address = next;
+        steps.mark();
+        Progress::Continues
+    }
+
+    // `rotate`: the last operand goes below `under` others.
+    pub(crate) fn rotate<L: Ledger>(
+        &mut self,
+        steps: &mut Steps<L>,
+        frame: &mut Activation,
+        under: u8,
+        next: usize,
+    ) -> Progress
+        requires ready { Ready frame.old self.old (op.Rotate under) next }
+        ensures performs { (program : View) (engine : Engine) (host : H) → Performs program engine frame.old self.old steps.old (op.Rotate under) next (Ok result) frame.new self.new steps.new host }
+    {
+        self.stacks.rotate(usize::from(under));
+        frame.address = next;
+        steps.mark();
+        Progress::Continues
+    }
+
+    // `call_op`: an operator on the last `count` operands.
+    #[inline(always)]
+    pub(crate) fn call_op<L: Ledger>(
+        &mut self,
+        context: Context<'_>,
+        steps: &mut Steps<L>,
+        frame: &mut Activation,
+        name: u16,
+        count: u8,
+        token: u16,
+        next: usize,
+    ) -> Result<Progress, OutOfMemory>
+        requires ready { Ready frame.old self.old (op.CallOp name count token) next }
+        requires pools { InPools context.program.now (op.CallOp name count token) }
+        ensures performs { (host : H) → Performs context.entry.program.now context.entry.engine.now frame.old self.old steps.old (op.CallOp name count token) next result frame.new self.new steps.new host }
+    {
+        let arguments = usize::from(count);
+        match self.operate(context, token, arguments)? {
+            Operated::Value(value) => {
+                self.stacks.cut(self.stacks.height() - arguments);
+                Ok(self.push_on(steps, frame, value, next))
+            }
+            Operated::Arithmetic(text) => Ok(self.arithmetic(context, steps, frame, text)),
+            Operated::NotBuiltIn => {
+                Ok(self.function_not_found(context, steps, frame, name, arguments)?)
+            }
+        }
+    }
+
+    // What an operator makes of the last `count` operands, if operators are fast.
+    #[inline(never)]
+    fn operate(&self, context: Context<'_>, token: u16, count: usize) -> Result<Operated, OutOfMemory>
+        requires operands { count ≤ length self.now.stacks.operands }
+        requires pool { token < length context.program.now.tokens }
+        ensures { IfOk result (λ r. outcome_of r ≡ operated context.entry.program.now context.entry.engine.now token (arguments count self.now.stacks.operands)) }
+    {
+        if !context.engine.fast_operators {
+            return Ok(Operated::NotBuiltIn);
+        }
+        let token = context.program.token(u32::from(token));
+        let operands = self.stacks.frame_operands();
+        operate(self.alloc, context.engine, token, &operands[operands.len() - count..])
+    }
+
+    // The integer that an operator makes of the last `count` operands, if that is soon seen.
+    #[inline(always)]
+    pub(crate) fn quick_number(&self, context: Context<'_>, token: u16, count: usize) -> Option<i64>
+        requires operands { count ≤ length self.now.stacks.operands }
+        requires pool { token < length context.program.now.tokens }
+        ensures { IfSome result (λ z. (count ≡ 2) × (operated context.entry.program.now context.entry.engine.now token (arguments count self.now.stacks.operands) ≡ Gave (dynamic.Int z))) }
+    {
+        let token = context.program.token(u32::from(token));
+        operated::quick_number(context.engine, token, self.stacks.frame_operands(), count)
+    }
+
+    // The truth value that an operator makes of the last `count` operands, if that is soon seen.
+    #[inline(always)]
+    pub(crate) fn quick_truth(&self, context: Context<'_>, token: u16, count: usize) -> Option<bool>
+        requires operands { count ≤ length self.now.stacks.operands }
+        requires pool { token < length context.program.now.tokens }
+        ensures { IfSome result (λ b. (count ≡ 2) × (operated context.entry.program.now context.entry.engine.now token (arguments count self.now.stacks.operands) ≡ Gave (dynamic.Bool b))) }
+    {
+        let token = context.program.token(u32::from(token));
+        operated::quick_truth(context.engine, token, self.stacks.frame_operands(), count)
+    }
+}

@@ -1,0 +1,151 @@
+//! What the built-in operators give, as the frame goes on with it.
+
+ghost use Rattle.std.specs.Prelude.{◌≡◌, ◌≤◌, length, IfOk, IfSome};
+ghost use Rattle.grain_value.specs.Operands.{arguments, values_in};
+ghost use Rattle.grain_value.specs.declared.values.Dynamic.TheVariants as dynamic;
+ghost use Rattle.grain_means.specs.Rules.{if_fast};
+ghost use Rattle.grain_value.specs.declared.values.Dynamic.{Dynamic};
+ghost use Rattle.grain_ops.specs.Outcomes.{Outcome, Gave};
+ghost use Rattle.grain_ops.specs.Operators.{operation, assignment};
+ghost use Rattle.grain_ops.specs.Answers.{Answers, Assigns};
+ghost use Rattle.grain_frame.specs.Operated.{outcome_of, Assigned, ArithmeticText};
+
+use grain_fault::EvalAltResult;
+use grain_global::Engine;
+use grain_ops::{AssignAnswer, OpAnswer, assign, binary, unary};
+use grain_value::{Dynamic, Held, OutOfMemory, Text, Token};
+use std::alloc::Global;
+
+/// What an operator gives.
+#[derive(Drop)]
+pub enum Operated {
+    /// No built-in takes these values.
+    NotBuiltIn,
+    /// The value.
+    Value(Dynamic),
+    /// The text of an arithmetic fault.
+    Arithmetic(Text),
+}
+
+/// What an op-assignment gives.
+#[derive(Drop)]
+pub enum OpAssigned {
+    /// No built-in takes these values. The target is as it was.
+    NotBuiltIn,
+    /// The target has its new value.
+    Done,
+    /// The text of an arithmetic fault. The target is as it was.
+    Arithmetic(Text),
+}
+
+/// What an operator gives for these arguments.
+pub fn operate(
+    alloc: Global,
+    engine: &Engine,
+    token: Token,
+    arguments: &[Held],
+) -> Result<Operated, OutOfMemory>
+    ensures { IfOk result (λ r. outcome_of r ≡ operation engine.now.limits token (values_in arguments.now)) }
+{
+    match arguments {
+        [x] => operated_from(unary(alloc, token, &x.value)),
+        [x, y] => operated_from(binary(alloc, token, &x.value, &y.value, &engine.limits)),
+        _ => Ok(Operated::NotBuiltIn),
+    }
+}
+
+fn operated_from(answer: OpAnswer) -> Result<Operated, OutOfMemory>
+    ensures { (o : Outcome) → Answers answer o → IfOk result (λ r. outcome_of r ≡ o) }
+{
+    match answer {
+        OpAnswer::NotBuiltIn => Ok(Operated::NotBuiltIn),
+        OpAnswer::Done(value) => Ok(Operated::Value(value)),
+        OpAnswer::Failed(fault) => match arithmetic_text(fault) {
+            Some(text) => Ok(Operated::Arithmetic(text)),
+            None => Err(OutOfMemory),
+        },
+    }
+}
+
+/// What an op-assignment of a value to a target gives. After want of memory the target is as it was.
+pub fn op_assigned(
+    alloc: Global,
+    engine: &Engine,
+    token: Token,
+    target: &mut Dynamic,
+    value: &Dynamic,
+) -> Result<OpAssigned, OutOfMemory>
+    ensures { Assigned result (assignment engine.now.limits token target.old value.now) target.old target.new }
+{
+    match assign(alloc, token, target, value, &engine.limits) {
+        AssignAnswer::NotBuiltIn => Ok(OpAssigned::NotBuiltIn),
+        AssignAnswer::Done => Ok(OpAssigned::Done),
+        AssignAnswer::Failed(fault) => match arithmetic_text(fault) {
+            Some(text) => Ok(OpAssigned::Arithmetic(text)),
+            None => Err(OutOfMemory),
+        },
+    }
+}
+
+// The text of an operator's fault, or none if memory was out.
+#[cold]
+fn arithmetic_text(fault: EvalAltResult) -> Option<Text>
+    ensures { ArithmeticText fault result }
+{
+    match fault {
+        EvalAltResult::ErrorArithmetic(text, _) => Some(text),
+        _ => None,
+    }
+}
+
+/// The integer that an operator makes of the last `count` operands, if it is asked of two integers, operators are fast
+/// and the result fits. It says nothing of all else, of which `operate` tells.
+#[inline(always)]
+pub fn quick_number(engine: &Engine, token: Token, operands: &[Held], count: usize) -> Option<i64>
+    requires { count ≤ length operands.now }
+    ensures { IfSome result (λ z. (count ≡ 2) × (if_fast engine.now.fast_operators (operation engine.now.limits token (values_in (arguments count operands.now))) ≡ Gave (dynamic.Int z))) }
+{
+    if engine.fast_operators && count == 2 {
+        match &operands[operands.len() - count..] {
+            [x, y] => grain_ops::quick_number(token, &x.value, &y.value),
+            _ => None,
+        }
+    } else {
+        None
+    }
+}
+
+/// The truth value that an operator makes of the last `count` operands, if it is asked of two integers and operators
+/// are fast. It says nothing of all else, of which `operate` tells.
+#[inline(always)]
+pub fn quick_truth(engine: &Engine, token: Token, operands: &[Held], count: usize) -> Option<bool>
+    requires { count ≤ length operands.now }
+    ensures { IfSome result (λ b. (count ≡ 2) × (if_fast engine.now.fast_operators (operation engine.now.limits token (values_in (arguments count operands.now))) ≡ Gave (dynamic.Bool b))) }
+{
+    if engine.fast_operators && count == 2 {
+        match &operands[operands.len() - count..] {
+            [x, y] => grain_ops::quick_truth(token, &x.value, &y.value),
+            _ => None,
+        }
+    } else {
+        None
+    }
+}
+
+/// The integer that an op-assignment makes of a target and a value that are integers, if operators are fast and it
+/// fits. It says nothing of all else, of which `op_assigned` tells.
+#[inline(always)]
+pub fn quick_assigned(
+    engine: &Engine,
+    token: Token,
+    target: &Dynamic,
+    value: &Dynamic,
+) -> Option<i64>
+    ensures { IfSome result (λ z. if_fast engine.now.fast_operators (assignment engine.now.limits token target.now value.now) ≡ Gave (dynamic.Int z)) }
+{
+    if engine.fast_operators {
+        grain_ops::quick_assigned(token, target, value)
+    } else {
+        None
+    }
+}

@@ -1,0 +1,228 @@
+//! Instructions that are soon done, tried before all others: they take no memory, raise nothing and call nothing, so that
+//! the loop over them holds what it needs. Each says whether it did its instruction; where it did not, it changed nothing,
+//! and the instruction's own method does it.
+
+ghost use Rattle.std.specs.Prelude.{◌≡◌, ◌<◌, ◌≤◌, ◌+◌, ◌-◌, ◌∷◌, [], length, Ok, cond, nat_lt};
+ghost use Rattle.grain_program.specs.Indices.{InPools};
+ghost use Rattle.grain_program.specs.declared.code.instructions.Op.TheVariants as op;
+ghost use Rattle.grain_means.specs.Rules.{jumped, stepped, jump_if};
+ghost use Rattle.grain_frame.specs.Abstraction.{frame_in, Implements, Performs, Ready, Unchanged, OnTrue, OnFalse};
+
+use crate::activations::Activation;
+use crate::contexts::Context;
+use crate::operated::quick_assigned;
+use crate::runs::{Progress, Run};
+use crate::steps::Steps;
+use crate::transfers::agrees;
+use grain_value::{Dynamic, Held};
+use std::sync::ledger::Ledger;
+
+impl<H> Run<H> {
+    // `load_const` of an integer.
+    #[inline(always)]
+    pub(crate) fn quick_const<L: Ledger>(
+        &mut self,
+        context: Context<'_>,
+        steps: &mut Steps<L>,
+        frame: &mut Activation,
+        constant: u16,
+        next: usize,
+    ) -> bool
+        requires ready { Ready frame.old self.old (op.LoadConst constant) next }
+        requires pools { InPools context.program.now (op.LoadConst constant) }
+        ensures performs { OnTrue result ((host : H) → Performs context.entry.program.now context.entry.engine.now frame.old self.old steps.old (op.LoadConst constant) next (Ok Progress.Continues) frame.new self.new steps.new host) }
+        ensures undone { OnFalse result (Unchanged frame.old self.old steps.old frame.new self.new steps.new) }
+    {
+        match context.program.constant(u32::from(constant)) {
+            Dynamic::Int(integer) => {
+                self.stacks.push(Held::read_write(Dynamic::Int(*integer)));
+                frame.address = next;
+                steps.mark();
+                true
+            }
+            _ => false,
+        }
+    }
+
+    // `load_local` of an integer.
+    #[inline(always)]
+    pub(crate) fn quick_local<L: Ledger>(
+        &mut self,
+        context: Context<'_>,
+        steps: &mut Steps<L>,
+        frame: &mut Activation,
+        slot: u16,
+        next: usize,
+    ) -> bool
+        requires ready { Ready frame.old self.old (op.LoadLocal slot) next }
+        ensures performs { OnTrue result ((host : H) → Performs context.entry.program.now context.entry.engine.now frame.old self.old steps.old (op.LoadLocal slot) next (Ok Progress.Continues) frame.new self.new steps.new host) }
+        ensures undone { OnFalse result (Unchanged frame.old self.old steps.old frame.new self.new steps.new) }
+    {
+        let _context = context;
+        let index = self.slot_index(frame, slot);
+        match self.scope.get(index) {
+            Some(held) => match &held.value {
+                Dynamic::Int(integer) => {
+                    self.stacks.push(Held::read_write(Dynamic::Int(*integer)));
+                    frame.address = next;
+                    steps.mark();
+                    true
+                }
+                _ => false,
+            },
+            None => false,
+        }
+    }
+
+    // `assign_local_op` of two integers.
+    #[inline(always)]
+    #[tactic(auto, using(grain_means::specs::lemmas::Scopes::length_set_held))]
+    pub(crate) fn quick_assign<L: Ledger>(
+        &mut self,
+        context: Context<'_>,
+        steps: &mut Steps<L>,
+        frame: &mut Activation,
+        slot: u16,
+        name: u16,
+        assign_op: u16,
+        next: usize,
+    ) -> bool
+        requires ready { Ready frame.old self.old (op.AssignLocalOp slot name assign_op) next }
+        requires pools { InPools context.program.now (op.AssignLocalOp slot name assign_op) }
+        ensures performs { OnTrue result ((host : H) → Performs context.entry.program.now context.entry.engine.now frame.old self.old steps.old (op.AssignLocalOp slot name assign_op) next (Ok Progress.Continues) frame.new self.new steps.new host) }
+        ensures undone { OnFalse result (Unchanged frame.old self.old steps.old frame.new self.new steps.new) }
+    {
+        let _name = name;
+        let index = self.slot_index(frame, slot);
+        let token = context.program.assign_op(u32::from(assign_op)).op_assign;
+        let Some(held) = self.scope.get(index) else {
+            return false;
+        };
+        if held.read_only {
+            return false;
+        }
+        match quick_assigned(context.engine, token, &held.value, &self.stacks.top().value) {
+            Some(z) => {
+                self.scope.set_int(index, z);
+                let _value = self.stacks.pop();
+                steps.mark();
+                frame.address = next;
+                steps.mark();
+                true
+            }
+            None => false,
+        }
+    }
+
+    // `call_op` of two integers.
+    #[inline(always)]
+    pub(crate) fn quick_op<L: Ledger>(
+        &mut self,
+        context: Context<'_>,
+        steps: &mut Steps<L>,
+        frame: &mut Activation,
+        name: u16,
+        count: u8,
+        token: u16,
+        next: usize,
+    ) -> bool
+        requires ready { Ready frame.old self.old (op.CallOp name count token) next }
+        requires pools { InPools context.program.now (op.CallOp name count token) }
+        ensures performs { OnTrue result ((host : H) → Performs context.entry.program.now context.entry.engine.now frame.old self.old steps.old (op.CallOp name count token) next (Ok Progress.Continues) frame.new self.new steps.new host) }
+        ensures undone { OnFalse result (Unchanged frame.old self.old steps.old frame.new self.new steps.new) }
+    {
+        let _name = name;
+        let count = usize::from(count);
+        match self.quick_number(context, token, count) {
+            Some(z) => {
+                self.stacks.answer_int(z);
+                frame.address = next;
+                steps.mark();
+                true
+            }
+            None => match self.quick_truth(context, token, count) {
+                Some(truth) => {
+                    self.stacks.answer(Dynamic::Bool(truth));
+                    frame.address = next;
+                    steps.mark();
+                    true
+                }
+                None => false,
+            },
+        }
+    }
+
+    // `jump`, where it costs nothing or an operation is left.
+    #[inline(always)]
+    pub(crate) fn quick_jump<L: Ledger>(
+        &mut self,
+        context: Context<'_>,
+        steps: &mut Steps<L>,
+        frame: &mut Activation,
+        target: u32,
+        next: usize,
+    ) -> bool
+        requires ready { Ready frame.old self.old (op.Jump target) next }
+        ensures performs { OnTrue result ((host : H) → Performs context.entry.program.now context.entry.engine.now frame.old self.old steps.old (op.Jump target) next (Ok Progress.Continues) frame.new self.new steps.new host) }
+        ensures undone { OnFalse result (Unchanged frame.old self.old steps.old frame.new self.new steps.new) }
+    {
+        let _next = next;
+        let target = target as usize;
+        if target > frame.address {
+            frame.address = target;
+            steps.mark();
+            true
+        } else if self.charge(context.engine) {
+            steps.mark();
+            frame.address = target;
+            steps.mark();
+            true
+        } else {
+            false
+        }
+    }
+
+    // `jump_if_false` and `jump_if_true` at a truth value, where a jump costs nothing or an operation is left.
+    #[inline(always)]
+    pub(crate) fn quick_jump_if<L: Ledger>(
+        &mut self,
+        context: Context<'_>,
+        steps: &mut Steps<L>,
+        frame: &mut Activation,
+        wanted: bool,
+        target: u32,
+        next: usize,
+    ) -> bool
+        requires ready { Ready frame.old self.old (op.JumpIfFalse target) next }
+        ensures implements { OnTrue result ((host : H) → Implements context.entry.program.now context.entry.engine.now frame.old self.old steps.old
+            (λ m place w. jump_if m wanted target next (frame_in frame.old self.old place) w)
+            (cond (nat_lt target next) (target ∷ next ∷ []) (next ∷ target ∷ [])) (length self.old.stacks.operands - 1 + 0) (Ok Progress.Continues) frame.new self.new steps.new host) }
+        ensures undone { OnFalse result (Unchanged frame.old self.old steps.old frame.new self.new steps.new) }
+    {
+        let target = target as usize;
+        match self.stacks.top().value.as_bool() {
+            Some(truth) => {
+                if !agrees(wanted, truth) {
+                    let _value = self.stacks.pop();
+                    frame.address = next;
+                    steps.mark();
+                    true
+                } else if target > frame.address {
+                    let _value = self.stacks.pop();
+                    frame.address = target;
+                    steps.mark();
+                    true
+                } else if self.charge(context.engine) {
+                    steps.mark();
+                    let _value = self.stacks.pop();
+                    frame.address = target;
+                    steps.mark();
+                    true
+                } else {
+                    false
+                }
+            }
+            None => false,
+        }
+    }
+}

@@ -1,0 +1,179 @@
+//! Transfers, and how a frame goes on or is over.
+
+ghost use Rattle.std.specs.Prelude.{◌≡◌, ◌<◌, ◌≤◌, ◌+◌, ◌-◌, ◌∷◌, [], length, Ok, cond, nat_lt};
+ghost use Rattle.grain_program.specs.declared.code.instructions.Op.TheVariants as op;
+ghost use Rattle.grain_program.specs.View.{View};
+ghost use Rattle.grain_global.specs.declared.engines.Engine.{Engine};
+ghost use Rattle.grain_means.specs.Rules.{onward, jumped, stepped, agrees, jump_if};
+ghost use Rattle.grain_frame.specs.Abstraction.{frame_in, Implements, Performs, Ready};
+
+use crate::activations::Activation;
+use crate::contexts::Context;
+use crate::runs::{Progress, Run};
+use crate::steps::Steps;
+use grain_fault::EvalAltResult;
+use grain_value::{Dynamic, OutOfMemory};
+use std::sync::ledger::Ledger;
+
+impl<H> Run<H> {
+    // Goes on at the next instruction, with the operands that there are.
+    #[inline(always)]
+    pub(crate) fn go_on<L: Ledger>(
+        &mut self,
+        steps: &mut Steps<L>,
+        frame: &mut Activation,
+        next: usize,
+    ) -> Progress
+        requires inside { frame.old.base ≤ length self.old.scope }
+        requires ahead { frame.old.address < next }
+        ensures implements { (program : View) (engine : Engine) (host : H) → Implements program engine frame.old self.old steps.old
+            (λ m place w. onward m (frame_in frame.old self.old place) (stepped (frame_in frame.old self.old place) next self.old.stacks.operands) w)
+            (next ∷ []) (length self.old.stacks.operands - 0 + 0) (Ok result) frame.new self.new steps.new host }
+    {
+        frame.address = next;
+        steps.mark();
+        Progress::Continues
+    }
+
+    // `jump`: goes on at an address. A transfer to one that does not lie ahead costs an operation.
+    #[inline(always)]
+    pub(crate) fn jump_to<L: Ledger>(
+        &mut self,
+        context: Context<'_>,
+        steps: &mut Steps<L>,
+        frame: &mut Activation,
+        target: usize,
+    ) -> Progress
+        requires inside { frame.old.base ≤ length self.old.scope }
+        ensures implements { (host : H) → Implements context.entry.program.now context.entry.engine.now frame.old self.old steps.old
+            (λ m place w. jumped m (frame_in frame.old self.old place) (stepped (frame_in frame.old self.old place) target self.old.stacks.operands) w)
+            (target ∷ []) (length self.old.stacks.operands - 0 + 0) (Ok result) frame.new self.new steps.new host }
+    {
+        if target > frame.address {
+            frame.address = target;
+            steps.mark();
+            Progress::Continues
+        } else if self.charge(context.engine) {
+            steps.mark();
+            frame.address = target;
+            steps.mark();
+            Progress::Continues
+        } else {
+            self.too_many_operations(context, steps, frame)
+        }
+    }
+
+    // `tick`: costs an operation.
+    pub(crate) fn tick<L: Ledger>(
+        &mut self,
+        context: Context<'_>,
+        steps: &mut Steps<L>,
+        frame: &mut Activation,
+        next: usize,
+    ) -> Progress
+        requires ready { Ready frame.old self.old op.Tick next }
+        ensures performs { (host : H) → Performs context.entry.program.now context.entry.engine.now frame.old self.old steps.old op.Tick next (Ok result) frame.new self.new steps.new host }
+    {
+        if self.charge(context.engine) {
+            steps.mark();
+            frame.address = next;
+            steps.mark();
+            Progress::Continues
+        } else {
+            self.too_many_operations(context, steps, frame)
+        }
+    }
+
+    // `jump_if_false` and `jump_if_true`: a transfer if the last operand is the truth value that is wanted.
+    #[inline(always)]
+    pub(crate) fn jump_if<L: Ledger>(
+        &mut self,
+        context: Context<'_>,
+        steps: &mut Steps<L>,
+        frame: &mut Activation,
+        wanted: bool,
+        target: u32,
+        next: usize,
+    ) -> Result<Progress, OutOfMemory>
+        requires ready { Ready frame.old self.old (op.JumpIfFalse target) next }
+        ensures implements { (host : H) → Implements context.entry.program.now context.entry.engine.now frame.old self.old steps.old
+            (λ m place w. jump_if m wanted target next (frame_in frame.old self.old place) w)
+            (cond (nat_lt target next) (target ∷ next ∷ []) (next ∷ target ∷ [])) (length self.old.stacks.operands - 1 + 0) result frame.new self.new steps.new host }
+    {
+        match self.stacks.top().value.as_bool() {
+            Some(truth) => {
+                let _value = self.stacks.pop();
+                if agrees(wanted, truth) {
+                    Ok(self.jump_to(context, steps, frame, target as usize))
+                } else {
+                    Ok(self.go_on(steps, frame, next))
+                }
+            }
+            None => { Ok(self.not_a_bool(context, steps, frame)?) }
+        }
+    }
+
+    // `skip_if_not_unit`: a transfer unless the last operand, which stays, is unit.
+    pub(crate) fn skip_if_not_unit<L: Ledger>(
+        &mut self,
+        context: Context<'_>,
+        steps: &mut Steps<L>,
+        frame: &mut Activation,
+        target: u32,
+        next: usize,
+    ) -> Progress
+        requires ready { Ready frame.old self.old (op.SkipIfNotUnit target) next }
+        ensures performs { (host : H) → Performs context.entry.program.now context.entry.engine.now frame.old self.old steps.old (op.SkipIfNotUnit target) next (Ok result) frame.new self.new steps.new host }
+    {
+        if self.stacks.top().value.is_unit() {
+            self.go_on(steps, frame, next)
+        } else {
+            self.jump_to(context, steps, frame, target as usize)
+        }
+    }
+
+    // `throw`: raises the last operand.
+    pub(crate) fn throw<L: Ledger>(
+        &mut self,
+        context: Context<'_>,
+        steps: &mut Steps<L>,
+        frame: &mut Activation,
+        next: usize,
+    ) -> Progress
+        requires ready { Ready frame.old self.old op.Throw next }
+        ensures performs { (host : H) → Performs context.entry.program.now context.entry.engine.now frame.old self.old steps.old op.Throw next (Ok result) frame.new self.new steps.new host }
+    {
+        let _next = next;
+        let position = context.program.position(frame.address);
+        let value = self.stacks.pop().value;
+        self.raise(steps, EvalAltResult::ErrorRuntime(value, position))
+    }
+
+    // `return`: the frame gives its last operand, or unit if it has none.
+    pub(crate) fn return_value<L: Ledger>(
+        &mut self,
+        steps: &mut Steps<L>,
+        frame: &Activation,
+        next: usize,
+    ) -> Progress
+        requires ready { Ready frame.now self.old op.Return next }
+        ensures performs { (program : View) (engine : Engine) (host : H) → Performs program engine frame.now self.old steps.old op.Return next (Ok result) frame.now self.new steps.new host }
+    {
+        let _next = next;
+        let value = if self.stacks.height() > 0 {
+            self.stacks.pop().value
+        } else {
+            Dynamic::Unit
+        };
+        steps.mark();
+        self.give(value)
+    }
+}
+
+/// Whether a truth value is the one that is wanted.
+#[inline(always)]
+pub fn agrees(wanted: bool, truth: bool) -> bool
+    ensures { result ≡ agrees wanted truth }
+{
+    wanted == truth
+}

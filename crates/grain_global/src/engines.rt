@@ -1,0 +1,42 @@
+//! What stays the same in a run: limits and flags.
+
+ghost use Rattle.std.specs.Prelude.{◌≡◌, ◌<◌, true, IfOk};
+
+use crate::states::GlobalRuntimeState;
+use grain_value::{Limits, OutOfMemory};
+use std::alloc::Global;
+
+/// The limits and flags of a run.
+#[derive(Drop)]
+pub struct Engine {
+    /// How much a run may take.
+    pub limits: Limits,
+    /// Whether an operator goes to its built-in before any other function.
+    pub fast_operators: bool,
+}
+
+impl Engine {
+    /// An engine with these limits, under which operators are fast. At least one operation is allowed.
+    pub fn new(alloc: Global, limits: Limits) -> Engine
+        requires { 0 < limits.operations }
+        ensures limits { result.limits ≡ limits }
+        ensures flags { result.fast_operators ≡ true }
+    {
+        let _alloc = alloc;
+        Engine {
+            limits,
+            fast_operators: true,
+        }
+    }
+
+    /// A state in which nothing was run.
+    pub fn new_global_runtime_state(&self, alloc: Global) -> Result<GlobalRuntimeState, OutOfMemory>
+        ensures { IfOk result (λ g. (g.num_operations ≡ 0) × (g.level ≡ 0)) }
+    {
+        let _alloc = alloc;
+        Ok(GlobalRuntimeState {
+            num_operations: 0,
+            level: 0,
+        })
+    }
+}

@@ -1,0 +1,5 @@
+pub mod Determined
+pub mod Kept
+pub mod Lengths
+pub mod Standing
+pub mod Tally

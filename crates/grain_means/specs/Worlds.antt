@@ -1,0 +1,63 @@
+-- What a run stands on: worlds, frames, and what is still to be done.
+use Rattle.std.specs.Prelude.{ℕ, List, Option}
+use Rattle.grain_value.specs.declared.values.Dynamic.{Dynamic}
+use Rattle.grain_value.specs.declared.values.Held.{Held}
+use Rattle.grain_value.specs.declared.scopes.Entry.{Entry}
+use Rattle.grain_value.specs.declared.stores.Cell.{Cell}
+use Rattle.grain_fault.specs.declared.traces.Fault.{Fault}
+use Rattle.grain_fault.specs.Problems.{Problem}
+use Rattle.grain_program.specs.View.{View}
+use Rattle.grain_global.specs.declared.engines.Engine.{Engine}
+
+-- how a run ends
+pub data Answer : Type 0 where
+  Came : Dynamic → Answer
+  Failed : Problem → Answer
+
+-- where a value stands: a root
+pub record Place : Type 0 where
+  pub root : ℕ
+
+-- A frame: the address of its instruction, its own operands, the scope's length at its entry, from which its slots
+-- count, the length to which a fault cuts the scope, and the place of its `this`, if any.
+pub record Frame : Type 0 where
+  pub address : ℕ
+  pub operands : List Held
+  pub base : ℕ
+  pub floor : ℕ
+  pub this : Option Place
+
+-- The world of a run on a host whose states are S.
+pub record World (S : Type 0) : Type 0 where
+  -- values that stand in no scope
+  pub roots : List Held
+  pub scope : List Entry
+  pub cells : List Cell
+  pub host : S
+  -- operations and compiled calls so far
+  pub count : ℕ
+  pub level : ℕ
+  pub trace : List Fault
+  -- how many instructions were begun
+  pub ran : ℕ
+  -- how many marks were passed: at each of them memory may be out
+  pub passed : ℕ
+  -- the tokens that the host gave and that were not taken back; none, once one was taken that it had not given
+  pub tokens : Option (List ℕ)
+
+-- what a run can stand at: an instruction of a frame
+pub data Todo : Type 0 where
+  InFrame : Frame → Todo
+
+-- a run: go on with something, end, or do one run and then another with its answer
+pub data Act (S : Type 0) : Type 0 where
+  Go : Todo → World S → Act S
+  End : Answer → World S → Act S
+  Then : Act S → (Answer → World S → Act S) → Act S
+
+-- what stays the same in a run on a host whose states are S
+pub record Setup (S : Type 0) : Type 0 where
+  pub program : View
+  pub engine : Engine
+  -- the mark at which memory is out, if any
+  pub stop : Option ℕ

@@ -1,0 +1,52 @@
+//! Laws of the meaning alone. Each is a function that does nothing, whose contract is the law.
+
+ghost use Rattle.std.specs.Prelude.{◌≡◌, ◌+◌, length, ℕ, Option, Some};
+ghost use Rattle.grain_means.specs.Worlds.{Act, Answer, World, Setup, Place, Frame, InFrame};
+ghost use Rattle.grain_means.specs.Rules.{called};
+ghost use Rattle.grain_means.specs.Causes.{Caused};
+ghost use Rattle.grain_means.specs.Comes.{Comes, Stands};
+ghost use Rattle.grain_means.specs.Ends.{Ends};
+ghost use Rattle.grain_means.specs.Leavings.{names, Keeps, Cuts};
+ghost use Rattle.grain_means.specs.Length.{run_length};
+ghost use Rattle.grain_means.specs.Means.{Begin, Finish, Means, Over, slowly};
+ghost use Rattle.grain_global.specs.declared.engines.Engine.{Engine};
+ghost use Rattle.grain_program.specs.View.{View};
+ghost use Rattle.grain_program.specs.Typing.{IsProgram};
+
+/// A run has at most one end.
+pub fn one_end<S>()
+    ensures { (m : Setup S) (act : Act S) (a b : Answer) (w v : World S) → Ends m act a w → Ends m act b v → (a ≡ b) × (w ≡ v) }
+{}
+
+/// What the slow evaluator computes is the end.
+pub fn slow_end<S>()
+    ensures { (m : Setup S) (n : ℕ) (act : Act S) (e : Over S) → slowly m n act ≡ Some e → Ends m act e.answer e.world }
+{}
+
+/// A call counts exactly the instructions that it begins, leaves the tokens that were out, the level and the entries of
+/// its scope, which a fault cuts to their number, and ends with a cause.
+pub fn counted<S>()
+    ensures {
+        (m : Setup S) (this : Option Place) (w v : World S) (a : Answer) (run : Ends m (called m this w) a v) →
+        (v.ran ≡ w.ran + run_length run) × (v.tokens ≡ w.tokens) × (v.level ≡ w.level) ×
+        Keeps (length w.scope) (names w.scope) v.scope ×
+        Cuts m (called m this w) w.level (length w.scope) w.trace a v × Caused m (called m this w) w.level a v
+    }
+{}
+
+/// Where the run of a valid program comes to a frame, an instruction stands there, and its operands and its entries of
+/// the pools are there.
+pub fn provided<S>()
+    ensures {
+        (m : Setup S) (this : Option Place) (w v : World S) (f : Frame) →
+        IsProgram m.program → Comes m (InFrame f) v (called m this w) → Stands m.program f
+    }
+{}
+
+/// A program has at most one meaning at a beginning: one end, after one number of instructions.
+pub fn one_meaning<S>()
+    ensures {
+        (program : View) (engine : Engine) (b : Begin S) (e f : Finish S) (n k : ℕ) →
+        Means program engine b e n → Means program engine b f k → (e ≡ f) × (n ≡ k)
+    }
+{}

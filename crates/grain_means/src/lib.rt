@@ -1,0 +1,6 @@
+//! What a program means, and laws of that meaning. The definitions are in `specs/`.
+#![tactic(auto)]
+
+mod laws;
+
+pub use laws::{counted, one_end, one_meaning, provided, slow_end};

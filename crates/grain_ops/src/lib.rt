@@ -1,0 +1,13 @@
+//! The operators that are built in.
+#![tactic(auto)]
+
+mod answers;
+mod calculations;
+mod operators;
+mod quick;
+#[cfg(test)]
+mod tests;
+
+pub use answers::{AssignAnswer, OpAnswer};
+pub use operators::{assign, binary, unary};
+pub use quick::{quick_assigned, quick_number, quick_truth};

@@ -1,0 +1,44 @@
+-- How the operands of all frames lie in one list: each frame's begin where those of the frame around it end.
+use Rattle.std.specs.Prelude.{ℕ, ◌+◌, ◌≤◌, Bool, true, false, if◌then◌else◌, List, [], ◌∷◌, length, take, drop, reverse}
+use Rattle.std.specs.Vec.{vec_capacity}
+use Rattle.grain_value.specs.declared.values.Held.{Held}
+use Rattle.grain_stack.specs.declared.stacks.Floor.{Floor}
+use Rattle.grain_stack.specs.declared.stacks.Stacks.TheInside.{Inside}
+use Rattle.grain_stack.specs.Views.{StackFrame, StacksView}
+
+-- the frames with these floors, the inner ones first, on these operands
+abbrev pub frames_on : List Held → List Floor → List StackFrame
+frames_on xs [] = []
+frames_on xs (f ∷ fs) =
+    record { operands = drop f.bottom xs; room = f.room; noted = f.noted } ∷ frames_on (take f.bottom xs) fs
+
+-- each floor lies at or below the one above it, and there is room for its frame's operands
+abbrev pub Nested : ℕ → ℕ → List Floor → Type 0
+Nested capacity bottom [] = Unit {0}
+Nested capacity bottom (f ∷ fs) = (f.bottom ≤ bottom) × (f.bottom + f.room ≤ capacity) × Nested capacity f.bottom fs
+
+-- how many frames have not noted a fault
+abbrev pub unnoted : Bool → List Floor → ℕ
+unnoted noted [] = 0
+unnoted noted (f ∷ fs) = (if noted then 0 else 1) + unnoted f.noted fs
+
+abbrev pub floors : Inside → List Floor
+floors s = reverse s.outer.items
+
+abbrev pub stacks_view : Inside → StacksView
+stacks_view s = record {
+  operands = drop s.bottom s.operands.items;
+  room = s.room;
+  noted = s.noted;
+  outer = frames_on (take s.bottom s.operands.items) (floors s);
+  trace = s.trace.items;
+  entered = s.entered;
+}
+
+-- The operands of the innermost frame are there and have their room, the floors are in order, and the trace has room
+-- for an entry of each frame that has not noted a fault.
+pub record IsSound (s : Inside) : Type 0 where
+  pub bottom : s.bottom ≤ length s.operands.items
+  pub room : s.bottom + s.room ≤ vec_capacity s.operands
+  pub nested : Nested (vec_capacity s.operands) s.bottom (floors s)
+  pub notes : length s.trace.items + unnoted s.noted (floors s) ≤ vec_capacity s.trace

@@ -1,0 +1,3 @@
+pub mod Views
+pub mod Floors
+pub use Rattle.grain_value.specs.Operands

@@ -1,0 +1,46 @@
+-- What a caller sees of the stacks: the operands of each frame, the trace, and how often a frame was entered.
+use Rattle.std.specs.Prelude.{◌≡◌, ℕ, ◌+◌, ◌-◌, ◌^◌, nat_lt, if◌then◌else◌, Bool, false, List, [], ◌∷◌}
+use Rattle.grain_value.specs.declared.values.Held.{Held}
+use Rattle.grain_fault.specs.declared.traces.Fault.{Fault}
+
+-- a frame's own operands, how many it may have at most, and whether it has noted a fault
+pub record StackFrame : Type 0 where
+  pub operands : List Held
+  pub room : ℕ
+  pub noted : Bool
+
+-- The innermost frame, and the frames around it, the inner ones first. Around the outermost frame stands one
+-- more, in which there is no room: it is the innermost one while no frame is entered.
+pub record StacksView : Type 0 where
+  pub operands : List Held
+  pub room : ℕ
+  pub noted : Bool
+  pub outer : List StackFrame
+  pub trace : List Fault
+  -- how often a frame was entered, at most 2^64 - 1
+  pub entered : ℕ
+
+-- no frame is entered, and nothing is noted
+abbrev pub no_frames : StacksView
+no_frames = record { operands = []; room = 0; noted = false; outer = []; trace = []; entered = 0 }
+
+abbrev pub innermost : StacksView → StackFrame
+innermost s = record { operands = s.operands; room = s.room; noted = s.noted }
+
+-- one more, up to 2^64 - 1
+abbrev pub counted_up : ℕ → ℕ
+counted_up n = if nat_lt n (2 ^ 64 - 1) then n + 1 else n
+
+-- a frame more, which may have so many operands
+abbrev pub with_frame : ℕ → StacksView → StacksView
+with_frame room s =
+    record s { operands = []; room = room; noted = false; outer = innermost s ∷ s.outer; entered = counted_up s.entered }
+
+-- the innermost frame is left, and the one around it is the innermost
+abbrev pub without_frame : List StackFrame → StacksView → StacksView
+without_frame [] s = s
+without_frame (f ∷ fs) s = record s { operands = f.operands; room = f.room; noted = f.noted; outer = fs }
+
+-- the frames are as they were: only the trace and the number of entries may differ
+abbrev pub IsLeft : (old new : StacksView) → Type 0
+IsLeft old new = new ≡ record old { trace = new.trace; entered = new.entered }

@@ -1,0 +1,1 @@
+//! The calls succeed where there is memory.

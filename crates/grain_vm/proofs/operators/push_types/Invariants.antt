@@ -1,9 +1,0 @@
-use Rattle.std.proofs.Common.{◌≡◌, ◌++◌, [], map, drop}
-use denote.Text.{Utf8}
-use denote.Shadow.{shadow}
-use Rattle.grain_vm.specs.means.Operators.{types_text}
-use Rattle.grain_vm.specs.means.Acts.{value_in}
-use Rattle.grain_vm.proofs.operators.push_types.Given as goal
-
-abbrev pub invariant-loop-held : goal.invariant-loop-held
-invariant-loop-held l = shadow (Utf8 l.lead) × (l.out ++ types_text l.lead (map value_in (drop l.held-index l.values)) ≡ l.initial.out ++ types_text [] (map value_in l.values))

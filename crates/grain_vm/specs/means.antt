@@ -1,9 +1,0 @@
-pub mod Operators
-pub mod Acts
-pub mod Ends
-pub mod Length
-pub mod Goes
-pub mod Means
-pub mod Comes
-pub mod Causes
-pub mod Leavings
