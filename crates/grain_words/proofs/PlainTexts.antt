@@ -1,15 +1,15 @@
 -- Plain words and lines are read as they are written.
-use Rattle.std.proofs.Common.{◌≡◌, ◌≢◌, ◌∷◌, ◌++◌, ◌==◌, ◌<◌, ◌≤◌, ◌&&◌, ◌||◌, not, ℕ, Bool, true, false, cond, nat_lt, List, [], map, refl, sym, ap, ◌∙◌, arith, append_assoc}
+use Rattle.std.proofs.Common.{◌≡◌, ◌≢◌, ◌∷◌, ◌++◌, ◌==◌, ◌<◌, ◌&&◌, ◌||◌, not, ℕ, Bool, true, false, cond, nat_lt, List, [], map, refl, ap, ◌∙◌, arith, append_assoc}
 use Rattle.std.proofs.lemmas.Bool.{ne_eqb}
-use Rattle.std.proofs.lemmas.Bool.Decides.{Decides-ltb, Decides-eqb}
+use Rattle.std.proofs.lemmas.Bool.Decides.{Decides-ltb}
 use Rattle.std.proofs.lemmas.Str.{encode_ascii}
 use Rattle.std.specs.List.{flat_map, list_all}
 use Rattle.std.specs.Char.{encode_utf8}
 use Rattle.grain_words.specs.Lines.{lines_of, onto, begins}
-use Rattle.grain_words.specs.Words.{words_of, bare, quoted, is_gap, in_front}
+use Rattle.grain_words.specs.Words.{words_of, bare, is_gap, in_front}
 use Rattle.grain_words.specs.Spelled.{is_plain, is_plain_word, spaced, is_inside, text_of}
 use Rattle.grain_words.specs.declared.words.Word.{Word}
-use Rattle.grain_words.specs.declared.words.Word.TheVariants.{Bare, Character}
+use Rattle.grain_words.specs.declared.words.Word.TheVariants.{Bare}
 
 first_true : (b c : Bool) → b && c ≡ true → b ≡ true
 first_true true c h = refl

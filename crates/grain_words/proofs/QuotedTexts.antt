@@ -1,11 +1,14 @@
 -- The words of a quoted text are that text alone.
-use Rattle.std.proofs.Common.{◌≡◌, ◌∷◌, ◌++◌, ◌==◌, ℕ, Bool, true, false, cond, List, [], refl, sym, ap, ◌∙◌, eqb-true, append_assoc}
+use Rattle.std.proofs.Common.{◌≡◌, ◌∷◌, ◌++◌, ◌==◌, ◌&&◌, ℕ, Bool, true, false, cond, List, [], refl, sym, ap, ◌∙◌, eqb-true, append_assoc}
 use Rattle.std.specs.List.{flat_map}
 use Rattle.std.specs.Char.{encode_utf8}
-use Rattle.std.specs.Str.{encode_utf8_all}
-use Rattle.grain_words.specs.Words.{words_of, quoted, escaped, in_front}
+use Rattle.std.specs.Str.{encode_utf8_all, chars, IsUtf8}
+use Rattle.std.proofs.Math.Utf8.{scalar, scalars}
+use Rattle.std.proofs.lemmas.Str.{chars-encodes, encodes-chars, scalars-chars}
+use Rattle.grain_value.specs.Quoting.{quoted_text}
+use Rattle.grain_value.specs.Quoting.{escaped as escaped_bytes}
+use Rattle.grain_words.specs.Words.{words_of, quoted, in_front}
 use Rattle.grain_words.specs.Spelled.{between_quotes, quoted_characters}
-use Rattle.grain_words.specs.declared.words.Word.{Word}
 use Rattle.grain_words.specs.declared.words.Word.TheVariants.{Quoted}
 
 -- what a spelled character gives, by the answers of the tests for the characters that are spelled
@@ -37,3 +40,71 @@ all (c ∷ cs) =
 pub quoted_alone : (cs : List ℕ) →
     words_of (quoted_characters cs) ≡ Quoted (encode_utf8_all cs) ∷ []
 quoted_alone cs = all cs
+
+-- the same of a text as it is written
+ends : (b c : Bool) → b ≡ true → c ≡ true → b && c ≡ true
+ends b c hb hc = rw (hb, hc) refl
+
+spelled : (c : ℕ) (q b n r t : Bool) (rest : List ℕ) → (c == 34) ≡ q → (c == 92) ≡ b →
+    (c == 10) ≡ n → (c == 13) ≡ r → (c == 9) ≡ t →
+    encode_utf8_all (cond q (92 ∷ 34 ∷ []) (cond b (92 ∷ 92 ∷ []) (cond n (92 ∷ 110 ∷ [])
+    (cond r (92 ∷ 114 ∷ []) (cond t (92 ∷ 116 ∷ []) (c ∷ []))))) ++ rest) ≡
+    cond q (92 ∷ 34 ∷ []) (cond b (92 ∷ 92 ∷ []) (cond n (92 ∷ 110 ∷ []) (cond r (92 ∷ 114 ∷ [])
+    (cond t (92 ∷ 116 ∷ []) (encode_utf8 c))))) ++ encode_utf8_all rest
+unfolding encode_utf8
+spelled c true b n r t rest hq hb hn hr ht = refl
+spelled c false true n r t rest hq hb hn hr ht = refl
+spelled c false false true r t rest hq hb hn hr ht = refl
+spelled c false false false true t rest hq hb hn hr ht = refl
+spelled c false false false false true rest hq hb hn hr ht = refl
+spelled c false false false false false rest hq hb hn hr ht = refl
+
+all_spelled : (cs : List ℕ) → encode_utf8_all (flat_map between_quotes cs ++ 34 ∷ []) ≡
+    flat_map escaped_bytes cs ++ 34 ∷ []
+unfolding encode_utf8
+all_spelled [] = refl
+all_spelled (c ∷ cs) =
+    ap encode_utf8_all (append_assoc (between_quotes c) (flat_map between_quotes cs) (34 ∷ [])) ∙
+    spelled c (c == 34) (c == 92) (c == 10) (c == 13) (c == 9)
+    (flat_map between_quotes cs ++ 34 ∷ []) refl refl refl refl refl ∙
+    ap (λ l. escaped_bytes c ++ l) (all_spelled cs) ∙
+    sym (append_assoc (escaped_bytes c) (flat_map escaped_bytes cs) (34 ∷ []))
+
+scalar_one : (c : ℕ) (q b n r t : Bool) (rest : List ℕ) → scalar c ≡ true → scalars rest ≡ true →
+    scalars (cond q (92 ∷ 34 ∷ []) (cond b (92 ∷ 92 ∷ []) (cond n (92 ∷ 110 ∷ [])
+    (cond r (92 ∷ 114 ∷ []) (cond t (92 ∷ 116 ∷ []) (c ∷ []))))) ++ rest) ≡ true
+scalar_one c true b n r t rest h hs = hs
+scalar_one c false true n r t rest h hs = hs
+scalar_one c false false true r t rest h hs = hs
+scalar_one c false false false true t rest h hs = hs
+scalar_one c false false false false true rest h hs = hs
+scalar_one c false false false false false rest h hs = ends (scalar c) (scalars rest) h hs
+
+left_true : (b c : Bool) → b && c ≡ true → b ≡ true
+left_true true c h = refl
+left_true false c h = h
+
+right_true : (b c : Bool) → b && c ≡ true → c ≡ true
+right_true true c h = h
+right_true false c h = absurd cc
+
+all_scalar : (cs : List ℕ) → scalars cs ≡ true →
+    scalars (flat_map between_quotes cs ++ 34 ∷ []) ≡ true
+all_scalar [] h = refl
+all_scalar (c ∷ cs) h =
+    ap scalars (append_assoc (between_quotes c) (flat_map between_quotes cs) (34 ∷ [])) ∙
+    scalar_one c (c == 34) (c == 92) (c == 10) (c == 13) (c == 9)
+    (flat_map between_quotes cs ++ 34 ∷ []) (left_true (scalar c) (scalars cs) h)
+    (all_scalar cs (right_true (scalar c) (scalars cs) h))
+
+whole : (cs : List ℕ) → encode_utf8_all (quoted_characters cs) ≡
+    34 ∷ (flat_map escaped_bytes cs ++ 34 ∷ [])
+unfolding encode_utf8
+whole cs = ap (λ l. 34 ∷ l) (all_spelled cs)
+
+pub written_alone : (s : List ℕ) → IsUtf8 s → words_of (chars (quoted_text s)) ≡ Quoted s ∷ []
+written_alone s text =
+    ap (λ l. words_of (chars l)) (sym (whole (chars s))) ∙
+    ap words_of (chars-encodes (quoted_characters (chars s))
+    (all_scalar (chars s) (scalars-chars s text))) ∙
+    quoted_alone (chars s) ∙ ap (λ t. Quoted t ∷ []) (encodes-chars s text)

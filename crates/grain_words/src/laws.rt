@@ -3,7 +3,8 @@
 ghost use Rattle.std.specs.Prelude.{◌≡◌, ◌≤◌, ◌<◌, ◌^◌, ◌∷◌, [], ℕ, ℤ, true, false, List, map, Some};
 ghost use Rattle.std.specs.List.{list_all};
 ghost use Rattle.std.specs.Fmt.{decimal, signed_decimal};
-ghost use Rattle.std.specs.Str.{encode_utf8_all};
+ghost use Rattle.std.specs.Str.{encode_utf8_all, chars, IsUtf8};
+ghost use Rattle.grain_value.specs.Quoting.{quoted_text};
 ghost use Rattle.grain_words.specs.Lines.{lines_of};
 ghost use Rattle.grain_words.specs.Numerals.{number, integer, begins_letter};
 ghost use Rattle.grain_words.specs.Spelled.{IsLong, quoted_characters, is_plain_word, spaced, is_inside, text_of};
@@ -19,9 +20,12 @@ pub fn decimals_are_read()
     ensures integers { (z : ℤ) → IsLong z → integer (signed_decimal z) ≡ Some z }
 {}
 
-/// The words of a quoted text are that text alone, whatever characters it has.
+/// The words of a quoted text are that text alone, whatever characters it has; and so are those of
+/// a text as it is written between quotes.
 pub fn quoted_texts_are_read()
-    ensures { (cs : List ℕ) → words_of (quoted_characters cs) ≡
+    ensures written { (s : List ℕ) → IsUtf8 s →
+        words_of (chars (quoted_text s)) ≡ words.Quoted s ∷ [] }
+    ensures characters { (cs : List ℕ) → words_of (quoted_characters cs) ≡
         words.Quoted (encode_utf8_all cs) ∷ [] }
 {}
 
