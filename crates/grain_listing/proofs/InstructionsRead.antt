@@ -1,13 +1,15 @@
 -- The lines of instructions are read as those instructions.
 use Rattle.std.proofs.Common.{◌≡◌, ℕ, suc, ◌+◌, ◌-◌, ◌^◌, ◌<◌, ◌≤◌, true, false, ◌&&◌, cond, List, [], ◌∷◌, ◌++◌, length, map, Option, Some, None, Result, Ok, Err, refl, sym, ap, ◌∙◌, arith, append_assoc, append-nil}
-use Rattle.std.specs.List.{flat_map, list_all, All}
+use Rattle.std.specs.List.{flat_map, list_all, All, AllByRecursion}
 use Rattle.std.specs.Fmt.{decimal}
 use Rattle.std.specs.Int.{w16, w32, to_le_bytes}
 use Rattle.grain_fault.specs.declared.places.Position.{Position}
 use Rattle.grain_program.specs.declared.code.instructions.Op.{Op}
 use Rattle.grain_program.specs.declared.code.instructions.Op.TheVariants as op
-use Rattle.grain_program.specs.Reading.{Operand, one, two, four}
-use Rattle.grain_program.specs.Spelling.{Field, tag_of, fields_of, spelled, fields_spelled, spelling, NumberFits, FieldsFit, OpFits}
+use Rattle.grain_program.specs.declared.code.fields.Field.{Field}
+use Rattle.grain_program.specs.Fields.{Size, one, two, four, size_of, number_of, NumberFits, FieldFits}
+use Rattle.grain_program.specs.InstructionSet.{tag_of, fields_of}
+use Rattle.grain_program.specs.Spelling.{spelled, fields_spelled, spelling, OpFits}
 use Rattle.grain_words.specs.Lines.{lines_of}
 use Rattle.grain_words.specs.Words.{words_of}
 use Rattle.grain_words.specs.Numerals.{number, begins_letter}
@@ -32,85 +34,16 @@ use Rattle.grain_listing.proofs.Spelled.{in_table}
 -- no instruction's word begins another line
 other_line : (o : Op) → own_line (word_of o) ≡ None
 unfolding own_line
-other_line (op.LoadConst c) = refl
 other_line op.Unit = refl
-other_line op.False = refl
-other_line op.True = refl
-other_line (op.LoadLocal s) = refl
-other_line (op.StoreLocal s) = refl
-other_line (op.StoreConst s) = refl
-other_line (op.DeclareLocal n) = refl
-other_line (op.DeclareConst n) = refl
-other_line (op.AssignLocal s n) = refl
-other_line (op.AssignLocalOp s n a) = refl
-other_line op.Pop = refl
-other_line (op.Rotate u) = refl
-other_line (op.Jump t) = refl
-other_line (op.JumpIfFalse t) = refl
-other_line (op.JumpIfTrue t) = refl
-other_line (op.SkipIfNotUnit t) = refl
-other_line (op.Call n k) = refl
-other_line (op.CallOp n k o) = refl
-other_line (op.UnwindTo d) = refl
-other_line op.Tick = refl
-other_line op.Checkpoint = refl
-other_line (op.Statement d) = refl
-other_line op.Throw = refl
-other_line op.Return = refl
+other_line _ = refl
 
 plain_word : (o : Op) → is_plain_word (word_of o) ≡ true
-plain_word (op.LoadConst c) = refl
 plain_word op.Unit = refl
-plain_word op.False = refl
-plain_word op.True = refl
-plain_word (op.LoadLocal s) = refl
-plain_word (op.StoreLocal s) = refl
-plain_word (op.StoreConst s) = refl
-plain_word (op.DeclareLocal n) = refl
-plain_word (op.DeclareConst n) = refl
-plain_word (op.AssignLocal s n) = refl
-plain_word (op.AssignLocalOp s n a) = refl
-plain_word op.Pop = refl
-plain_word (op.Rotate u) = refl
-plain_word (op.Jump t) = refl
-plain_word (op.JumpIfFalse t) = refl
-plain_word (op.JumpIfTrue t) = refl
-plain_word (op.SkipIfNotUnit t) = refl
-plain_word (op.Call n k) = refl
-plain_word (op.CallOp n k o) = refl
-plain_word (op.UnwindTo d) = refl
-plain_word op.Tick = refl
-plain_word op.Checkpoint = refl
-plain_word (op.Statement d) = refl
-plain_word op.Throw = refl
-plain_word op.Return = refl
+plain_word _ = refl
 
 few : (o : Op) → length (fields_of o) ≤ 3
-few (op.LoadConst c) = omega arith
 few op.Unit = omega arith
-few op.False = omega arith
-few op.True = omega arith
-few (op.LoadLocal s) = omega arith
-few (op.StoreLocal s) = omega arith
-few (op.StoreConst s) = omega arith
-few (op.DeclareLocal n) = omega arith
-few (op.DeclareConst n) = omega arith
-few (op.AssignLocal s n) = omega arith
-few (op.AssignLocalOp s n a) = omega arith
-few op.Pop = omega arith
-few (op.Rotate u) = omega arith
-few (op.Jump t) = omega arith
-few (op.JumpIfFalse t) = omega arith
-few (op.JumpIfTrue t) = omega arith
-few (op.SkipIfNotUnit t) = omega arith
-few (op.Call n k) = omega arith
-few (op.CallOp n k o) = omega arith
-few (op.UnwindTo d) = omega arith
-few op.Tick = omega arith
-few op.Checkpoint = omega arith
-few (op.Statement d) = omega arith
-few op.Throw = omega arith
-few op.Return = omega arith
+few _ = omega arith
 
 its_line : (o : Op) → line_of (word_of o) ≡ Some (lines.Instruction (encoding_of o))
 unfolding line_of
@@ -132,13 +65,13 @@ pub record Laws : Type 0 where
   pub lines : (ls : List (List ℕ)) → list_all (list_all is_inside) ls ≡ true →
       lines_of (text_of ls) ≡ ls
 
-small : (a : Operand) (n : ℕ) → NumberFits a n → n < 2 ^ 64
+small : (a : Size) (n : ℕ) → NumberFits a n → n < 2 ^ 64
 small one n h = omega arith
 small two n h = omega arith
 small four n h = omega arith
 
 -- the word of a number is read as its bytes
-field_read : Laws → (line : ℕ) (a : Operand) (n : ℕ) → NumberFits a n →
+field_read : Laws → (line : ℕ) (a : Size) (n : ℕ) → NumberFits a n →
     operand line (kind_of a) (decimal n) ≡ Ok (bytes (spelled a n))
 field_read laws line one n h = ap (λ o. and_then (present BadOperand o) (λ k. Ok (bytes (k ∷ []))))
     (laws.numbers 255 n (omega arith) (omega arith))
@@ -161,41 +94,41 @@ bytes-append (x ∷ xs) ys = ap (λ l. Byte x ∷ l) (bytes-append xs ys)
 
 -- one more operand before the others
 first_read : Laws → (line : ℕ) (f : Field) (fs : List Field) (ks : List (Option OperandKind)) →
-    NumberFits f.operand f.number →
+    NumberFits (size_of f) (number_of f) →
     operands line ks (map (λ w. Bare w) (numbers_of fs)) ≡ Ok (bytes (fields_spelled fs), None) →
-    operands line (Some (kind_of f.operand) ∷ ks) (map (λ w. Bare w) (numbers_of (f ∷ fs))) ≡
+    operands line (Some (kind_of (size_of f)) ∷ ks) (map (λ w. Bare w) (numbers_of (f ∷ fs))) ≡
     Ok (bytes (fields_spelled (f ∷ fs)), None)
 first_read laws line f fs ks fits rest =
     let others : Operands = operands line ks (map (λ w. Bare w) (numbers_of fs)) in
     ap (λ (r : Result (List Piece) Reason).
     and_then r (λ ps. and_then others (λ o. Ok (ps ++ o.0, o.1))))
-    (field_read laws line f.operand f.number fits) ∙
-    ap (λ (r : Operands). and_then r (λ o. Ok (bytes (spelled f.operand f.number) ++ o.0, o.1)))
+    (field_read laws line (size_of f) (number_of f) fits) ∙
+    ap (λ (r : Operands). and_then r (λ o. Ok (bytes (spelled (size_of f) (number_of f)) ++ o.0, o.1)))
     rest ∙
     ap (λ (ps : List Piece). Ok (ps, None))
-    (sym (bytes-append (spelled f.operand f.number) (fields_spelled fs)))
+    (sym (bytes-append (spelled (size_of f) (number_of f)) (fields_spelled fs)))
 
-fields_read : Laws → (line : ℕ) (fs : List Field) → FieldsFit fs → length fs ≤ 3 →
+fields_read : Laws → (line : ℕ) (fs : List Field) → AllByRecursion FieldFits fs → length fs ≤ 3 →
     operands line (kinds_of fs) (map (λ w. Bare w) (numbers_of fs)) ≡
     Ok (bytes (fields_spelled fs), None)
 fields_read laws line [] fit three = refl
 fields_read laws line (a ∷ []) fit three = first_read laws line a [] (None ∷ None ∷ []) fit.0 refl
 fields_read laws line (a ∷ b ∷ []) fit three =
-    first_read laws line a (b ∷ []) (Some (kind_of b.operand) ∷ None ∷ []) fit.0
+    first_read laws line a (b ∷ []) (Some (kind_of (size_of b)) ∷ None ∷ []) fit.0
     (first_read laws line b [] (None ∷ []) fit.1.0 refl)
 fields_read laws line (a ∷ b ∷ c ∷ []) fit three =
-    first_read laws line a (b ∷ c ∷ []) (Some (kind_of b.operand) ∷ Some (kind_of c.operand) ∷ [])
+    first_read laws line a (b ∷ c ∷ []) (Some (kind_of (size_of b)) ∷ Some (kind_of (size_of c)) ∷ [])
     fit.0
-    (first_read laws line b (c ∷ []) (Some (kind_of c.operand) ∷ []) fit.1.0
+    (first_read laws line b (c ∷ []) (Some (kind_of (size_of c)) ∷ []) fit.1.0
     (first_read laws line c [] [] fit.1.1.0 refl))
 fields_read laws line (a ∷ b ∷ c ∷ d ∷ fs) fit three = absurd (omega arith)
 
-plain_numbers : Laws → (fs : List Field) → FieldsFit fs → list_all is_plain_word (numbers_of fs) ≡
+plain_numbers : Laws → (fs : List Field) → AllByRecursion FieldFits fs → list_all is_plain_word (numbers_of fs) ≡
     true
 plain_numbers laws [] fit = refl
 plain_numbers laws (f ∷ fs) fit =
     ap (λ b. b && list_all is_plain_word (numbers_of fs))
-    (laws.plain f.number (small f.operand f.number fit.0)) ∙ plain_numbers laws fs fit.1
+    (laws.plain (number_of f) (small (size_of f) (number_of f) fit.0)) ∙ plain_numbers laws fs fit.1
 
 -- what the line of the instruction says
 abbrev instruction_said : Op → Statement

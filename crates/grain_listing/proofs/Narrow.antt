@@ -3,7 +3,8 @@ use Rattle.std.proofs.Common.{◌≡◌, ℕ, ◌+◌, ◌*◌, ◌-◌, ◌^◌
 use Rattle.std.specs.Int.{w16, w32, to_le_bytes}
 use Rattle.grain_fault.specs.declared.places.Position.{Position}
 use Rattle.grain_program.specs.declared.code.instructions.Op.{Op}
-use Rattle.grain_program.specs.Spelling.{Field, fields_of}
+use Rattle.grain_program.specs.declared.code.fields.Field.{Field}
+use Rattle.grain_program.specs.InstructionSet.{fields_of}
 use Rattle.grain_words.specs.Numerals.{number, begins_letter}
 use Rattle.grain_words.specs.declared.words.Word.{Word}
 use Rattle.grain_words.specs.declared.words.Word.TheVariants.{Bare, Quoted, Character, Broken}

@@ -4,11 +4,12 @@ use Rattle.std.specs.Prelude.{ℕ, List, map}
 use Rattle.std.specs.Fmt.{decimal}
 use Rattle.grain_words.specs.Spelled.{spaced, text_of}
 use Rattle.grain_program.specs.declared.code.instructions.Op.{Op}
-use Rattle.grain_program.specs.Spelling.{Field, fields_of}
-use Rattle.grain_listing.specs.Instructions.{word_of}
+use Rattle.grain_program.specs.declared.code.fields.Field.{Field}
+use Rattle.grain_program.specs.Fields.{number_of}
+use Rattle.grain_program.specs.InstructionSet.{word_of, fields_of}
 
 abbrev pub numbers_of : List Field → List (List ℕ)
-numbers_of fs = map (λ f. decimal f.number) fs
+numbers_of fs = map (λ f. decimal (number_of f)) fs
 
 -- the line of an instruction
 abbrev pub instruction_line : Op → List ℕ

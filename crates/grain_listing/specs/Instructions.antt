@@ -1,43 +1,17 @@
 -- The instructions' words, and how their lines are read.
-use Rattle.std.specs.Prelude.{ℕ, List, [], ◌∷◌, Option, Some, None, codes, bytes_eq, if◌then◌else◌}
+use Rattle.std.specs.Prelude.{ℕ, List, [], ◌∷◌, Option, Some, None, bytes_eq, if◌then◌else◌}
 use Rattle.grain_program.specs.declared.code.instructions.Op.{Op}
 use Rattle.grain_program.specs.declared.code.instructions.Op.TheVariants as op
-use Rattle.grain_program.specs.Reading.{Operand, one, two, four}
-use Rattle.grain_program.specs.Spelling.{Field, tag_of, fields_of}
+use Rattle.grain_program.specs.declared.code.fields.Field.{Field}
+use Rattle.grain_program.specs.Fields.{Size, one, two, four, size_of}
+pub use Rattle.grain_program.specs.InstructionSet.{word_of}
+use Rattle.grain_program.specs.InstructionSet.{tag_of, fields_of}
 use Rattle.grain_listing.specs.declared.table.OperandKind.{OperandKind}
 use Rattle.grain_listing.specs.declared.table.OperandKind.TheVariants as kinds
 use Rattle.grain_listing.specs.declared.table.Encoding.{Encoding}
 
--- the word that begins the instruction's line
-abbrev pub word_of : Op → List ℕ
-word_of (op.LoadConst c) = codes "load_const"
-word_of op.Unit = codes "unit"
-word_of op.False = codes "false"
-word_of op.True = codes "true"
-word_of (op.LoadLocal s) = codes "load_local"
-word_of (op.StoreLocal s) = codes "store_local"
-word_of (op.StoreConst s) = codes "store_const"
-word_of (op.DeclareLocal n) = codes "declare_local"
-word_of (op.DeclareConst n) = codes "declare_const"
-word_of (op.AssignLocal s n) = codes "assign_local"
-word_of (op.AssignLocalOp s n a) = codes "assign_local_op"
-word_of op.Pop = codes "pop"
-word_of (op.Rotate u) = codes "rotate"
-word_of (op.Jump t) = codes "jump"
-word_of (op.JumpIfFalse t) = codes "jump_if_false"
-word_of (op.JumpIfTrue t) = codes "jump_if_true"
-word_of (op.SkipIfNotUnit t) = codes "skip_if_not_unit"
-word_of (op.Call n k) = codes "call"
-word_of (op.CallOp n k o) = codes "call_op"
-word_of (op.UnwindTo d) = codes "unwind_to"
-word_of op.Tick = codes "tick"
-word_of op.Checkpoint = codes "checkpoint"
-word_of (op.Statement d) = codes "statement"
-word_of op.Throw = codes "throw"
-word_of op.Return = codes "return"
-
 -- a number of one byte or of two, or a target of four
-abbrev pub kind_of : Operand → OperandKind
+abbrev pub kind_of : Size → OperandKind
 kind_of one = kinds.Byte
 kind_of two = kinds.Index
 kind_of four = kinds.Target
@@ -45,10 +19,10 @@ kind_of four = kinds.Target
 -- the kinds of the fields, up to three, and none for the others
 abbrev pub kinds_of : List Field → List (Option OperandKind)
 kinds_of [] = None ∷ None ∷ None ∷ []
-kinds_of (a ∷ []) = Some (kind_of a.operand) ∷ None ∷ None ∷ []
-kinds_of (a ∷ b ∷ []) = Some (kind_of a.operand) ∷ Some (kind_of b.operand) ∷ None ∷ []
+kinds_of (a ∷ []) = Some (kind_of (size_of a)) ∷ None ∷ None ∷ []
+kinds_of (a ∷ b ∷ []) = Some (kind_of (size_of a)) ∷ Some (kind_of (size_of b)) ∷ None ∷ []
 kinds_of (a ∷ b ∷ c ∷ others) =
-    Some (kind_of a.operand) ∷ Some (kind_of b.operand) ∷ Some (kind_of c.operand) ∷ []
+    Some (kind_of (size_of a)) ∷ Some (kind_of (size_of b)) ∷ Some (kind_of (size_of c)) ∷ []
 
 -- the tag and the operands with which the instruction is spelled in the code
 abbrev pub encoding_of : Op → Encoding

@@ -1,11 +1,11 @@
 -- What an ended call says, and which status was due in it.
-use Rattle.std.proofs.Common.{◌≡◌, inl, inr, ℕ, true, false, List, Option, Some, Result, Ok, Err, IfSome, refl, sym, ap, ◌∙◌, subst}
+use Rattle.std.proofs.Common.{⊤, ◌≡◌, inl, inr, ℕ, true, false, List, Option, Some, Result, Ok, Err, IfSome, refl, sym, ap, ◌∙◌, subst}
 use Rattle.grain_program.specs.View.{View}
 use Rattle.grain_program.specs.Typing.{IsProgram, IsRefusal}
 use Rattle.grain_program.specs.declared.verifier.refusals.Refusal.{Refusal}
-use Rattle.grain_vm.specs.declared.global.Engine.{Engine}
-use Rattle.grain_vm.specs.means.Acts.{Answer, Came, Failed}
-use Rattle.grain_vm.specs.means.Means.{Begin, Finish, Means}
+use Rattle.grain_global.specs.declared.engines.Engine.{Engine}
+use Rattle.grain_means.specs.Worlds.{Answer, Came, Failed}
+use Rattle.grain_means.specs.Means.{Begin, Finish, Means}
 use Rattle.grain_listing.specs.Reading.{SetUp, reads}
 use Rattle.grain_run.specs.Replies.{Counts, Replies, no_listing, refused, reported, Answers, no_command, replied, Ended, wrote, source_failed, sink_failed, no_memory, is_run, usage_text, bad_line_text, refusal_text}
 use Rattle.grain_run.specs.Reports.{report_value, report_fault}
@@ -16,7 +16,7 @@ use Rattle.grain_listing.specs.declared.reasons.BadLine.{BadLine}
 
 -- a program means one end
 abbrev pub MeansOne : Type 0
-MeansOne = (program : View) (engine : Engine) (b : Begin) (e f : Finish) (n k : ℕ) →
+MeansOne = (program : View) (engine : Engine) (b : Begin ⊤) (e f : Finish ⊤) (n k : ℕ) →
     Means program engine b e n → Means program engine b f k → (e ≡ f) × (n ≡ k)
 
 -- parts have one refusal
@@ -27,19 +27,19 @@ same_set_up : (said : Result SetUp BadLine) (s t : SetUp) → said ≡ Ok s → 
 same_set_up said s t one other = cc
 
 -- the end that is told is the end that the program means
-same_report : MeansOne → (s : SetUp) (end : Finish) (n status : ℕ) (text : List ℕ) →
+same_report : MeansOne → (s : SetUp) (end : Finish ⊤) (n status : ℕ) (text : List ℕ) →
     Means s.parts (engine_of s.limits) (start s.scope) end n →
     Reported s.parts s.limits s.scope status text →
     (status ≡ status_of end.answer) × (text ≡ report end)
 same_report law s end n status text means told =
     let one = law s.parts (engine_of s.limits)
     (start s.scope) end told.end n told.instructions means told.means in (
-      told.number ∙ ap (λ (x : Finish). status_of x.answer) (sym one.0),
+      told.number ∙ ap (λ (x : Finish ⊤). status_of x.answer) (sym one.0),
       told.written ∙
           ap report (sym one.0),
     )
 
-same_end : MeansOne → (said : Result SetUp BadLine) (s : SetUp) (end : Finish) (n status : ℕ)
+same_end : MeansOne → (said : Result SetUp BadLine) (s : SetUp) (end : Finish ⊤) (n status : ℕ)
     (text : List ℕ) → said ≡ Ok s → IsProgram s.parts →
     Means s.parts (engine_of s.limits) (start s.scope) end n → Replies said status text →
     (status ≡ status_of end.answer) × (text ≡ report end)
@@ -115,7 +115,7 @@ only_usage words input none status text (no_command other) = (refl, refl)
 only_usage words input none status text (replied is_command h reply) = absurd cc
 
 only_end : MeansOne → (words : List (List ℕ)) (input : Option (List ℕ)) (bytes : List ℕ)
-    (end : Finish) → is_run words ≡ true → input ≡ Some bytes → RunEnds bytes end →
+    (end : Finish ⊤) → is_run words ≡ true → input ≡ Some bytes → RunEnds bytes end →
     OnlyAnswer words input (status_of end.answer) (report end)
 only_end law words input bytes end command told run =
     only_reply words input bytes (Ok run.set_up) (status_of end.answer)
@@ -124,11 +124,11 @@ only_end law words input bytes end command told run =
     run.means reply)
 
 -- the answer alone is the end's, by its trace
-end_at : (end : Finish) (a : Answer) → end.answer ≡ a → (status_of end.answer ≡ status_of a) ×
+end_at : (end : Finish ⊤) (a : Answer) → end.answer ≡ a → (status_of end.answer ≡ status_of a) ×
     (report end ≡ answer_report a end.trace)
 end_at end a is = (ap status_of is, ap (λ x. answer_report x end.trace) is)
 
-only_at : (words : List (List ℕ)) (input : Option (List ℕ)) (end : Finish) (a : Answer) →
+only_at : (words : List (List ℕ)) (input : Option (List ℕ)) (end : Finish ⊤) (a : Answer) →
     end.answer ≡ a → OnlyAnswer words input (status_of end.answer) (report end) →
     OnlyAnswer words input (status_of a) (answer_report a end.trace)
 only_at words input end a is only status text answers =

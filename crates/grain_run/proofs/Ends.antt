@@ -1,5 +1,5 @@
 -- A call of the machine, as the end that the program means.
-use Rattle.std.proofs.Common.{◌≡◌, ◌≢◌, ℕ, Bool, true, List, [], Result, Ok, Err, IfOk, refl, ap, ◌∙◌}
+use Rattle.std.proofs.Common.{⊤, ◌≡◌, ◌≢◌, ℕ, Bool, true, List, [], Result, Ok, Err, IfOk, refl, ap, ◌∙◌}
 use Rattle.grain_value.specs.declared.memory.OutOfMemory.{OutOfMemory}
 use Rattle.grain_value.specs.declared.values.Dynamic.{Dynamic}
 use Rattle.grain_value.specs.declared.values.Limits.{Limits}
@@ -8,19 +8,19 @@ use Rattle.grain_fault.specs.declared.traces.Fault.{Fault}
 use Rattle.grain_fault.specs.declared.faults.EvalAltResult.{EvalAltResult}
 use Rattle.grain_fault.specs.declared.faults.EvalAltResult.TheVariants as faults
 use Rattle.grain_program.specs.View.{View}
-use Rattle.grain_vm.specs.declared.global.Engine.{Engine}
+use Rattle.grain_global.specs.declared.engines.Engine.{Engine}
 use Rattle.grain_value.specs.declared.scopes.Entry.{Entry}
-use Rattle.grain_vm.specs.Machines.{begin}
-use Rattle.grain_vm.specs.MachineView.{MachineView}
-use Rattle.grain_vm.specs.means.Acts.{Answer, Came, Failed}
-use Rattle.grain_vm.specs.means.Means.{Begin, Finish, Means, Evaluates}
+use Rattle.grain_frame.specs.Machines.{begin}
+use Rattle.grain_vm.specs.VmView.{VmView}
+use Rattle.grain_means.specs.Worlds.{Answer, Came, Failed}
+use Rattle.grain_means.specs.Means.{Begin, Finish, Means, Evaluates}
 use Rattle.grain_run.specs.Reports.{report_value, report_fault}
 use Rattle.grain_run.specs.Runs.{Reported, engine_of, start}
 use Rattle.grain_run.specs.declared.replies.Reply.{Reply}
 
 -- a fault other than want of memory is the end that the program means
-meant : (p : View) (e : Engine) (b : Begin) (x : EvalAltResult) (finish : Answer →
-    Finish) (ran : ℕ) → x ≢ faults.Memory → Evaluates p e b (Err x) finish ran →
+meant : (p : View) (e : Engine) (b : Begin ⊤) (x : EvalAltResult) (finish : Answer →
+    Finish ⊤) (ran : ℕ) → x ≢ faults.Memory → Evaluates p e b (Err x) finish ran →
     Means p e b (finish (Failed (problem_of x))) ran
 meant p e b (faults.ErrorFunctionNotFound s q) finish ran other h = h
 meant p e b (faults.ErrorMismatchDataType r a q) finish ran other h = h
@@ -51,7 +51,7 @@ no_value : (v : Dynamic) → Came v ≢ Failed NoMemory
 no_value v e = cc
 
 -- an end, by its answer
-abbrev pub EndsAs : (Answer → Finish) → List Fault → Type 0
+abbrev pub EndsAs : (Answer → Finish ⊤) → List Fault → Type 0
 EndsAs finish trace = (a : Answer) → ((finish a).answer ≡ a) × ((finish a).trace ≡ trace)
 
 pub engine_is : (e : Engine) (l : Limits) → e.limits ≡ l → e.fast_operators ≡ true → e ≡ engine_of l
@@ -59,13 +59,13 @@ engine_is e l limits fast = ap
     (λ (x : Limits). record { limits = x; fast_operators = e.fast_operators }) limits ∙
     ap (λ (b : Bool). record { limits = l; fast_operators = b }) fast
 
-pub begin_is : (scope : List Entry) (m : MachineView) (e : Engine) →
+pub begin_is : (scope : List Entry) (m : VmView) (e : Engine) →
     m ≡ record { engine = e; global = record { num_operations = 0; level = 0 }; trace = [] } →
-    begin scope m.global ≡ start scope
-begin_is scope m e fresh = ap (λ (x : MachineView). begin scope x.global) fresh
+    begin scope [] tt m.global ≡ start scope
+begin_is scope m e fresh = ap (λ (x : VmView). begin scope [] tt x.global) fresh
 
-pub value_told : (p : View) (l : Limits) (s : List Entry) (v : Dynamic) (e : Engine) (b : Begin)
-    (finish : Answer → Finish) (trace : List Fault) (ran : ℕ) (r : Result Reply OutOfMemory) →
+pub value_told : (p : View) (l : Limits) (s : List Entry) (v : Dynamic) (e : Engine) (b : Begin ⊤)
+    (finish : Answer → Finish ⊤) (trace : List Fault) (ran : ℕ) (r : Result Reply OutOfMemory) →
     e ≡ engine_of l → b ≡ start s →
     EndsAs finish trace → Evaluates p e b (Ok v) finish ran → IfOk r (λ x. x.status ≡ 0) →
     IfOk r (λ x. x.text ≡ report_value v) → IfOk r (λ x. Reported p l s x.status x.text)
@@ -83,7 +83,7 @@ value_told p l s v e b finish trace ran (Ok x) engine begun ends h status text =
     }
 
 pub fault_told : (p : View) (l : Limits) (s : List Entry) (f : EvalAltResult) (e : Engine)
-    (b : Begin) (finish : Answer → Finish) (trace : List Fault) (ran : ℕ)
+    (b : Begin ⊤) (finish : Answer → Finish ⊤) (trace : List Fault) (ran : ℕ)
     (r : Result Reply OutOfMemory) → e ≡ engine_of l → b ≡ start s →
     EndsAs finish trace → Evaluates p e b (Err f) finish ran → IfOk r (λ x. x.status ≡ 1) →
     IfOk r (λ x. x.text ≡ report_fault (problem_of f) trace) → IfOk r (λ x. f ≢ faults.Memory) →

@@ -1,10 +1,10 @@
 -- What an answer says, by its status.
-use Rattle.std.proofs.Common.{◌≡◌, ℕ, true, false, List, Option, Some, None, Result, Err, IfSome, refl, sym, ◌∙◌, subst, arith}
+use Rattle.std.proofs.Common.{⊤, ◌≡◌, ℕ, true, false, List, Option, Some, None, Result, Err, IfSome, refl, sym, ◌∙◌, subst, arith}
 use Rattle.grain_value.specs.declared.values.Dynamic.{Dynamic}
 use Rattle.grain_fault.specs.Problems.{Problem}
 use Rattle.grain_program.specs.declared.verifier.refusals.Refusal.{Refusal}
-use Rattle.grain_vm.specs.means.Acts.{Answer, Came, Failed}
-use Rattle.grain_vm.specs.means.Means.{Finish}
+use Rattle.grain_means.specs.Worlds.{Answer, Came, Failed}
+use Rattle.grain_means.specs.Means.{Finish}
 use Rattle.grain_listing.specs.Reading.{SetUp, reads}
 use Rattle.grain_run.specs.Replies.{Counts, Replies, no_listing, refused, reported, Answers, no_command, replied, Ended, wrote, source_failed, sink_failed, no_memory, is_run, usage_text, bad_line_text, refusal_text}
 use Rattle.grain_run.specs.Reports.{report_value, report_fault}
@@ -31,7 +31,7 @@ usage_says words input none = record {
   refused = λ e. absurd (omega arith);
 }
 
-value_says : (words : List (List ℕ)) (input : Option (List ℕ)) (v : Dynamic) (end : Finish) →
+value_says : (words : List (List ℕ)) (input : Option (List ℕ)) (v : Dynamic) (end : Finish ⊤) →
     is_run words ≡ true → end.answer ≡ Came v → IfSome input (λ bytes. RunEnds bytes end) →
     Says words input 0 (report_value v)
 value_says words input v end command is run = record {
@@ -44,7 +44,7 @@ value_says words input v end command is run = record {
   refused = λ e. absurd (omega arith);
 }
 
-fault_says : (words : List (List ℕ)) (input : Option (List ℕ)) (p : Problem) (end : Finish) →
+fault_says : (words : List (List ℕ)) (input : Option (List ℕ)) (p : Problem) (end : Finish ⊤) →
     is_run words ≡ true → end.answer ≡ Failed p → IfSome input (λ bytes. RunEnds bytes end) →
     Says words input 1 (report_fault p end.trace)
 fault_says words input p end command is run = record {
@@ -84,7 +84,7 @@ refusal_says words input r command said = record {
 }
 
 -- an end's status and report say the end
-end_says : (words : List (List ℕ)) (input : Option (List ℕ)) (end : Finish) (a : Answer) →
+end_says : (words : List (List ℕ)) (input : Option (List ℕ)) (end : Finish ⊤) (a : Answer) →
     is_run words ≡ true → end.answer ≡ a → IfSome input (λ bytes. RunEnds bytes end) →
     Says words input (status_of a) (answer_report a end.trace)
 end_says words input end (Came v) command is run = value_says words input v end command is run

@@ -1,12 +1,12 @@
 -- What each status says of the words and of the source's bytes, what is written with it, and which
 -- status is due.
-use Rattle.std.specs.Prelude.{◌≡◌, ◌≤◌, ◌⊎◌, ℕ, true, false, List, Option, Some, Ok, Err, IfSome}
+use Rattle.std.specs.Prelude.{⊤, ◌≡◌, ◌≤◌, ◌⊎◌, ℕ, true, false, List, Option, Some, Ok, Err, IfSome}
 use Rattle.grain_value.specs.declared.values.Dynamic.{Dynamic}
 use Rattle.grain_fault.specs.Problems.{Problem}
 use Rattle.grain_program.specs.Typing.{IsProgram, IsRefusal}
 use Rattle.grain_program.specs.declared.verifier.refusals.Refusal.{Refusal}
-use Rattle.grain_vm.specs.means.Acts.{Came, Failed}
-use Rattle.grain_vm.specs.means.Means.{Finish, Means}
+use Rattle.grain_means.specs.Worlds.{Came, Failed}
+use Rattle.grain_means.specs.Means.{Finish, Means}
 use Rattle.grain_listing.specs.Reading.{SetUp, reads}
 use Rattle.grain_run.specs.Replies.{Counts, is_run, usage_text, bad_line_text, refusal_text}
 use Rattle.grain_run.specs.Reports.{report_value, report_fault}
@@ -16,7 +16,7 @@ use Rattle.grain_listing.specs.declared.reasons.BadLine.{BadLine}
 
 -- the bytes are a listing whose parts are a program, and within the listing's limits the program
 -- means this end
-pub record RunEnds (bytes : List ℕ) (end : Finish) : Type 0 where
+pub record RunEnds (bytes : List ℕ) (end : Finish ⊤) : Type 0 where
   pub set_up : SetUp
   pub said : reads bytes ≡ Ok set_up
   pub valid : IsProgram set_up.parts
@@ -39,10 +39,10 @@ pub record Says (words : List (List ℕ)) (input : Option (List ℕ)) (status : 
   pub no_command : is_run words ≡ false → status ≡ 2
   pub usage : status ≡ 2 → (is_run words ≡ false) × (text ≡ usage_text)
   -- 0: the run ends in a value, and the text is its report
-  pub value : status ≡ 0 → (v : Dynamic) × (end : Finish) × (end.answer ≡ Came v) ×
+  pub value : status ≡ 0 → (v : Dynamic) × (end : Finish ⊤) × (end.answer ≡ Came v) ×
       IfSome input (λ bytes. RunEnds bytes end) × (text ≡ report_value v)
   -- 1: the run ends in a fault, and the text is its report
-  pub fault : status ≡ 1 → (p : Problem) × (end : Finish) × (end.answer ≡ Failed p) ×
+  pub fault : status ≡ 1 → (p : Problem) × (end : Finish ⊤) × (end.answer ≡ Failed p) ×
       IfSome input (λ bytes. RunEnds bytes end) × (text ≡ report_fault p end.trace)
   -- 3: the bytes are no listing, and the text has the line and the reason
   pub no_listing : status ≡ 3 → (bad : BadLine) × IfSome input (λ bytes. reads bytes ≡ Err bad) ×
@@ -83,11 +83,11 @@ pub record Completes (words : List (List ℕ)) (input before now : Option (List 
     (status : ℕ) : Type 0 where
   -- a run that ends in a value: 0 and its report
   pub value : is_run words ≡ true → NoneRose counts → (bytes : List ℕ) → input ≡ Some bytes →
-      (v : Dynamic) (end : Finish) → end.answer ≡ Came v → RunEnds bytes end →
+      (v : Dynamic) (end : Finish ⊤) → end.answer ≡ Came v → RunEnds bytes end →
       Gives 0 (report_value v) before now status
   -- a run that ends in a fault: 1 and its report
   pub fault : is_run words ≡ true → NoneRose counts → (bytes : List ℕ) → input ≡ Some bytes →
-      (p : Problem) (end : Finish) → end.answer ≡ Failed p → RunEnds bytes end →
+      (p : Problem) (end : Finish ⊤) → end.answer ≡ Failed p → RunEnds bytes end →
       Gives 1 (report_fault p end.trace) before now status
   -- no command: 2 and the usage, whatever the source does
   pub usage : is_run words ≡ false → (Rose counts.sink_before counts.sink_now → ⊥) →

@@ -10,7 +10,7 @@ use crate::replies::Reply;
 use crate::reports::{report_fault, report_value};
 use grain_fault::{EvalAltResult, Fault};
 use grain_program::Program;
-use grain_value::{Dynamic, Limits, OutOfMemory, Scope};
+use grain_value::{Dynamic, Limits, OutOfMemory, Scope, Store};
 use grain_vm::{Engine, Steps, Vm};
 use std::alloc::Global;
 use std::sync::ledger::Ledger;
@@ -52,7 +52,8 @@ pub fn run_program<L: Ledger>(
     let engine = Engine::new(alloc, limits);
     let mut vm = Vm::new(alloc, &engine)?;
     let mut scope = scope;
-    match vm.eval_with_callbacks(alloc, &mut scope, program, steps) {
+    let mut cells = Store::new(alloc);
+    match vm.eval_with_callbacks(alloc, &mut (), &mut cells, &mut scope, program, steps) {
         Ok(value) => value_reply(alloc, &value),
         Err(fault) => fault_reply(alloc, &fault, vm.fault_trace()),
     }

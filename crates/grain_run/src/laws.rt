@@ -5,7 +5,7 @@ ghost use Rattle.grain_run.specs.Replies.{Counts, Ended};
 ghost use Rattle.grain_run.specs.Statuses.{Beside, Completes};
 
 use grain_program::one_refusal;
-use grain_vm::means::one_meaning;
+use grain_means::one_meaning;
 
 /// How a call ended settles what its status says and what stands beside it, and which status was
 /// due.
@@ -17,6 +17,6 @@ pub fn statuses_are_due()
         (counts : Counts) (status : ℕ) → Ended words input before now counts status →
         Completes words input before now counts status }
 {
-    one_meaning();
+    one_meaning::<()>();
     one_refusal();
 }

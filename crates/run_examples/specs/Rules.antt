@@ -1,5 +1,5 @@
 -- Which rule a listing says, and how the run of one ends.
-use Rattle.std.specs.Prelude.{◌≡◌, ℕ, min, List, true, Result, Ok, Err, ⊤}
+use Rattle.std.specs.Prelude.{◌≡◌, ℕ, min, List, [], true, Result, Ok, Err, ⊤}
 use Rattle.grain_value.specs.declared.values.Dynamic.{Dynamic}
 use Rattle.grain_value.specs.declared.values.Limits.{Limits}
 use Rattle.grain_value.specs.declared.scopes.Entry.{Entry}
@@ -7,8 +7,11 @@ use Rattle.grain_fault.specs.declared.faults.EvalAltResult.{EvalAltResult}
 use Rattle.grain_fault.specs.declared.traces.Fault.{Fault}
 use Rattle.grain_program.specs.Typing.{IsProgram, IsRefusal}
 use Rattle.grain_program.specs.View.{View}
-use Rattle.grain_vm.specs.declared.global.Engine.{Engine}
-use Rattle.grain_vm.specs.means.Means.{Begin, Evaluates}
+use Rattle.grain_global.specs.declared.engines.Engine.{Engine}
+use Rattle.grain_means.specs.Means.{Begin, Evaluates}
+use Rattle.grain_frame.specs.Machines.{begin, finish}
+use Rattle.grain_global.specs.declared.states.GlobalRuntimeState.{GlobalRuntimeState}
+use Rattle.grain_value.specs.declared.stores.Cell.{Cell}
 use Rattle.grain_listing.specs.Reading.{SetUp}
 use Rattle.grain_listing.specs.declared.reasons.BadLine.{BadLine}
 use Rattle.run_examples.specs.declared.rules.RuleError.{RuleError}
@@ -46,23 +49,16 @@ IsReason said OutOfMemory = ⊤
 abbrev pub engine_of : Limits → Engine
 engine_of limits = record { limits = limits; fast_operators = true }
 
--- the scope, and nothing was run before
-abbrev pub start : List Entry → Begin
-start scope = record { scope = scope; count = 0; level = 0 }
+-- The scope, without cells and without a host. Nothing was run before.
+abbrev pub start : List Entry → Begin ⊤
+start scope = begin scope [] tt (record { num_operations = 0; level = 0 })
 
 -- The program's run within the limits, from the scope before, ends with this result and this trace
 -- and leaves the scope after. Where memory was out, it is the run stopped at some point.
 pub record Ran (program : View) (limits : Limits) (before after : List Entry)
     (result : Result Dynamic EvalAltResult) (trace : List Fault) : Type 0 where
   pub instructions : ℕ
-  pub count : ℕ
-  pub level : ℕ
+  pub cells : List Cell
+  pub global : GlobalRuntimeState
   pub evaluates : Evaluates program (engine_of limits) (start before) result
-      (λ answer. record {
-        answer = answer;
-        trace = trace;
-        scope = after;
-        count = count;
-        level =
-            level;
-      }) instructions
+      (finish trace after cells tt global) instructions

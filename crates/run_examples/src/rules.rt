@@ -8,7 +8,7 @@ ghost use Rattle.run_examples.specs.Rules.{capped, IsRule, IsReason, Ran};
 use grain_fault::{Fault, RhaiResult};
 use grain_listing::{BadLine, Setup, read};
 use grain_program::{Program, Refusal, verify};
-use grain_value::{Limits, OutOfMemory, Scope};
+use grain_value::{Limits, OutOfMemory, Scope, Store};
 use grain_vm::{Engine, Steps, Vm};
 use std::alloc::Global;
 use std::fmt;
@@ -133,7 +133,8 @@ pub fn run<L: Ledger>(
 {
     let engine = Engine::new(alloc, limits);
     let mut vm = Vm::new(alloc, &engine)?;
-    let result = vm.eval_with_callbacks(alloc, scope, program, steps);
+    let mut cells = Store::new(alloc);
+    let result = vm.eval_with_callbacks(alloc, &mut (), &mut cells, scope, program, steps);
     let trace = Vec::from_slice(alloc, vm.fault_trace())?;
     Ok(Outcome { result, trace })
 }

@@ -1,14 +1,15 @@
-use Rattle.std.proofs.Common.{◌≡◌, ◌∙◌, ℕ, Bool, true, List, [], Result, ap}
+use Rattle.std.proofs.Common.{⊤, ◌≡◌, ◌∙◌, ℕ, Bool, true, List, [], Result, ap}
 use Rattle.grain_value.specs.declared.values.Dynamic.{Dynamic}
 use Rattle.grain_value.specs.declared.values.Limits.{Limits}
 use Rattle.grain_value.specs.declared.scopes.Entry.{Entry}
+use Rattle.grain_value.specs.declared.stores.Cell.{Cell}
 use Rattle.grain_fault.specs.declared.faults.EvalAltResult.{EvalAltResult}
 use Rattle.grain_fault.specs.declared.traces.Fault.{Fault}
 use Rattle.grain_program.specs.View.{View}
-use Rattle.grain_vm.specs.declared.global.Engine.{Engine}
-use Rattle.grain_vm.specs.Machines.{begin, finish}
-use Rattle.grain_vm.specs.MachineView.{MachineView}
-use Rattle.grain_vm.specs.means.Means.{Begin, Evaluates}
+use Rattle.grain_global.specs.declared.engines.Engine.{Engine}
+use Rattle.grain_frame.specs.Machines.{begin, finish}
+use Rattle.grain_vm.specs.VmView.{VmView}
+use Rattle.grain_means.specs.Means.{Begin, Evaluates}
 use Rattle.run_examples.specs.Rules.{engine_of, start, Ran}
 use Rattle.run_examples.proofs.rules.run.Goals as goal
 
@@ -17,21 +18,22 @@ engine_is e l limits fast =
     ap (λ (x : Limits). record { limits = x; fast_operators = e.fast_operators }) limits ∙
     ap (λ (b : Bool). record { limits = l; fast_operators = b }) fast
 
-begin_is : (scope : List Entry) (m : MachineView) (e : Engine) →
+begin_is : (scope : List Entry) (m : VmView) (e : Engine) →
     m ≡ record { engine = e; global = record { num_operations = 0; level = 0 }; trace = [] } →
-    begin scope m.global ≡ start scope
-begin_is scope m e fresh = ap (λ (x : MachineView). begin scope x.global) fresh
+    begin scope [] tt m.global ≡ start scope
+begin_is scope m e fresh = ap (λ (x : VmView). begin scope [] tt x.global) fresh
 
 -- what a new machine did on a scope
 ran : (p : View) (l : Limits) (before after : List Entry) (r : Result Dynamic EvalAltResult)
-    (e : Engine) (b : Begin) (m : MachineView) (trace : List Fault) (n : ℕ) →
-    e ≡ engine_of l → b ≡ start before → trace ≡ m.trace → Evaluates p e b r (finish after m) n →
+    (e : Engine) (b : Begin ⊤) (m : VmView) (cells : List Cell) (trace : List Fault) (n : ℕ) →
+    e ≡ engine_of l → b ≡ start before → trace ≡ m.trace →
+    Evaluates p e b r (finish m.trace after cells tt m.global) n →
     Ran p l before after r trace
-ran p l before after r e b m trace n engine begun same h =
+ran p l before after r e b m cells trace n engine begun same h =
     rw same record {
       instructions = n;
-      count = m.global.num_operations;
-      level = m.global.level;
+      cells = cells;
+      global = m.global;
       evaluates = rw (engine, begun) at h;
     }
 
@@ -46,5 +48,5 @@ returns g c =
     let trace : c.in_ok-trace.trace.items ≡ call.new.self.trace = c.in_ok-trace.ensures.items ∙
     c.fault_trace.ensures in
     ran c.args.program.now c.args.limits c.args.scope.now call.new.scope call.result vm.engine
-    (begin c.args.scope.now vm.global) call.new.self c.in_ok-trace.trace.items
+    (begin c.args.scope.now [] tt vm.global) call.new.self call.new.cells c.in_ok-trace.trace.items
     call.ensures.evaluates.0 engine begun trace call.ensures.evaluates.1.0
