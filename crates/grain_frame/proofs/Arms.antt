@@ -50,8 +50,7 @@ module _ {H : Type 0} (p : View) (engine : Engine) (f : Activation) (s : Run H) 
         let fits = at.goes f'.address lands.0 in
         let height : depth - takes_of o + gives_of o ≡ length s'.stacks.operands = ap (λ (k : ℕ). k - takes_of o + gives_of o) deep ∙ sym lands.1 in
         let inside = at.inside in
-        let wide = at.wide in
-        (
+        let wide = at.wide in (
           subst (λ (c : Chunk). IsTypedAt p c f'.address (length s'.stacks.operands)) (sym kept.chunk) (subst (λ (k : ℕ). IsTypedAt p f.chunk f'.address k) height fits),
           lands.2,
           omega (arith, inside, wide),

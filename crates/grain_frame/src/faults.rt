@@ -143,7 +143,10 @@ impl<H> Run<H> {
     {
         let name = context.program.name(u32::from(name)).copy(self.alloc)?;
         let position = context.program.position(frame.address);
-        Ok(self.raise(steps, EvalAltResult::ErrorAssignmentToConstant(name, position)))
+        Ok(self.raise(
+            steps,
+            EvalAltResult::ErrorAssignmentToConstant(name, position),
+        ))
     }
 
     // A last operand that is no truth value.

@@ -164,7 +164,13 @@ impl<H> Run<H> {
         let mut target = held.value.copy(self.alloc)?;
         let value = &self.stacks.top().value;
         let assigned = if context.engine.fast_operators {
-            op_assigned(self.alloc, context.engine, assign_op.op_assign, &mut target, value)?
+            op_assigned(
+                self.alloc,
+                context.engine,
+                assign_op.op_assign,
+                &mut target,
+                value,
+            )?
         } else {
             OpAssigned::NotBuiltIn
         };

@@ -182,8 +182,8 @@ impl<H> Run<H> {
         requires entered { 0 < length self.old.stacks.outer }
         requires unnoted { self.old.stacks.noted ≡ false }
         ensures { self.new ≡ record self.old {
-            scope = take frame.now.floor self.old.scope;
-            stacks = record self.old.stacks { noted = true; trace = self.old.stacks.trace ++ record { address = frame.now.address; slot = None } ∷ [] };
+          scope = take frame.now.floor self.old.scope;
+          stacks = record self.old.stacks { noted = true; trace = self.old.stacks.trace ++ record { address = frame.now.address; slot = None } ∷ [] };
         } }
     {
         self.scope.rewind(frame.floor);

@@ -129,7 +129,12 @@ impl<H> Run<H> {
 
     // What an operator makes of the last `count` operands, if operators are fast.
     #[inline(never)]
-    fn operate(&self, context: Context<'_>, token: u16, count: usize) -> Result<Operated, OutOfMemory>
+    fn operate(
+        &self,
+        context: Context<'_>,
+        token: u16,
+        count: usize,
+    ) -> Result<Operated, OutOfMemory>
         requires operands { count ≤ length self.now.stacks.operands }
         requires pool { token < length context.program.now.tokens }
         ensures { IfOk result (λ r. outcome_of r ≡ operated context.entry.program.now context.entry.engine.now token (arguments count self.now.stacks.operands)) }
@@ -139,7 +144,12 @@ impl<H> Run<H> {
         }
         let token = context.program.token(u32::from(token));
         let operands = self.stacks.frame_operands();
-        operate(self.alloc, context.engine, token, &operands[operands.len() - count..])
+        operate(
+            self.alloc,
+            context.engine,
+            token,
+            &operands[operands.len() - count..],
+        )
     }
 
     // The integer that an operator makes of the last `count` operands, if that is soon seen.

@@ -4,8 +4,8 @@ ghost use Rattle.std.specs.Prelude.{ℕ, List, Option};
 ghost use Rattle.grain_run.specs.Replies.{Counts, Ended};
 ghost use Rattle.grain_run.specs.Statuses.{Beside, Completes};
 
-use grain_program::one_refusal;
 use grain_means::one_meaning;
+use grain_program::one_refusal;
 
 /// How a call ended settles what its status says and what stands beside it, and which status was
 /// due.

@@ -27,9 +27,9 @@ same_sound s t i eo co eb er en ef et ct = record {
   room = omega (arith, i.room, co, eb, er);
   nested = rw (eb, ef) (nested_up (vec_capacity s.operands) (vec_capacity t.operands) s.bottom (floors s) co i.nested);
   notes =
-    let long : length t.trace.items ≡ length s.trace.items = ap length et in
-    let free : unnoted t.noted (floors t) ≡ unnoted s.noted (floors s) = rw (en, ef) refl in
-    omega (arith, i.notes, ct, long, free);
+      let long : length t.trace.items ≡ length s.trace.items = ap length et in
+      let free : unnoted t.noted (floors t) ≡ unnoted s.noted (floors s) = rw (en, ef) refl in
+      omega (arith, i.notes, ct, long, free);
 }
 
 -- a frame more, around which the others keep their room
@@ -45,9 +45,9 @@ entered_sound s t f i eo co eb room en ef fb fr fn et ct =
         rw fb (nested_up (vec_capacity s.operands) (vec_capacity t.operands) s.bottom (floors s) co i.nested),
       );
       notes =
-        let long : length t.trace.items ≡ length s.trace.items = ap length et in
-        let free : unnoted t.noted (floors t) ≡ 1 + unnoted f.noted (floors s) = rw (en, on) refl in
-        omega (arith, ct, long, free, unnoted_all f.noted (floors s), length-reverse s.outer.items);
+          let long : length t.trace.items ≡ length s.trace.items = ap length et in
+          let free : unnoted t.noted (floors t) ≡ 1 + unnoted f.noted (floors s) = rw (en, on) refl in
+          omega (arith, ct, long, free, unnoted_all f.noted (floors s), length-reverse s.outer.items);
     }
 
 -- one operand more
@@ -90,7 +90,7 @@ noted_sound s t fault xs i sn lt eo eb er en ef et ct =
       room = rw (eb, er, eo) i.room;
       nested = rw (eb, eo, ef) i.nested;
       notes =
-        let long : length t.trace.items ≡ length (s.trace.items ++ fault ∷ []) = ap length et in
-        let free : unnoted t.noted (floors t) ≡ unnoted true (floors s) = rw (en, ef) refl in
-        omega (arith, was, ct, long, free, one_less (floors s) (some_floor s xs lt), length-append s.trace.items (fault ∷ []));
+          let long : length t.trace.items ≡ length (s.trace.items ++ fault ∷ []) = ap length et in
+          let free : unnoted t.noted (floors t) ≡ unnoted true (floors s) = rw (en, ef) refl in
+          omega (arith, was, ct, long, free, one_less (floors s) (some_floor s xs lt), length-append s.trace.items (fault ∷ []));
     }

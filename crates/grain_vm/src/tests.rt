@@ -5,9 +5,9 @@ ghost use Rattle.grain_program.specs.View.{view_of};
 ghost use Rattle.grain_program.specs.Recorded.{HasOrder};
 
 use crate::vms::Vm;
+use grain_fault::{EvalAltResult, Fault, Position};
 use grain_frame::Steps;
 use grain_global::Engine;
-use grain_fault::{EvalAltResult, Fault, Position};
 use grain_program::{
     AssignOps, Caps, Chunk, Function, Functions, Indices, Names, Op, Parts, Positions, Program,
     Tokens, assemble, verify,
@@ -88,7 +88,9 @@ fn gives_a_value<L: Ledger>(rt: &impl Abort, alloc: Global, blank: Blank) -> Res
     let mut cells = Store::new(alloc);
     let mut host = ();
     let mut steps = Steps::<L>::new(blank);
-    let answer = vm.eval_with_callbacks(alloc, &mut host, &mut cells, &mut scope, &program, &mut steps);
+    let answer = vm.eval_with_callbacks(
+        alloc, &mut host, &mut cells, &mut scope, &program, &mut steps,
+    );
     assert!(rt; matches!(answer, Ok(Dynamic::Int(7))));
     assert!(rt; vm.fault_pc().is_none());
     assert_eq!(rt; vm.into_global_state().num_operations(), 0);
@@ -107,7 +109,9 @@ fn stops_at_the_limit<L: Ledger>(rt: &impl Abort, alloc: Global, blank: Blank) -
     let mut cells = Store::new(alloc);
     let mut host = ();
     let mut steps = Steps::<L>::new(blank);
-    let answer = vm.eval_with_callbacks(alloc, &mut host, &mut cells, &mut scope, &program, &mut steps);
+    let answer = vm.eval_with_callbacks(
+        alloc, &mut host, &mut cells, &mut scope, &program, &mut steps,
+    );
     assert!(rt;
         matches!(
             answer,
@@ -137,7 +141,9 @@ fn wraps_what_a_function_throws<L: Ledger>(
     let mut cells = Store::new(alloc);
     let mut host = ();
     let mut steps = Steps::<L>::new(blank);
-    let answer = vm.eval_with_callbacks(alloc, &mut host, &mut cells, &mut scope, &program, &mut steps);
+    let answer = vm.eval_with_callbacks(
+        alloc, &mut host, &mut cells, &mut scope, &program, &mut steps,
+    );
     let Err(fault) = answer else {
         return Err("no fault".into());
     };
@@ -177,7 +183,9 @@ fn stops_at_the_level<L: Ledger>(rt: &impl Abort, alloc: Global, blank: Blank) -
     let mut cells = Store::new(alloc);
     let mut host = ();
     let mut steps = Steps::<L>::new(blank);
-    let answer = vm.eval_with_callbacks(alloc, &mut host, &mut cells, &mut scope, &program, &mut steps);
+    let answer = vm.eval_with_callbacks(
+        alloc, &mut host, &mut cells, &mut scope, &program, &mut steps,
+    );
     assert!(rt;
         matches!(
             answer,

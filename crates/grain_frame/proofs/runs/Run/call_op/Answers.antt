@@ -13,8 +13,10 @@ pub returns-in-Value : goal.returns-in-Value
 returns-in-Value g c =
     let gives : operated c.args.context.program.now c.args.context.engine.now c.args.token (arguments c.args.count c.args.self.now.stacks.operands) ≡ Gave c.in-Value.value = search rules in
     let cut : c.cut.new.self ≡ record c.args.self.now.stacks { operands = under c.args.count c.args.self.now.stacks.operands } = search rules in
-    record { performs = λ host. implements_after c.args.context.program.now c.args.context.engine.now c.args.frame.now c.push_on.new.frame c.args.self.now c.push_on.new.self c.args.steps.now c.push_on.new.steps c.cut.new.self (under c.args.count c.args.self.now.stacks.operands) host cut (c.push_on.ensures.implements c.args.context.program.now c.args.context.engine.now host)
-      (λ stop u place. rw (gives, ap (λ (v : StacksView). v.operands) cut) refl) (λ b i. i) (omega (arith, ap (λ (v : StacksView). length v.operands) cut, length-take (length c.args.self.now.stacks.operands - c.args.count) c.args.self.now.stacks.operands)) }
+    record {
+      performs = λ host. implements_after c.args.context.program.now c.args.context.engine.now c.args.frame.now c.push_on.new.frame c.args.self.now c.push_on.new.self c.args.steps.now c.push_on.new.steps c.cut.new.self (under c.args.count c.args.self.now.stacks.operands) host cut (c.push_on.ensures.implements c.args.context.program.now c.args.context.engine.now host)
+          (λ stop u place. rw (gives, ap (λ (v : StacksView). v.operands) cut) refl) (λ b i. i) (omega (arith, ap (λ (v : StacksView). length v.operands) cut, length-take (length c.args.self.now.stacks.operands - c.args.count) c.args.self.now.stacks.operands));
+    }
 
 pub returns-in-Arithmetic : goal.returns-in-Arithmetic
 returns-in-Arithmetic g c =

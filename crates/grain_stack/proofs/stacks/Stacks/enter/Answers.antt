@@ -13,5 +13,5 @@ invariant_of-self-in_err-push c =
 pub invariant_of-self-2 : goal.invariant_of-self-2
 invariant_of-self-2 c =
     entered_sound c.self.inside _ _ c.self.invariant c.reserve.ensures.items c.reserve.ensures.capacity
-      (omega (arith, c.len-self-inside.ensures, c.reserve.ensures.len)) (omega (arith, c.len-self-inside.ensures, c.in_ok-reserve.ensures.ok)) refl c.in_ok-push.ensures.items refl refl refl
-      c.reserve-2.ensures.items (omega (arith, c.in_ok-reserve-2.ensures.ok, c.len.ensures, c.reserve-2.ensures.len))
+    (omega (arith, c.len-self-inside.ensures, c.reserve.ensures.len)) (omega (arith, c.len-self-inside.ensures, c.in_ok-reserve.ensures.ok)) refl c.in_ok-push.ensures.items refl refl refl
+    c.reserve-2.ensures.items (omega (arith, c.in_ok-reserve-2.ensures.ok, c.len.ensures, c.reserve-2.ensures.len))
