@@ -1,5 +1,6 @@
 -- What an answer says, by its status.
-use Rattle.std.proofs.Common.{⊤, ◌≡◌, ℕ, true, false, List, Option, Some, None, Result, Err, IfSome, refl, sym, ◌∙◌, subst, arith}
+use Rattle.std.proofs.Common.{◌≡◌, ℕ, true, false, List, Option, Some, None, Result, Err, IfSome, refl, sym, ◌∙◌, subst, arith}
+use Rattle.std.specs.Bool.{⊤}
 use Rattle.grain_value.specs.declared.values.Dynamic.{Dynamic}
 use Rattle.grain_fault.specs.Problems.{Problem}
 use Rattle.grain_program.specs.declared.verifier.refusals.Refusal.{Refusal}

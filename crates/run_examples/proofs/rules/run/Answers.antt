@@ -1,4 +1,5 @@
-use Rattle.std.proofs.Common.{⊤, ◌≡◌, ◌∙◌, ℕ, Bool, true, List, [], Result, ap}
+use Rattle.std.proofs.Common.{◌≡◌, ◌∙◌, ℕ, Bool, true, List, [], Result, ap}
+use Rattle.std.specs.Bool.{⊤}
 use Rattle.grain_value.specs.declared.values.Dynamic.{Dynamic}
 use Rattle.grain_value.specs.declared.values.Limits.{Limits}
 use Rattle.grain_value.specs.declared.scopes.Entry.{Entry}
