@@ -11,6 +11,7 @@ use Rattle.grain_fault.specs.declared.faults.EvalAltResult.TheVariants as faults
 use Rattle.grain_program.specs.View.{View}
 use Rattle.grain_global.specs.declared.engines.Engine.{Engine}
 use Rattle.grain_value.specs.declared.scopes.Entry.{Entry}
+use Rattle.grain_value.specs.declared.stores.Cell.{Cell}
 use Rattle.grain_frame.specs.Machines.{begin}
 use Rattle.grain_vm.specs.VmView.{VmView}
 use Rattle.grain_means.specs.Worlds.{Answer, Came, Failed}
@@ -60,10 +61,12 @@ engine_is e l limits fast = ap
     (λ (x : Limits). record { limits = x; fast_operators = e.fast_operators }) limits ∙
     ap (λ (b : Bool). record { limits = l; fast_operators = b }) fast
 
-pub begin_is : (scope : List Entry) (m : VmView) (e : Engine) →
+pub begin_is : (scope : List Entry) (cells : List Cell) (m : VmView) (e : Engine) → cells ≡ [] →
     m ≡ record { engine = e; global = record { num_operations = 0; level = 0 }; trace = [] } →
-    begin scope [] tt m.global ≡ start scope
-begin_is scope m e fresh = ap (λ (x : VmView). begin scope [] tt x.global) fresh
+    begin scope cells tt m.global ≡ start scope
+begin_is scope cells m e none fresh =
+    ap (λ (x : List Cell). begin scope x tt m.global) none ∙
+    ap (λ (x : VmView). begin scope [] tt x.global) fresh
 
 pub value_told : (p : View) (l : Limits) (s : List Entry) (v : Dynamic) (e : Engine) (b : Begin ⊤)
     (finish : Answer → Finish ⊤) (trace : List Fault) (ran : ℕ) (r : Result Reply OutOfMemory) →

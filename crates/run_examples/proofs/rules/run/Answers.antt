@@ -19,10 +19,12 @@ engine_is e l limits fast =
     ap (λ (x : Limits). record { limits = x; fast_operators = e.fast_operators }) limits ∙
     ap (λ (b : Bool). record { limits = l; fast_operators = b }) fast
 
-begin_is : (scope : List Entry) (m : VmView) (e : Engine) →
+begin_is : (scope : List Entry) (cells : List Cell) (m : VmView) (e : Engine) → cells ≡ [] →
     m ≡ record { engine = e; global = record { num_operations = 0; level = 0 }; trace = [] } →
-    begin scope [] tt m.global ≡ start scope
-begin_is scope m e fresh = ap (λ (x : VmView). begin scope [] tt x.global) fresh
+    begin scope cells tt m.global ≡ start scope
+begin_is scope cells m e none fresh =
+    ap (λ (x : List Cell). begin scope x tt m.global) none ∙
+    ap (λ (x : VmView). begin scope [] tt x.global) fresh
 
 -- what a new machine did on a scope
 ran : (p : View) (l : Limits) (before after : List Entry) (r : Result Dynamic EvalAltResult)
@@ -45,9 +47,10 @@ returns g c =
     let engine = ap (λ m. m.engine) c.in_ok-vm.ensures ∙
     engine_is c.new-engine.result c.args.limits c.new-engine.ensures.limits
     c.new-engine.ensures.flags in
-    let begun = begin_is c.args.scope.now vm c.new-engine.result c.in_ok-vm.ensures in
+    let begun = begin_is c.args.scope.now c.new-cells.result vm c.new-engine.result c.new-cells.ensures
+    c.in_ok-vm.ensures in
     let trace : c.in_ok-trace.trace.items ≡ call.new.self.trace = c.in_ok-trace.ensures.items ∙
     c.fault_trace.ensures in
     ran c.args.program.now c.args.limits c.args.scope.now call.new.scope call.result vm.engine
-    (begin c.args.scope.now [] tt vm.global) call.new.self call.new.cells c.in_ok-trace.trace.items
+    (begin c.args.scope.now c.new-cells.result tt vm.global) call.new.self call.new.cells c.in_ok-trace.trace.items
     call.ensures.evaluates.0 engine begun trace call.ensures.evaluates.1.0
