@@ -95,6 +95,7 @@ impl<H> Run<H> {
     }
 
     // Leaves the frame of a called function: its operands go, and its caller's scope and level are back.
+    #[inline(always)]
     pub(crate) fn leave_to(&mut self, outer: Outer)
         requires entered { 0 < length self.old.stacks.outer }
         ensures { self.new ≡ record self.old { stacks = without_frame self.old.stacks.outer self.old.stacks; scope = outer.scope; level = outer.level } }
@@ -138,6 +139,7 @@ impl<H> Run<H> {
     }
 
     // A called function is over, and its caller goes on with its answer.
+    #[inline(always)]
     pub(crate) fn resume_caller<L: Ledger>(
         &mut self,
         context: Context<'_>,

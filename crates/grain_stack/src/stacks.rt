@@ -62,6 +62,7 @@ impl Stacks {
 
     /// Enters a frame without operands: makes room for `operands` of them and for one entry of the trace. After want
     /// of memory the stacks are as they were.
+    #[inline(always)]
     pub fn enter(&mut self, operands: u16) -> Result<(), OutOfMemory>
         ensures { self.new ≡ (if is_ok result then with_frame operands self.old else self.old) }
     {
@@ -81,6 +82,7 @@ impl Stacks {
     }
 
     /// Leaves the innermost frame, whose operands go.
+    #[inline(always)]
     pub fn leave(&mut self)
         requires entered { 0 < length self.old.outer }
         ensures { self.new ≡ without_frame self.old.outer self.old }

@@ -5,9 +5,9 @@ ghost use Rattle.grain_program.specs.View.{view_of};
 ghost use Rattle.grain_program.specs.Recorded.{HasOrder};
 
 use crate::vms::Vm;
-use grain_fault::{EvalAltResult, Fault, Position};
+use grain_fault::{EvalAltResult, Fault, Position, RhaiResult};
 use grain_frame::Steps;
-use grain_global::Engine;
+use grain_global::{Engine, GlobalRuntimeState};
 use grain_program::{
     AssignOps, Caps, Chunk, Function, Functions, Indices, Names, Op, Parts, Positions, Program,
     Tokens, assemble, verify,
@@ -76,74 +76,87 @@ fn program_of(alloc: Global, ops: &[Op], end: u32) -> Option<Program> {
     }
 }
 
-fn gives_a_value<L: Ledger>(rt: &impl Abort, alloc: Global, blank: Blank) -> Result<(), Fail>
+/// What a run on an empty scope left.
+#[derive(Drop)]
+struct Ended {
+    answer: RhaiResult,
+    trace: Vec<Fault>,
+    address: Option<usize>,
+    global: GlobalRuntimeState,
+}
+
+fn end_of<L: Ledger>(
+    alloc: Global,
+    blank: Blank,
+    program: &Program,
+    limits: Limits,
+) -> Result<Ended, OutOfMemory>
     requires name { blank.name ≡ L.name }
     requires parts { blank.parts ≡ L.parts }
     requires enough { 5 < blank.parts }
+    requires positive { 0 < limits.operations }
 {
-    let program = program_of(alloc, &[Op::LoadConst(0), Op::Return], 4).ok_or("refused")?;
-    let engine = Engine::new(alloc, LIMITS);
-    let mut vm = Vm::new(alloc, &engine)?;
+    let engine = Engine::new(alloc, limits);
+    let global = engine.new_global_runtime_state(alloc)?;
+    let mut vm = Vm::with_global_state(alloc, &engine, global);
     let mut scope = Scope::new(alloc);
     let mut cells = Store::new(alloc);
-    let mut host = ();
     let mut steps = Steps::<L>::new(blank);
     let answer = vm.eval_with_callbacks(
-        alloc, &mut host, &mut cells, &mut scope, &program, &mut steps,
+        alloc,
+        &mut (),
+        &mut cells,
+        &mut scope,
+        program,
+        &mut steps,
     );
-    assert!(rt; matches!(answer, Ok(Dynamic::Int(7))));
-    assert!(rt; vm.fault_pc().is_none());
-    assert_eq!(rt; vm.into_global_state().num_operations(), 0);
+    let trace = Vec::from_slice(alloc, vm.fault_trace())?;
+    let address = vm.fault_pc();
+    Ok(Ended {
+        answer,
+        trace,
+        address,
+        global: vm.into_global_state(),
+    })
+}
+
+#[test]
+fn a_constant_is_given(rt: HostRuntime) -> Result<(), Fail> {
+    let ops = [Op::LoadConst(0), Op::Return];
+    let program = program_of(rt.alloc(), &ops, 4).ok_or("refused")?;
+    let ended = end_of::<Brand>(rt.alloc(), Blank::new(6), &program, LIMITS)?;
+    assert!(rt; matches!(ended.answer, Ok(Dynamic::Int(7))));
+    assert!(rt; ended.address.is_none());
+    assert_eq!(rt; ended.global.num_operations(), 0);
     Ok(())
 }
 
-fn stops_at_the_limit<L: Ledger>(rt: &impl Abort, alloc: Global, blank: Blank) -> Result<(), Fail>
-    requires name { blank.name ≡ L.name }
-    requires parts { blank.parts ≡ L.parts }
-    requires enough { 5 < blank.parts }
-{
-    let program = program_of(alloc, &[Op::Jump(0)], 5).ok_or("refused")?;
-    let engine = Engine::new(alloc, LIMITS);
-    let mut vm = Vm::new(alloc, &engine)?;
-    let mut scope = Scope::new(alloc);
-    let mut cells = Store::new(alloc);
-    let mut host = ();
-    let mut steps = Steps::<L>::new(blank);
-    let answer = vm.eval_with_callbacks(
-        alloc, &mut host, &mut cells, &mut scope, &program, &mut steps,
-    );
+#[test]
+fn a_jump_to_itself_stops_at_the_limit(rt: HostRuntime) -> Result<(), Fail> {
+    let program = program_of(rt.alloc(), &[Op::Jump(0)], 5).ok_or("refused")?;
+    let ended = end_of::<Brand>(rt.alloc(), Blank::new(6), &program, LIMITS)?;
     assert!(rt;
         matches!(
-            answer,
+            ended.answer,
             Err(EvalAltResult::ErrorTooManyOperations(Position::NONE))
         )
     );
-    assert_eq!(rt; vm.fault_trace().len(), 1);
-    assert_eq!(rt; vm.fault_pc(), Some(0));
-    assert_eq!(rt; vm.into_global_state().num_operations(), 3);
+    assert_eq!(rt; ended.trace.len(), 1);
+    assert_eq!(rt; ended.address, Some(0));
+    assert_eq!(rt; ended.global.num_operations(), 3);
     Ok(())
 }
 
-fn wraps_what_a_function_throws<L: Ledger>(
-    rt: &impl Abort,
-    alloc: Global,
-    blank: Blank,
-) -> Result<(), Fail>
-    requires name { blank.name ≡ L.name }
-    requires parts { blank.parts ≡ L.parts }
-    requires enough { 5 < blank.parts }
-{
+#[test]
+fn a_thrown_value_is_wrapped_by_the_call(rt: HostRuntime) -> Result<(), Fail> {
     let ops = [Op::Call(0, 0), Op::Return, Op::LoadConst(0), Op::Throw];
-    let program = program_of(alloc, &ops, 5).ok_or("refused")?;
-    let engine = Engine::new(alloc, LIMITS);
-    let mut vm = Vm::new(alloc, &engine)?;
-    let mut scope = Scope::new(alloc);
-    let mut cells = Store::new(alloc);
-    let mut host = ();
-    let mut steps = Steps::<L>::new(blank);
-    let answer = vm.eval_with_callbacks(
-        alloc, &mut host, &mut cells, &mut scope, &program, &mut steps,
-    );
+    let program = program_of(rt.alloc(), &ops, 5).ok_or("refused")?;
+    let Ended {
+        answer,
+        trace,
+        global,
+        ..
+    } = end_of::<Brand>(rt.alloc(), Blank::new(6), &program, LIMITS)?;
     let Err(fault) = answer else {
         return Err("no fault".into());
     };
@@ -157,63 +170,30 @@ fn wraps_what_a_function_throws<L: Ledger>(
         address: 0,
         slot: None,
     };
-    let trace = [thrown, called];
-    assert_eq!(rt; vm.fault_trace(), trace.as_slice());
-    let global = vm.into_global_state();
+    let expected = [thrown, called];
+    assert_eq!(rt; trace.as_slice(), expected.as_slice());
     assert_eq!(rt; global.num_operations(), 1);
     assert_eq!(rt; global.level, 0);
     Ok(())
 }
 
-fn stops_at_the_level<L: Ledger>(rt: &impl Abort, alloc: Global, blank: Blank) -> Result<(), Fail>
-    requires name { blank.name ≡ L.name }
-    requires parts { blank.parts ≡ L.parts }
-    requires enough { 5 < blank.parts }
-{
+#[test]
+fn a_call_without_a_level_overflows(rt: HostRuntime) -> Result<(), Fail> {
     let ops = [Op::Call(0, 0), Op::Return, Op::Return];
-    let program = program_of(alloc, &ops, 5).ok_or("refused")?;
+    let program = program_of(rt.alloc(), &ops, 5).ok_or("refused")?;
     let limits = Limits {
         levels: 0,
         ..LIMITS
     };
-    let engine = Engine::new(alloc, limits);
-    let global = engine.new_global_runtime_state(alloc)?;
-    let mut vm = Vm::with_global_state(alloc, &engine, global);
-    let mut scope = Scope::new(alloc);
-    let mut cells = Store::new(alloc);
-    let mut host = ();
-    let mut steps = Steps::<L>::new(blank);
-    let answer = vm.eval_with_callbacks(
-        alloc, &mut host, &mut cells, &mut scope, &program, &mut steps,
-    );
+    let ended = end_of::<Brand>(rt.alloc(), Blank::new(6), &program, limits)?;
     assert!(rt;
         matches!(
-            answer,
+            ended.answer,
             Err(EvalAltResult::ErrorStackOverflow(Position::NONE))
         )
     );
-    assert_eq!(rt; vm.fault_trace().len(), 1);
-    assert_eq!(rt; vm.fault_pc(), Some(0));
-    assert_eq!(rt; vm.into_global_state().num_operations(), 1);
+    assert_eq!(rt; ended.trace.len(), 1);
+    assert_eq!(rt; ended.address, Some(0));
+    assert_eq!(rt; ended.global.num_operations(), 1);
     Ok(())
-}
-
-#[test]
-fn a_thrown_value_is_wrapped_by_the_call(rt: HostRuntime) -> Result<(), Fail> {
-    wraps_what_a_function_throws::<Brand>(&rt, rt.alloc(), Blank::new(6))
-}
-
-#[test]
-fn a_call_without_a_level_overflows(rt: HostRuntime) -> Result<(), Fail> {
-    stops_at_the_level::<Brand>(&rt, rt.alloc(), Blank::new(6))
-}
-
-#[test]
-fn a_constant_is_given(rt: HostRuntime) -> Result<(), Fail> {
-    gives_a_value::<Brand>(&rt, rt.alloc(), Blank::new(6))
-}
-
-#[test]
-fn a_jump_to_itself_stops_at_the_limit(rt: HostRuntime) -> Result<(), Fail> {
-    stops_at_the_limit::<Brand>(&rt, rt.alloc(), Blank::new(6))
 }

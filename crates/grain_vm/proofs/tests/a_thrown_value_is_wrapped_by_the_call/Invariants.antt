@@ -1,4 +1,4 @@
 use Rattle.grain_vm.proofs.tests.a_thrown_value_is_wrapped_by_the_call.Given as goal
 
-abbrev pub ghosts-wraps_what_a_function_throws : goal.ghosts-wraps_what_a_function_throws
-ghosts-wraps_what_a_function_throws g a = record { name = a.blank.name; parts = a.blank.parts }
+abbrev pub ghosts-end_of : goal.ghosts-end_of
+ghosts-end_of g a = record { name = a.blank.name; parts = a.blank.parts }
