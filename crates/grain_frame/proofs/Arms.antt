@@ -10,23 +10,25 @@ use Rattle.grain_stack.specs.Views.{StacksView}
 use Rattle.grain_value.specs.declared.memory.OutOfMemory.{OutOfMemory}
 use Rattle.grain_program.specs.declared.code.parts.Chunk.{Chunk}
 use Rattle.grain_program.specs.declared.code.instructions.Op.{Op}
+use Rattle.grain_program.specs.declared.code.instructions.Op.TheVariants as op
+use Rattle.grain_frame.specs.declared.loops.Attempt.{Attempt}
 use Rattle.grain_program.specs.Effects.{takes_of, gives_of, leads_of}
 use Rattle.grain_program.specs.laws.TypedAt.{IsTypedAt, Verified}
 use Rattle.grain_program.specs.Reading.{op_at}
 use Rattle.grain_program.specs.View.{View}
 use Rattle.grain_global.specs.declared.engines.Engine.{Engine}
 use Rattle.grain_means.specs.Worlds.{Setup, Place}
-use Rattle.grain_means.specs.Rules.{instr, raised}
+use Rattle.grain_means.specs.Rules.{instr, or_return, raised}
 use Rattle.grain_means.specs.Simulation.{Computation, Environment, Simulates, SimulatesExactly, stopped, world}
 use Rattle.grain_means.specs.Means.{setup}
 use Rattle.grain_means.specs.lemmas.Stretches.{same, exactly}
 use Rattle.grain_means.specs.lemmas.Branches.{of_two}
 use Rattle.grain_means.specs.lemmas.Scopes.{length_set_held}
 use Rattle.grain_frame.specs.Counts.{Counts}
-use Rattle.grain_frame.specs.Abstraction.{abstraction, frame_in, is_out, continuation, KeepsFrame, ContinuesAt, Ready, Runs, Implements, Performs, Raises, StaysTyped, Stepped, OnTrue}
+use Rattle.grain_frame.specs.Abstraction.{abstraction, frame_in, is_out, continuation, KeepsFrame, ContinuesAt, Ready, Runs, Implements, Performs, Raises, StaysTyped, Stepped, OnTrue, OnFalse, Unchanged, Attempted, CallsNothing, StandsAtCall, attempt_of}
 use Rattle.grain_frame.specs.declared.activations.Activation.{Activation}
 use Rattle.grain_frame.specs.declared.runs.Progress.{Progress}
-use Rattle.grain_frame.specs.declared.runs.Progress.TheVariants.{Continues, Finished}
+use Rattle.grain_frame.specs.declared.runs.Progress.TheVariants as progress
 use Rattle.grain_frame.specs.declared.runs.Run.{Run}
 use Rattle.grain_frame.proofs.Turns.{performs}
 
@@ -34,6 +36,11 @@ use Rattle.grain_frame.proofs.Turns.{performs}
 pub tried : {X Y : Type 0} (b : Bool) → OnTrue b X → (X → Y) → OnTrue b Y
 tried true x g = g x
 tried false x g = tt
+
+-- what came of an instruction that is tried
+pub attempted : {H : Type 0} (p : View) (engine : Engine) (f f' : Activation) (s s' : Run H) (n n' : Counts) (b : Bool) → OnTrue b ((host : H) → Stepped p engine f s n (Ok progress.Continues) f' s' n' host host) → OnFalse b (Unchanged f s n f' s' n') → CallsNothing p f → Attempted p engine f s n f' s' n' (attempt_of b)
+attempted p engine f f' s s' n n' true does undone calls = does
+attempted p engine f f' s s' n n' false does undone calls = (undone, calls)
 
 module _ {H : Type 0} (p : View) (engine : Engine) (f : Activation) (s : Run H) (said o : Op) (width depth : ℕ) (is : said ≡ o) (deep : depth ≡ length s.stacks.operands) (runs : Runs p f s) (seen : Verified p f.chunk f.address depth said width) where
   -- the instruction can begin
@@ -43,9 +50,20 @@ module _ {H : Type 0} (p : View) (engine : Engine) (f : Activation) (s : Run H) 
       let room : length s.stacks.operands - takes_of o + gives_of o ≤ f.chunk.max_stack = subst (λ (k : ℕ). k - takes_of o + gives_of o ≤ f.chunk.max_stack) deep at.room in
       record { inside = runs.inside; operands = omega (arith, at.enough, deep); room = omega (arith, room, runs.room); ahead = omega (arith, at.wide) }
 
+  -- the frame stands at a call
+  pub stands : (name count : ℕ) → o ≡ op.Call name count → op_at p.code f.address ≡ Some (said, width) → StandsAtCall p f s name count (f.address + width)
+  stands name count call read =
+      let here : said ≡ op.Call name count = is ∙ call in
+      record {
+        width = width;
+        read = read ∙ ap (λ (q : Op). Some (q, width)) here;
+        next_is = refl;
+        seen = subst (λ (k : ℕ). Verified p f.chunk f.address k (op.Call name count) width) deep (subst (λ (q : Op). Verified p f.chunk f.address depth q width) here seen);
+      }
+
   module _ (read : op_at p.code f.address ≡ Some (said, width)) (n : Counts) (f' : Activation) (s' : Run H) (n' : Counts) where
     stays : (r : Result Progress OutOfMemory) → KeepsFrame f s f' s' → ContinuesAt engine s f s' f' (leads_of o (f.address + width)) (length s.stacks.operands - takes_of o + gives_of o) r → StaysTyped p engine s f s' f' r
-    stays (Ok Continues) kept lands =
+    stays (Ok progress.Continues) kept lands =
         let at : Verified p f.chunk f.address depth o width = subst (λ (q : Op). Verified p f.chunk f.address depth q width) is seen in
         let fits = at.goes f'.address lands.0 in
         let height : depth - takes_of o + gives_of o ≡ length s'.stacks.operands = ap (λ (k : ℕ). k - takes_of o + gives_of o) deep ∙ sym lands.1 in
@@ -55,7 +73,8 @@ module _ {H : Type 0} (p : View) (engine : Engine) (f : Activation) (s : Run H) 
           lands.2,
           omega (arith, inside, wide),
         )
-    stays (Ok Finished) kept lands = tt
+    stays (Ok progress.Returned) kept lands = tt
+    stays (Ok progress.Failed) kept lands = tt
     stays (Err e) kept lands = tt
 
     -- the instruction was done
@@ -67,8 +86,17 @@ module _ {H : Type 0} (p : View) (engine : Engine) (f : Activation) (s : Run H) 
       before = does.before;
     }
 
+    -- the instruction was tried, and it is no call
+    pub tried_out : (b : Bool) (a : Attempt) → a ≡ attempt_of b → OnTrue b ((host : H) → Performs p engine f s n o (f.address + width) (Ok progress.Continues) f' s' n' host) → OnFalse b (Unchanged f s n f' s' n') → ((name count : ℕ) → o ≡ op.Call name count → ⊥) → Attempted p engine f s n f' s' n' a
+    tried_out b a e does undone other =
+        let calls : CallsNothing p f = λ name count w at.
+        let same : Some (said, width) ≡ Some (op.Call name count, w) = sym read ∙ at in
+        let call : o ≡ op.Call name count = sym is ∙ ap (λ (r : Option (Op × ℕ)). (or_return r).0) same in
+        other name count call in
+        rw e (attempted p engine f f' s s' n n' b (tried b does (λ d host. stepped host (d host))) undone calls)
+
     -- an instruction that reaches the host was done
-    pub stepped_on : (host host' : H) {r : Result Progress OutOfMemory} → Simulates (setup p engine) (abstraction s n host) (λ m place w. instr m o (f.address + width) (frame_in f s place) w) (is_out r) (abstraction s' n' host') (continuation r s'.outcome (frame_in f' s')) → KeepsFrame f s f' s' →
+    pub stepped_on : (host host' : H) {r : Result Progress OutOfMemory} → Simulates (setup p engine) (abstraction s n host) (λ m place w. instr m o (f.address + width) (frame_in f s place) w) (is_out r) (abstraction s' n' host') (continuation r s'.fault (frame_in f' s')) → KeepsFrame f s f' s' →
         ContinuesAt engine s f s' f' (leads_of o (f.address + width)) (length s.stacks.operands - takes_of o + gives_of o) r → n'.before ≡ n.before → Stepped p engine f s n r f' s' n' host host'
     stepped_on host host' {r} goes kept lands before = record {
       goes = performs (frame_in f s) o f.address width (λ place. refl) (read ∙ ap (λ (q : Op). Some (q, width)) is) goes;
@@ -76,6 +104,15 @@ module _ {H : Type 0} (p : View) (engine : Engine) (f : Activation) (s : Run H) 
       stays = stays r kept lands;
       before = before;
     }
+
+-- a call was done, by what was known of it before
+pub call_stepped : {H : Type 0} (p : View) (engine : Engine) (f : Activation) (s : Run H) (name count next : ℕ) → StandsAtCall p f s name count next → Runs p f s →
+    (n : Counts) (f' : Activation) (s' : Run H) (n' : Counts) (host host' : H) {r : Result Progress OutOfMemory} → Simulates (setup p engine) (abstraction s n host) (λ m place w. instr m (op.Call name count) next (frame_in f s place) w) (is_out r) (abstraction s' n' host') (continuation r s'.fault (frame_in f' s')) →
+    KeepsFrame f s f' s' → ContinuesAt engine s f s' f' (next ∷ []) (length s.stacks.operands - count + 1) r → n'.before ≡ n.before → Stepped p engine f s n r f' s' n' host host'
+call_stepped p engine f s name count next at runs n f' s' n' host host' {r} goes kept lands before =
+    stepped_on p engine f s (op.Call name count) (op.Call name count) at.width (length s.stacks.operands) refl refl runs at.seen at.read n f' s' n' host host'
+    (subst (λ (k : ℕ). Simulates (setup p engine) (abstraction s n host) (λ m place w. instr m (op.Call name count) k (frame_in f s place) w) (is_out r) (abstraction s' n' host') (continuation r s'.fault (frame_in f' s'))) at.next_is goes)
+    kept (subst (λ (k : ℕ). ContinuesAt engine s f s' f' (k ∷ []) (length s.stacks.operands - count + 1) r) at.next_is lands) before
 
 -- where a branch leads
 pub to_target : (t next b : ℕ) → In b (t ∷ []) → In b (cond (nat_lt t next) (t ∷ next ∷ []) (next ∷ t ∷ []))
@@ -88,8 +125,9 @@ to_next t next b (inr i) = absurd i
 
 -- the same from a state with other operands
 lands_on : {H : Type 0} (engine : Engine) (s s' : Run H) (v : StacksView) (f f' : Activation) (ts us : List ℕ) (h k : ℕ) (r : Result Progress OutOfMemory) → h ≡ k → ((b : ℕ) → In b ts → In b us) → ContinuesAt engine (record s { stacks = v }) f s' f' ts h r → ContinuesAt engine s f s' f' us k r
-lands_on engine s s' v f f' ts us h k (Ok Continues) e among l = (among f'.address l.0, l.1 ∙ e, l.2)
-lands_on engine s s' v f f' ts us h k (Ok Finished) e among l = tt
+lands_on engine s s' v f f' ts us h k (Ok progress.Continues) e among l = (among f'.address l.0, l.1 ∙ e, l.2)
+lands_on engine s s' v f f' ts us h k (Ok progress.Returned) e among l = tt
+lands_on engine s s' v f f' ts us h k (Ok progress.Failed) e among l = tt
 lands_on engine s s' v f f' ts us h k (Err x) e among l = tt
 
 -- what a method did from a state with other operands, for the instruction of which it is a part
@@ -106,6 +144,8 @@ implements_after {H = H} p engine f f' s s' n n' v ops {first} {rule} {ts} {us} 
     room = does.kept.room ∙ ap (λ (q : StacksView). q.room) rest;
     noted = does.kept.noted ∙ ap (λ (q : StacksView). q.noted) rest;
     outer = does.kept.outer ∙ ap (λ (q : StacksView). q.outer) rest;
+    saved = does.kept.saved;
+    level = does.kept.level;
     later = does.kept.later;
   };
   lands = lands_on engine s s' v f f' ts us h k r height among does.lands;
@@ -117,10 +157,10 @@ implements_after {H = H} p engine f f' s s' n n' v ops {first} {rule} {ts} {us} 
 -- a fault is raised
 pub raises_exactly : {H : Type 0} {m : Setup H} (f : Activation) (s s' : Run H) (n n' : Counts) (host : H) (x : EvalAltResult) {rule : Computation H} (r : Result Progress OutOfMemory) → Raises s n x r s' n' →
     ((stop : Option ℕ) (u : Environment) (place : Option Place) → rule (stopped m stop) place (world (abstraction s n host) u) ≡ raised (stopped m stop) (frame_in f s place) (problem_of x) (world (abstraction s n host) u)) →
-    SimulatesExactly m (abstraction s n host) rule (is_out r) (abstraction s' n' host) (continuation r s'.outcome (frame_in f s'))
-raises_exactly {m = m} f s s' n n' host x {rule} (Ok progress) h alike = at progress h.0 s' h.1 n' h.2 where
-  at : (progress : Progress) → progress ≡ Finished → (s' : Run _) → s' ≡ record s { outcome = Err x } → (n' : Counts) → n' ≡ record n { passed = n.passed + 1 } → SimulatesExactly m (abstraction s n host) rule false (abstraction s' n' host) (continuation (Ok progress) s'.outcome (frame_in f s'))
-  at progress ep s' es n' en = rw (ep, es, en) (record {
+    SimulatesExactly m (abstraction s n host) rule (is_out r) (abstraction s' n' host) (continuation r s'.fault (frame_in f s'))
+raises_exactly {m = m} f s s' n n' host x {rule} (Ok p) h alike = at p h.0 s' h.1 n' h.2 where
+  at : (p : Progress) → p ≡ progress.Failed → (s' : Run _) → s' ≡ record s { fault = x } → (n' : Counts) → n' ≡ record n { passed = n.passed + 1 } → SimulatesExactly m (abstraction s n host) rule false (abstraction s' n' host) (continuation (Ok p) s'.fault (frame_in f s'))
+  at p ep s' es n' en = rw (ep, es, en) (record {
     this = refl;
     order = omega arith;
     equal = λ stop clear halts u place. alike stop u place ∙ rw (clear n.passed (omega arith) (omega arith)) refl;
@@ -140,5 +180,7 @@ kept_write f f' s v ops scope i h ec eb rest written inside = record {
   room = ap (λ (q : StacksView). q.room) rest;
   noted = ap (λ (q : StacksView). q.noted) rest;
   outer = ap (λ (q : StacksView). q.outer) rest;
+  saved = refl;
+  level = refl;
   later = omega arith;
 }

@@ -1,7 +1,7 @@
 -- A call, its body, and what follows it.
-use Rattle.std.proofs.Common.{◌≡◌, ◌<◌, ◌≤◌, ◌+◌, ◌-◌, ◌∙◌, ℕ, List, [], ◌∷◌, Option, Some, None, Bool, true, false, Result, Ok, Err, length, refl, sym, subst, ap, inl, arith}
+use Rattle.std.proofs.Common.{◌≡◌, ◌<◌, ◌≤◌, ◌+◌, ◌-◌, ◌∙◌, ℕ, zero, suc, List, [], ◌∷◌, ◌++◌, Option, Some, None, Bool, true, false, Result, Ok, Err, length, take, refl, sym, subst, ap, inl, arith, length-append}
 use Rattle.std.proofs.lemmas.List.{length-take}
-use Rattle.std.specs.Prelude.{slice_get}
+use Rattle.std.specs.Prelude.{slice_get, slice_index_or}
 use Rattle.grain_value.specs.declared.values.Dynamic.{Dynamic}
 use Rattle.grain_value.specs.declared.values.Held.{Held}
 use Rattle.grain_value.specs.declared.scopes.Entry.{Entry}
@@ -19,12 +19,11 @@ use Rattle.grain_means.specs.Rules.{without, frame_at, function_numbered, functi
 use Rattle.grain_means.specs.Simulation.{LocalState, Computation, Simulates, SimulatesExactly, StopPersists}
 use Rattle.grain_means.specs.lemmas.Stretches.{same, compose, continued, alone}
 use Rattle.grain_frame.specs.Counts.{Counts}
-use Rattle.grain_frame.specs.Abstraction.{abstraction, frame_exit, frame_in, call_continuation, KeepsFrame, ContinuesAt, CallEntered, EnterResult, CallReturned}
+use Rattle.grain_frame.specs.Abstraction.{abstraction, frame_in, caller_of, call_continuation, KeepsFrame, ContinuesAt, CallEntered, CallNotEntered, EnterResult, CallReturned}
 use Rattle.grain_frame.specs.declared.activations.Activation.{Activation}
-use Rattle.grain_frame.specs.declared.calls.Outer.{Outer}
 use Rattle.grain_frame.specs.declared.runs.Run.{Run}
 use Rattle.grain_frame.specs.declared.runs.Progress.{Progress}
-use Rattle.grain_frame.specs.declared.runs.Progress.TheVariants.{Continues, Finished}
+use Rattle.grain_frame.specs.declared.runs.Progress.TheVariants as progress
 
 module _ {H : Type 0} {m : Setup H} (f : Option Place → Frame) (n k next : ℕ) (g : Function) (found : function_found m.program n k ≡ Some g) where
   -- the function is found
@@ -60,23 +59,15 @@ module _ {H : Type 0} {m : Setup H} (f : Option Place → Frame) (n k next : ℕ
             SimulatesExactly m after (λ p place w. resume_caller p g (without k (f place)) next b (record w { scope = scope; level = level })) two new last
         goes_on h rest = record { this = h.this; order = h.order; equal = λ stop clear halts u place. rw (← rest place) (h.equal stop clear halts u place) }
 
--- nothing was put aside: a fault left the frame
-pub not_entered : {H : Type 0} {m : Setup H} {old new : LocalState H} {start : Computation H} {x : Option Outer} (o : Result Dynamic EvalAltResult) (g : Function) (f : Option Place → Frame) (next : ℕ) → x ≡ None → SimulatesExactly m old start false new (call_continuation (Ok x) o g f next) → SimulatesExactly m old start false new (frame_exit o f)
-not_entered {m = m} {old} {new} {start} o g f next e h = subst (λ (q : Option Outer). SimulatesExactly m old start false new (call_continuation (Ok q) o g f next)) e h
-
 -- the call has begun
-pub has_begun : {H : Type 0} {m : Setup H} {old new : LocalState H} {start : Computation H} {x : Option Outer} {outer : Outer} (o : Result Dynamic EvalAltResult) (g : Function) (f : Option Place → Frame) (next : ℕ) → x ≡ Some outer → SimulatesExactly m old start false new (call_continuation (Ok x) o g f next) →
-    SimulatesExactly m old start false new (call_continuation (Ok (Some outer)) o g f next)
-has_begun {m = m} {old} {new} {start} o g f next e h = subst (λ (q : Option Outer). SimulatesExactly m old start false new (call_continuation (Ok q) o g f next)) e h
+pub has_begun : {H : Type 0} {m : Setup H} {old new : LocalState H} {start : Computation H} (b : Bool) (s s1 : Run H) (g : Function) (f : Option Place → Frame) (next : ℕ) → b ≡ true → SimulatesExactly m old start false new (call_continuation (Ok b) s s1 g f next) →
+    SimulatesExactly m old start false new (call_continuation (Ok true) s s1 g f next)
+has_begun {m = m} {old} {new} {start} b s s1 g f next e h = subst (λ (q : Bool). SimulatesExactly m old start false new (call_continuation (Ok q) s s1 g f next)) e h
 
--- what came out of a frame does not depend on its operands
-pub exit_alike : {H : Type 0} {m : Setup H} {old new : LocalState H} {start : Computation H} {out : Bool} (o : Result Dynamic EvalAltResult) (f f' : Option Place → Frame) → ((place : Option Place) → (f' place).address ≡ (f place).address) → ((place : Option Place) → (f' place).floor ≡ (f place).floor) → Simulates m old start out new (frame_exit o f) → Simulates m old start out new (frame_exit o f')
-exit_alike (Ok v) f f' a b h = h
-exit_alike {new = new} {out = out} (Err x) f f' a b h =
-    compose h (same (record { this = refl; order = omega arith; equal = λ stop clear halts u place. rw (a place, b place) refl })) (persists out) where
-      persists : (out : Bool) → StopPersists out new.passed out new.passed
-      persists false = tt
-      persists true = (refl, refl)
+-- a fault left the frame before the call began
+pub not_begun : {H : Type 0} {m : Setup H} {old new : LocalState H} {start : Computation H} (b : Bool) (s s1 : Run H) (g : Function) (f : Option Place → Frame) (next : ℕ) → b ≡ false → SimulatesExactly m old start false new (call_continuation (Ok b) s s1 g f next) →
+    SimulatesExactly m old start false new (call_continuation (Ok false) s s1 g f next)
+not_begun {m = m} {old} {new} {start} b s s1 g f next e h = subst (λ (q : Bool). SimulatesExactly m old start false new (call_continuation (Ok q) s s1 g f next)) e h
 
 -- the function that the code found is the meaning's
 pub found_is : (p : View) (name count name' count' number : ℕ) (g : Function) → name' ≡ name → count' ≡ count → Some number ≡ function_of p name' count' → slice_get p.functions number ≡ Some g → function_found p name count ≡ Some g
@@ -91,38 +82,75 @@ params_are p name count count' number g ec called is =
     let alike : called.function ≡ g = cc in
     ap (λ (k : Function). length k.params) (sym alike) ∙ (called.count_is ∙ ec)
 
-pub entered_with : {H : Type 0} (engine : Engine) (g : Function) (s s1 : Run H) {x : Option Outer} {o : Outer} → x ≡ Some o → EnterResult engine g s s1 (Ok x) → CallEntered engine g s s1 o
-entered_with engine g s s1 e h = subst (λ (q : Option Outer). EnterResult engine g s s1 (Ok q)) e h
+pub entered_with : {H : Type 0} (engine : Engine) (g : Function) (s s1 : Run H) (b : Bool) → b ≡ true → EnterResult engine g s s1 (Ok b) → CallEntered engine g s s1
+entered_with engine g s s1 true e h = h
+entered_with engine g s s1 false e h = absurd cc
 
-module _ {H : Type 0} (engine : Engine) (f f' : Activation) (s s1 s2 s3 s' : Run H) (g : Function) (o : Outer) (k next : ℕ) (entered : CallEntered engine g s s1 o) (outer : s2.stacks.outer ≡ s1.stacks.outer) (left : s3 ≡ record s2 { stacks = without_frame s2.stacks.outer s2.stacks; scope = o.scope; level = o.level }) where
+pub kept_with : {H : Type 0} (engine : Engine) (g : Function) (s s1 : Run H) (b : Bool) → b ≡ false → EnterResult engine g s s1 (Ok b) → CallNotEntered s s1
+kept_with engine g s s1 true e h = absurd cc
+kept_with engine g s s1 false e h = h
+
+-- the scope that was put aside last
+last_saved : (xs : List (List Entry)) (x : List Entry) (n : ℕ) → n ≡ length xs → slice_index_or (xs ++ x ∷ []) n [] ≡ x
+last_saved [] x zero e = refl
+last_saved [] x (suc n) e = absurd (omega (arith, e))
+last_saved (y ∷ xs) x zero e = absurd (omega (arith, e))
+last_saved (y ∷ xs) x (suc n) e = last_saved xs x n (omega (arith, e))
+
+front_saved : (xs : List (List Entry)) (x : List Entry) (n : ℕ) → n ≡ length xs → take n (xs ++ x ∷ []) ≡ xs
+front_saved [] x zero e = refl
+front_saved [] x (suc n) e = absurd (omega (arith, e))
+front_saved (y ∷ xs) x zero e = absurd (omega (arith, e))
+front_saved (y ∷ xs) x (suc n) e = ap (λ (l : List (List Entry)). y ∷ l) (front_saved xs x n (omega (arith, e)))
+
+module _ {H : Type 0} (engine : Engine) (f f' : Activation) (s s1 s2 s' : Run H) (g : Function) (k next : ℕ) (entered : CallEntered engine g s s1) (outer : s2.stacks.outer ≡ s1.stacks.outer) (saved : s2.saved ≡ s1.saved) (level : s2.level ≡ s1.level) where
+  frames : s2.stacks.outer ≡ record (innermost s.stacks) { operands = under (length g.params) s.stacks.operands } ∷ s.stacks.outer
+  frames = outer ∙ entered.caller
+
+  waiting : s2.saved ≡ s.saved ++ s.scope ∷ []
+  waiting = saved ∙ entered.saved
+
   -- the caller's frame is the innermost again
-  stacks_back : s3.stacks ≡ record s2.stacks { operands = under (length g.params) s.stacks.operands; room = s.stacks.room; noted = s.stacks.noted; outer = s.stacks.outer }
-  stacks_back = ap (λ (q : Run H). q.stacks) left ∙ ap (λ (fs : List StackFrame). without_frame fs s2.stacks) (outer ∙ entered.caller)
+  stacks_back : (caller_of s2).stacks ≡ record s2.stacks { operands = under (length g.params) s.stacks.operands; room = s.stacks.room; noted = s.stacks.noted; outer = s.stacks.outer }
+  stacks_back = ap (λ (fs : List StackFrame). without_frame fs s2.stacks) frames
 
-  operands_back : s3.stacks.operands ≡ under (length g.params) s.stacks.operands
+  operands_back : (caller_of s2).stacks.operands ≡ under (length g.params) s.stacks.operands
   operands_back = ap (λ (v : StacksView). v.operands) stacks_back
 
+  one_less : length s2.saved - 1 ≡ length s.saved
+  one_less = omega (arith, ap (λ (l : List (List Entry)). length l) waiting, length-append s.saved (s.scope ∷ []))
+
+  scope_back : (caller_of s2).scope ≡ s.scope
+  scope_back = ap (λ (l : List (List Entry)). slice_index_or l (length s2.saved - 1) []) waiting ∙ last_saved s.saved s.scope (length s2.saved - 1) one_less
+
+  saved_back : (caller_of s2).saved ≡ s.saved
+  saved_back = ap (λ (l : List (List Entry)). take (length s2.saved - 1) l) waiting ∙ front_saved s.saved s.scope (length s2.saved - 1) one_less
+
+  level_back : (caller_of s2).level ≡ s.level
+  level_back = omega (arith, level, entered.level)
+
   -- what the code has once the caller's scope and level are back
-  pub there_is : (n : Counts) (host : H) → abstraction s3 n host ≡ record (abstraction s2 n host) { scope = o.scope; level = o.level }
-  there_is n host =
-      rw (ap (λ (q : Run H). q.scope) left, ap (λ (q : Run H). q.cells) left, ap (λ (q : Run H). q.count) left, ap (λ (q : Run H). q.level) left, ap (λ (v : StacksView). v.trace) stacks_back) refl
+  pub there_is : (n : Counts) (host : H) → abstraction (caller_of s2) n host ≡ record (abstraction s2 n host) { scope = s.scope; level = s.level }
+  there_is n host = rw (scope_back, level_back, ap (λ (v : StacksView). v.trace) stacks_back) refl
 
   -- the caller's frame is without the arguments
-  pub outer_is : length g.params ≡ k → (place : Option Place) → frame_in f s3 place ≡ without k (frame_in f s place)
+  pub outer_is : length g.params ≡ k → (place : Option Place) → frame_in f (caller_of s2) place ≡ without k (frame_in f s place)
   outer_is all place = rw (operands_back, all) refl
 
-  kept3 : f.base ≤ length s.scope → s1.count ≤ s2.count → KeepsFrame f s f s3
+  kept3 : f.base ≤ length s.scope → s1.count ≤ s2.count → KeepsFrame f s f (caller_of s2)
   kept3 base later = record {
     chunk = refl;
     base = refl;
-    scope = rw (ap (λ (q : Run H). q.scope) left, entered.scope) base;
+    scope = rw scope_back base;
     room = ap (λ (v : StacksView). v.room) stacks_back;
     noted = ap (λ (v : StacksView). v.noted) stacks_back;
     outer = ap (λ (v : StacksView). v.outer) stacks_back;
-    later = omega (arith, ap (λ (q : Run H). q.count) left, later, entered.count);
+    saved = saved_back;
+    level = level_back;
+    later = omega (arith, later, entered.count);
   }
 
-  over_kept : f.base ≤ length s.scope → s1.count ≤ s2.count → f' ≡ f → s' ≡ record s3 { outcome = s'.outcome } → KeepsFrame f s f' s'
+  over_kept : f.base ≤ length s.scope → s1.count ≤ s2.count → f' ≡ f → s' ≡ record (caller_of s2) { fault = s'.fault } → KeepsFrame f s f' s'
   over_kept base later ef es =
       let k3 = kept3 base later in
       record {
@@ -132,12 +160,14 @@ module _ {H : Type 0} (engine : Engine) (f f' : Activation) (s s1 s2 s3 s' : Run
         room = ap (λ (q : Run H). q.stacks.room) es ∙ k3.room;
         noted = ap (λ (q : Run H). q.stacks.noted) es ∙ k3.noted;
         outer = ap (λ (q : Run H). q.stacks.outer) es ∙ k3.outer;
+        saved = ap (λ (q : Run H). q.saved) es ∙ k3.saved;
+        level = ap (λ (q : Run H). q.level) es ∙ k3.level;
         later = omega (arith, k3.later, ap (λ (q : Run H). q.count) es);
       }
 
   -- the caller's frame is kept
-  pub call_kept : (r : Result Progress OutOfMemory) → f.base ≤ length s.scope → s1.count ≤ s2.count → CallReturned f s3 f' s' next r → KeepsFrame f s f' s'
-  call_kept (Ok Continues) base later h =
+  pub call_kept : (r : Result Progress OutOfMemory) → f.base ≤ length s.scope → s1.count ≤ s2.count → CallReturned f (caller_of s2) f' s' next r → KeepsFrame f s f' s'
+  call_kept (Ok progress.Continues) base later h =
       let k3 = kept3 base later in
       record {
         chunk = ap (λ (a : Activation). a.chunk) h.0;
@@ -146,22 +176,37 @@ module _ {H : Type 0} (engine : Engine) (f f' : Activation) (s s1 s2 s3 s' : Run
         room = ap (λ (q : Run H). q.stacks.room) h.2 ∙ k3.room;
         noted = ap (λ (q : Run H). q.stacks.noted) h.2 ∙ k3.noted;
         outer = ap (λ (q : Run H). q.stacks.outer) h.2 ∙ k3.outer;
+        saved = ap (λ (q : Run H). q.saved) h.2 ∙ k3.saved;
+        level = ap (λ (q : Run H). q.level) h.2 ∙ k3.level;
         later = omega (arith, k3.later, ap (λ (q : Run H). q.count) h.2);
       }
-  call_kept (Ok Finished) base later h = over_kept base later h.0 h.1
+  call_kept (Ok progress.Returned) base later h = absurd h
+  call_kept (Ok progress.Failed) base later h = over_kept base later h.0 h.1
   call_kept (Err e) base later h = over_kept base later h.0 h.1
 
   -- the caller goes on after the call, with one operand in the place of the arguments
-  pub call_lands : (r : Result Progress OutOfMemory) → length g.params ≡ k → s1.count ≤ s2.count → CallReturned f s3 f' s' next r → ContinuesAt engine s f s' f' (next ∷ []) (length s.stacks.operands - k + 1) r
-  call_lands (Ok Continues) all later h = (
+  pub call_lands : (r : Result Progress OutOfMemory) → length g.params ≡ k → s1.count ≤ s2.count → CallReturned f (caller_of s2) f' s' next r → ContinuesAt engine s f s' f' (next ∷ []) (length s.stacks.operands - k + 1) r
+  call_lands (Ok progress.Continues) all later h = (
     inl (ap (λ (a : Activation). a.address) h.0),
     omega (arith, h.1, ap (λ (xs : List Held). length xs) operands_back, length-take (length s.stacks.operands - length g.params) s.stacks.operands, all),
-    inl (omega (arith, ap (λ (q : Run H). q.count) left, ap (λ (q : Run H). q.count) h.2, later, entered.count), entered.allowed),
+    inl (omega (arith, ap (λ (q : Run H). q.count) h.2, later, entered.count), entered.allowed),
   )
-  call_lands (Ok Finished) all later h = tt
+  call_lands (Ok progress.Returned) all later h = tt
+  call_lands (Ok progress.Failed) all later h = tt
   call_lands (Err e) all later h = tt
 
-  -- there is room for what the call gives
-  pub call_room : k ≤ length s.stacks.operands → length s.stacks.operands - k + 1 ≤ s.stacks.room → length g.params ≡ k → length s3.stacks.operands < s3.stacks.room
-  call_room enough room all =
-      omega (arith, enough, room, all, ap (λ (xs : List Held). length xs) operands_back, ap (λ (v : StacksView). v.room) stacks_back, length-take (length s.stacks.operands - length g.params) s.stacks.operands)
+  -- the caller waits, with room for what the call gives
+  pub call_entered : 0 < length s2.stacks.outer
+  call_entered = omega (arith, ap (λ (fs : List StackFrame). length fs) frames)
+
+  pub call_waits : 0 < length s2.saved
+  call_waits = omega (arith, ap (λ (l : List (List Entry)). length l) waiting, length-append s.saved (s.scope ∷ []))
+
+  pub call_level : 0 < s2.level
+  call_level = omega (arith, level, entered.level)
+
+  pub call_room : k ≤ length s.stacks.operands → length s.stacks.operands - k + 1 ≤ s.stacks.room → length g.params ≡ k → (first : StackFrame) (others : List StackFrame) → s2.stacks.outer ≡ first ∷ others → length first.operands < first.room
+  call_room enough room all first others e =
+      let both : first ∷ others ≡ record (innermost s.stacks) { operands = under (length g.params) s.stacks.operands } ∷ s.stacks.outer = sym e ∙ frames in
+      let same : first ≡ record (innermost s.stacks) { operands = under (length g.params) s.stacks.operands } = cc in
+      omega (arith, enough, room, all, ap (λ (q : StackFrame). length q.operands) same, ap (λ (q : StackFrame). q.room) same, length-take (length s.stacks.operands - length g.params) s.stacks.operands)

@@ -2,5 +2,6 @@ pub mod Measure
 pub mod Turns
 pub mod Mains
 pub mod Arms
-pub mod Calling
 pub mod Evaluated
+pub mod Pairs
+pub mod Calling

@@ -1,7 +1,9 @@
 -- How main is entered and left.
-use Rattle.std.proofs.Common.{◌≡◌, ◌∙◌, ◌+◌, ◌<◌, ℕ, List, [], ◌∷◌, Bool, false, Option, None, length, refl, ap, subst, arith}
+use Rattle.std.proofs.Common.{◌≡◌, ◌∙◌, ◌+◌, ◌<◌, ℕ, List, [], ◌∷◌, Bool, false, Option, None, length, refl, ap, sym, subst, arith}
 use Rattle.grain_value.specs.declared.scopes.Entry.{Entry}
 use Rattle.grain_value.specs.declared.stores.Cell.{Cell}
+use Rattle.grain_value.specs.declared.values.Held.{Held}
+use Rattle.grain_fault.specs.declared.faults.EvalAltResult.{EvalAltResult}
 use Rattle.grain_fault.specs.declared.traces.Fault.{Fault}
 use Rattle.grain_program.specs.declared.code.parts.Chunk.{Chunk}
 use Rattle.grain_program.specs.laws.TypedAt.{begins}
@@ -54,6 +56,15 @@ left_stack {H = H} {m = m} {old} {start} {out} {now} s v n host f fs eo ev h =
     let trace : v.trace ≡ s.stacks.trace = ap (λ (q : StacksView). q.trace) (ev ∙ ap (λ (gs : List StackFrame). without_frame gs s.stacks) eo) in
     let alike : abstraction s n host ≡ abstraction (record s { stacks = v }) n host = rw trace refl in
     subst (λ (q : LocalState H). Simulates m old start out q now) alike h
+
+-- the answer of main's frame was taken, and the frame is left
+pub answered_stack : {H : Type 0} {m : Setup H} {old : LocalState H} {start : Computation H} {out out' : Bool} {b b' : Answer} (s t : Run H) (v : StacksView) (n : Counts) (host : H) (f : StackFrame) (fs : List StackFrame) {operands : List Held} {fault : EvalAltResult} → s.stacks.outer ≡ f ∷ fs →
+    t ≡ record s { stacks = record s.stacks { operands = operands }; fault = fault } → v ≡ without_frame t.stacks.outer t.stacks → out' ≡ out → b' ≡ b → Simulates m old start out (abstraction s n host) (λ n place w. End b w) →
+    Simulates m old start out' (abstraction (record t { stacks = v }) n host) (λ n place w. End b' w)
+answered_stack {H = H} {m = m} {old} {start} {out} {out'} {b} {b'} s t v n host f fs eo et ev eout eb h =
+    let outer : t.stacks.outer ≡ f ∷ fs = ap (λ (q : Run H). q.stacks.outer) et ∙ eo in
+    let alike : abstraction s n host ≡ abstraction t n host = sym (ap (λ (q : Run H). abstraction q n host) et) in
+    rw (eout, eb) (left_stack t v n host f fs outer ev (subst (λ (q : LocalState H). Simulates m old start out q (λ n place w. End b w)) alike h))
 
 -- what the code has when a call begins
 pub first_state : {H : Type 0} (trace : List Fault) (scope held : List Entry) (cells kept : List Cell) (host : H) (count level before : ℕ) (n : Counts) → trace ≡ [] → held ≡ scope → kept ≡ cells → n ≡ record { before = before; begun = 0; passed = 0 } →

@@ -14,26 +14,19 @@ use Rattle.grain_means.specs.Rules.{or_return, start_instruction, instr, leave_b
 use Rattle.grain_means.specs.Ends.{went}
 use Rattle.grain_means.specs.Simulation.{LocalState, Computation, Simulates, SimulatesExactly, StopPersists}
 use Rattle.grain_means.specs.lemmas.Stretches.{same, compose, before}
-use Rattle.grain_frame.specs.Abstraction.{instruction_here, continuation, frame_exit, KeepsFrame, Runs, OnTrue, OnFalse, Unchanged}
+use Rattle.grain_frame.specs.Abstraction.{instruction_here, continuation, KeepsFrame, Runs, OnTrue, OnFalse, Unchanged}
 use Rattle.grain_frame.specs.declared.runs.Progress.{Progress}
 use Rattle.grain_frame.specs.declared.runs.Run.{Run}
 use Rattle.grain_frame.specs.declared.activations.Activation.{Activation}
 use Rattle.grain_frame.specs.Counts.{Counts}
 
--- what a try did
-pub done : {T : Type 0} (b : Bool) → b ≡ true → OnTrue b T → T
-done true e t = t
-done false e t = absurd cc
+-- where nothing changed, what holds of the one state holds of the other
+pub moved_on : {H : Type 0} (P : Run H → Activation → Counts → Type 0) {s s' : Run H} {f f' : Activation} {n n' : Counts} → Unchanged f s n f' s' n' → P s f n → P s' f' n'
+moved_on {H = H} P {s} {s'} {f} {f'} {n} {n'} u h =
+    subst (λ (k : Counts). P s' f' k) (sym u.2) (subst (λ (a : Activation). P s' a n) (sym u.1) (subst (λ (t : Run H). P t f n) (sym u.0) h))
 
--- a try that did nothing counted nothing
-pub idle : {H : Type 0} (f f' : Activation) (s s' : Run H) (n n' : Counts) (b : Bool) → b ≡ false → OnFalse b (Unchanged f s n f' s' n') → n' ≡ n
-idle f f' s s' n n' true e u = absurd cc
-idle f f' s s' n n' false e u = u.2
-
--- where a try did nothing, what holds of the state that it left holds of the one before
-pub unmoved : {H : Type 0} (P : Run H → Activation → Counts → Type 0) {s s' : Run H} {f f' : Activation} {n n' : Counts} (b : Bool) → b ≡ false → OnFalse b (Unchanged f s n f' s' n') → P s' f' n' → P s f n
-unmoved P true e u h = absurd cc
-unmoved {H = H} P {s} {s'} {f} {f'} {n} {n'} false e u h =
+pub moved_back : {H : Type 0} (P : Run H → Activation → Counts → Type 0) {s s' : Run H} {f f' : Activation} {n n' : Counts} → Unchanged f s n f' s' n' → P s' f' n' → P s f n
+moved_back {H = H} P {s} {s'} {f} {f'} {n} {n'} u h =
     subst (λ (k : Counts). P s f k) u.2 (subst (λ (a : Activation). P s a n') u.1 (subst (λ (t : Run H). P t f' n') u.0 h))
 
 module _ {H : Type 0} {m : Setup H} where
@@ -55,12 +48,9 @@ module _ {H : Type 0} {m : Setup H} where
   turn now {f = f} {out} {new} {last} e h s =
       compose h (compose (begins now f) (subst (λ (q : LocalState H). Simulates m q (instruction_here f) out new last) e s) tt) tt
 
-  -- where it led, by its progress and by what came out
-  pub flowed : {old : LocalState H} {start : Computation H} {new : LocalState H} (f : Option Place → Frame) (o : Result Dynamic EvalAltResult) {one other : Progress} → one ≡ other → Simulates m old start false new (continuation (Ok one) o f) → Simulates m old start false new (continuation (Ok other) o f)
-  flowed {old} {start} {new} f o e h = subst (λ (q : Progress). Simulates m old start false new (continuation (Ok q) o f)) e h
-
-  pub came : {old : LocalState H} {start : Computation H} {new : LocalState H} (f : Option Place → Frame) {o p : Result Dynamic EvalAltResult} → o ≡ p → Simulates m old start false new (frame_exit o f) → Simulates m old start false new (frame_exit p f)
-  came {old} {start} {new} f e h = subst (λ (q : Result Dynamic EvalAltResult). Simulates m old start false new (frame_exit q f)) e h
+  -- where it led, by its progress
+  pub flowed : {old : LocalState H} {start : Computation H} {new : LocalState H} (f : Option Place → Frame) (x : EvalAltResult) {one other : Progress} → one ≡ other → Simulates m old start false new (continuation (Ok one) x f) → Simulates m old start false new (continuation (Ok other) x f)
+  flowed {old} {start} {new} f x e h = subst (λ (q : Progress). Simulates m old start false new (continuation (Ok q) x f)) e h
 
   -- a fault leaves a frame
   pub left_out : {old : LocalState H} {start : Computation H} {out : Bool} (mid new : LocalState H) (f : Option Place → Frame) (floor at : ℕ) {x : Problem} → ((place : Option Place) → (f place).floor ≡ floor) → ((place : Option Place) → (f place).address ≡ at) →

@@ -1,20 +1,22 @@
 -- What the code has of a world, and where a stretch of it led.
-use Rattle.std.specs.Prelude.{◌≡◌, ◌⊎◌, ◌<◌, ◌≤◌, ◌+◌, ◌-◌, ℕ, List, [], ◌∷◌, Bool, true, false, Option, Some, None, Result, Ok, Err, length}
+use Rattle.std.specs.Prelude.{◌≡◌, ◌⊎◌, ◌<◌, ◌≤◌, ◌+◌, ◌-◌, ℕ, List, [], ◌∷◌, ◌++◌, Bool, true, false, Option, Some, None, Result, Ok, Err, length, take, slice_index_or}
 use Rattle.grain_value.specs.declared.values.Dynamic.{Dynamic}
 use Rattle.grain_value.specs.declared.values.Held.{Held}
 use Rattle.grain_value.specs.declared.memory.OutOfMemory.{OutOfMemory}
-use Rattle.grain_value.specs.Operands.{under}
+use Rattle.grain_value.specs.Operands.{top, under}
 use Rattle.grain_fault.specs.Problems.{NoMemory, problem_of}
 use Rattle.grain_fault.specs.declared.faults.EvalAltResult.{EvalAltResult}
 use Rattle.grain_program.specs.declared.code.instructions.Op.{Op}
+use Rattle.grain_program.specs.declared.code.instructions.Op.TheVariants as op
 use Rattle.grain_program.specs.declared.code.functions.Function.{Function}
+use Rattle.grain_program.specs.declared.code.parts.Chunk.{Chunk}
 use Rattle.grain_program.specs.Effects.{takes_of, gives_of, leads_of}
-use Rattle.grain_program.specs.TypedAt.{IsTypedAt}
+use Rattle.grain_program.specs.TypedAt.{IsTypedAt, Verified}
 use Rattle.grain_program.specs.Reading.{op_at}
 use Rattle.grain_program.specs.Typing.{In}
 use Rattle.grain_program.specs.View.{View}
 use Rattle.grain_global.specs.declared.engines.Engine.{Engine}
-use Rattle.grain_stack.specs.Views.{innermost}
+use Rattle.grain_stack.specs.Views.{innermost, without_frame}
 use Rattle.grain_means.specs.Worlds.{Go, End, Then, Answer, Came, Failed, Frame, InFrame, Place}
 use Rattle.grain_means.specs.Rules.{leave_by_fault, instr, or_return, frame_at, resume_caller, without}
 use Rattle.grain_means.specs.Simulation.{LocalState, Computation, Simulates, SimulatesExactly}
@@ -23,8 +25,13 @@ use Rattle.grain_frame.specs.Counts.{Counts}
 use Rattle.grain_frame.specs.declared.activations.Activation.{Activation}
 use Rattle.grain_frame.specs.declared.runs.Run.{Run}
 use Rattle.grain_frame.specs.declared.runs.Progress.{Progress}
-use Rattle.grain_frame.specs.declared.runs.Progress.TheVariants.{Continues, Finished}
-use Rattle.grain_frame.specs.declared.calls.Outer.{Outer}
+use Rattle.grain_frame.specs.declared.runs.Progress.TheVariants as progress
+use Rattle.grain_frame.specs.declared.runs.FrameEnd.{FrameEnd}
+use Rattle.grain_frame.specs.declared.runs.FrameEnd.TheVariants as frame_end
+use Rattle.grain_frame.specs.declared.loops.Attempt.{Attempt}
+use Rattle.grain_frame.specs.declared.loops.Attempt.TheVariants as attempt
+use Rattle.grain_frame.specs.declared.loops.Pending.{Pending}
+use Rattle.grain_frame.specs.declared.loops.Pending.TheVariants as pending
 
 -- the world's parts that a run has
 abbrev pub abstraction : {H : Type 0} → Run H → Counts → H → LocalState H
@@ -50,16 +57,28 @@ abbrev pub is_out : {A : Type 0} → Result A OutOfMemory → Bool
 is_out (Ok x) = false
 is_out (Err e) = true
 
--- a frame that is over: it gave a value, or a fault leaves it
-abbrev pub frame_exit : {H : Type 0} → Result Dynamic EvalAltResult → (Option Place → Frame) → Computation H
-frame_exit (Ok v) f m place w = End (Came v) w
-frame_exit (Err x) f m place w = leave_by_fault m None (f place) (problem_of x) w
+-- a frame at the entry of a chunk, on a scope of this length
+abbrev pub entry_of : Chunk → ℕ → Activation
+entry_of c size = record { chunk = c; address = c.entry; base = size; floor = size }
 
--- where an instruction led; what came out of a frame that is over lies in the run
-abbrev pub continuation : {H : Type 0} → Result Progress OutOfMemory → Result Dynamic EvalAltResult → (Option Place → Frame) → Computation H
-continuation (Ok Continues) outcome f m place w = Go (InFrame (f place)) w
-continuation (Ok Finished) outcome f m place w = frame_exit outcome f m place w
-continuation (Err e) outcome f m place w = leave_by_fault m None (f place) NoMemory w
+-- Where an instruction led. The value of a frame that is over is its last operand, and a fault lies
+-- in the run.
+abbrev pub continuation : {H : Type 0} → Result Progress OutOfMemory → EvalAltResult →
+    (Option Place → Frame) → Computation H
+continuation (Ok progress.Continues) x f m place w = Go (InFrame (f place)) w
+continuation (Ok progress.Returned) x f m place w = End (Came (top (f place).operands).value) w
+continuation (Ok progress.Failed) x f m place w =
+    leave_by_fault m None (f place) (problem_of x) w
+continuation (Err e) x f m place w = leave_by_fault m None (f place) NoMemory w
+
+-- what a frame that is over gave
+abbrev pub frame_answer : {H : Type 0} → Result FrameEnd OutOfMemory → Run H → Answer
+frame_answer (Ok frame_end.Value) s = Came (top s.stacks.operands).value
+frame_answer (Ok frame_end.Fault) s = Failed (problem_of s.fault)
+frame_answer (Err e) s = Failed NoMemory
+
+abbrev pub frame_over : {H : Type 0} → Result FrameEnd OutOfMemory → Run H → Computation H
+frame_over r s m place w = End (frame_answer r s) w
 
 -- a run that is over
 abbrev pub answer_of : Result (Result Dynamic EvalAltResult) OutOfMemory → Answer
@@ -77,8 +96,8 @@ instruction_here f m place w =
 
 -- a fault is raised, unless memory is out
 abbrev pub Raises : {H : Type 0} → Run H → Counts → EvalAltResult → Result Progress OutOfMemory → Run H → Counts → Type 0
-Raises s n x (Ok progress) s' n' =
-    (progress ≡ Finished) × (s' ≡ record s { outcome = Err x }) × (n' ≡ record n { passed = n.passed + 1 })
+Raises s n x (Ok p) s' n' =
+    (p ≡ progress.Failed) × (s' ≡ record s { fault = x }) × (n' ≡ record n { passed = n.passed + 1 })
 Raises s n x (Err e) s' n' = (s' ≡ s) × (n' ≡ n)
 
 -- where a try did what it tried, and where it did not
@@ -97,12 +116,14 @@ Progresses engine s f s' f' =
 
 -- the frame goes on at one of these addresses with this number of operands; it takes an operation or lies further on
 abbrev pub ContinuesAt : {H : Type 0} → Engine → Run H → Activation → Run H → Activation → List ℕ → ℕ → Result Progress OutOfMemory → Type 0
-ContinuesAt engine s f s' f' targets height (Ok Continues) =
+ContinuesAt engine s f s' f' targets height (Ok progress.Continues) =
     In f'.address targets × (length s'.stacks.operands ≡ height) × Progresses engine s f s' f'
-ContinuesAt engine s f s' f' targets height (Ok Finished) = Unit {0}
+ContinuesAt engine s f s' f' targets height (Ok progress.Returned) = Unit {0}
+ContinuesAt engine s f s' f' targets height (Ok progress.Failed) = Unit {0}
 ContinuesAt engine s f s' f' targets height (Err e) = Unit {0}
 
--- the frame is the same but for its address and its floor, and the frames around it are as they were
+-- the frame is the same but for its address and its floor, the frames around it are as they were,
+-- with their scopes, and the level is the same
 pub record KeepsFrame {H : Type 0} (f : Activation) (s : Run H) (f' : Activation) (s' : Run H) : Type 0 where
   pub chunk : f'.chunk ≡ f.chunk
   pub base : f'.base ≡ f.base
@@ -110,6 +131,8 @@ pub record KeepsFrame {H : Type 0} (f : Activation) (s : Run H) (f' : Activation
   pub room : s'.stacks.room ≡ s.stacks.room
   pub noted : s'.stacks.noted ≡ s.stacks.noted
   pub outer : s'.stacks.outer ≡ s.stacks.outer
+  pub saved : s'.saved ≡ s.saved
+  pub level : s'.level ≡ s.level
   pub later : s.count ≤ s'.count
 
 -- an instruction can begin in the frame: its operands and the room for what it gives are there
@@ -121,7 +144,7 @@ pub record Ready {H : Type 0} (f : Activation) (s : Run H) (o : Op) (next : ℕ)
 
 -- the code did what a rule says: it goes on at one of the targets with this number of operands, or the frame is over
 pub record Implements {H : Type 0} (program : View) (engine : Engine) (f : Activation) (s : Run H) (n : Counts) (rule : Computation H) (targets : List ℕ) (height : ℕ) (result : Result Progress OutOfMemory) (f' : Activation) (s' : Run H) (n' : Counts) (host : H) : Type 0 where
-  pub same : SimulatesExactly (setup program engine) (abstraction s n host) rule (is_out result) (abstraction s' n' host) (continuation result s'.outcome (frame_in f' s'))
+  pub same : SimulatesExactly (setup program engine) (abstraction s n host) rule (is_out result) (abstraction s' n' host) (continuation result s'.fault (frame_in f' s'))
   pub kept : KeepsFrame f s f' s'
   pub lands : ContinuesAt engine s f s' f' targets height result
   pub before : n'.before ≡ n.before
@@ -141,49 +164,72 @@ pub record Runs {H : Type 0} (program : View) (f : Activation) (s : Run H) : Typ
 
 -- if the frame goes on, it stands where the typing knows it
 abbrev pub StaysTyped : {H : Type 0} → View → Engine → Run H → Activation → Run H → Activation → Result Progress OutOfMemory → Type 0
-StaysTyped p engine s f s' f' (Ok Continues) =
+StaysTyped p engine s f s' f' (Ok progress.Continues) =
     IsTypedAt p f'.chunk f'.address (length s'.stacks.operands) × Progresses engine s f s' f' × (f.address < 16777216)
-StaysTyped p engine s f s' f' (Ok Finished) = Unit {0}
+StaysTyped p engine s f s' f' (Ok progress.Returned) = Unit {0}
+StaysTyped p engine s f s' f' (Ok progress.Failed) = Unit {0}
 StaysTyped p engine s f s' f' (Err e) = Unit {0}
 
--- nothing of a call has begun: the scope and the frames are as they were, but for the arguments
+-- nothing of a call has begun: the scopes, the level and the frames are as they were, but for the
+-- arguments
 pub record CallNotEntered {H : Type 0} (s s' : Run H) : Type 0 where
   pub scope : s'.scope ≡ s.scope
+  pub saved : s'.saved ≡ s.saved
+  pub level : s'.level ≡ s.level
   pub room : s'.stacks.room ≡ s.stacks.room
   pub noted : s'.stacks.noted ≡ s.stacks.noted
   pub outer : s'.stacks.outer ≡ s.stacks.outer
 
--- A call has begun: its operation is taken, its frame is entered, around which the caller's stands without the
--- arguments, and the caller's scope and level are put aside.
-pub record CallEntered {H : Type 0} (engine : Engine) (g : Function) (s s' : Run H) (o : Outer) : Type 0 where
-  pub scope : o.scope ≡ s.scope
-  pub level : o.level ≡ s.level
-  pub caller : s'.stacks.outer ≡ record (innermost s.stacks) { operands = under (length g.params) s.stacks.operands } ∷ s.stacks.outer
+-- A call has begun: its operation is taken, its frame is entered, around which the caller's stands
+-- without the arguments, the caller's scope is put aside, and the level is one higher.
+pub record CallEntered {H : Type 0} (engine : Engine) (g : Function) (s s' : Run H) : Type 0 where
+  pub saved : s'.saved ≡ s.saved ++ s.scope ∷ []
+  pub level : s'.level ≡ s.level + 1
+  pub caller : s'.stacks.outer
+      ≡ record (innermost s.stacks) { operands = under (length g.params) s.stacks.operands }
+      ∷ s.stacks.outer
   pub operands : s'.stacks.operands ≡ []
   pub room : s'.stacks.room ≡ g.chunk.max_stack
   pub unnoted : s'.stacks.noted ≡ false
   pub count : s'.count ≡ s.count + 1
   pub allowed : s.count < engine.limits.operations
 
-abbrev pub EnterResult : {H : Type 0} → Engine → Function → Run H → Run H → Result (Option Outer) OutOfMemory → Type 0
-EnterResult engine g s s' (Ok (Some o)) = CallEntered engine g s s' o
-EnterResult engine g s s' (Ok None) = CallNotEntered s s'
+abbrev pub EnterResult : {H : Type 0} → Engine → Function → Run H → Run H →
+    Result Bool OutOfMemory → Type 0
+EnterResult engine g s s' (Ok true) = CallEntered engine g s s'
+EnterResult engine g s s' (Ok false) = CallNotEntered s s'
 EnterResult engine g s s' (Err e) = CallNotEntered s s'
 
--- what is to be done once a call has begun: the body, and then the caller with its answer; or a fault left the frame
-abbrev pub call_continuation : {H : Type 0} → Result (Option Outer) OutOfMemory → Result Dynamic EvalAltResult → Function → (Option Place → Frame) → ℕ → Computation H
-call_continuation (Ok (Some o)) outcome g f next m place w =
-    Then (Go (InFrame (frame_at g.chunk 0 None)) w) (λ a w2. resume_caller m g (f place) next a (record w2 { scope = o.scope; level = o.level }))
-call_continuation (Ok None) outcome g f next m place w = frame_exit outcome f m place w
-call_continuation (Err e) outcome g f next m place w = leave_by_fault m None (f place) NoMemory w
+-- What is to be done once a call has begun, from the states before and after: the body, and then
+-- the caller with its answer; or a fault left the frame.
+abbrev pub call_continuation : {H : Type 0} → Result Bool OutOfMemory → (old new : Run H) →
+    Function → (Option Place → Frame) → ℕ → Computation H
+call_continuation (Ok true) s s' g f next m place w =
+    Then (Go (InFrame (frame_at g.chunk 0 None)) w)
+    (λ a w2. resume_caller m g (f place) next a (record w2 { scope = s.scope; level = s.level }))
+call_continuation (Ok false) s s' g f next m place w =
+    leave_by_fault m None (f place) (problem_of s'.fault) w
+call_continuation (Err e) s s' g f next m place w = leave_by_fault m None (f place) NoMemory w
+
+-- the run of the frame around the innermost one, which is left
+abbrev pub caller_of : {H : Type 0} → Run H → Run H
+caller_of s = record s {
+  stacks = without_frame s.stacks.outer s.stacks;
+  scope = slice_index_or s.saved (length s.saved - 1) [];
+  saved = take (length s.saved - 1) s.saved;
+  level = s.level - 1;
+}
 
 -- the caller's frame after a call: where it goes on, it has one operand more
-abbrev pub CallReturned : {H : Type 0} → Activation → Run H → Activation → Run H → ℕ → Result Progress OutOfMemory → Type 0
-CallReturned f s f' s' next (Ok Continues) =
-    (f' ≡ record f { address = next }) × (length s'.stacks.operands ≡ length s.stacks.operands + 1) ×
+abbrev pub CallReturned : {H : Type 0} → Activation → Run H → Activation → Run H → ℕ →
+    Result Progress OutOfMemory → Type 0
+CallReturned f s f' s' next (Ok progress.Continues) =
+    (f' ≡ record f { address = next }) ×
+    (length s'.stacks.operands ≡ length s.stacks.operands + 1) ×
     (s' ≡ record s { stacks = record s.stacks { operands = s'.stacks.operands } })
-CallReturned f s f' s' next (Ok Finished) = (f' ≡ f) × (s' ≡ record s { outcome = s'.outcome })
-CallReturned f s f' s' next (Err e) = (f' ≡ f) × (s' ≡ record s { outcome = s'.outcome })
+CallReturned f s f' s' next (Ok progress.Returned) = ⊥
+CallReturned f s f' s' next (Ok progress.Failed) = (f' ≡ f) × (s' ≡ record s { fault = s'.fault })
+CallReturned f s f' s' next (Err e) = (f' ≡ f) × (s' ≡ record s { fault = s'.fault })
 
 -- a try that did nothing changed nothing
 abbrev pub Unchanged : {H : Type 0} → Activation → Run H → Counts → Activation → Run H → Counts → Type 0
@@ -192,7 +238,38 @@ Unchanged f s n f' s' n' = (s' ≡ s) × (f' ≡ f) × (n' ≡ n)
 -- One instruction of a frame: the code did it, the frames around it are as they were, and if the frame goes on, it
 -- stands where the typing knows it.
 pub record Stepped {H : Type 0} (program : View) (engine : Engine) (f : Activation) (s : Run H) (n : Counts) (result : Result Progress OutOfMemory) (f' : Activation) (s' : Run H) (n' : Counts) (host host' : H) : Type 0 where
-  pub goes : Simulates (setup program engine) (abstraction s n host) (instruction_here (frame_in f s)) (is_out result) (abstraction s' n' host') (continuation result s'.outcome (frame_in f' s'))
+  pub goes : Simulates (setup program engine) (abstraction s n host) (instruction_here (frame_in f s)) (is_out result) (abstraction s' n' host') (continuation result s'.fault (frame_in f' s'))
   pub kept : KeepsFrame f s f' s'
   pub stays : StaysTyped program engine s f s' f' result
   pub before : n'.before ≡ n.before
+
+-- the frame stands at a call of the function with this name and this number of arguments
+pub record StandsAtCall {H : Type 0} (program : View) (f : Activation) (s : Run H) (name count next : ℕ) : Type 0 where
+  pub width : ℕ
+  pub read : op_at program.code f.address ≡ Some (op.Call name count, width)
+  pub next_is : next ≡ f.address + width
+  pub seen : Verified program f.chunk f.address (length s.stacks.operands) (op.Call name count) width
+
+-- the instruction at which the frame stands is no call
+abbrev pub CallsNothing : View → Activation → Type 0
+CallsNothing program f =
+    (name count width : ℕ) → op_at program.code f.address ≡ Some (op.Call name count, width) → ⊥
+
+-- what is known of an instruction that is still to be done
+abbrev pub IsPending : {H : Type 0} → View → Activation → Run H → Pending → Type 0
+IsPending program f s (pending.Call name count next) = StandsAtCall program f s name count next
+IsPending program f s pending.Other = CallsNothing program f
+
+-- What came of an instruction that the loop tried first: it is done, or nothing was done.
+abbrev pub Attempted : {H : Type 0} → View → Engine → Activation → Run H → Counts → Activation →
+    Run H → Counts → Attempt → Type 0
+Attempted {H = H} program engine f s n f' s' n' attempt.Done =
+    (host : H) → Stepped program engine f s n (Ok progress.Continues) f' s' n' host host
+Attempted {H = H} program engine f s n f' s' n' attempt.Returned =
+    (host : H) → Stepped program engine f s n (Ok progress.Returned) f' s' n' host host
+Attempted program engine f s n f' s' n' (attempt.Pending p) =
+    Unchanged f s n f' s' n' × IsPending program f s p
+
+abbrev pub attempt_of : Bool → Attempt
+attempt_of true = attempt.Done
+attempt_of false = attempt.Pending pending.Other

@@ -1,132 +1,146 @@
 //! How a call begins and ends.
 
-ghost use Rattle.std.specs.Prelude.{ℕ, ◌≡◌, ◌<◌, ◌≤◌, ◌+◌, ◌-◌, ◌∷◌, [], length, nat_le, MatchOption, true, false, Ok, Err, IfOk, OnOk, is_ok, if◌then◌else◌};
+ghost use Rattle.std.specs.Prelude.{ℕ, ◌≡◌, ◌<◌, ◌≤◌, ◌+◌, ◌-◌, ◌++◌, ◌∷◌, [], length, take, Ok, OnOk, OnErr, IfOk, List, MatchOption, nat_le, true, false};
 ghost use Rattle.grain_program.specs.Indices.{IsNamed};
 ghost use Rattle.grain_fault.specs.Problems.{problem_of};
 ghost use Rattle.grain_value.specs.Operands.{arguments, under};
-ghost use Rattle.grain_stack.specs.Views.{without_frame};
+ghost use Rattle.grain_stack.specs.Views.{StackFrame, innermost, with_frame, without_frame};
 ghost use Rattle.grain_means.specs.Rules.{without, bound, enter_function, resume_caller, propagate};
 ghost use Rattle.grain_means.specs.Simulation.{SimulatesExactly, StopPersists};
 ghost use Rattle.grain_means.specs.Means.{setup};
-ghost use Rattle.grain_frame.specs.Abstraction.{abstraction, frame_in, is_out, continuation, answer_of, call_continuation, EnterResult, CallReturned};
+ghost use Rattle.grain_frame.specs.Abstraction.{abstraction, frame_in, is_out, continuation, frame_answer, call_continuation, caller_of, EnterResult, CallReturned};
 
 use crate::activations::Activation;
 use crate::contexts::Context;
-use crate::runs::{Progress, Run};
+use crate::runs::{FrameEnd, Progress, Run};
 use crate::steps::Steps;
-use grain_fault::{EvalAltResult, RhaiResult};
+use grain_fault::EvalAltResult;
 use grain_program::Function;
-use grain_value::{Held, OutOfMemory, Scope, Text};
-use std::mem;
+use grain_value::{OutOfMemory, Text};
 use std::sync::ledger::Ledger;
 
-/// What a call puts aside and gives back to its caller.
-#[derive(Drop)]
-pub struct Outer {
-    pub scope: Scope,
-    pub level: usize,
-}
-
 impl<H> Run<H> {
-    // A scope of a function's arguments, the last operands, which the frame then has no more.
-    fn take_arguments(
-        &mut self,
-        context: Context<'_>,
-        function: &Function,
-    ) -> Result<Scope, OutOfMemory>
-        requires operands { length function.now.params ≤ length self.old.stacks.operands }
-        requires named { IsNamed context.program.now function.now }
-        ensures scope { IfOk result (λ scope. scope ≡ bound context.entry.program.now function.now.params (arguments (length function.now.params) self.old.stacks.operands)) }
-        ensures taken { OnOk result (self.new.stacks.operands ≡ under (length function.now.params) self.old.stacks.operands) }
-        ensures others { self.new ≡ record self.old { stacks = record self.old.stacks { operands = self.new.stacks.operands } } }
-    {
-        let params = function.params.as_slice();
-        let first = self.stacks.height() - params.len();
-        let mut scope = self.spares.take(self.alloc);
-        'bind: for (index, param) in params.iter().enumerate() {
-            let name = context.program.name(*param).copy(self.alloc)?;
-            let value = self.stacks.take_at(first + index);
-            scope.push(name, Held::read_write(value))?;
-        }
-        self.stacks.cut(first);
-        Ok(scope)
-    }
-
-    // Begins a call: it is charged, the level and the variables are tested, and its scope is made and its frame entered.
-    // Without what it puts aside a fault leaves the frame.
+    // Begins a call: it is charged, the level and the variables are tested, the arguments become
+    // the entries of a new scope, and the function's frame is entered. It says whether the frame is
+    // entered; if not, a fault leaves the caller's.
+    #[inline(always)]
     pub(crate) fn begin<L: Ledger>(
         &mut self,
         context: Context<'_>,
         steps: &mut Steps<L>,
         frame: &Activation,
         function: &Function,
-    ) -> Result<Option<Outer>, OutOfMemory>
+    ) -> Result<bool, OutOfMemory>
         requires operands { length function.now.params ≤ length self.old.stacks.operands }
         requires named { IsNamed context.program.now function.now }
         ensures same { (next : ℕ) (host : H) → SimulatesExactly (setup context.entry.program.now context.entry.engine.now) (abstraction self.old steps.old host)
             (λ m place w. enter_function m function.now (arguments (length function.now.params) self.old.stacks.operands) (without (length function.now.params) (frame_in frame.now self.old place)) next w)
-            (is_out result) (abstraction self.new steps.new host) (call_continuation result self.new.outcome function.now (λ place. without (length function.now.params) (frame_in frame.now self.old place)) next) }
+            (is_out result) (abstraction self.new steps.new host) (call_continuation result self.old self.new function.now (λ place. without (length function.now.params) (frame_in frame.now self.old place)) next) }
         ensures enters { EnterResult context.entry.engine.now function.now self.old self.new result }
         ensures later { self.old.count ≤ self.new.count }
         ensures before { steps.new.before ≡ steps.old.before }
     {
         if !self.charge(context.engine) {
-            self.too_many_operations(context, steps, frame);
-            return Ok(None);
+            self.too_many_operations(context, steps, frame.address);
+            return Ok(false);
         }
         steps.mark();
         let Some(level) = deeper(self.level, context.engine.limits.levels) else {
-            self.stack_overflow(context, steps, frame);
-            return Ok(None);
+            self.stack_overflow(context, steps, frame.address);
+            return Ok(false);
         };
         if function.params.len() > context.engine.limits.variables {
-            self.too_many_variables(context, steps, frame);
-            return Ok(None);
+            self.too_many_variables(context, steps, frame.address);
+            return Ok(false);
         }
-        let scope = self.take_arguments(context, function)?;
-        self.stacks.enter(function.chunk.max_stack)?;
+        self.enter_function(context, function)?;
         steps.mark();
-        let outer = Outer {
-            scope: mem::replace(&mut self.scope, scope),
-            level: self.level,
-        };
         self.level = level;
-        Ok(Some(outer))
+        Ok(true)
     }
 
-    // Leaves the frame of a called function: its operands go, and its caller's scope and level are back.
+    // The scope is put aside, the last operands become the entries of a new one, and the
+    // function's frame is entered. After want of memory only the operands may differ.
     #[inline(always)]
-    pub(crate) fn leave_to(&mut self, outer: Outer)
-        requires entered { 0 < length self.old.stacks.outer }
-        ensures { self.new ≡ record self.old { stacks = without_frame self.old.stacks.outer self.old.stacks; scope = outer.scope; level = outer.level } }
+    fn enter_function(
+        &mut self,
+        context: Context<'_>,
+        function: &Function,
+    ) -> Result<(), OutOfMemory>
+        requires operands { length function.now.params ≤ length self.old.stacks.operands }
+        requires named { IsNamed context.program.now function.now }
+        ensures entered { OnOk result (self.new ≡ record self.old {
+          stacks = with_frame function.now.chunk.max_stack (record self.old.stacks {
+            operands = under (length function.now.params) self.old.stacks.operands;
+          });
+          scope = bound context.entry.program.now function.now.params
+              (arguments (length function.now.params) self.old.stacks.operands);
+          saved = self.old.saved ++ self.old.scope ∷ [];
+        }) }
+        ensures refused { OnErr result (self.new ≡ record self.old {
+          stacks = record self.old.stacks { operands = self.new.stacks.operands };
+        }) }
     {
-        self.stacks.leave();
-        let inner = mem::replace(&mut self.scope, outer.scope);
-        self.spares.keep(inner);
-        self.level = outer.level;
+        self.saved.save(&mut self.scope)?;
+        match self.bind(context, function) {
+            Ok(()) => Ok(()),
+            Err(e) => {
+                self.saved.restore(&mut self.scope);
+                Err(e)
+            }
+        }
     }
 
-    // A fault that left the body of a function leaves its caller's frame too: a system exception at the position of the
-    // call, and any other with the function that it left.
+    // The last operands become the entries of the scope, which is empty, and the function's frame
+    // is entered. After want of memory only the operands and the scope may differ.
+    #[inline(always)]
+    fn bind(&mut self, context: Context<'_>, function: &Function) -> Result<(), OutOfMemory>
+        requires empty { self.old.scope ≡ [] }
+        requires operands { length function.now.params ≤ length self.old.stacks.operands }
+        requires named { IsNamed context.program.now function.now }
+        ensures entered { OnOk result (self.new ≡ record self.old {
+          stacks = with_frame function.now.chunk.max_stack (record self.old.stacks {
+            operands = under (length function.now.params) self.old.stacks.operands;
+          });
+          scope = bound context.entry.program.now function.now.params
+              (arguments (length function.now.params) self.old.stacks.operands);
+        }) }
+        ensures refused { OnErr result (self.new ≡ record self.old {
+          stacks = record self.old.stacks { operands = self.new.stacks.operands };
+          scope = self.new.scope;
+        }) }
+    {
+        let params = function.params.as_slice();
+        self.stacks
+            .bind_arguments(params, context.program.names(), &mut self.scope)?;
+        self.stacks.enter(function.chunk.max_stack)
+    }
+
+    // A fault that left the body of a function leaves its caller's frame too: a system exception at
+    // the position of the call, and any other with the function that it left.
     #[cold]
+    #[inline(never)]
     fn propagate<L: Ledger>(
         &mut self,
         context: Context<'_>,
         steps: &mut Steps<L>,
-        frame: &Activation,
+        frame: Activation,
         function: &Function,
-        fault: EvalAltResult,
     ) -> Result<Progress, OutOfMemory>
         requires named { IsNamed context.program.now function.now }
-        ensures same { (host : H) → SimulatesExactly (setup context.entry.program.now context.entry.engine.now) (abstraction self.old steps.old host)
-            (λ m place w. propagate m function.now (frame_in frame.now self.old place) (problem_of fault) w)
-            (is_out result) (abstraction self.new steps.new host) (continuation result self.new.outcome (frame_in frame.now self.new)) }
-        ensures over { IfOk result (λ progress. progress ≡ Progress.Finished) }
-        ensures others { self.new ≡ record self.old { outcome = self.new.outcome } }
+        ensures same { (host : H) → SimulatesExactly
+            (setup context.entry.program.now context.entry.engine.now)
+            (abstraction self.old steps.old host)
+            (λ m place w. propagate m function.now (frame_in frame self.old place)
+            (problem_of self.old.fault) w)
+            (is_out result) (abstraction self.new steps.new host)
+            (continuation result self.new.fault (frame_in frame self.new)) }
+        ensures over { IfOk result (λ p. p ≡ Progress.Failed) }
+        ensures others { self.new ≡ record self.old { fault = self.new.fault } }
         ensures before { steps.new.before ≡ steps.old.before }
     {
-        let mut fault = fault;
         let position = context.program.position(frame.address);
+        let mut fault = self.take_fault();
         if fault.is_system_exception() {
             fault.set_position(position);
             return Ok(self.depart(fault));
@@ -138,7 +152,8 @@ impl<H> Run<H> {
         Ok(self.raise(steps, fault))
     }
 
-    // A called function is over, and its caller goes on with its answer.
+    // A called function is over: its frame is left, its caller's scope and level are back, and its
+    // caller goes on with its answer.
     #[inline(always)]
     pub(crate) fn resume_caller<L: Ledger>(
         &mut self,
@@ -146,36 +161,55 @@ impl<H> Run<H> {
         steps: &mut Steps<L>,
         frame: &mut Activation,
         function: &Function,
-        back: Result<RhaiResult, OutOfMemory>,
+        end: Result<FrameEnd, OutOfMemory>,
         next: usize,
     ) -> Result<Progress, OutOfMemory>
-        requires room { length self.old.stacks.operands < self.old.stacks.room }
+        requires entered { 0 < length self.old.stacks.outer }
+        requires waits { 0 < length self.old.saved }
+        requires called { 0 < self.old.level }
+        requires room { (first : StackFrame) (others : List StackFrame)
+            → self.old.stacks.outer ≡ first ∷ others → length first.operands < first.room }
         requires named { IsNamed context.program.now function.now }
-        ensures same { (host : H) → SimulatesExactly (setup context.entry.program.now context.entry.engine.now) (abstraction self.old steps.old host)
-            (λ m place w. resume_caller m function.now (frame_in frame.old self.old place) next (answer_of back) w)
-            (is_out result) (abstraction self.new steps.new host) (continuation result self.new.outcome (frame_in frame.new self.new)) }
-        ensures persists { StopPersists (is_out back) steps.old.passed (is_out result) steps.new.passed }
-        ensures returned { CallReturned frame.old self.old frame.new self.new next result }
+        ensures same { (host : H) → SimulatesExactly
+            (setup context.entry.program.now context.entry.engine.now)
+            (abstraction (caller_of self.old) steps.old host)
+            (λ m place w. resume_caller m function.now
+            (frame_in frame.old (caller_of self.old) place) next
+            (frame_answer end self.old) w)
+            (is_out result) (abstraction self.new steps.new host)
+            (continuation result self.new.fault (frame_in frame.new self.new)) }
+        ensures persists { StopPersists (is_out end) steps.old.passed (is_out result) steps.new.passed }
+        ensures returned { CallReturned frame.old (caller_of self.old) frame.new self.new next result }
         ensures before { steps.new.before ≡ steps.old.before }
     {
-        match back {
-            Ok(done) => match done {
-                Ok(value) => {
-                    self.stacks.push(Held::read_write(value));
+        self.saved.restore(&mut self.scope);
+        self.level -= 1;
+        match end {
+            Ok(end) => match end {
+                FrameEnd::Value => {
+                    self.stacks.leave_with_value();
                     frame.address = next;
                     steps.mark();
                     Ok(Progress::Continues)
                 }
-                Err(fault) => self.propagate(context, steps, frame, function, fault),
+                FrameEnd::Fault => {
+                    self.stacks.leave();
+                    self.propagate(context, steps, *frame, function)
+                }
             },
-            Err(e) => Err(e),
+            Err(e) => {
+                self.stacks.leave();
+                Err(e)
+            }
         }
     }
 }
 
 // One level more, if the limit allows it.
+#[inline(always)]
 fn deeper(level: usize, levels: usize) -> Option<usize>
-    ensures { MatchOption result (nat_le levels level ≡ true) (λ more. (more ≡ level + 1) × (nat_le levels level ≡ false)) }
+    ensures { MatchOption result (nat_le levels level ≡ true)
+        (λ more. (more ≡ level + 1) × (nat_le levels level ≡ false)) }
 {
     if level >= levels {
         None

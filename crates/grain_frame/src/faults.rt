@@ -10,7 +10,6 @@ ghost use Rattle.grain_fault.specs.declared.faults.MalformedKind.TheVariants as 
 ghost use Rattle.grain_means.specs.Signatures.{signature_text};
 ghost use Rattle.grain_frame.specs.Abstraction.{Raises};
 
-use crate::activations::Activation;
 use crate::contexts::Context;
 use crate::runs::{Progress, Run};
 use crate::signatures;
@@ -28,16 +27,16 @@ impl<H> Run<H> {
         &mut self,
         context: Context<'_>,
         steps: &mut Steps<L>,
-        frame: &Activation,
+        address: usize,
         index: usize,
     ) -> Progress
-        ensures { Raises self.old steps.old (fault.Malformed (kind.SlotPastScope index (length self.old.scope)) (position_of context.entry.program.now frame.now.address)) (Ok result) self.new steps.new }
+        ensures { Raises self.old steps.old (fault.Malformed (kind.SlotPastScope index (length self.old.scope)) (position_of context.entry.program.now address)) (Ok result) self.new steps.new }
     {
         let kind = MalformedKind::SlotPastScope {
             index,
             length: self.scope.len(),
         };
-        let fault = EvalAltResult::Malformed(kind, context.program.position(frame.address));
+        let fault = EvalAltResult::Malformed(kind, context.program.position(address));
         self.raise(steps, fault)
     }
 
@@ -48,11 +47,11 @@ impl<H> Run<H> {
         &mut self,
         context: Context<'_>,
         steps: &mut Steps<L>,
-        frame: &Activation,
+        address: usize,
     ) -> Progress
-        ensures { Raises self.old steps.old (fault.ErrorTooManyOperations (position_of context.entry.program.now frame.now.address)) (Ok result) self.new steps.new }
+        ensures { Raises self.old steps.old (fault.ErrorTooManyOperations (position_of context.entry.program.now address)) (Ok result) self.new steps.new }
     {
-        let position = context.program.position(frame.address);
+        let position = context.program.position(address);
         self.raise(steps, EvalAltResult::ErrorTooManyOperations(position))
     }
 
@@ -63,11 +62,11 @@ impl<H> Run<H> {
         &mut self,
         context: Context<'_>,
         steps: &mut Steps<L>,
-        frame: &Activation,
+        address: usize,
     ) -> Progress
-        ensures { Raises self.old steps.old (fault.ErrorTooManyVariables (position_of context.entry.program.now frame.now.address)) (Ok result) self.new steps.new }
+        ensures { Raises self.old steps.old (fault.ErrorTooManyVariables (position_of context.entry.program.now address)) (Ok result) self.new steps.new }
     {
-        let position = context.program.position(frame.address);
+        let position = context.program.position(address);
         self.raise(steps, EvalAltResult::ErrorTooManyVariables(position))
     }
 
@@ -78,11 +77,11 @@ impl<H> Run<H> {
         &mut self,
         context: Context<'_>,
         steps: &mut Steps<L>,
-        frame: &Activation,
+        address: usize,
     ) -> Progress
-        ensures { Raises self.old steps.old (fault.ErrorStackOverflow (position_of context.entry.program.now frame.now.address)) (Ok result) self.new steps.new }
+        ensures { Raises self.old steps.old (fault.ErrorStackOverflow (position_of context.entry.program.now address)) (Ok result) self.new steps.new }
     {
-        let position = context.program.position(frame.address);
+        let position = context.program.position(address);
         self.raise(steps, EvalAltResult::ErrorStackOverflow(position))
     }
 
@@ -93,16 +92,16 @@ impl<H> Run<H> {
         &mut self,
         context: Context<'_>,
         steps: &mut Steps<L>,
-        frame: &Activation,
+        address: usize,
         target: usize,
     ) -> Progress
-        ensures { Raises self.old steps.old (fault.Malformed (kind.UnwindPastScope target (length self.old.scope)) (position_of context.entry.program.now frame.now.address)) (Ok result) self.new steps.new }
+        ensures { Raises self.old steps.old (fault.Malformed (kind.UnwindPastScope target (length self.old.scope)) (position_of context.entry.program.now address)) (Ok result) self.new steps.new }
     {
         let kind = MalformedKind::UnwindPastScope {
             target,
             length: self.scope.len(),
         };
-        let fault = EvalAltResult::Malformed(kind, context.program.position(frame.address));
+        let fault = EvalAltResult::Malformed(kind, context.program.position(address));
         self.raise(steps, fault)
     }
 
@@ -113,18 +112,18 @@ impl<H> Run<H> {
         &mut self,
         context: Context<'_>,
         steps: &mut Steps<L>,
-        frame: &Activation,
+        address: usize,
         name: u16,
         count: usize,
     ) -> Result<Progress, OutOfMemory>
         requires operands { count ≤ length self.old.stacks.operands }
         requires pool { name < length context.program.now.names }
-        ensures { Raises self.old steps.old (fault.ErrorFunctionNotFound (signature_text (name_of context.entry.program.now name) (values_in (arguments count self.old.stacks.operands))) (position_of context.entry.program.now frame.now.address)) result self.new steps.new }
+        ensures { Raises self.old steps.old (fault.ErrorFunctionNotFound (signature_text (name_of context.entry.program.now name) (values_in (arguments count self.old.stacks.operands))) (position_of context.entry.program.now address)) result self.new steps.new }
     {
         let name = context.program.name(u32::from(name));
         let operands = self.stacks.frame_operands();
         let text = signatures::signature(self.alloc, name, &operands[operands.len() - count..])?;
-        let position = context.program.position(frame.address);
+        let position = context.program.position(address);
         Ok(self.raise(steps, EvalAltResult::ErrorFunctionNotFound(text, position)))
     }
 
@@ -135,14 +134,14 @@ impl<H> Run<H> {
         &mut self,
         context: Context<'_>,
         steps: &mut Steps<L>,
-        frame: &Activation,
+        address: usize,
         name: u16,
     ) -> Result<Progress, OutOfMemory>
         requires { name < length context.program.now.names }
-        ensures { Raises self.old steps.old (fault.ErrorAssignmentToConstant (name_of context.entry.program.now name) (position_of context.entry.program.now frame.now.address)) result self.new steps.new }
+        ensures { Raises self.old steps.old (fault.ErrorAssignmentToConstant (name_of context.entry.program.now name) (position_of context.entry.program.now address)) result self.new steps.new }
     {
         let name = context.program.name(u32::from(name)).copy(self.alloc)?;
-        let position = context.program.position(frame.address);
+        let position = context.program.position(address);
         Ok(self.raise(
             steps,
             EvalAltResult::ErrorAssignmentToConstant(name, position),
@@ -156,14 +155,14 @@ impl<H> Run<H> {
         &mut self,
         context: Context<'_>,
         steps: &mut Steps<L>,
-        frame: &Activation,
+        address: usize,
     ) -> Result<Progress, OutOfMemory>
         requires { 0 < length self.old.stacks.operands }
-        ensures { Raises self.old steps.old (fault.ErrorMismatchDataType (codes "bool") (type_name_of (top self.old.stacks.operands).value) (position_of context.entry.program.now frame.now.address)) result self.new steps.new }
+        ensures { Raises self.old steps.old (fault.ErrorMismatchDataType (codes "bool") (type_name_of (top self.old.stacks.operands).value) (position_of context.entry.program.now address)) result self.new steps.new }
     {
         let requested = Text::copy_of(self.alloc, "bool")?;
         let actual = self.stacks.top().value.type_name(self.alloc)?;
-        let position = context.program.position(frame.address);
+        let position = context.program.position(address);
         let fault = EvalAltResult::ErrorMismatchDataType(requested, actual, position);
         Ok(self.raise(steps, fault))
     }
@@ -175,12 +174,12 @@ impl<H> Run<H> {
         &mut self,
         context: Context<'_>,
         steps: &mut Steps<L>,
-        frame: &Activation,
+        address: usize,
         text: Text,
     ) -> Progress
-        ensures { Raises self.old steps.old (fault.ErrorArithmetic text (position_of context.entry.program.now frame.now.address)) (Ok result) self.new steps.new }
+        ensures { Raises self.old steps.old (fault.ErrorArithmetic text (position_of context.entry.program.now address)) (Ok result) self.new steps.new }
     {
-        let position = context.program.position(frame.address);
+        let position = context.program.position(address);
         self.raise(steps, EvalAltResult::ErrorArithmetic(text, position))
     }
 }
@@ -190,15 +189,15 @@ impl<H> Run<H> {
 pub(crate) fn pair_not_found(
     alloc: Global,
     context: Context<'_>,
-    frame: &Activation,
+    address: usize,
     name: u32,
     target: &Dynamic,
     value: &Dynamic,
 ) -> Result<EvalAltResult, OutOfMemory>
     requires { name < length context.program.now.names }
-    ensures { IfOk result (λ f. f ≡ fault.ErrorFunctionNotFound (signature_text (name_of context.entry.program.now name) (target.now ∷ value.now ∷ [])) (position_of context.entry.program.now frame.now.address)) }
+    ensures { IfOk result (λ f. f ≡ fault.ErrorFunctionNotFound (signature_text (name_of context.entry.program.now name) (target.now ∷ value.now ∷ [])) (position_of context.entry.program.now address)) }
 {
     let name = context.program.name(name);
     let text = signatures::pair_signature(alloc, name, target, value)?;
-    Ok(EvalAltResult::ErrorFunctionNotFound(text, context.program.position(frame.address)))
+    Ok(EvalAltResult::ErrorFunctionNotFound(text, context.program.position(address)))
 }

@@ -12,8 +12,8 @@ mod operands;
 mod operated;
 mod quick;
 mod runs;
+mod saved;
 mod signatures;
-mod spares;
 mod steps;
 mod transfers;
 

@@ -39,7 +39,7 @@ impl<H> Run<H> {
                 steps.mark();
                 Ok(Progress::Continues)
             }
-            None => { Ok(self.slot_past_scope(context, steps, frame, index)) }
+            None => { Ok(self.slot_past_scope(context, steps, frame.address, index)) }
         }
     }
 
@@ -70,7 +70,7 @@ impl<H> Run<H> {
                 steps.mark();
                 Progress::Continues
             }
-            None => { self.slot_past_scope(context, steps, frame, index) }
+            None => { self.slot_past_scope(context, steps, frame.address, index) }
         }
     }
 
@@ -92,11 +92,11 @@ impl<H> Run<H> {
             (next ∷ []) (length self.old.stacks.operands - 1 + 0) result frame.new self.new steps.new host }
     {
         if self.scope.len() >= context.engine.limits.variables {
-            return Ok(self.too_many_variables(context, steps, frame));
+            return Ok(self.too_many_variables(context, steps, frame.address));
         }
-        let name = context.program.name(u32::from(name)).copy(self.alloc)?;
+        let name = context.program.names().at(usize::from(name));
         let value = self.stacks.pop().value;
-        self.scope.push(name, Held { value, read_only })?;
+        self.scope.push_shared(name, Held { value, read_only })?;
         steps.mark();
         frame.address = next;
         steps.mark();
@@ -123,7 +123,7 @@ impl<H> Run<H> {
             Some(held) => {
                 let read_only = held.read_only;
                 if read_only {
-                    return Ok(self.assignment_to_constant(context, steps, frame, name)?);
+                    return Ok(self.assignment_to_constant(context, steps, frame.address, name)?);
                 }
                 let value = self.stacks.pop().value;
                 self.scope.set(index, Held { value, read_only });
@@ -132,7 +132,7 @@ impl<H> Run<H> {
                 steps.mark();
                 Ok(Progress::Continues)
             }
-            None => { Ok(self.slot_past_scope(context, steps, frame, index)) }
+            None => { Ok(self.slot_past_scope(context, steps, frame.address, index)) }
         }
     }
 
@@ -156,10 +156,10 @@ impl<H> Run<H> {
         let index = self.slot_index(frame, slot);
         let assign_op = context.program.assign_op(u32::from(assign_op));
         let Some(held) = self.scope.get(index) else {
-            return Ok(self.slot_past_scope(context, steps, frame, index));
+            return Ok(self.slot_past_scope(context, steps, frame.address, index));
         };
         if held.read_only {
-            return Ok(self.assignment_to_constant(context, steps, frame, name)?);
+            return Ok(self.assignment_to_constant(context, steps, frame.address, name)?);
         }
         let mut target = held.value.copy(self.alloc)?;
         let value = &self.stacks.top().value;
@@ -183,10 +183,22 @@ impl<H> Run<H> {
                 steps.mark();
                 Ok(Progress::Continues)
             }
-            OpAssigned::Arithmetic(text) => Ok(self.arithmetic(context, steps, frame, text)),
+            OpAssigned::Arithmetic(text) => Ok(self.arithmetic(
+                context,
+                steps,
+                frame.address,
+                text,
+            )),
             OpAssigned::NotBuiltIn => {
                 let name = assign_op.op_name;
-                let fault = pair_not_found(self.alloc, context, frame, name, &target, value)?;
+                let fault = pair_not_found(
+                    self.alloc,
+                    context,
+                    frame.address,
+                    name,
+                    &target,
+                    value,
+                )?;
                 Ok(self.raise(steps, fault))
             }
         }
@@ -207,7 +219,7 @@ impl<H> Run<H> {
         let length = self.scope.len();
         let target = frame.base + usize::from(depth);
         if target > length {
-            return self.unwind_past_scope(context, steps, frame, target);
+            return self.unwind_past_scope(context, steps, frame.address, target);
         }
         self.scope.rewind(target);
         frame.address = next;

@@ -1,6 +1,7 @@
 //! How a frame runs, how functions are called, and how main is entered and left.
 
 ghost use Rattle.std.specs.Prelude.{◌≡◌, ◌<◌, ◌≤◌, ◌+◌, ◌-◌, ◌++◌, ◌∷◌, [], length, take, Ok, None, true, false};
+ghost use Rattle.grain_value.specs.Operands.{top};
 ghost use Rattle.grain_program.specs.Indices.{InPools};
 ghost use Rattle.grain_program.specs.Typing.{IsProgram};
 ghost use Rattle.grain_program.specs.View.{View};
@@ -11,16 +12,51 @@ ghost use Rattle.grain_means.specs.Worlds.{Go, InFrame};
 ghost use Rattle.grain_means.specs.Rules.{called, closed, instr};
 ghost use Rattle.grain_means.specs.Simulation.{Simulates, SimulatesExactly, StopPersists};
 ghost use Rattle.grain_means.specs.Means.{setup};
-ghost use Rattle.grain_frame.specs.Abstraction.{abstraction, frame_in, is_out, finished_with, answer_of, continuation, KeepsFrame, ContinuesAt, Ready, Runs, Stepped, Unchanged, OnTrue, OnFalse};
+ghost use Rattle.grain_frame.specs.Abstraction.{abstraction, frame_in, is_out, finished_with, frame_over, frame_answer, answer_of, continuation, entry_of, KeepsFrame, ContinuesAt, Ready, Runs, Stepped, Attempted, CallsNothing, IsPending, attempt_of};
 
 use crate::activations::Activation;
 use crate::contexts::Context;
-use crate::runs::{Progress, Run};
+use crate::runs::{FrameEnd, Progress, Run};
 use crate::steps::Steps;
 use grain_fault::{Fault, RhaiResult};
-use grain_program::Op;
+use grain_program::{Chunk, Op};
 use grain_value::{Dynamic, OutOfMemory};
 use std::sync::ledger::Ledger;
+
+/// What came of an instruction that the loop tried first.
+#[derive(Clone, Copy, Debug, PartialEq, Eq)]
+pub enum Attempt {
+    /// It is done, and the frame goes on.
+    Done,
+    /// It is done, and the frame is over, with a value.
+    Returned,
+    /// Nothing was done.
+    Pending(Pending),
+}
+
+/// An instruction that is still to be done.
+#[derive(Clone, Copy, Debug, PartialEq, Eq)]
+pub enum Pending {
+    /// A call of the function with the name of this index and this number of arguments, after which
+    /// the frame goes on at this address.
+    Call(u16, u8, usize),
+    /// One that calls nothing.
+    Other,
+}
+
+impl Attempt {
+    // Whether an instruction was done.
+    #[inline(always)]
+    fn of(done: bool) -> Attempt
+        ensures { result ≡ attempt_of done }
+    {
+        if done {
+            Attempt::Done
+        } else {
+            Attempt::Pending(Pending::Other)
+        }
+    }
+}
 
 impl<H> Run<H> {
     // The instruction at which the frame stands, if it is one that is soon done. Else all is as it was.
@@ -30,51 +66,62 @@ impl<H> Run<H> {
         context: Context<'_>,
         steps: &mut Steps<L>,
         frame: &mut Activation,
-    ) -> bool
+    ) -> Attempt
         requires runs { Runs context.program.now frame.old self.old }
-        ensures stepped { OnTrue result ((host : H) → Stepped context.entry.program.now context.entry.engine.now frame.old self.old steps.old (Ok Progress.Continues) frame.new self.new steps.new host host) }
-        ensures undone { OnFalse result (Unchanged frame.old self.old steps.old frame.new self.new steps.new) }
+        ensures { Attempted context.entry.program.now context.entry.engine.now
+            frame.old self.old steps.old frame.new self.new steps.new result }
     {
         let address = frame.address;
         let depth = self.stacks.height();
         match context.program.fetch(frame.chunk, address, depth) {
             (Op::LoadConst(constant), width) => {
-                self.quick_const(context, steps, frame, constant, address + width)
+                Attempt::of(self.quick_const(context, steps, frame, constant, address + width))
             }
             (Op::LoadLocal(slot), width) => {
-                self.quick_local(context, steps, frame, slot, address + width)
+                Attempt::of(self.quick_local(context, steps, frame, slot, address + width))
             }
             (Op::AssignLocalOp(slot, name, op), width) => {
-                self.quick_assign(context, steps, frame, slot, name, op, address + width)
+                let next = address + width;
+                Attempt::of(self.quick_assign(context, steps, frame, slot, name, op, next))
             }
             (Op::Jump(target), width) => {
-                self.quick_jump(context, steps, frame, target, address + width)
+                Attempt::of(self.quick_jump(context, steps, frame, target, address + width))
             }
             (Op::JumpIfFalse(target), width) => {
-                self.quick_jump_if(context, steps, frame, false, target, address + width)
+                let next = address + width;
+                Attempt::of(self.quick_jump_if(context, steps, frame, false, target, next))
             }
             (Op::JumpIfTrue(target), width) => {
-                self.quick_jump_if(context, steps, frame, true, target, address + width)
+                let next = address + width;
+                Attempt::of(self.quick_jump_if(context, steps, frame, true, target, next))
             }
             (Op::CallOp(name, count, token), width) => {
-                self.quick_op(context, steps, frame, name, count, token, address + width)
+                let next = address + width;
+                Attempt::of(self.quick_op(context, steps, frame, name, count, token, next))
             }
-            (_, _) => false,
+            (Op::Call(name, count), width) => {
+                Attempt::Pending(Pending::Call(name, count, address + width))
+            }
+            (Op::Return, width) => {
+                self.return_value(steps, frame, address + width);
+                Attempt::Returned
+            }
+            (_, _) => Attempt::Pending(Pending::Other),
         }
     }
 
-    // One instruction.
-    #[cycle(run)]
+    // One instruction that calls nothing.
     #[inline(never)]
     fn step<L: Ledger>(
         &mut self,
         context: Context<'_>,
-        host: &mut H,
         steps: &mut Steps<L>,
         frame: &mut Activation,
     ) -> Result<Progress, OutOfMemory>
         requires runs { Runs context.program.now frame.old self.old }
-        ensures stepped { Stepped context.entry.program.now context.entry.engine.now frame.old self.old steps.old result frame.new self.new steps.new host.old host.new }
+        requires calls_nothing { CallsNothing context.program.now frame.old }
+        ensures stepped { (host : H) → Stepped context.entry.program.now context.entry.engine.now
+            frame.old self.old steps.old result frame.new self.new steps.new host host }
     {
         let address = frame.address;
         let depth = self.stacks.height();
@@ -122,9 +169,7 @@ impl<H> Run<H> {
             (Op::SkipIfNotUnit(target), width) => {
                 Ok(self.skip_if_not_unit(context, steps, frame, target, address + width))
             }
-            (Op::Call(name, count), width) => {
-                self.call(context, host, steps, frame, name, count, address + width)
-            }
+            (Op::Call(_, _), _) => unreachable!(),
             (Op::CallOp(name, count, token), width) => {
                 self.call_op(context, steps, frame, name, count, token, address + width)
             }
@@ -141,6 +186,7 @@ impl<H> Run<H> {
 
     // `call`: a function on the last `count` operands, in a frame of its own.
     #[cycle(run)]
+    #[inline(always)]
     fn call<L: Ledger>(
         &mut self,
         context: Context<'_>,
@@ -153,81 +199,129 @@ impl<H> Run<H> {
     ) -> Result<Progress, OutOfMemory>
         requires ready { Ready frame.old self.old (op.Call name count) next }
         requires pools { InPools context.program.now (op.Call name count) }
-        ensures goes { Simulates (setup context.entry.program.now context.entry.engine.now) (abstraction self.old steps.old host.old) (λ m place w. instr m (op.Call name count) next (frame_in frame.old self.old place) w) (is_out result) (abstraction self.new steps.new host.new) (continuation result self.new.outcome (frame_in frame.new self.new)) }
+        ensures goes { Simulates (setup context.entry.program.now context.entry.engine.now)
+            (abstraction self.old steps.old host.old)
+            (λ m place w. instr m (op.Call name count) next (frame_in frame.old self.old place) w)
+            (is_out result) (abstraction self.new steps.new host.new)
+            (continuation result self.new.fault (frame_in frame.new self.new)) }
         ensures kept { KeepsFrame frame.old self.old frame.new self.new }
-        ensures lands { ContinuesAt context.entry.engine.now self.old frame.old self.new frame.new (next ∷ []) (length self.old.stacks.operands - count + 1) result }
+        ensures lands { ContinuesAt context.entry.engine.now self.old frame.old self.new frame.new
+            (next ∷ []) (length self.old.stacks.operands - count + 1) result }
         ensures before { steps.new.before ≡ steps.old.before }
     {
         let count = usize::from(count);
         let Some(number) = context.program.function(u32::from(name), count) else {
-            return Ok(self.function_not_found(context, steps, frame, name, count)?);
+            return Ok(self.function_not_found(context, steps, frame.address, name, count)?);
         };
         let function = context.program.function_at(number);
         match self.begin(context, steps, frame, function) {
             Err(e) => Err(e),
-            Ok(begun) => match begun {
-                None => Ok(Progress::Finished),
-                Some(outer) => {
-                    let mut inner = Activation::new(function.chunk, 0);
-                    let back = self.run_frame(context, host, steps, &mut inner);
-                    self.leave_to(outer);
-                    self.resume_caller(context, steps, frame, function, back, next)
+            Ok(begun) => {
+                if begun {
+                    let end = self.run_frame(context, host, steps, &function.chunk, 0);
+                    self.resume_caller(context, steps, frame, function, end, next)
+                } else {
+                    Ok(Progress::Failed)
                 }
-            },
+            }
+        }
+    }
+
+    // The instruction at which the frame stands, which is a call or was not soon done. The frame is
+    // copied for one that was not, so that the loop can hold its own in registers.
+    #[cycle(run)]
+    #[inline(always)]
+    fn proceed<L: Ledger>(
+        &mut self,
+        context: Context<'_>,
+        host: &mut H,
+        steps: &mut Steps<L>,
+        frame: &mut Activation,
+        pending: Pending,
+    ) -> Result<Progress, OutOfMemory>
+        requires runs { Runs context.program.now frame.old self.old }
+        requires pending { IsPending context.program.now frame.old self.old pending }
+        ensures stepped { Stepped context.entry.program.now context.entry.engine.now
+            frame.old self.old steps.old result frame.new self.new steps.new host.old host.new }
+    {
+        match pending {
+            Pending::Call(name, count, next) => {
+                self.call(context, host, steps, frame, name, count, next)
+            }
+            Pending::Other => {
+                let mut copy = *frame;
+                let progress = self.step(context, steps, &mut copy);
+                *frame = copy;
+                progress
+            }
         }
     }
 
     // Leaves a frame by a fault: the scope is cut, and the trace notes where the frame stopped.
-    fn leave_by_fault(&mut self, frame: &Activation)
+    #[cold]
+    #[inline(never)]
+    fn leave_by_fault(&mut self, address: usize, floor: usize)
         requires entered { 0 < length self.old.stacks.outer }
         requires unnoted { self.old.stacks.noted ≡ false }
         ensures { self.new ≡ record self.old {
-          scope = take frame.now.floor self.old.scope;
-          stacks = record self.old.stacks { noted = true; trace = self.old.stacks.trace ++ record { address = frame.now.address; slot = None } ∷ [] };
+          scope = take floor self.old.scope;
+          stacks = record self.old.stacks {
+            noted = true;
+            trace = self.old.stacks.trace ++ record { address = address; slot = None } ∷ [];
+          };
         } }
     {
-        self.scope.rewind(frame.floor);
+        self.scope.rewind(floor);
         self.stacks.note(Fault {
-            address: frame.address,
+            address,
             slot: None,
         });
     }
 
     // Runs a frame to its end.
     #[cycle(run)]
+    #[inline(never)]
     fn run_frame<L: Ledger>(
         &mut self,
         context: Context<'_>,
         host: &mut H,
         steps: &mut Steps<L>,
-        frame: &mut Activation,
-    ) -> Result<RhaiResult, OutOfMemory>
-        requires runs { Runs context.program.now frame.old self.old }
-        ensures goes { Simulates (setup context.entry.program.now context.entry.engine.now) (abstraction self.old steps.old host.old) (λ m place w. Go (InFrame (frame_in frame.old self.old place)) w) (is_out result) (abstraction self.new steps.new host.new) (finished_with result) }
+        chunk: &Chunk,
+        base: usize,
+    ) -> Result<FrameEnd, OutOfMemory>
+        requires runs { Runs context.program.now (entry_of chunk.now base) self.old }
+        ensures goes { Simulates (setup context.entry.program.now context.entry.engine.now)
+            (abstraction self.old steps.old host.old)
+            (λ m place w. Go (InFrame (frame_in (entry_of chunk.now base) self.old place)) w)
+            (is_out result) (abstraction self.new steps.new host.new)
+            (frame_over result self.new) }
         ensures outer { self.new.stacks.outer ≡ self.old.stacks.outer }
+        ensures saved { self.new.saved ≡ self.old.saved }
+        ensures level { self.new.level ≡ self.old.level }
         ensures later { self.old.count ≤ self.new.count }
         ensures before { steps.new.before ≡ steps.old.before }
     {
+        let mut frame = Activation::new(*chunk, base);
         'turn: loop {
             steps.tick();
             steps.mark();
-            if self.quick(context, steps, frame) {
-                continue 'turn;
-            }
-            match self.step(context, host, steps, frame) {
+            let pending = match self.quick(context, steps, &mut frame) {
+                Attempt::Done => continue 'turn,
+                Attempt::Returned => return Ok(FrameEnd::Value),
+                Attempt::Pending(pending) => pending,
+            };
+            match self.proceed(context, host, steps, &mut frame, pending) {
                 Err(e) => {
-                    self.leave_by_fault(frame);
+                    self.leave_by_fault(frame.address, frame.floor);
                     return Err(e);
                 }
                 Ok(progress) => match progress {
                     Progress::Continues => {}
-                    Progress::Finished => match self.take_outcome() {
-                        Ok(value) => return Ok(Ok(value)),
-                        Err(fault) => {
-                            self.leave_by_fault(frame);
-                            return Ok(Err(fault));
-                        }
-                    },
+                    Progress::Returned => return Ok(FrameEnd::Value),
+                    Progress::Failed => {
+                        self.leave_by_fault(frame.address, frame.floor);
+                        return Ok(FrameEnd::Fault);
+                    }
                 },
             }
         }
@@ -240,7 +334,9 @@ impl<H> Run<H> {
         host: &mut H,
         steps: &mut Steps<L>,
     ) -> Result<RhaiResult, OutOfMemory>
-        ensures goes { Simulates (setup context.entry.program.now context.entry.engine.now) (abstraction self.old steps.old host.old) (λ m place w. called m place w) (is_out result) (abstraction self.new steps.new host.new) (finished_with result) }
+        ensures goes { Simulates (setup context.entry.program.now context.entry.engine.now)
+            (abstraction self.old steps.old host.old) (λ m place w. called m place w)
+            (is_out result) (abstraction self.new steps.new host.new) (finished_with result) }
         ensures stacks { IsLeft self.old.stacks self.new.stacks }
         ensures before { steps.new.before ≡ steps.old.before }
         ensures valid { IsProgram context.entry.program.now }
@@ -251,12 +347,44 @@ impl<H> Run<H> {
             Err(e) => Err(e),
             Ok(()) => {
                 steps.mark();
-                let mut frame = Activation::new(chunk, self.scope.len());
-                let back = self.run_frame(context, host, steps, &mut frame);
+                let base = self.scope.len();
+                let end = self.run_frame(context, host, steps, &chunk, base);
+                let back = self.take_answer(end);
                 self.stacks.leave();
                 self.close(steps, back)
             }
         }
+    }
+
+    // What a frame that is over gives: its last operand, or unit if it has none, or the fault.
+    fn take_answer(&mut self, end: Result<FrameEnd, OutOfMemory>) -> Result<RhaiResult, OutOfMemory>
+        ensures answer { answer_of result ≡ frame_answer end self.old }
+        ensures out { is_out result ≡ is_out end }
+        ensures others { self.new ≡ record self.old {
+          stacks = record self.old.stacks { operands = self.new.stacks.operands };
+          fault = self.new.fault;
+        } }
+    {
+        match end {
+            Ok(end) => match end {
+                FrameEnd::Value => Ok(Ok(self.take_value())),
+                FrameEnd::Fault => Ok(Err(self.take_fault())),
+            },
+            Err(e) => Err(e),
+        }
+    }
+
+    // Takes the value of the frame's last operand, or gives unit if it has none.
+    fn take_value(&mut self) -> Dynamic
+        ensures value { result ≡ (top self.old.stacks.operands).value }
+        ensures others { self.new ≡ record self.old {
+          stacks = record self.old.stacks { operands = self.new.stacks.operands };
+        } }
+    {
+        if self.stacks.height() > 0 {
+            return self.stacks.pop().value;
+        }
+        Dynamic::Unit
     }
 
     // A call of the machine is over.

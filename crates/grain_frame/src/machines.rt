@@ -11,13 +11,13 @@ ghost use Rattle.grain_frame.specs.Machines.{begin, finish, answered};
 
 use crate::contexts::Context;
 use crate::runs::Run;
-use crate::spares::SpareScopes;
+use crate::saved::SavedScopes;
 use crate::steps::Steps;
 use grain_fault::{EvalAltResult, Fault, RhaiResult};
 use grain_global::{Engine, GlobalRuntimeState};
 use grain_program::Program;
 use grain_stack::Stacks;
-use grain_value::{Dynamic, OutOfMemory, Scope, Store};
+use grain_value::{OutOfMemory, Scope, Store};
 use std::alloc::Global;
 use std::marker::{Model, PhantomData};
 use std::mem;
@@ -28,7 +28,7 @@ use std::sync::ledger::Ledger;
 pub struct Machine<'e> {
     engine: &'e Engine,
     stacks: Stacks,
-    spares: SpareScopes,
+    saved: SavedScopes,
 }
 
 impl<'e> Model for Machine<'e> {
@@ -47,7 +47,7 @@ impl<'e> Machine<'e> {
         Machine {
             engine,
             stacks: Stacks::new(alloc),
-            spares: SpareScopes::new(alloc),
+            saved: SavedScopes::new(alloc),
         }
     }
 
@@ -98,10 +98,10 @@ impl<'e> Machine<'e> {
             stacks: mem::replace(&mut self.stacks, Stacks::new(alloc)),
             scope: mem::replace(scope, Scope::new(alloc)),
             cells: mem::replace(cells, Store::new(alloc)),
-            spares: mem::replace(&mut self.spares, SpareScopes::new(alloc)),
+            saved: mem::replace(&mut self.saved, SavedScopes::new(alloc)),
             count: global.num_operations,
             level: global.level,
-            outcome: Ok(Dynamic::Unit),
+            fault: EvalAltResult::Memory,
             host: PhantomData,
         };
         let back = run.run_main(context, host, steps);
@@ -110,14 +110,14 @@ impl<'e> Machine<'e> {
             stacks,
             scope: scope_after,
             cells: cells_after,
-            spares,
+            saved,
             count,
             level,
-            outcome: _,
+            fault: _,
             host: _,
         } = run;
         self.stacks = stacks;
-        self.spares = spares;
+        self.saved = saved;
         *scope = scope_after;
         *cells = cells_after;
         global.num_operations = count;

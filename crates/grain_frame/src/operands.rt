@@ -14,7 +14,6 @@ ghost use Rattle.grain_program.specs.Indices.{InPools};
 
 use crate::activations::Activation;
 use crate::contexts::Context;
-use crate::operated;
 use crate::operated::{Operated, operate};
 use crate::runs::{Progress, Run};
 use crate::steps::Steps;
@@ -120,9 +119,9 @@ impl<H> Run<H> {
                 self.stacks.cut(self.stacks.height() - arguments);
                 Ok(self.push_on(steps, frame, value, next))
             }
-            Operated::Arithmetic(text) => Ok(self.arithmetic(context, steps, frame, text)),
+            Operated::Arithmetic(text) => Ok(self.arithmetic(context, steps, frame.address, text)),
             Operated::NotBuiltIn => {
-                Ok(self.function_not_found(context, steps, frame, name, arguments)?)
+                Ok(self.function_not_found(context, steps, frame.address, name, arguments)?)
             }
         }
     }
@@ -150,27 +149,5 @@ impl<H> Run<H> {
             token,
             &operands[operands.len() - count..],
         )
-    }
-
-    // The integer that an operator makes of the last `count` operands, if that is soon seen.
-    #[inline(always)]
-    pub(crate) fn quick_number(&self, context: Context<'_>, token: u16, count: usize) -> Option<i64>
-        requires operands { count ≤ length self.now.stacks.operands }
-        requires pool { token < length context.program.now.tokens }
-        ensures { IfSome result (λ z. (count ≡ 2) × (operated context.entry.program.now context.entry.engine.now token (arguments count self.now.stacks.operands) ≡ Gave (dynamic.Int z))) }
-    {
-        let token = context.program.token(u32::from(token));
-        operated::quick_number(context.engine, token, self.stacks.frame_operands(), count)
-    }
-
-    // The truth value that an operator makes of the last `count` operands, if that is soon seen.
-    #[inline(always)]
-    pub(crate) fn quick_truth(&self, context: Context<'_>, token: u16, count: usize) -> Option<bool>
-        requires operands { count ≤ length self.now.stacks.operands }
-        requires pool { token < length context.program.now.tokens }
-        ensures { IfSome result (λ b. (count ≡ 2) × (operated context.entry.program.now context.entry.engine.now token (arguments count self.now.stacks.operands) ≡ Gave (dynamic.Bool b))) }
-    {
-        let token = context.program.token(u32::from(token));
-        operated::quick_truth(context.engine, token, self.stacks.frame_operands(), count)
     }
 }

@@ -98,40 +98,6 @@ fn arithmetic_text(fault: EvalAltResult) -> Option<Text>
     }
 }
 
-/// The integer that an operator makes of the last `count` operands, if it is asked of two integers, operators are fast
-/// and the result fits. It says nothing of all else, of which `operate` tells.
-#[inline(always)]
-pub fn quick_number(engine: &Engine, token: Token, operands: &[Held], count: usize) -> Option<i64>
-    requires { count ≤ length operands.now }
-    ensures { IfSome result (λ z. (count ≡ 2) × (if_fast engine.now.fast_operators (operation engine.now.limits token (values_in (arguments count operands.now))) ≡ Gave (dynamic.Int z))) }
-{
-    if engine.fast_operators && count == 2 {
-        match &operands[operands.len() - count..] {
-            [x, y] => grain_ops::quick_number(token, &x.value, &y.value),
-            _ => None,
-        }
-    } else {
-        None
-    }
-}
-
-/// The truth value that an operator makes of the last `count` operands, if it is asked of two integers and operators
-/// are fast. It says nothing of all else, of which `operate` tells.
-#[inline(always)]
-pub fn quick_truth(engine: &Engine, token: Token, operands: &[Held], count: usize) -> Option<bool>
-    requires { count ≤ length operands.now }
-    ensures { IfSome result (λ b. (count ≡ 2) × (if_fast engine.now.fast_operators (operation engine.now.limits token (values_in (arguments count operands.now))) ≡ Gave (dynamic.Bool b))) }
-{
-    if engine.fast_operators && count == 2 {
-        match &operands[operands.len() - count..] {
-            [x, y] => grain_ops::quick_truth(token, &x.value, &y.value),
-            _ => None,
-        }
-    } else {
-        None
-    }
-}
-
 /// The integer that an op-assignment makes of a target and a value that are integers, if operators are fast and it
 /// fits. It says nothing of all else, of which `op_assigned` tells.
 #[inline(always)]

@@ -5,7 +5,9 @@
 ghost use Rattle.std.specs.Prelude.{◌≡◌, ◌<◌, ◌≤◌, ◌+◌, ◌-◌, ◌∷◌, [], length, Ok, cond, nat_lt};
 ghost use Rattle.grain_program.specs.Indices.{InPools};
 ghost use Rattle.grain_program.specs.declared.code.instructions.Op.TheVariants as op;
-ghost use Rattle.grain_means.specs.Rules.{jumped, stepped, jump_if};
+ghost use Rattle.grain_value.specs.Operands.{arguments};
+ghost use Rattle.grain_ops.specs.Told.{Tells, IsTold};
+ghost use Rattle.grain_means.specs.Rules.{jumped, stepped, jump_if, operated};
 ghost use Rattle.grain_frame.specs.Abstraction.{frame_in, Implements, Performs, Ready, Unchanged, OnTrue, OnFalse};
 
 use crate::activations::Activation;
@@ -14,7 +16,8 @@ use crate::operated::quick_assigned;
 use crate::runs::{Progress, Run};
 use crate::steps::Steps;
 use crate::transfers::agrees;
-use grain_value::{Dynamic, Held};
+use grain_ops::{Quick, quick_operated};
+use grain_value::Dynamic;
 use std::sync::ledger::Ledger;
 
 impl<H> Run<H> {
@@ -35,7 +38,9 @@ impl<H> Run<H> {
     {
         match context.program.constant(u32::from(constant)) {
             Dynamic::Int(integer) => {
-                self.stacks.push(Held::read_write(Dynamic::Int(*integer)));
+                if !self.stacks.push_int(*integer) {
+                    return false;
+                }
                 frame.address = next;
                 steps.mark();
                 true
@@ -63,7 +68,9 @@ impl<H> Run<H> {
         match self.scope.get(index) {
             Some(held) => match &held.value {
                 Dynamic::Int(integer) => {
-                    self.stacks.push(Held::read_write(Dynamic::Int(*integer)));
+                    if !self.stacks.push_int(*integer) {
+                        return false;
+                    }
                     frame.address = next;
                     steps.mark();
                     true
@@ -104,7 +111,7 @@ impl<H> Run<H> {
         match quick_assigned(context.engine, token, &held.value, &self.stacks.top().value) {
             Some(z) => {
                 self.scope.set_int(index, z);
-                let _value = self.stacks.pop();
+                self.stacks.drop_top();
                 steps.mark();
                 frame.address = next;
                 steps.mark();
@@ -132,24 +139,38 @@ impl<H> Run<H> {
         ensures undone { OnFalse result (Unchanged frame.old self.old steps.old frame.new self.new steps.new) }
     {
         let _name = name;
-        let count = usize::from(count);
-        match self.quick_number(context, token, count) {
-            Some(z) => {
+        match self.quick_operation(context, token, count) {
+            Quick::Int(z) => {
                 self.stacks.answer_int(z);
                 frame.address = next;
                 steps.mark();
                 true
             }
-            None => match self.quick_truth(context, token, count) {
-                Some(truth) => {
-                    self.stacks.answer(Dynamic::Bool(truth));
-                    frame.address = next;
-                    steps.mark();
-                    true
-                }
-                None => false,
-            },
+            Quick::Bool(truth) => {
+                self.stacks.answer_bool(truth);
+                frame.address = next;
+                steps.mark();
+                true
+            }
+            Quick::None => false,
         }
+    }
+
+    // What an operator makes of the last `count` operands, if operators are fast and these are two
+    // integers, and if that is soon seen.
+    #[inline(always)]
+    fn quick_operation(&self, context: Context<'_>, token: u16, count: u8) -> Quick
+        requires operands { count ≤ length self.now.stacks.operands }
+        requires pool { token < length context.program.now.tokens }
+        ensures tells { Tells result (operated context.entry.program.now context.entry.engine.now
+            token (arguments count self.now.stacks.operands)) }
+        ensures two { IsTold result → count ≡ 2 }
+    {
+        if count != 2 || !context.engine.fast_operators {
+            return Quick::None;
+        }
+        let token = context.program.token(u32::from(token));
+        quick_operated(token, &self.stacks.peek(1).value, &self.stacks.top().value)
     }
 
     // `jump`, where it costs nothing or an operation is left.
@@ -203,18 +224,18 @@ impl<H> Run<H> {
         match self.stacks.top().value.as_bool() {
             Some(truth) => {
                 if !agrees(wanted, truth) {
-                    let _value = self.stacks.pop();
+                    self.stacks.drop_top();
                     frame.address = next;
                     steps.mark();
                     true
                 } else if target > frame.address {
-                    let _value = self.stacks.pop();
+                    self.stacks.drop_top();
                     frame.address = target;
                     steps.mark();
                     true
                 } else if self.charge(context.engine) {
                     steps.mark();
-                    let _value = self.stacks.pop();
+                    self.stacks.drop_top();
                     frame.address = target;
                     steps.mark();
                     true

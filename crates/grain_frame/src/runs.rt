@@ -1,43 +1,55 @@
 //! What a run has, but for its frame.
 
 ghost use Rattle.std.specs.Prelude.{◌≡◌, ◌<◌, ◌+◌, nat_lt, true, if◌then◌else◌, Ok, Err};
-ghost use Rattle.grain_value.specs.declared.values.Dynamic.TheVariants as dynamic;
+ghost use Rattle.grain_fault.specs.declared.faults.EvalAltResult.TheVariants as fault;
 
-use crate::spares::SpareScopes;
+use crate::saved::SavedScopes;
 use crate::steps::Steps;
-use grain_fault::{EvalAltResult, RhaiResult};
+use grain_fault::EvalAltResult;
 use grain_global::Engine;
 use grain_stack::Stacks;
-use grain_value::{Dynamic, Scope, Store};
+use grain_value::{Scope, Store};
 use std::alloc::Global;
 use std::marker::PhantomData;
 use std::mem;
 use std::sync::ledger::Ledger;
 
-/// What a run has, but for its frame: where it takes memory from, the stacks, the scope of the running frame, the
-/// cells, the operations and the level, and what came out of a frame that is over, until it is taken up. The host,
-/// of type `H`, is lent to those functions alone that reach it.
+/// What a run has, but for its frame: where it takes memory from, the stacks, the scope of the
+/// running frame and those of the frames that wait for it, the cells, the operations and the level,
+/// and the fault that leaves a frame, until it is taken up. The host, of type `H`, is lent to those
+/// functions alone that reach it.
 #[derive(Drop)]
 pub struct Run<H> {
     pub alloc: Global,
     pub stacks: Stacks,
     pub scope: Scope,
+    pub saved: SavedScopes,
     pub cells: Store,
-    pub spares: SpareScopes,
     pub count: u64,
     pub level: usize,
-    pub outcome: RhaiResult,
+    pub fault: EvalAltResult,
     pub host: PhantomData<H>,
 }
 
-/// Where an instruction leads: on in its frame, or out of it. The value or the fault lies in the run, so that nothing
-/// large is moved from one instruction to the next.
+/// Where an instruction leads: on in its frame, or out of it. A frame's value is its last operand,
+/// and a fault lies in the run, so that nothing large is moved.
 #[derive(Clone, Copy, Debug, PartialEq, Eq)]
 pub enum Progress {
     /// The frame goes on.
     Continues,
-    /// The frame is over.
-    Finished,
+    /// The frame is over, and gives its last operand, or unit if it has none.
+    Returned,
+    /// A fault leaves the frame.
+    Failed,
+}
+
+/// How a frame ended.
+#[derive(Clone, Copy, Debug, PartialEq, Eq)]
+pub enum FrameEnd {
+    /// With a value, which is its last operand, or unit if it has none.
+    Value,
+    /// With a fault, which lies in the run.
+    Fault,
 }
 
 impl<H> Run<H> {
@@ -55,41 +67,32 @@ impl<H> Run<H> {
         }
     }
 
-    /// The frame gives a value.
-    pub fn give(&mut self, value: Dynamic) -> Progress
-        ensures progress { result ≡ Progress.Finished }
-        ensures after { self.new ≡ record self.old { outcome = Ok value } }
-    {
-        self.outcome = Ok(value);
-        Progress::Finished
-    }
-
     /// A fault leaves the frame.
     #[cold]
     pub fn depart(&mut self, fault: EvalAltResult) -> Progress
-        ensures progress { result ≡ Progress.Finished }
-        ensures after { self.new ≡ record self.old { outcome = Err fault } }
+        ensures progress { result ≡ Progress.Failed }
+        ensures after { self.new ≡ record self.old { fault = fault } }
     {
-        self.outcome = Err(fault);
-        Progress::Finished
+        self.fault = fault;
+        Progress::Failed
     }
 
     /// A fault is raised in the frame, and leaves it.
     #[cold]
     pub fn raise<L: Ledger>(&mut self, steps: &mut Steps<L>, fault: EvalAltResult) -> Progress
-        ensures progress { result ≡ Progress.Finished }
-        ensures after { self.new ≡ record self.old { outcome = Err fault } }
+        ensures progress { result ≡ Progress.Failed }
+        ensures after { self.new ≡ record self.old { fault = fault } }
         ensures marked { steps.new ≡ record steps.old { passed = steps.old.passed + 1 } }
     {
         steps.mark();
         self.depart(fault)
     }
 
-    /// What came out of the frame that is over.
-    pub fn take_outcome(&mut self) -> RhaiResult
-        ensures value { result ≡ self.old.outcome }
-        ensures after { self.new ≡ record self.old { outcome = Ok dynamic.Unit } }
+    /// The fault that left a frame.
+    pub fn take_fault(&mut self) -> EvalAltResult
+        ensures value { result ≡ self.old.fault }
+        ensures after { self.new ≡ record self.old { fault = fault.Memory } }
     {
-        mem::replace(&mut self.outcome, Ok(Dynamic::Unit))
+        mem::replace(&mut self.fault, EvalAltResult::Memory)
     }
 }

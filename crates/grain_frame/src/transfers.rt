@@ -12,7 +12,7 @@ use crate::contexts::Context;
 use crate::runs::{Progress, Run};
 use crate::steps::Steps;
 use grain_fault::EvalAltResult;
-use grain_value::{Dynamic, OutOfMemory};
+use grain_value::OutOfMemory;
 use std::sync::ledger::Ledger;
 
 impl<H> Run<H> {
@@ -59,7 +59,7 @@ impl<H> Run<H> {
             steps.mark();
             Progress::Continues
         } else {
-            self.too_many_operations(context, steps, frame)
+            self.too_many_operations(context, steps, frame.address)
         }
     }
 
@@ -80,7 +80,7 @@ impl<H> Run<H> {
             steps.mark();
             Progress::Continues
         } else {
-            self.too_many_operations(context, steps, frame)
+            self.too_many_operations(context, steps, frame.address)
         }
     }
 
@@ -109,7 +109,7 @@ impl<H> Run<H> {
                     Ok(self.go_on(steps, frame, next))
                 }
             }
-            None => { Ok(self.not_a_bool(context, steps, frame)?) }
+            None => { Ok(self.not_a_bool(context, steps, frame.address)?) }
         }
     }
 
@@ -150,6 +150,7 @@ impl<H> Run<H> {
     }
 
     // `return`: the frame gives its last operand, or unit if it has none.
+    #[inline(always)]
     pub(crate) fn return_value<L: Ledger>(
         &mut self,
         steps: &mut Steps<L>,
@@ -157,16 +158,12 @@ impl<H> Run<H> {
         next: usize,
     ) -> Progress
         requires ready { Ready frame.now self.old op.Return next }
+        ensures over { result ≡ Progress.Returned }
         ensures performs { (program : View) (engine : Engine) (host : H) → Performs program engine frame.now self.old steps.old op.Return next (Ok result) frame.now self.new steps.new host }
     {
         let _next = next;
-        let value = if self.stacks.height() > 0 {
-            self.stacks.pop().value
-        } else {
-            Dynamic::Unit
-        };
         steps.mark();
-        self.give(value)
+        Progress::Returned
     }
 }
 

@@ -13,7 +13,7 @@ use crate::literals::{constant_of, entry_of, text_of, token_of};
 use crate::operands::first;
 use crate::reasons::Reason;
 use crate::settings::{capabilities, limit_number, limit_word, number_in};
-use grain_value::{Held, OutOfMemory};
+use grain_value::{Held, Name, OutOfMemory};
 use grain_words::Word;
 use std::alloc::Global;
 
@@ -105,7 +105,7 @@ impl Assembler {
         match text_of(words) {
             Err(reason) => Ok(Err(reason)),
             Ok(text) => {
-                let name = text.copy(alloc)?;
+                let name = Name::new(alloc, text.copy(alloc)?)?;
                 self.names.push(name)?;
                 Ok(Ok(()))
             }

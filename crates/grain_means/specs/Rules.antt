@@ -6,7 +6,7 @@ use Rattle.grain_value.specs.declared.values.Held.{Held}
 use Rattle.grain_value.specs.declared.scopes.Entry.{Entry}
 use Rattle.grain_value.specs.Scopes.{held_of, set_held}
 use Rattle.grain_value.specs.Looking.{truth_of, is_unit}
-use Rattle.grain_value.specs.Operands.{top, below, under, arguments, rotated, read_write, value_in, values_in}
+use Rattle.grain_value.specs.Operands.{top, below, under, arguments, rotated, read_write, value_in, values_in, bound_entries}
 use Rattle.grain_value.specs.Writing.{type_name_of}
 use Rattle.grain_fault.specs.declared.places.Position.{Position}
 use Rattle.grain_fault.specs.declared.traces.Fault.{Fault}
@@ -64,9 +64,7 @@ held_at scope i = option_map held_of (slice_get scope i)
 
 -- arguments under the parameters' names, each of which can be written
 abbrev pub bound : View → List ℕ → List Held → List Entry
-bound p [] args = []
-bound p (n ∷ ns) [] = []
-bound p (n ∷ ns) (h ∷ hs) = record { name = name_of p n; held = read_write h.value } ∷ bound p ns hs
+bound p ns hs = bound_entries p.names ns hs
 
 -- the function of this number, if any
 abbrev pub function_numbered : View → Option ℕ → Option Function

@@ -1,3 +1,4 @@
 pub mod Outcomes
 pub mod Operators
 pub mod Answers
+pub mod Told

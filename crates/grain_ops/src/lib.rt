@@ -10,4 +10,4 @@ mod tests;
 
 pub use answers::{AssignAnswer, OpAnswer};
 pub use operators::{assign, binary, unary};
-pub use quick::{quick_assigned, quick_number, quick_truth};
+pub use quick::{Quick, quick_assigned, quick_operated};

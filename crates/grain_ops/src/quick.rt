@@ -4,64 +4,64 @@
 ghost use Rattle.std.specs.Prelude.{◌≡◌, IfSome};
 ghost use Rattle.grain_value.specs.declared.values.Dynamic.TheVariants as dynamic;
 ghost use Rattle.grain_value.specs.Looking.{integer_of};
-ghost use Rattle.grain_ops.specs.Outcomes.{Gave};
+ghost use Rattle.grain_ops.specs.Outcomes.{Outcome, Gave};
+ghost use Rattle.grain_ops.specs.Told.{Tells};
 ghost use Rattle.grain_ops.specs.Operators.{integers, on_two, assigned_integers, assigned_to};
 
 use crate::calculations::Calculation;
 use grain_value::{Dynamic, Token};
 
-/// The integer that an operator makes of two integers, if it fits.
+/// What an operator makes of two integers, where that is soon seen.
+#[derive(Clone, Copy, Debug, PartialEq, Eq)]
+pub enum Quick {
+    /// This integer.
+    Int(i64),
+    /// This truth value.
+    Bool(bool),
+    /// Nothing is said.
+    None,
+}
+
+/// What an operator makes of two values, if they are integers and the result fits.
 #[inline(always)]
-pub fn quick_number(token: Token, lhs: &Dynamic, rhs: &Dynamic) -> Option<i64>
-    ensures { IfSome result (λ z. on_two token (integer_of lhs.now) (integer_of rhs.now) ≡ Gave (dynamic.Int z)) }
+pub fn quick_operated(token: Token, lhs: &Dynamic, rhs: &Dynamic) -> Quick
+    ensures { Tells result (on_two token (integer_of lhs.now) (integer_of rhs.now)) }
 {
     match lhs.as_int() {
         Some(x) => match rhs.as_int() {
-            Some(y) => integers_number(token, x, y),
-            None => None,
+            Some(y) => quick_integers(token, x, y),
+            None => Quick::None,
         },
-        None => None,
+        None => Quick::None,
     }
 }
 
 #[inline(always)]
-fn integers_number(token: Token, x: i64, y: i64) -> Option<i64>
-    ensures { IfSome result (λ z. integers token x y ≡ Gave (dynamic.Int z)) }
+fn quick_integers(token: Token, x: i64, y: i64) -> Quick
+    ensures { Tells result (integers token x y) }
 {
     match token {
-        Token::Plus => Calculation::Addition.of(x, y),
-        Token::Minus => Calculation::Subtraction.of(x, y),
-        Token::Multiply => Calculation::Multiplication.of(x, y),
-        _ => None,
+        Token::Plus => quick_sum(Calculation::Addition.of(x, y)),
+        Token::Minus => quick_sum(Calculation::Subtraction.of(x, y)),
+        Token::Multiply => quick_sum(Calculation::Multiplication.of(x, y)),
+        Token::EqualsTo => Quick::Bool(x == y),
+        Token::NotEqualsTo => Quick::Bool(x != y),
+        Token::LessThan => Quick::Bool(x < y),
+        Token::LessThanEqualsTo => Quick::Bool(x <= y),
+        Token::GreaterThan => Quick::Bool(x > y),
+        Token::GreaterThanEqualsTo => Quick::Bool(x >= y),
+        _ => Quick::None,
     }
 }
 
-/// The truth value that an operator makes of two integers.
+// An integer that fits, or nothing.
 #[inline(always)]
-pub fn quick_truth(token: Token, lhs: &Dynamic, rhs: &Dynamic) -> Option<bool>
-    ensures { IfSome result (λ b. on_two token (integer_of lhs.now) (integer_of rhs.now) ≡ Gave (dynamic.Bool b)) }
+fn quick_sum(number: Option<i64>) -> Quick
+    ensures { (o : Outcome) → IfSome number (λ z. o ≡ Gave (dynamic.Int z)) → Tells result o }
 {
-    match lhs.as_int() {
-        Some(x) => match rhs.as_int() {
-            Some(y) => integers_truth(token, x, y),
-            None => None,
-        },
-        None => None,
-    }
-}
-
-#[inline(always)]
-fn integers_truth(token: Token, x: i64, y: i64) -> Option<bool>
-    ensures { IfSome result (λ b. integers token x y ≡ Gave (dynamic.Bool b)) }
-{
-    match token {
-        Token::EqualsTo => Some(x == y),
-        Token::NotEqualsTo => Some(x != y),
-        Token::LessThan => Some(x < y),
-        Token::LessThanEqualsTo => Some(x <= y),
-        Token::GreaterThan => Some(x > y),
-        Token::GreaterThanEqualsTo => Some(x >= y),
-        _ => None,
+    match number {
+        Some(z) => Quick::Int(z),
+        None => Quick::None,
     }
 }
 

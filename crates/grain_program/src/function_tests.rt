@@ -12,7 +12,7 @@ use crate::programs::{Program, verify};
 use crate::verifier::refusals::Refusal;
 use bitflags::Flags;
 use grain_fault::Position;
-use grain_value::{Array, Blob, Dynamic, OutOfMemory, Text};
+use grain_value::{Array, Blob, Dynamic, Name, OutOfMemory, Text};
 use std::alloc::Global;
 use std::test::Fail;
 
@@ -78,7 +78,7 @@ fn parts_of(
     consts.push(Dynamic::Int(7))?;
     let mut names = Names::new(alloc);
     for name in ["f", "x", "f"] {
-        names.push(Text::copy_of(alloc, name)?)?;
+        names.push(Name::new(alloc, Text::copy_of(alloc, name)?)?)?;
     }
     let functions = functions_of(alloc, outlines)?;
     Ok(Parts {

@@ -14,6 +14,7 @@ use crate::code::bytes::read_there;
 use crate::code::functions::{Function, Functions};
 use crate::code::instructions::Op;
 use crate::code::parts::{AssignOp, Chunk, Parts, PositionEntry};
+use crate::code::pools::Names;
 use crate::lookups::{FunctionIndex, first_by_text, index_functions};
 use crate::verifier::check::check;
 use crate::verifier::refusals::Refusal;
@@ -191,7 +192,15 @@ impl Program {
         requires { index < length self.now.names }
         ensures { result.now ≡ name_of self.now index }
     {
-        self.parts.names.at(index as usize)
+        self.parts.names.at(index as usize).as_text()
+    }
+
+    /// The names, each of which the entries of scopes share.
+    #[inline(always)]
+    pub fn names(&self) -> &Names
+        ensures { result.now ≡ self.now.names }
+    {
+        &self.parts.names
     }
 
     /// The operator token at the index.

@@ -12,7 +12,7 @@ use crate::code::parts::{AssignOp, Chunk, Parts};
 use crate::code::pools::{AssignOps, Names, Positions, Tokens};
 use crate::programs::verify;
 use crate::verifier::refusals::Refusal;
-use grain_value::{Array, Blob, Dynamic, OutOfMemory, Text, Token};
+use grain_value::{Array, Blob, Dynamic, Name, OutOfMemory, Text, Token};
 use std::alloc::Global;
 use std::process::Abort;
 use std::test::Fail;
@@ -25,7 +25,7 @@ fn parts_of(alloc: Global, code: Blob, end: u32, max_stack: u16) -> Result<Parts
     let mut consts = Array::new(alloc);
     consts.push(Dynamic::Int(7))?;
     let mut names = Names::new(alloc);
-    names.push(Text::copy_of(alloc, "x")?)?;
+    names.push(Name::new(alloc, Text::copy_of(alloc, "x")?)?)?;
     let mut tokens = Tokens::new(alloc);
     tokens.push(Token::Plus)?;
     let mut assign_ops = AssignOps::new(alloc);

@@ -10,12 +10,14 @@ use Rattle.grain_stack.specs.Views.{StackFrame, StacksView}
 abbrev pub frames_on : List Held → List Floor → List StackFrame
 frames_on xs [] = []
 frames_on xs (f ∷ fs) =
-    record { operands = drop f.bottom xs; room = f.room; noted = f.noted } ∷ frames_on (take f.bottom xs) fs
+    record { operands = drop f.bottom xs; room = f.room; noted = f.noted }
+    ∷ frames_on (take f.bottom xs) fs
 
--- each floor lies at or below the one above it, and there is room for its frame's operands
+-- each floor lies at or below the one above it, and there are slots for its frame's operands
 abbrev pub Nested : ℕ → ℕ → List Floor → Type 0
-Nested capacity bottom [] = Unit {0}
-Nested capacity bottom (f ∷ fs) = (f.bottom ≤ bottom) × (f.bottom + f.room ≤ capacity) × Nested capacity f.bottom fs
+Nested slots bottom [] = Unit {0}
+Nested slots bottom (f ∷ fs) =
+    (f.bottom ≤ bottom) × (f.bottom + f.room ≤ slots) × Nested slots f.bottom fs
 
 -- how many frames have not noted a fault
 abbrev pub unnoted : Bool → List Floor → ℕ
@@ -27,18 +29,18 @@ floors s = reverse s.outer.items
 
 abbrev pub stacks_view : Inside → StacksView
 stacks_view s = record {
-  operands = drop s.bottom s.operands.items;
+  operands = drop s.bottom s.slots.operands;
   room = s.room;
   noted = s.noted;
-  outer = frames_on (take s.bottom s.operands.items) (floors s);
+  outer = frames_on (take s.bottom s.slots.operands) (floors s);
   trace = s.trace.items;
   entered = s.entered;
 }
 
--- The operands of the innermost frame are there and have their room, the floors are in order, and the trace has room
--- for an entry of each frame that has not noted a fault.
+-- The operands of the innermost frame are there and have their slots, the floors are in order, and
+-- the trace has room for an entry of each frame that has not noted a fault.
 pub record IsSound (s : Inside) : Type 0 where
-  pub bottom : s.bottom ≤ length s.operands.items
-  pub room : s.bottom + s.room ≤ vec_capacity s.operands
-  pub nested : Nested (vec_capacity s.operands) s.bottom (floors s)
+  pub bottom : s.bottom ≤ length s.slots.operands
+  pub room : s.bottom + s.room ≤ s.slots.slots
+  pub nested : Nested s.slots.slots s.bottom (floors s)
   pub notes : length s.trace.items + unnoted s.noted (floors s) ≤ vec_capacity s.trace

@@ -1,3 +1,4 @@
 pub mod Views
+pub mod Filled
 pub mod Floors
 pub use Rattle.grain_value.specs.Operands

@@ -1,6 +1,8 @@
 -- What a caller sees of the stacks: the operands of each frame, the trace, and how often a frame was entered.
-use Rattle.std.specs.Prelude.{◌≡◌, ℕ, ◌+◌, ◌-◌, ◌^◌, nat_lt, if◌then◌else◌, Bool, false, List, [], ◌∷◌}
+use Rattle.std.specs.Prelude.{◌≡◌, ℕ, ◌+◌, ◌-◌, ◌^◌, nat_lt, if◌then◌else◌, Bool, false, List, [], ◌∷◌, ◌++◌}
+use Rattle.grain_value.specs.declared.values.Dynamic.{Dynamic}
 use Rattle.grain_value.specs.declared.values.Held.{Held}
+use Rattle.grain_value.specs.Operands.{read_write}
 use Rattle.grain_fault.specs.declared.traces.Fault.{Fault}
 
 -- a frame's own operands, how many it may have at most, and whether it has noted a fault
@@ -33,14 +35,34 @@ counted_up n = if nat_lt n (2 ^ 64 - 1) then n + 1 else n
 
 -- a frame more, which may have so many operands
 abbrev pub with_frame : ℕ → StacksView → StacksView
-with_frame room s =
-    record s { operands = []; room = room; noted = false; outer = innermost s ∷ s.outer; entered = counted_up s.entered }
+with_frame room s = record s {
+  operands = [];
+  room = room;
+  noted = false;
+  outer = innermost s ∷ s.outer;
+  entered = counted_up s.entered;
+}
 
 -- the innermost frame is left, and the one around it is the innermost
 abbrev pub without_frame : List StackFrame → StacksView → StacksView
 without_frame [] s = s
-without_frame (f ∷ fs) s = record s { operands = f.operands; room = f.room; noted = f.noted; outer = fs }
+without_frame (f ∷ fs) s =
+    record s { operands = f.operands; room = f.room; noted = f.noted; outer = fs }
 
 -- the frames are as they were: only the trace and the number of entries may differ
 abbrev pub IsLeft : (old new : StacksView) → Type 0
 IsLeft old new = new ≡ record old { trace = new.trace; entered = new.entered }
+
+-- one operand more, which can be written
+abbrev pub with_value : Dynamic → StacksView → StacksView
+with_value v s = record s { operands = s.operands ++ read_write v ∷ [] }
+
+-- the innermost frame and the one around it, which become one with the operands of both
+abbrev pub joined_frame : List StackFrame → StacksView → StacksView
+joined_frame [] s = s
+joined_frame (f ∷ fs) s = record s {
+  operands = f.operands ++ s.operands;
+  room = f.room;
+  noted = f.noted;
+  outer = fs;
+}

@@ -1,15 +1,15 @@
 //! One stack of operands for all frames, and the trace of a fault.
 
-ghost use Rattle.std.specs.Prelude.{◌≡◌, ◌<◌, ◌≤◌, ◌+◌, ◌-◌, ◌++◌, ◌∷◌, [], length, take, is_ok, if◌then◌else◌, true, false, slice_index_or, slice_set};
+ghost use Rattle.std.specs.Prelude.{◌≡◌, ◌<◌, ◌≤◌, ◌+◌, ◌++◌, ◌∷◌, [], length, take, is_ok, if◌then◌else◌, OnOk, All, true, false};
 ghost use Rattle.grain_value.specs.declared.values.Dynamic.TheVariants as dynamic;
-ghost use Rattle.grain_value.specs.Operands.{top, below, under, rotated, read_write};
-ghost use Rattle.grain_stack.specs.Views.{no_frames, with_frame, without_frame};
+ghost use Rattle.grain_value.specs.Operands.{top, below, under, rotated, read_write, arguments, bound_entries};
+ghost use Rattle.grain_stack.specs.Views.{StackFrame, no_frames, with_frame, without_frame, with_value, joined_frame};
 
+use crate::slots::Slots;
 use grain_fault::Fault;
-use grain_value::{Dynamic, Held, OutOfMemory};
+use grain_value::{Dynamic, Held, List, Name, OutOfMemory, Scope};
 use std::alloc::Global;
 use std::marker::Model;
-use std::mem;
 
 /// Where a frame's operands begin, how many it may have, and whether it has noted a fault.
 #[derive(Drop)]
@@ -19,11 +19,11 @@ pub struct Floor {
     pub noted: bool,
 }
 
-/// The operands of all frames in one vector, and the trace of a fault. Every call but `new`, `enter`, `trace`,
+/// The operands of all frames, and the trace of a fault. Every call but `new`, `enter`, `trace`,
 /// `cut_trace` and `entered` acts on the innermost frame.
 #[derive(Drop)]
 pub struct Stacks {
-    operands: Vec<Held>,
+    slots: Slots,
     bottom: usize,
     room: usize,
     noted: bool,
@@ -50,7 +50,7 @@ impl Stacks {
         ensures { result ≡ no_frames }
     {
         Stacks {
-            operands: Vec::new(alloc),
+            slots: Slots::new(alloc),
             bottom: 0,
             room: 0,
             noted: false,
@@ -60,21 +60,21 @@ impl Stacks {
         }
     }
 
-    /// Enters a frame without operands: makes room for `operands` of them and for one entry of the trace. After want
-    /// of memory the stacks are as they were.
+    /// Enters a frame without operands: makes room for `operands` of them and for one entry of the
+    /// trace. After want of memory the stacks are as they were.
     #[inline(always)]
     pub fn enter(&mut self, operands: u16) -> Result<(), OutOfMemory>
         ensures { self.new ≡ (if is_ok result then with_frame operands self.old else self.old) }
     {
         let room = usize::from(operands);
-        self.operands.reserve(room)?;
+        self.slots.reserve(room)?;
         self.trace.reserve(self.outer.len() + 1)?;
         self.outer.push(Floor {
             bottom: self.bottom,
             room: self.room,
             noted: self.noted,
         })?;
-        self.bottom = self.operands.len();
+        self.bottom = self.slots.len();
         self.room = room;
         self.noted = false;
         self.entered = self.entered.saturating_add(1);
@@ -87,7 +87,76 @@ impl Stacks {
         requires entered { 0 < length self.old.outer }
         ensures { self.new ≡ without_frame self.old.outer self.old }
     {
-        self.operands.truncate(self.bottom);
+        self.slots.truncate(self.bottom);
+        self.join_frame();
+    }
+
+    /// Leaves the innermost frame, and gives the value of its last operand, or unit if it has none,
+    /// to the frame around it, which has room for it.
+    #[inline(always)]
+    pub fn leave_with_value(&mut self)
+        requires entered { 0 < length self.old.outer }
+        requires room { (first : StackFrame) (others : List StackFrame)
+            → self.old.outer ≡ first ∷ others → length first.operands < first.room }
+        ensures { self.new ≡ with_value (top self.old.operands).value
+            (without_frame self.old.outer self.old) }
+    {
+        self.keep_value();
+        self.join_frame();
+    }
+
+    // The value of the frame's last operand, or unit if it has none, becomes its only operand.
+    #[inline(always)]
+    fn keep_value(&mut self)
+        requires entered { 0 < length self.old.outer }
+        requires room { (first : StackFrame) (others : List StackFrame)
+            → self.old.outer ≡ first ∷ others → length first.operands < first.room }
+        ensures { self.new ≡ record self.old {
+          operands =
+              read_write (top self.old.operands).value ∷ [];
+        } }
+    {
+        if self.slots.len() - self.bottom == 1 {
+            self.slots.make_read_write(self.bottom);
+        } else {
+            self.settle_value();
+        }
+    }
+
+    // The same, however many operands the frame has.
+    #[cold]
+    #[inline(never)]
+    fn settle_value(&mut self)
+        requires entered { 0 < length self.old.outer }
+        requires room { (first : StackFrame) (others : List StackFrame)
+            → self.old.outer ≡ first ∷ others → length first.operands < first.room }
+        ensures { self.new ≡ record self.old {
+          operands =
+              read_write (top self.old.operands).value ∷ [];
+        } }
+    {
+        let value = self.take_value();
+        self.slots.truncate(self.bottom);
+        self.slots.push(Held::read_write(value));
+    }
+
+    // Takes the value of the frame's last operand, or gives unit if it has none.
+    fn take_value(&mut self) -> Dynamic
+        ensures value { result ≡ (top self.old.operands).value }
+        ensures rest { self.new ≡ record self.old { operands = below self.old.operands } }
+    {
+        if self.slots.len() > self.bottom {
+            return self.pop().value;
+        }
+        Dynamic::Unit
+    }
+
+    // The innermost frame and the one around it become one, with the operands of both.
+    #[inline(always)]
+    fn join_frame(&mut self)
+        requires entered { 0 < length self.old.outer }
+        ensures { self.new ≡ joined_frame self.old.outer self.old }
+    {
         match self.outer.pop() {
             Some(floor) => {
                 self.bottom = floor.bottom;
@@ -99,10 +168,11 @@ impl Stacks {
     }
 
     /// How many operands the frame has.
+    #[inline(always)]
     pub fn height(&self) -> usize
         ensures { result ≡ length self.now.operands }
     {
-        self.operands.len() - self.bottom
+        self.slots.len() - self.bottom
     }
 
     /// The frame's operands, the newest last.
@@ -110,7 +180,7 @@ impl Stacks {
     pub fn frame_operands(&self) -> &[Held]
         ensures { result.now ≡ self.now.operands }
     {
-        &self.operands[self.bottom..]
+        &self.slots.as_slice()[self.bottom..]
     }
 
     /// One operand more, for which the frame has room.
@@ -119,33 +189,31 @@ impl Stacks {
         requires room { length self.old.operands < self.old.room }
         ensures { self.new ≡ record self.old { operands = self.old.operands ++ held ∷ [] } }
     {
-        match self.operands.push(held) {
-            Ok(()) => {}
-            Err(_) => unreachable!(),
-        }
+        self.slots.push(held);
     }
 
-    /// One operand more, a copy of a value that may be written, for which the frame has room. After want of memory
-    /// the stacks are as they were.
+    /// One operand more, an integer, for which the frame has room. It may answer false, and then
+    /// has done nothing.
     #[inline(always)]
+    pub fn push_int(&mut self, integer: i64) -> bool
+        requires room { length self.old.operands < self.old.room }
+        ensures { self.new ≡ (if result
+            then record self.old {
+              operands =
+                  self.old.operands ++ read_write (dynamic.Int integer) ∷ [];
+            }
+            else self.old) }
+    {
+        self.slots.push_int(integer)
+    }
+
+    /// One operand more, a copy of a value that may be written, for which the frame has room. After
+    /// want of memory the stacks are as they were.
     pub fn push_copy(&mut self, alloc: Global, value: &Dynamic) -> Result<(), OutOfMemory>
         requires room { length self.old.operands < self.old.room }
-        ensures { self.new ≡ (if is_ok result then record self.old { operands = self.old.operands ++ read_write value.now ∷ [] } else self.old) }
-    {
-        match value {
-            Dynamic::Int(integer) => {
-                self.push(Held::read_write(Dynamic::Int(*integer)));
-                Ok(())
-            }
-            _ => self.push_other(alloc, value),
-        }
-    }
-
-    // The same of a value that may own memory.
-    #[inline(never)]
-    fn push_other(&mut self, alloc: Global, value: &Dynamic) -> Result<(), OutOfMemory>
-        requires room { length self.old.operands < self.old.room }
-        ensures { self.new ≡ (if is_ok result then record self.old { operands = self.old.operands ++ read_write value.now ∷ [] } else self.old) }
+        ensures { self.new ≡ (if is_ok result
+            then record self.old { operands = self.old.operands ++ read_write value.now ∷ [] }
+            else self.old) }
     {
         let copy = value.copy(alloc)?;
         self.push(Held::read_write(copy));
@@ -159,10 +227,17 @@ impl Stacks {
         ensures value { result ≡ top self.old.operands }
         ensures rest { self.new ≡ record self.old { operands = below self.old.operands } }
     {
-        match self.operands.pop() {
-            Some(held) => held,
-            None => unreachable!(),
-        }
+        self.slots.pop()
+    }
+
+    /// The last operand goes. Its memory, if it has any, is given back only once its slot is used
+    /// again, so this is for values that have none.
+    #[inline(always)]
+    pub fn drop_top(&mut self)
+        requires there { 0 < length self.old.operands }
+        ensures { self.new ≡ record self.old { operands = below self.old.operands } }
+    {
+        self.slots.drop_last();
     }
 
     /// The last operand.
@@ -171,15 +246,16 @@ impl Stacks {
         requires there { 0 < length self.now.operands }
         ensures { result.now ≡ top self.now.operands }
     {
-        &self.operands[self.operands.len() - 1]
+        self.slots.at(self.slots.len() - 1)
     }
 
     /// The operand that has `depth` others above it.
+    #[inline(always)]
     pub fn peek(&self, depth: usize) -> &Held
         requires there { depth < length self.now.operands }
         ensures { result.now ≡ top (under depth self.now.operands) }
     {
-        &self.operands[self.operands.len() - 1 - depth]
+        self.slots.at(self.slots.len() - 1 - depth)
     }
 
     /// Moves the last operand below `under` others.
@@ -187,9 +263,7 @@ impl Stacks {
         requires there { under < length self.old.operands }
         ensures { self.new ≡ record self.old { operands = rotated under self.old.operands } }
     {
-        let first = self.operands.len() - (under + 1);
-        let (_, others) = self.operands.split_at_mut(first);
-        others.rotate_right(1);
+        self.slots.rotate(under);
     }
 
     /// Keeps the first `height` operands.
@@ -197,43 +271,60 @@ impl Stacks {
         requires there { height ≤ length self.old.operands }
         ensures { self.new ≡ record self.old { operands = take height self.old.operands } }
     {
-        self.operands.truncate(self.bottom + height);
+        let length = self.slots.len();
+        prove!(self.bottom <= length && height <= length - self.bottom);
+        self.slots.truncate(self.bottom + height);
     }
 
-    /// Takes the value of the operand at an index, which then holds unit.
+    /// Moves the values of the last operands, as many as there are parameters, to the end of the
+    /// scope, where they can be written and have the names of the pool at these indices. After want
+    /// of memory it is not said what the operands and the scope are; all else is as it was.
     #[inline(always)]
-    pub fn take_at(&mut self, index: usize) -> Dynamic
-        requires there { index < length self.old.operands }
-        ensures value { result ≡ (slice_index_or self.old.operands index (read_write dynamic.Unit)).value }
-        ensures rest { self.new ≡ record self.old { operands = slice_set self.old.operands index (read_write dynamic.Unit) } }
+    pub fn bind_arguments(
+        &mut self,
+        params: &[u32],
+        names: &List<Name>,
+        scope: &mut Scope,
+    ) -> Result<(), OutOfMemory>
+        requires there { length params.now ≤ length self.old.operands }
+        requires named { All (λ n. n < length names.now) params.now }
+        ensures scope { OnOk result (scope.new ≡ scope.old ++
+            bound_entries names.now params.now (arguments (length params.now) self.old.operands)) }
+        ensures taken { OnOk result
+            (self.new.operands ≡ under (length params.now) self.old.operands) }
+        ensures others { self.new ≡ record self.old { operands = self.new.operands } }
     {
-        let place = self.bottom + index;
-        let held = mem::replace(&mut self.operands[place], Held::read_write(Dynamic::Unit));
-        held.value
+        let first = self.slots.len() - params.len();
+        'bind: for (index, param) in params.iter().enumerate() {
+            self.slots
+                .move_to(first + index, names.at(*param as usize), scope)?;
+        }
+        self.slots.drop_last_of(params.len());
+        Ok(())
     }
 
     /// Writes an integer in the place of the last two operands.
     #[inline(always)]
     pub fn answer_int(&mut self, integer: i64)
         requires there { 2 ≤ length self.old.operands }
-        ensures { self.new ≡ record self.old { operands = under 2 self.old.operands ++ read_write (dynamic.Int integer) ∷ [] } }
+        ensures { self.new ≡ record self.old {
+          operands =
+              under 2 self.old.operands ++ read_write (dynamic.Int integer) ∷ [];
+        } }
     {
-        let place = self.operands.len() - 2;
-        let held = &mut self.operands[place];
-        held.value.set_int(integer);
-        held.read_only = false;
-        let _last = self.operands.pop();
+        self.slots.answer_int(integer);
     }
 
-    /// Writes a value in the place of the last two operands.
+    /// Writes a truth value in the place of the last two operands.
     #[inline(always)]
-    pub fn answer(&mut self, value: Dynamic)
+    pub fn answer_bool(&mut self, truth: bool)
         requires there { 2 ≤ length self.old.operands }
-        ensures { self.new ≡ record self.old { operands = under 2 self.old.operands ++ read_write value ∷ [] } }
+        ensures { self.new ≡ record self.old {
+          operands =
+              under 2 self.old.operands ++ read_write (dynamic.Bool truth) ∷ [];
+        } }
     {
-        let place = self.operands.len() - 2;
-        self.operands[place] = Held::read_write(value);
-        let _last = self.operands.pop();
+        self.slots.answer_bool(truth);
     }
 
     /// Notes where a fault left the frame, which has noted none since it was entered.

@@ -1,3 +1,3 @@
 pub mod Entries
-pub mod Names
+pub mod Newest
 pub mod Prefixes

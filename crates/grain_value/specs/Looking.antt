@@ -22,3 +22,10 @@ integer_of dynamic.Unit = None
 integer_of (dynamic.Bool b) = None
 integer_of (dynamic.Int n) = Some n
 integer_of (dynamic.Text t) = None
+
+-- whether the value owns no memory
+abbrev pub owns_no_memory : Dynamic → Bool
+owns_no_memory dynamic.Unit = true
+owns_no_memory (dynamic.Bool b) = true
+owns_no_memory (dynamic.Int z) = true
+owns_no_memory (dynamic.Text t) = false

@@ -1,8 +1,9 @@
 -- The operands of a frame: held values, the newest last.
-use Rattle.std.specs.Prelude.{ℕ, ◌+◌, ◌-◌, List, [], ◌∷◌, ◌++◌, false, length, take, drop, map}
+use Rattle.std.specs.Prelude.{ℕ, ◌+◌, ◌-◌, List, [], ◌∷◌, ◌++◌, false, length, take, drop, map, slice_index_or}
 use Rattle.grain_value.specs.declared.values.Dynamic.{Dynamic}
 use Rattle.grain_value.specs.declared.values.Dynamic.TheVariants as dynamic
 use Rattle.grain_value.specs.declared.values.Held.{Held}
+use Rattle.grain_value.specs.declared.scopes.Entry.{Entry}
 
 -- a value, held so that it may be written
 abbrev pub read_write : Dynamic → Held
@@ -37,3 +38,20 @@ arguments n xs = drop (length xs - n) xs
 abbrev pub rotated : ℕ → List Held → List Held
 rotated n xs =
     let others = drop (length xs - (n + 1)) xs in take (length xs - (n + 1)) xs ++ drop n others ++ take n others
+
+-- what stays where a value was taken: one that owns no memory
+abbrev pub left_behind : Dynamic → Dynamic
+left_behind dynamic.Unit = dynamic.Unit
+left_behind (dynamic.Bool b) = dynamic.Bool b
+left_behind (dynamic.Int z) = dynamic.Int z
+left_behind (dynamic.Text t) = dynamic.Unit
+
+-- an operand as an entry of a scope, which can be written, under the name of an index
+abbrev pub bound_entry : List (List ℕ) → ℕ → Held → Entry
+bound_entry names n h = record { name = slice_index_or names n []; held = read_write h.value }
+
+-- operands as the entries of a scope, under the names of the indices
+abbrev pub bound_entries : List (List ℕ) → List ℕ → List Held → List Entry
+bound_entries names [] hs = []
+bound_entries names (n ∷ ns) [] = []
+bound_entries names (n ∷ ns) (h ∷ hs) = bound_entry names n h ∷ bound_entries names ns hs

@@ -3,20 +3,22 @@
 ghost use Rattle.std.specs.Prelude.{◌≡◌, ◌==◌, ◌<◌, ◌^◌, ◌+◌, ◌++◌, ◌∷◌, [], length, is_ok, is_some, if◌then◌else◌, false, slice_get, take, drop, option_map};
 ghost use Rattle.std.specs.Option.{option_copied};
 ghost use Rattle.std.specs.Borrow.{sem};
+ghost use Rattle.grain_value.specs.Operands.{read_write, left_behind};
 ghost use Rattle.grain_value.specs.Scopes.{held_of, set_held, last_of};
 ghost use Rattle.grain_value.specs.declared.scopes.Entry.{Entry};
 ghost use Rattle.grain_value.specs.declared.values.Dynamic.TheVariants as dynamic;
 
 use crate::memory::OutOfMemory;
+use crate::names::Name;
 use crate::texts::Text;
-use crate::values::Held;
+use crate::values::{Dynamic, Held};
 use std::alloc::Global;
 use std::marker::Model;
 
 /// A variable: its name, and what it holds.
 #[derive(Drop)]
 pub struct Entry {
-    pub name: Text,
+    pub name: Name,
     pub held: Held,
 }
 
@@ -75,7 +77,7 @@ impl Scope {
         ensures { option_copied result ≡ option_map (λ e. e.name) (slice_get self.now index) }
     {
         match self.entries.get(index) {
-            Some(entry) => Some(&entry.name),
+            Some(entry) => Some(entry.name.as_text()),
             None => None,
         }
     }
@@ -105,8 +107,53 @@ impl Scope {
             then self.old ++ record { name = name; held = held } ∷ []
             else self.old) }
     {
+        let alloc = *self.entries.allocator();
+        let name = Name::new(alloc, name)?;
         self.entries.push(Entry { name, held })?;
         Ok(())
+    }
+
+    /// Puts an entry at the end, whose name is shared. After want of memory the scope is as it was.
+    #[inline(always)]
+    pub fn push_shared(&mut self, name: &Name, held: Held) -> Result<(), OutOfMemory>
+        ensures { self.new ≡ (if is_ok result
+            then self.old ++ record { name = name.now; held = held } ∷ []
+            else self.old) }
+    {
+        let name = name.share()?;
+        self.entries.push(Entry { name, held })?;
+        Ok(())
+    }
+
+    /// Puts an entry at the end, which can be written, with the value of `held` and a shared name.
+    /// What `held` has afterwards owns no memory. After want of memory the scope is as it was, and
+    /// the value may be lost.
+    #[inline(always)]
+    pub fn push_moved(&mut self, name: &Name, held: &mut Held) -> Result<(), OutOfMemory>
+        ensures scope { self.new ≡ (if is_ok result
+            then self.old ++ record { name = name.now; held = read_write held.old.value } ∷ []
+            else self.old) }
+        ensures left { left_behind held.new.value ≡ held.new.value }
+    {
+        match &held.value {
+            Dynamic::Int(integer) => {
+                self.push_shared(name, Held::read_write(Dynamic::Int(*integer)))
+            }
+            _ => self.push_taken(name, held),
+        }
+    }
+
+    // The same of a value that may own memory.
+    #[cold]
+    #[inline(never)]
+    fn push_taken(&mut self, name: &Name, held: &mut Held) -> Result<(), OutOfMemory>
+        ensures scope { self.new ≡ (if is_ok result
+            then self.old ++ record { name = name.now; held = read_write held.old.value } ∷ []
+            else self.old) }
+        ensures left { left_behind held.new.value ≡ held.new.value }
+    {
+        let value = held.value.take();
+        self.push_shared(name, Held::read_write(value))
     }
 
     /// Keeps the first `n` entries.

@@ -1,14 +1,15 @@
 //! Script values, held values, and the limits of a run.
 
 ghost use Rattle.std.specs.Prelude.{◌≡◌, ◌++◌, IfOk, Some, false, is_ok, if◌then◌else◌};
-ghost use Rattle.grain_value.specs.Looking.{is_unit, truth_of, integer_of};
+ghost use Rattle.grain_value.specs.Looking.{is_unit, truth_of, integer_of, owns_no_memory};
+ghost use Rattle.grain_value.specs.Operands.{left_behind};
 ghost use Rattle.grain_value.specs.Writing.{kind_of, type_name_of, plain, quoted};
 ghost use Rattle.grain_value.specs.declared.values.Dynamic.TheVariants as dynamic;
 
 use crate::memory::OutOfMemory;
 use crate::texts::Text;
 use std::alloc::Global;
-use std::fmt;
+use std::{fmt, mem};
 
 /// A script value.
 #[derive(Drop)]
@@ -98,6 +99,17 @@ impl Dynamic {
         }
     }
 
+    /// Whether the value owns no memory: unit, a truth value and an integer own none.
+    #[inline(always)]
+    pub fn owns_no_memory(&self) -> bool
+        ensures { result ≡ owns_no_memory self.now }
+    {
+        match self {
+            Dynamic::Unit | Dynamic::Bool(_) | Dynamic::Int(_) => true,
+            Dynamic::Text(_) => false,
+        }
+    }
+
     /// Becomes this integer. If it is an integer already, the number alone is written.
     #[inline(always)]
     pub fn set_int(&mut self, integer: i64)
@@ -107,6 +119,44 @@ impl Dynamic {
             Dynamic::Int(place) => *place = integer,
             _ => *self = Dynamic::Int(integer),
         }
+    }
+
+    /// Becomes this truth value. If it is one already, the truth alone is written.
+    #[inline(always)]
+    pub fn set_bool(&mut self, truth: bool)
+        ensures { self.new ≡ dynamic.Bool truth }
+    {
+        match self {
+            Dynamic::Bool(place) => *place = truth,
+            _ => *self = Dynamic::Bool(truth),
+        }
+    }
+
+    /// Becomes unit, unless it owns no memory: then it stays.
+    #[inline(always)]
+    pub fn forget(&mut self)
+        ensures { self.new ≡ left_behind self.old }
+    {
+        match self {
+            Dynamic::Unit | Dynamic::Bool(_) | Dynamic::Int(_) => {}
+            Dynamic::Text(_) => self.become_unit(),
+        }
+    }
+
+    #[cold]
+    #[inline(never)]
+    fn become_unit(&mut self)
+        ensures { self.new ≡ dynamic.Unit }
+    {
+        *self = Dynamic::Unit;
+    }
+
+    /// Takes the value, and leaves unit.
+    pub fn take(&mut self) -> Dynamic
+        ensures value { result ≡ self.old }
+        ensures rest { self.new ≡ dynamic.Unit }
+    {
+        mem::replace(self, Dynamic::Unit)
     }
 
     /// The number of the value's kind: 0 unit, 1 bool, 2 integer, 4 text.

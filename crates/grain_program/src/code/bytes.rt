@@ -23,7 +23,8 @@ fn two_there(bytes: &[u8]) -> u16
     requires { 2 ≤ length bytes.now }
     ensures { number_at two bytes.now ≡ Some result }
 {
-    u16::from_le_bytes([bytes[0], bytes[1]])
+    let (pairs, _) = bytes.as_chunks::<2>();
+    u16::from_le_bytes(pairs[0])
 }
 
 fn four_there(bytes: &[u8]) -> u32

@@ -1,10 +1,10 @@
 //! The pools of a program, and the positions of its instructions.
 
 use crate::code::parts::{AssignOp, PositionEntry};
-use grain_value::{List, Text, Token};
+use grain_value::{List, Name, Token};
 
 /// The names of a program.
-pub type Names = List<Text>;
+pub type Names = List<Name>;
 
 /// The operator tokens of a program.
 pub type Tokens = List<Token>;

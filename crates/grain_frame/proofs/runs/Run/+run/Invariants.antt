@@ -2,7 +2,7 @@ use Rattle.std.proofs.Common.{◌≡◌, ◌≤◌, ◌+◌, ◌*◌, false}
 use Rattle.grain_means.specs.Worlds.{Go, InFrame}
 use Rattle.grain_means.specs.Simulation.{Simulates}
 use Rattle.grain_means.specs.Means.{setup}
-use Rattle.grain_frame.specs.Abstraction.{abstraction, frame_in, Runs}
+use Rattle.grain_frame.specs.Abstraction.{abstraction, entry_of, frame_in, Runs}
 use Rattle.grain_frame.proofs.Measure.{left}
 use Rattle.grain_frame.proofs.runs.Run.+run.Given as goal
 
@@ -10,19 +10,21 @@ use Rattle.grain_frame.proofs.runs.Run.+run.Given as goal
 abbrev pub decreases-call : goal.decreases-call
 decreases-call g l = 3 * left l.context.engine.now l.self.now.count l.frame.now.address
 
-abbrev pub decreases-step : goal.decreases-step
-decreases-step g l = 3 * left l.context.engine.now l.self.now.count l.frame.now.address + 1
-
 abbrev pub decreases-run_frame : goal.decreases-run_frame
-decreases-run_frame g l = 3 * left l.context.engine.now l.self.now.count l.frame.now.address + 2
+decreases-run_frame g l = 3 * left l.context.engine.now l.self.now.count l.chunk.now.entry + 2
+
+abbrev pub decreases-proceed : goal.decreases-proceed
+decreases-proceed g l = 3 * left l.context.engine.now l.self.now.count l.frame.now.address + 1
 
 abbrev pub invariant-run_frame-turn : goal.invariant-run_frame-turn
 invariant-run_frame-turn g l = record {
-  goes : Simulates (setup l.context.program.now l.context.engine.now) (abstraction l.fn.self l.fn.steps l.fn.host) (λ m place w. Go (InFrame (frame_in l.fn.frame l.fn.self place)) w) false (abstraction l.self l.steps l.host) (λ m place w. Go (InFrame (frame_in l.frame l.self place)) w);
+  goes : Simulates (setup l.context.program.now l.context.engine.now) (abstraction l.fn.self l.fn.steps l.fn.host) (λ m place w. Go (InFrame (frame_in (entry_of l.fn.chunk l.fn.base) l.fn.self place)) w) false (abstraction l.self l.steps l.host) (λ m place w. Go (InFrame (frame_in l.frame l.self place)) w);
   runs : Runs l.context.program.now l.frame l.self;
   outer : l.self.stacks.outer ≡ l.fn.self.stacks.outer;
+  saved : l.self.saved ≡ l.fn.self.saved;
+  level : l.self.level ≡ l.fn.self.level;
   later : l.fn.self.count ≤ l.self.count;
-  fewer : left l.context.engine.now l.self.count l.frame.address ≤ left l.context.engine.now l.fn.self.count l.fn.frame.address;
+  fewer : left l.context.engine.now l.self.count l.frame.address ≤ left l.context.engine.now l.fn.self.count l.fn.chunk.entry;
   before : l.steps.before ≡ l.fn.steps.before;
 }
 

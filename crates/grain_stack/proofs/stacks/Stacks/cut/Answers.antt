@@ -1,8 +1,9 @@
-use Rattle.std.proofs.Common.{◌≡◌, ◌+◌, arith, refl, take, drop}
-use Rattle.std.proofs.lemmas.List.{drop-take}
-use Rattle.grain_stack.proofs.Lists.{take_shorter}
+use Rattle.std.proofs.Common.{◌≡◌, ◌<◌, ◌≤◌, ◌+◌, ◌-◌, ◌++◌, ◌∷◌, [], length, take, drop, ap, ◌∙◌, refl, arith, length-drop}
+use Rattle.grain_value.specs.Operands.{top, under, read_write}
+use Rattle.grain_stack.specs.Views.{StacksView}
+use Rattle.grain_stack.proofs.Lists.{cut_frame, cut_others}
 use Rattle.grain_stack.proofs.stacks.Stacks.cut.Goals as goal
 
 pub returns : goal.returns
 returns c =
-    rw (← c.self.view_is, c.truncate.ensures.items, drop-take c.self.inside.bottom c.args.height c.self.inside.operands.items, take_shorter c.self.inside.bottom (c.self.inside.bottom + c.args.height) c.self.inside.operands.items (omega arith)) refl
+    rw (← c.self.view_is, c.truncate.ensures, cut_frame c.self.inside.bottom c.args.height c.self.inside.slots.operands, cut_others c.self.inside.bottom c.args.height c.self.inside.slots.operands) refl

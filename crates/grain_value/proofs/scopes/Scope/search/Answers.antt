@@ -1,7 +1,7 @@
 -- The first entry of the name from the end is the newest.
 use Rattle.std.proofs.Common.{◌≡◌, ◌∙◌, ◌-◌, suc, true, drop, None, bytes_eq, ap, arith}
 use Rattle.grain_value.specs.Scopes.{last_of}
-use Rattle.grain_value.proofs.Names.{last_at}
+use Rattle.grain_value.proofs.Newest.{last_at}
 use Rattle.grain_value.proofs.scopes.Scope.search.Goals as goal
 
 pub returns-then-eq : goal.returns-then-eq

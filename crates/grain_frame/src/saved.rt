@@ -1,0 +1,79 @@
+//! Scopes of frames that wait for the frames that they called.
+
+ghost use Rattle.std.specs.Prelude.{◌≡◌, ◌<◌, ◌-◌, ◌++◌, ◌∷◌, [], length, take, slice_index_or, is_ok, if◌then◌else◌};
+
+use grain_value::{OutOfMemory, Scope};
+use std::alloc::Global;
+use std::marker::Model;
+use std::mem;
+
+/// The scopes of the frames that wait, the newest last. Behind them lie empty scopes, whose memory
+/// the next frames take over.
+#[derive(Drop)]
+pub struct SavedScopes {
+    alloc: Global,
+    scopes: Vec<Scope>,
+    saved: usize,
+}
+
+impl Model for SavedScopes {
+    ghost use Rattle.std.specs.Prelude.{List, ◌≤◌, length, take};
+    ghost use Rattle.grain_value.specs.declared.scopes.Entry.{Entry};
+
+    ghost Value = { List (List Entry) };
+
+    ghost view = { λ s. take s.saved s.scopes.items };
+
+    ghost invariant = { λ s. s.saved ≤ length s.scopes.items };
+}
+
+impl SavedScopes {
+    /// No scopes. It takes no memory.
+    pub fn new(alloc: Global) -> SavedScopes
+        ensures { result ≡ [] }
+    {
+        SavedScopes {
+            alloc,
+            scopes: Vec::new(alloc),
+            saved: 0,
+        }
+    }
+
+    /// Puts the scope aside, and gives an empty one in its place. After want of memory both are as
+    /// they were.
+    #[inline(always)]
+    pub fn save(&mut self, scope: &mut Scope) -> Result<(), OutOfMemory>
+        ensures saved { self.new ≡ (if is_ok result then self.old ++ scope.old ∷ [] else self.old) }
+        ensures scope { scope.new ≡ (if is_ok result then [] else scope.old) }
+    {
+        if self.saved < self.scopes.len() {
+            mem::swap(&mut self.scopes[self.saved], scope);
+            scope.rewind(0);
+            self.saved += 1;
+            return Ok(());
+        }
+        let waiting = mem::replace(scope, Scope::new(self.alloc));
+        match self.scopes.push(waiting) {
+            Ok(()) => {
+                self.saved += 1;
+                Ok(())
+            }
+            Err(refused) => {
+                *scope = refused.value;
+                Err(OutOfMemory)
+            }
+        }
+    }
+
+    /// Gives the newest scope back in the place of this one, whose entries go.
+    #[inline(always)]
+    pub fn restore(&mut self, scope: &mut Scope)
+        requires there { 0 < length self.old }
+        ensures saved { self.new ≡ take (length self.old - 1) self.old }
+        ensures scope { scope.new ≡ slice_index_or self.old (length self.old - 1) [] }
+    {
+        scope.rewind(0);
+        self.saved -= 1;
+        mem::swap(&mut self.scopes[self.saved], scope);
+    }
+}

@@ -1,0 +1,12 @@
+use Rattle.std.proofs.Common.{◌≡◌, ◌<◌, ◌≤◌, ◌+◌, ◌-◌, ◌++◌, ◌∷◌, [], length, take, drop, ap, ◌∙◌, refl, arith, length-drop}
+use Rattle.grain_value.specs.Operands.{top, under, read_write}
+use Rattle.grain_stack.specs.Views.{StacksView}
+use Rattle.grain_value.specs.declared.values.Dynamic.TheVariants as dynamic
+use Rattle.grain_stack.proofs.Lists.{answer_own, answer_rest}
+use Rattle.grain_stack.proofs.stacks.Stacks.answer_bool.Goals as goal
+
+pub returns : goal.returns
+returns c =
+    let own : length (drop c.self.inside.bottom c.self.inside.slots.operands) ≡ length c.args.self.now.operands = ap (λ (v : StacksView). length v.operands) c.self.view_is in
+    let there : c.self.inside.bottom + 2 ≤ length c.self.inside.slots.operands = omega (arith, own, c.requires.there, length-drop c.self.inside.bottom c.self.inside.slots.operands) in
+    rw (← c.self.view_is, c.answer_bool.ensures, answer_own c.self.inside.bottom c.self.inside.slots.operands (read_write (dynamic.Bool c.args.truth)) there, answer_rest c.self.inside.bottom c.self.inside.slots.operands (read_write (dynamic.Bool c.args.truth)) there) refl
