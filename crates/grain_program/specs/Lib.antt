@@ -20,5 +20,7 @@ pub mod Recorded
 -- the table with which the rules of instructions are tested, which the contracts of private
 -- functions name
 pub mod Owners
+-- the addresses that wait in the search for a typing, as private functions have them
+pub mod Waiting
 -- lemmas, which no contract names
 pub mod laws

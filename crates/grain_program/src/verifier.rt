@@ -8,3 +8,4 @@ pub mod owners;
 pub mod refusals;
 pub mod rules;
 pub mod shapes;
+pub mod waiting;

@@ -184,6 +184,7 @@ fn width_of(tag: u8) -> usize
 
 /// The instruction at the address, and its width in bytes. There is none exactly where the address
 /// is at or past the code's end, the byte there is no tag, or the operands pass the code's end.
+#[inline(always)]
 pub fn decode(code: &Blob, address: usize) -> Option<(Op, usize)>
     ensures exact { result ≡ op_at code.now address }
     ensures within { IfSome result (λ r. (1 ≤ r.1) × (address + r.1 ≤ length code.now)) }

@@ -27,6 +27,7 @@ pub struct Descriptor {
 }
 
 /// An instruction that needs no capability.
+#[inline(always)]
 fn plain(tag: u8, fields: Fields, takes: u32, gives: u32, flow: Flow) -> Descriptor
     ensures tag { result.tag ≡ tag }
     ensures fields { result.fields ≡ fields }
@@ -44,6 +45,7 @@ fn plain(tag: u8, fields: Fields, takes: u32, gives: u32, flow: Flow) -> Descrip
 
 impl Op {
     /// The row of the instruction.
+    #[inline(always)]
     pub fn descriptor(self) -> Descriptor
         ensures tag { result.tag ≡ tag_of self }
         ensures fields { result.fields ≡ fields_of self }

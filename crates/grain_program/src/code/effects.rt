@@ -28,6 +28,7 @@ pub struct Effect {
 
 impl Effect {
     /// The effect of the instruction.
+    #[inline(always)]
     pub fn of(op: Op) -> Effect
         ensures { result ≡ effect_of op }
     {

@@ -45,6 +45,7 @@ impl Model for Fields {
 
 impl Fields {
     /// No operand.
+    #[inline(always)]
     pub fn none() -> Fields
         ensures { result ≡ [] }
     {
@@ -54,6 +55,7 @@ impl Fields {
     }
 
     /// One operand.
+    #[inline(always)]
     pub fn one(first: Field) -> Fields
         ensures { result ≡ first ∷ [] }
     {
@@ -63,6 +65,7 @@ impl Fields {
     }
 
     /// Two operands.
+    #[inline(always)]
     pub fn two(first: Field, second: Field) -> Fields
         ensures { result ≡ first ∷ second ∷ [] }
     {
@@ -72,6 +75,7 @@ impl Fields {
     }
 
     /// Three operands.
+    #[inline(always)]
     pub fn three(first: Field, second: Field, third: Field) -> Fields
         ensures { result ≡ first ∷ second ∷ third ∷ [] }
     {
@@ -81,6 +85,7 @@ impl Fields {
     }
 
     /// The places for operands, of which the first ones have one each.
+    #[inline(always)]
     pub fn as_slice(&self) -> &[Option<Field>]
         ensures { present result.now ≡ self.now }
     {

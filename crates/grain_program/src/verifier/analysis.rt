@@ -10,16 +10,16 @@ use crate::code::effects::{Effect, Flow};
 use crate::code::parts::Chunk;
 use crate::verifier::refusals::Refusal;
 use crate::verifier::shapes::{Shape, Shapes};
+use crate::verifier::waiting::Waiting;
 use grain_value::{Blob, OutOfMemory};
 use std::alloc::Global;
-use std::collections::BTreeSet;
 use std::marker::Model;
 
 /// The shapes that are known, and the addresses that wait to be taken.
 #[derive(Drop)]
 pub struct HeightAnalysis {
     shapes: Shapes,
-    waiting: BTreeSet<usize>,
+    waiting: Waiting,
 }
 
 impl Model for HeightAnalysis {
@@ -27,7 +27,7 @@ impl Model for HeightAnalysis {
 
     ghost Value = { AnalysisState };
 
-    ghost view = { λ s. record { shapes = s.shapes; waiting = s.waiting.keys } };
+    ghost view = { λ s. record { shapes = s.shapes; waiting = s.waiting } };
 }
 
 impl HeightAnalysis {
@@ -38,7 +38,7 @@ impl HeightAnalysis {
         let shapes = Shapes::new(alloc, len)?;
         Ok(HeightAnalysis {
             shapes,
-            waiting: BTreeSet::new(alloc),
+            waiting: Waiting::new(alloc),
         })
     }
 
@@ -89,7 +89,7 @@ impl HeightAnalysis {
         ensures { MatchOption result ((self.old.waiting ≡ []) × (self.new ≡ self.old))
             (λ a. self.old ≡ with_lowest a self.new) }
     {
-        self.waiting.pop_first()
+        self.waiting.pop_lowest()
     }
 
     /// Takes the instruction at the address, in a chunk whose frame may have max operands.
