@@ -1,11 +1,12 @@
 -- Which function a name and a number of arguments mean.
-use Rattle.std.specs.Prelude.{ℕ, ◌≡◌, ◌==◌, ◌&&◌, Bool, false, List, length, slice_get, Option, Some, None, option_map}
+use Rattle.std.specs.Prelude.{ℕ, ◌≡◌, ◌<◌, ◌+◌, ◌==◌, ◌&&◌, Bool, false, List, [], ◌∷◌, length, slice_get, slice_index_or, Option, Some, None, option_map, if◌then◌else◌}
 use Rattle.std.specs.List.{position_from}
 use Rattle.std.specs.Str.{bytes_eq}
 use Rattle.std.specs.Ordering.{nat_cmp, ordering_then}
 use Rattle.std.specs.declared.cmp.Ordering.{Ordering}
 use Rattle.std.specs.BTreeMap.{BTreeMap, get}
 use Rattle.grain_program.specs.declared.code.functions.Function.{Function}
+use Rattle.grain_program.specs.declared.lookups.First.{First}
 use Rattle.grain_program.specs.View.{View}
 
 -- the function has this name, by its index, and this number of parameters
@@ -60,3 +61,16 @@ abbrev pub IsIndex : List Function → BTreeMap (ℕ × ℕ) ℕ → Type 0
 IsIndex fs function_index =
     (name count : ℕ)
     → get signature_cmp function_index (name, count) ≡ position_from (is_called name count) 0 fs
+
+-- the first function of the name, where the functions are counted from this number on: its number,
+-- and how many parameters it has
+abbrev pub first_named : ℕ → ℕ → List Function → Option First
+first_named name from [] = None
+first_named name from (f ∷ fs) =
+    if f.name == name then Some (record { number = from; count = length f.params })
+    else first_named name (from + 1) fs
+
+-- the table has the first function of each of its names
+abbrev pub AreFirst : List Function → List (Option First) → Type 0
+AreFirst fs firsts =
+    (name : ℕ) → name < length firsts → slice_index_or firsts name None ≡ first_named name 0 fs

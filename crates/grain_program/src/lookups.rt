@@ -1,14 +1,56 @@
 //! Which function a name and a number of arguments mean.
 
-ghost use Rattle.std.specs.Prelude.{◌≡◌, IfOk};
+ghost use Rattle.std.specs.Prelude.{◌≡◌, IfOk, length, slice_index_or};
 ghost use Rattle.std.specs.List.{position_from};
-ghost use Rattle.grain_program.specs.Lookups.{has_text, IsIndex};
+ghost use Rattle.grain_program.specs.Lookups.{has_text, IsIndex, AreFirst};
 
 use crate::code::functions::Function;
 use crate::code::pools::Names;
 use grain_value::OutOfMemory;
 use std::alloc::Global;
 use std::collections::BTreeMap;
+
+/// The first function of a name: its number, and how many parameters it has.
+#[derive(Clone, Copy, Debug, PartialEq, Eq)]
+pub struct First {
+    pub number: usize,
+    pub count: usize,
+}
+
+/// The first function of each name, by the name's index.
+pub type FirstFunctions = Vec<Option<First>>;
+
+/// The first function of each of so many names.
+pub fn first_functions(
+    alloc: Global,
+    functions: &[Function],
+    names: usize,
+) -> Result<FirstFunctions, OutOfMemory>
+    ensures first { IfOk result (λ firsts. AreFirst functions.now firsts.items) }
+    ensures long { IfOk result (λ firsts. length firsts.items ≡ names) }
+{
+    let mut firsts = vec![in alloc; None; names]?;
+    for number in (0..functions.len()).rev() {
+        let function = &functions[number];
+        let name = function.name as usize;
+        let count = function.params.len();
+        if name < firsts.len() {
+            firsts[name] = Some(First { number, count });
+        }
+    }
+    Ok(firsts)
+}
+
+/// The first function of the name, if there is one.
+#[inline(always)]
+pub fn first_of(firsts: &[Option<First>], name: u32) -> Option<First>
+    ensures { result ≡ slice_index_or firsts.now name None }
+{
+    match firsts.get(name as usize) {
+        Some(first) => *first,
+        None => None,
+    }
+}
 
 /// The number of the first function of each name, by its index, with each number of parameters.
 pub type FunctionIndex = BTreeMap<(u32, usize), usize>;

@@ -15,7 +15,9 @@ use crate::code::functions::{Function, Functions};
 use crate::code::instructions::Op;
 use crate::code::parts::{AssignOp, Chunk, Parts, PositionEntry};
 use crate::code::pools::Names;
-use crate::lookups::{FunctionIndex, first_by_text, index_functions};
+use crate::lookups::{
+    FirstFunctions, FunctionIndex, first_by_text, first_functions, first_of, index_functions,
+};
 use crate::verifier::check::check;
 use crate::verifier::refusals::Refusal;
 use grain_fault::Position;
@@ -28,6 +30,7 @@ use std::marker::Model;
 #[derive(Drop)]
 pub struct Program {
     parts: Parts,
+    firsts: FirstFunctions,
     function_index: FunctionIndex,
 }
 
@@ -35,14 +38,15 @@ impl Model for Program {
     ghost use Rattle.grain_program.specs.View.{View, view_of};
     ghost use Rattle.grain_program.specs.Typing.{IsProgram};
     ghost use Rattle.grain_program.specs.Recorded.{HasOrder};
-    ghost use Rattle.grain_program.specs.Lookups.{IsIndex};
+    ghost use Rattle.grain_program.specs.Lookups.{IsIndex, AreFirst};
 
     ghost Value = { View };
 
     ghost view = { λ p. view_of p.parts };
 
     ghost invariant = { λ p. IsProgram (view_of p.parts) × HasOrder (view_of p.parts)
-        × IsIndex p.parts.functions p.function_index };
+        × IsIndex p.parts.functions p.function_index
+        × AreFirst p.parts.functions p.firsts.items };
 }
 
 /// The program that the parts are, or the first rule that they break. Their positions have to be in
@@ -61,13 +65,18 @@ pub fn verify(alloc: Global, parts: Parts) -> Result<Program, Refusal>
     if let Err(refusal) = check(alloc, &parts) {
         return Err(refusal);
     }
-    match index_functions(alloc, parts.functions.as_slice()) {
-        Ok(function_index) => Ok(Program {
-            parts,
-            function_index,
-        }),
-        Err(_) => Err(Refusal::Memory),
-    }
+    let functions = parts.functions.as_slice();
+    let Ok(firsts) = first_functions(alloc, functions, parts.names.len()) else {
+        return Err(Refusal::Memory);
+    };
+    let Ok(function_index) = index_functions(alloc, functions) else {
+        return Err(Refusal::Memory);
+    };
+    Ok(Program {
+        parts,
+        firsts,
+        function_index,
+    })
 }
 
 /// A number by value is known to be in its range, which a field behind a reference is not.
@@ -146,7 +155,22 @@ impl Program {
     }
 
     /// The number of the first function of this name, by its index, with this number of parameters.
+    #[inline(always)]
     pub fn function(&self, name_index: u32, argc: usize) -> Option<usize>
+        ensures exact { result ≡ function_of self.now name_index argc }
+        ensures called { IfSome result (Called self.now name_index argc) }
+    {
+        match first_of(&self.firsts, name_index) {
+            Some(first) if first.count == argc => Some(first.number),
+            _ => self.indexed_function(name_index, argc),
+        }
+    }
+
+    /// The same, by a search: where the first function of the name has another number of
+    /// parameters, or there is none.
+    #[cold]
+    #[inline(never)]
+    fn indexed_function(&self, name_index: u32, argc: usize) -> Option<usize>
         ensures exact { result ≡ function_of self.now name_index argc }
         ensures called { IfSome result (Called self.now name_index argc) }
     {
