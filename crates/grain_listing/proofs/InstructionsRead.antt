@@ -1,6 +1,7 @@
 -- The lines of instructions are read as those instructions.
 use Rattle.std.proofs.Common.{◌≡◌, ℕ, suc, ◌+◌, ◌-◌, ◌^◌, ◌<◌, ◌≤◌, true, false, ◌&&◌, cond, List, [], ◌∷◌, ◌++◌, length, map, Option, Some, None, Result, Ok, Err, refl, sym, ap, ◌∙◌, arith, append_assoc, append-nil}
 use Rattle.std.specs.List.{flat_map, list_all, All, AllByRecursion}
+use Rattle.std.specs.Str.{encode_utf8_all}
 use Rattle.std.specs.Fmt.{decimal}
 use Rattle.std.specs.Int.{w16, w32, to_le_bytes}
 use Rattle.grain_fault.specs.declared.places.Position.{Position}
@@ -11,17 +12,15 @@ use Rattle.grain_program.specs.Fields.{Size, one, two, four, size_of, number_of,
 use Rattle.grain_program.specs.InstructionSet.{tag_of, fields_of}
 use Rattle.grain_program.specs.Spelling.{spelled, fields_spelled, spelling, OpFits}
 use Rattle.grain_words.specs.Lines.{lines_of}
-use Rattle.grain_words.specs.Words.{words_of}
+use Rattle.grain_words.specs.Words.{next_word, is_over}
 use Rattle.grain_words.specs.Numerals.{number, begins_letter}
-use Rattle.grain_words.specs.Spelled.{is_plain_word, spaced, is_inside, text_of}
-use Rattle.grain_words.specs.declared.words.Word.{Word}
-use Rattle.grain_words.specs.declared.words.Word.TheVariants.{Bare}
+use Rattle.grain_words.specs.Spelled.{is_plain_word, after_words, spaced, is_inside, text_of}
 use Rattle.grain_listing.specs.Steps.{and_then, present}
 use Rattle.grain_listing.specs.Instructions.{word_of, kind_of, kinds_of, encoding_of, encoding_named}
 use Rattle.grain_listing.specs.InstructionLines.{numbers_of, instruction_line, instruction_text}
 use Rattle.grain_listing.specs.Table.{is_block, line_of, own_line, instruction_line_of, later_line, or_else}
-use Rattle.grain_listing.specs.Statements.{Piece, Byte, Goto, Statement, code_line, section, pieces}
-use Rattle.grain_listing.specs.LineMeanings.{bytes, operand, operands, known, in_section, says, at_line, statements}
+use Rattle.grain_listing.specs.Statements.{Piece, Byte, Goto, Statement, blank, code_line, section, pieces}
+use Rattle.grain_listing.specs.LineMeanings.{bytes, operand, operands, known, begun_by, in_section, says, at_line, statements}
 use Rattle.grain_listing.specs.declared.table.Line.{Line}
 use Rattle.grain_listing.specs.declared.table.Line.TheVariants as lines
 use Rattle.grain_listing.specs.declared.table.OperandKind.{OperandKind}
@@ -58,8 +57,12 @@ pub record Laws : Type 0 where
   pub numbers : (most n : ℕ) → n ≤ most → n < 2 ^ 64 → number most (decimal n) ≡ Some n
   pub plain : (n : ℕ) → n < 2 ^ 64 → is_plain_word (decimal n) ≡ true
   pub letterless : (n : ℕ) → n < 2 ^ 64 → begins_letter (decimal n) ≡ false
-  pub words : (w : List ℕ) (ws : List (List ℕ)) → is_plain_word w ≡ true →
-      list_all is_plain_word ws ≡ true → words_of (spaced w ws) ≡ Bare w ∷ map (λ v. Bare v) ws
+  pub first : (w : List ℕ) (ws : List (List ℕ)) → is_plain_word w ≡ true →
+      next_word (spaced w ws) ≡ Some (w, after_words ws)
+  pub next : (w : List ℕ) (ws : List (List ℕ)) → is_plain_word w ≡ true →
+      next_word (after_words (w ∷ ws)) ≡ Some (w, after_words ws)
+  pub over : (w : List ℕ) (ws : List (List ℕ)) → is_plain_word w ≡ true →
+      is_over (after_words (w ∷ ws)) ≡ false
   pub inside : (w : List ℕ) (ws : List (List ℕ)) → is_plain_word w ≡ true →
       list_all is_plain_word ws ≡ true → list_all is_inside (spaced w ws) ≡ true
   pub lines : (ls : List (List ℕ)) → list_all (list_all is_inside) ls ≡ true →
@@ -79,7 +82,7 @@ field_read laws line two n h = ap
     (λ o. and_then (present BadOperand o) (λ k. Ok (bytes (to_le_bytes w16 k))))
     (laws.numbers 65535 n (omega arith) (omega arith))
 field_read laws line four n h =
-    ap (λ b. cond b (Ok (Goto line (decimal n) ∷ []))
+    ap (λ b. cond b (Ok (Goto line (encode_utf8_all (decimal n)) ∷ []))
     (and_then (present BadOperand (number (2 ^ 32 - 1) (decimal n)))
     (λ k. Ok (bytes (to_le_bytes w32 k))))) (laws.letterless n (omega arith)) ∙
     ap (λ o. and_then (present BadOperand o) (λ k. Ok (bytes (to_le_bytes w32 k))))
@@ -95,21 +98,27 @@ bytes-append (x ∷ xs) ys = ap (λ l. Byte x ∷ l) (bytes-append xs ys)
 -- one more operand before the others
 first_read : Laws → (line : ℕ) (f : Field) (fs : List Field) (ks : List (Option OperandKind)) →
     NumberFits (size_of f) (number_of f) →
-    operands line ks (map (λ w. Bare w) (numbers_of fs)) ≡ Ok (bytes (fields_spelled fs), None) →
-    operands line (Some (kind_of (size_of f)) ∷ ks) (map (λ w. Bare w) (numbers_of (f ∷ fs))) ≡
+    operands line ks (after_words (numbers_of fs)) ≡ Ok (bytes (fields_spelled fs), None) →
+    operands line (Some (kind_of (size_of f)) ∷ ks) (after_words (numbers_of (f ∷ fs))) ≡
     Ok (bytes (fields_spelled (f ∷ fs)), None)
 first_read laws line f fs ks fits rest =
-    let others : Operands = operands line ks (map (λ w. Bare w) (numbers_of fs)) in
+    let more : (List Piece × List ℕ) → Operands =
+    λ a. and_then (operands line ks a.1) (λ o. Ok (a.0 ++ o.0, o.1)) in
+    ap (λ (o : Option (List ℕ × List ℕ)). and_then (and_then (present BadOperand o)
+    (λ a. and_then (operand line (kind_of (size_of f)) a.0) (λ ps. Ok (ps, a.1)))) more)
+    (laws.next (decimal (number_of f)) (numbers_of fs)
+    (laws.plain (number_of f) (small (size_of f) (number_of f) fits))) ∙
     ap (λ (r : Result (List Piece) Reason).
-    and_then r (λ ps. and_then others (λ o. Ok (ps ++ o.0, o.1))))
+    and_then (and_then r (λ ps. Ok (ps, after_words (numbers_of fs)))) more)
     (field_read laws line (size_of f) (number_of f) fits) ∙
-    ap (λ (r : Operands). and_then r (λ o. Ok (bytes (spelled (size_of f) (number_of f)) ++ o.0, o.1)))
+    ap (λ (r : Operands). and_then r
+    (λ o. Ok (bytes (spelled (size_of f) (number_of f)) ++ o.0, o.1)))
     rest ∙
     ap (λ (ps : List Piece). Ok (ps, None))
     (sym (bytes-append (spelled (size_of f) (number_of f)) (fields_spelled fs)))
 
 fields_read : Laws → (line : ℕ) (fs : List Field) → AllByRecursion FieldFits fs → length fs ≤ 3 →
-    operands line (kinds_of fs) (map (λ w. Bare w) (numbers_of fs)) ≡
+    operands line (kinds_of fs) (after_words (numbers_of fs)) ≡
     Ok (bytes (fields_spelled fs), None)
 fields_read laws line [] fit three = refl
 fields_read laws line (a ∷ []) fit three = first_read laws line a [] (None ∷ None ∷ []) fit.0 refl
@@ -117,13 +126,15 @@ fields_read laws line (a ∷ b ∷ []) fit three =
     first_read laws line a (b ∷ []) (Some (kind_of (size_of b)) ∷ None ∷ []) fit.0
     (first_read laws line b [] (None ∷ []) fit.1.0 refl)
 fields_read laws line (a ∷ b ∷ c ∷ []) fit three =
-    first_read laws line a (b ∷ c ∷ []) (Some (kind_of (size_of b)) ∷ Some (kind_of (size_of c)) ∷ [])
+    first_read laws line a (b ∷ c ∷ [])
+    (Some (kind_of (size_of b)) ∷ Some (kind_of (size_of c)) ∷ [])
     fit.0
     (first_read laws line b (c ∷ []) (Some (kind_of (size_of c)) ∷ []) fit.1.0
     (first_read laws line c [] [] fit.1.1.0 refl))
 fields_read laws line (a ∷ b ∷ c ∷ d ∷ fs) fit three = absurd (omega arith)
 
-plain_numbers : Laws → (fs : List Field) → AllByRecursion FieldFits fs → list_all is_plain_word (numbers_of fs) ≡
+plain_numbers : Laws → (fs : List Field) → AllByRecursion FieldFits fs →
+    list_all is_plain_word (numbers_of fs) ≡
     true
 plain_numbers laws [] fit = refl
 plain_numbers laws (f ∷ fs) fit =
@@ -136,16 +147,18 @@ instruction_said o = code_line (Byte (tag_of o)) (bytes (fields_spelled (fields_
 
 one_read : Laws → (n : ℕ) (o : Op) (before : List Statement) → OpFits o →
     section before ≡ sections.Block →
-    says n (words_of (instruction_line o)) before ≡ Ok (instruction_said o)
+    says n (instruction_line o) before ≡ Ok (instruction_said o)
 one_read laws n o before fits block =
-    let ws : List Word = map (λ w. Bare w) (numbers_of (fields_of o)) in
+    let cs : List ℕ = after_words (numbers_of (fields_of o)) in
     let within : Result Statement Reason =
-    and_then (operands n (encoding_of o).operands ws)
+    and_then (operands n (encoding_of o).operands cs)
     (λ x. Ok (code_line (Byte (tag_of o)) x.0 x.1)) in
-    ap (λ l. says n l before) (laws.words (word_of o) (numbers_of (fields_of o)) (plain_word o)
-    (plain_numbers laws (fields_of o) fits)) ∙
-    ap (λ s. in_section s n (Bare (word_of o)) ws before) block ∙
-    ap (λ l. known l n (word_of o) ws before) (its_line o) ∙
+    ap (λ b. cond b (Ok blank) (in_section (section before) n (instruction_line o) before))
+    (laws.over (word_of o) (numbers_of (fields_of o)) (plain_word o)) ∙
+    ap (λ s. in_section s n (instruction_line o) before) block ∙
+    ap (λ a. begun_by a n before)
+    (laws.first (word_of o) (numbers_of (fields_of o)) (plain_word o)) ∙
+    ap (λ l. known l n (word_of o) cs before) (its_line o) ∙
     ap (λ s. cond (is_block s) within (Err OutOfPlace)) block ∙
     ap (λ (r : Operands). and_then r (λ x. Ok (code_line (Byte (tag_of o)) x.0 x.1)))
     (fields_read laws n (fields_of o) fits (few o))
@@ -170,7 +183,7 @@ lines_read laws n before [] block fit =
     ap (λ (ps : List Piece). Ok ps) (sym (append-nil (pieces before)))
 lines_read laws n before (o ∷ os) block fit =
     let here : List Statement = instruction_said o ∷ before in
-    let first : says (n + 1) (words_of (instruction_line o)) before ≡ Ok (instruction_said o) =
+    let first : says (n + 1) (instruction_line o) before ≡ Ok (instruction_said o) =
     one_read laws (n + 1) o before (first_fits o os fit) block in
     ap (λ (r : Result Statement Reason).
     pieces_read (and_then (at_line (n + 1) r)

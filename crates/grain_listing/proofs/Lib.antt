@@ -1,4 +1,5 @@
 pub mod Colons
+pub mod Parameters
 pub mod Beyond
 pub mod Texts
 pub mod Spelled

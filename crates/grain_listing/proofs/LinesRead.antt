@@ -1,8 +1,6 @@
 -- What holds while the lines are read.
 use Rattle.std.proofs.Common.{◌≡◌, ℕ, ◌+◌, ◌*◌, ◌<◌, ◌≤◌, List, [], ◌∷◌, length, Result, Ok, Err, refl, sym, ap, ◌∙◌, subst, arith}
 use Rattle.grain_words.specs.Lines.{lines_of}
-use Rattle.grain_words.specs.Words.{words_of}
-use Rattle.grain_words.specs.declared.words.Word.{Word}
 use Rattle.grain_listing.specs.Steps.{and_then}
 use Rattle.grain_listing.specs.Statements.{Statement, address, bad_line}
 use Rattle.grain_listing.specs.LineMeanings.{says, at_line, statements}
@@ -54,15 +52,15 @@ stopped n said (Ok x) m e = absurd cc
 stopped n said (Err k) m e = let is : m ≡ k = cc in ap (λ z. Err z) (sym is)
 
 -- the line is numbered before it is read
-numbered : (n : ℕ) (ws : List Word) (v : AssemblerView) (said : List Statement) →
+numbered : (n : ℕ) (cs : List ℕ) (v : AssemblerView) (said : List Statement) →
     v ≡ assembled n said →
-    take_line ws (record v { line = n + 1 }) ≡ and_then (says (n + 1) ws said) (next (n + 1) said)
-numbered n ws v said has = ap (λ u. take_line ws (record u { line = n + 1 })) has ∙
-    simulates (n + 1) ws said
+    take_line cs (record v { line = n + 1 }) ≡ and_then (says (n + 1) cs said) (next (n + 1) said)
+numbered n cs v said has = ap (λ u. take_line cs (record u { line = n + 1 })) has ∙
+    simulates (n + 1) cs said
 
 here : (text rest line after : List ℕ) (n : ℕ) (v : AssemblerView)
     (read : LinesRead text rest n v) → lines_of rest ≡ line ∷ lines_of after →
-    and_then (and_then (at_line (n + 1) (says (n + 1) (words_of line) read.said))
+    and_then (and_then (at_line (n + 1) (says (n + 1) line read.said))
     (λ s. statements (n + 1) (s ∷ read.said) (lines_of after)))
     (λ (all : List Statement). set_up_of (length (lines_of text)) all) ≡ meaning (lines_of text)
 here text rest line after n v read first =
@@ -71,11 +69,11 @@ here text rest line after n v read first =
 
 pub line_read : (text rest line after : List ℕ) (n : ℕ) (v u : AssemblerView) →
     lines_of rest ≡ line ∷ lines_of after → length after < length rest →
-    given u ≡ take_line (words_of line) (record v { line = n + 1 }) → LinesRead text rest n v →
+    given u ≡ take_line line (record v { line = n + 1 }) → LinesRead text rest n v →
     LinesRead text after (n + 1) u
 line_read text rest line after n v u first less took read =
-    let x = passed (says (n + 1) (words_of line) read.said) (next (n + 1) read.said) u (took ∙
-    numbered n (words_of line) v read.said read.has) in
+    let x = passed (says (n + 1) line read.said) (next (n + 1) read.said) u (took ∙
+    numbered n line v read.said read.has) in
     let is : given u ≡ given (assembled (n + 1) (x.0 ∷ read.said)) = x.1.1 in
     let many : length (lines_of rest) ≡ 1 + length (lines_of after) =
     ap (λ (ls : List (List ℕ)). length ls) first ∙ omega arith in
@@ -90,7 +88,7 @@ line_read text rest line after n v u first less took read =
           here text rest line after n v read first;
       count = omega (arith, many, read.count);
       room = omega (arith, less, read.room);
-      narrow = omega (arith, read.narrow, narrow (n + 1) (words_of line) read.said x.0 x.1.0);
+      narrow = omega (arith, read.narrow, narrow (n + 1) line read.said x.0 x.1.0);
     }
 
 abbrev pub refused_for : Reason → Result AssemblerView Reason
@@ -98,12 +96,12 @@ refused_for e = Err e
 
 pub line_refused : (text rest line after : List ℕ) (n : ℕ) (v : AssemblerView) (e : Reason) →
     lines_of rest ≡ line ∷ lines_of after →
-    refused_for e ≡ take_line (words_of line) (record v { line = n + 1 }) →
+    refused_for e ≡ take_line line (record v { line = n + 1 }) →
     LinesRead text rest n v → Err (bad_line (n + 1) e) ≡ meaning (lines_of text)
 line_refused text rest line after n v e first took read =
-    let is : says (n + 1) (words_of line) read.said ≡ Err e =
-    stopped (n + 1) read.said (says (n + 1) (words_of line) read.said) e (took ∙
-    numbered n (words_of line) v read.said read.has) in
+    let is : says (n + 1) line read.said ≡ Err e =
+    stopped (n + 1) read.said (says (n + 1) line read.said) e (took ∙
+    numbered n line v read.said read.has) in
     sym (ap (λ (r : Result Statement Reason).
     and_then (and_then (at_line (n + 1) r)
     (λ s. statements (n + 1) (s ∷ read.said) (lines_of after)))

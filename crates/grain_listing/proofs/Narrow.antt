@@ -1,23 +1,23 @@
 -- No line gives more than 13 bytes of code: a tag, and three operands of up to four bytes.
-use Rattle.std.proofs.Common.{◌≡◌, ℕ, ◌+◌, ◌*◌, ◌-◌, ◌^◌, ◌≤◌, Bool, true, false, ◌&&◌, cond, nat_lt, bytes_eq, codes, is_some, List, [], ◌∷◌, ◌++◌, length, drop, Option, Some, None, Result, Ok, Err, refl, subst, arith}
+use Rattle.std.proofs.Common.{◌≡◌, ℕ, ◌+◌, ◌*◌, ◌-◌, ◌^◌, ◌≤◌, Bool, true, false, cond, nat_lt, bytes_eq, codes, is_some, List, [], ◌∷◌, ◌++◌, length, Option, Some, None, Result, Ok, Err, refl, subst, arith}
+use Rattle.std.specs.Str.{encode_utf8_all}
+use Rattle.grain_words.specs.Words.{is_over, next_word}
 use Rattle.std.specs.Int.{w16, w32, to_le_bytes}
 use Rattle.grain_fault.specs.declared.places.Position.{Position}
 use Rattle.grain_program.specs.declared.code.instructions.Op.{Op}
 use Rattle.grain_program.specs.declared.code.fields.Field.{Field}
 use Rattle.grain_program.specs.InstructionSet.{fields_of}
 use Rattle.grain_words.specs.Numerals.{number, begins_letter}
-use Rattle.grain_words.specs.declared.words.Word.{Word}
-use Rattle.grain_words.specs.declared.words.Word.TheVariants.{Bare, Quoted, Character, Broken}
 use Rattle.grain_listing.specs.Steps.{and_then, present}
 use Rattle.grain_listing.specs.Later.{is_later}
-use Rattle.grain_listing.specs.Operands.{alone, is_bare, position_after, byte_of}
+use Rattle.grain_listing.specs.Operands.{word_operand, after_name, alone, position_after, byte_of}
 use Rattle.grain_listing.specs.Literals.{constant_of, text_of, token_of, entry_of}
-use Rattle.grain_listing.specs.Settings.{capabilities}
-use Rattle.grain_listing.specs.Headers.{stack_of, assign_of, parameters, header_of}
+use Rattle.grain_listing.specs.Settings.{capability_bits, capabilities}
+use Rattle.grain_listing.specs.Headers.{stack_of, assign_of, header_of, is_crowded}
 use Rattle.grain_listing.specs.Instructions.{word_of, kinds_of, encoding_of, encoding_in, value_instructions, flow_instructions, value_encoding, flow_encoding, or_encoding, encoding_named}
 use Rattle.grain_listing.specs.Table.{own_line, instruction_line_of, later_line, or_else, line_of, stands, is_block}
-use Rattle.grain_listing.specs.Statements.{Piece, Byte, Goto, Statement, header, caps_line, limit_line, const_line, name_line, op_line, assign_line, scope_line, main_line, fn_line, end_line, code_line, label_line, section, caps, limits, consts, names, tokens, assigns, functions, labels, label_address, pieces, width, address}
-use Rattle.grain_listing.specs.LineMeanings.{bytes, operand, operand_word, operands, limit_set, statement, before_colon, labelled, known, header_said, begun_by, in_section, says}
+use Rattle.grain_listing.specs.Statements.{Piece, Byte, Goto, Statement, blank, header, caps_line, limit_line, const_line, name_line, op_line, assign_line, scope_line, main_line, fn_line, end_line, code_line, label_line, section, caps, limits, consts, names, tokens, assigns, functions, labels, label_address, pieces, width, address}
+use Rattle.grain_listing.specs.LineMeanings.{bytes, operand, code_operand, operands, limit_set, statement, before_colon, labelled, known, header_end, header_number, begun_by, in_section, says}
 use Rattle.grain_listing.specs.declared.table.Encoding.{Encoding}
 use Rattle.grain_listing.specs.declared.table.Line.{Line}
 use Rattle.grain_listing.specs.declared.table.Line.TheVariants as lines
@@ -50,7 +50,7 @@ either_few false x y hx hy = hy
 
 few_in : (os : List Op) (w : List ℕ) → IsFew (encoding_in os w)
 few_in [] w = tt
-few_in (o ∷ os) w = either_few (bytes_eq (word_of o) w) (Some (encoding_of o)) (encoding_in os w)
+few_in (o ∷ os) w = either_few (bytes_eq w (word_of o)) (Some (encoding_of o)) (encoding_in os w)
     (three (fields_of o)) (few_in os w)
 
 few_or : (x y : Option Encoding) → IsFew x → IsFew y → IsFew (or_encoding x y)
@@ -117,9 +117,8 @@ step_narrow : {A : Type 0} (r : Result A Reason) (say : A → Statement) →
 step_narrow (Ok x) say h = h x refl
 step_narrow (Err e) say h = tt
 
-alone_narrow : (ws : List Word) (s : Statement) → IsNarrow s → AreNarrow (alone ws s)
-alone_narrow [] s h = h
-alone_narrow (w ∷ ws) s h = tt
+alone_narrow : (cs : List ℕ) (s : Statement) → IsNarrow s → AreNarrow (alone cs s)
+alone_narrow cs s h = either_narrow (is_over cs) (Ok s) (Err BadOperand) h tt
 
 -- operands of up to four bytes each
 width_bytes : (bs : List ℕ) → width (bytes bs) ≡ length bs
@@ -139,7 +138,7 @@ number_within most w spelled four = at (number most w) where
   at (Some x) = omega (arith, width_bytes (spelled x), four x)
 
 target_within : (b : Bool) (line : ℕ) (w : List ℕ) →
-    AreWithin 4 (cond b (Ok (Goto line w ∷ []))
+    AreWithin 4 (cond b (Ok (Goto line (encode_utf8_all w) ∷ []))
     (and_then (present BadOperand (number (2 ^ 32 - 1) w)) (λ x. Ok (bytes (to_le_bytes w32 x)))))
 target_within true line w = omega arith
 target_within false line w = number_within (2 ^ 32 - 1) w (λ x. to_le_bytes w32 x)
@@ -152,11 +151,21 @@ bare_within line kinds.Index w =
     refl in omega (arith, two))
 bare_within line kinds.Target w = target_within (begins_letter w) line w
 
-word_within : (line : ℕ) (k : OperandKind) (w : Word) → AreWithin 4 (operand_word line k w)
-word_within line k (Bare w) = bare_within line k w
-word_within line k (Quoted t) = tt
-word_within line k Character = tt
-word_within line k Broken = tt
+abbrev AreWithinFirst : ℕ → Result (List Piece × List ℕ) Reason → Type 0
+AreWithinFirst k (Ok x) = width x.0 ≤ k
+AreWithinFirst k (Err e) = Unit {0}
+
+word_within : (line : ℕ) (k : OperandKind) (cs : List ℕ) → AreWithinFirst 4 (code_operand line k cs)
+word_within line k cs = at (word_operand cs) where
+  within : (rest : List ℕ) (r : Result (List Piece) Reason) → AreWithin 4 r →
+      AreWithinFirst 4 (and_then r (λ ps. Ok (ps, rest)))
+  within rest (Ok ps) h = h
+  within rest (Err e) h = tt
+
+  at : (r : Result (List ℕ × List ℕ) Reason) → AreWithinFirst 4
+      (and_then r (λ a. and_then (operand line k a.0) (λ ps. Ok (ps, a.1))))
+  at (Ok a) = within a.1 (operand line k a.0) (bare_within line k a.0)
+  at (Err e) = tt
 
 abbrev Operands : Type 0
 Operands = Result (List Piece × Option Position) Reason
@@ -173,117 +182,121 @@ none_up_to : (r : Result (Option Position) Reason) → AreUpTo 0 (and_then r (λ
 none_up_to (Ok p) = omega arith
 none_up_to (Err e) = tt
 
-both_up_to : (k : ℕ) (first : Result (List Piece) Reason) (others : Operands) → AreWithin 4 first →
-    AreUpTo k others → AreUpTo (k + 4)
-    (and_then first (λ ps. and_then others (λ o. Ok (ps ++ o.0, o.1))))
-both_up_to k (Ok ps) (Ok o) hf ho = omega (arith, width-append ps o.0, hf, ho)
-both_up_to k (Ok ps) (Err e) hf ho = tt
+both_up_to : (k : ℕ) (first : Result (List Piece × List ℕ) Reason) (others : List ℕ → Operands) →
+    AreWithinFirst 4 first → ((rest : List ℕ) → AreUpTo k (others rest)) → AreUpTo (k + 4)
+    (and_then first (λ a. and_then (others a.1) (λ o. Ok (a.0 ++ o.0, o.1))))
+both_up_to k (Ok a) others hf ho = at (others a.1) (ho a.1) where
+  at : (r : Operands) → AreUpTo k r →
+      AreUpTo (k + 4) (and_then r (λ o. Ok (a.0 ++ o.0, o.1)))
+  at (Ok o) h = omega (arith, width-append a.0 o.0, hf, h)
+  at (Err e) h = tt
 both_up_to k (Err e) others hf ho = tt
 
-up_to : (line : ℕ) (ks : List (Option OperandKind)) (ws : List Word) →
-    AreUpTo (4 * length ks) (operands line ks ws)
-up_to line [] ws = wider 0 (4 * length {A = Option OperandKind} [])
-    (and_then (position_after ws) (λ p. Ok ([], p))) (omega arith) (none_up_to (position_after ws))
-up_to line (None ∷ ks) ws = wider (4 * length ks) (4 * length (None ∷ ks)) (operands line ks ws)
-    (omega arith) (up_to line ks ws)
-up_to line (Some k ∷ ks) [] = tt
-up_to line (Some k ∷ ks) (w ∷ ws) =
-    wider (4 * length ks + 4) (4 * length (Some k ∷ ks))
-    (and_then (operand_word line k w)
-    (λ ps. and_then (operands line ks ws) (λ o. Ok (ps ++ o.0, o.1)))) (omega arith)
-    (both_up_to (4 * length ks) (operand_word line k w) (operands line ks ws) (word_within line k w)
-    (up_to line ks ws))
+up_to : (line : ℕ) (ks : List (Option OperandKind)) (cs : List ℕ) →
+    AreUpTo (4 * length ks) (operands line ks cs)
+up_to line [] cs = wider 0 (4 * length {A = Option OperandKind} [])
+    (and_then (position_after cs) (λ p. Ok ([], p))) (omega arith) (none_up_to (position_after cs))
+up_to line (None ∷ ks) cs = wider (4 * length ks) (4 * length (None ∷ ks)) (operands line ks cs)
+    (omega arith) (up_to line ks cs)
+up_to line (Some k ∷ ks) cs =
+    wider (4 * length ks + 4) (4 * length (Some k ∷ ks)) (operands line (Some k ∷ ks) cs)
+    (omega arith)
+    (both_up_to (4 * length ks) (code_operand line k cs) (λ rest. operands line ks rest)
+    (word_within line k cs) (λ rest. up_to line ks rest))
 
-instruction_narrow : (e : Encoding) (n : ℕ) (ws : List Word) → length e.operands ≤ 3 →
-    AreNarrow (and_then (operands n e.operands ws) (λ o. Ok (code_line (Byte e.tag) o.0 o.1)))
-instruction_narrow e n ws few = at (operands n e.operands ws) (up_to n e.operands ws) where
+instruction_narrow : (e : Encoding) (n : ℕ) (cs : List ℕ) → length e.operands ≤ 3 →
+    AreNarrow (and_then (operands n e.operands cs) (λ o. Ok (code_line (Byte e.tag) o.0 o.1)))
+instruction_narrow e n cs few = at (operands n e.operands cs) (up_to n e.operands cs) where
   at : (r : Operands) → AreUpTo (4 * length e.operands) r →
       AreNarrow (and_then r (λ o. Ok (code_line (Byte e.tag) o.0 o.1)))
   at (Ok x) h = omega (arith, h, few)
   at (Err m) h = tt
 
-line_narrow : (l : Line) (n : ℕ) (ws : List Word) (before : List Statement) → IsShort (Some l) →
-    AreNarrow (statement l n ws before)
-line_narrow lines.Header n ws before h = tt
-line_narrow lines.Capabilities n ws before h =
+line_narrow : (l : Line) (n : ℕ) (cs : List ℕ) (before : List Statement) → IsShort (Some l) →
+    AreNarrow (statement l n cs before)
+line_narrow lines.Header n cs before h = tt
+line_narrow lines.Capabilities n cs before h =
     either_narrow (is_some (caps before)) (Err OutOfPlace)
-    (and_then (capabilities 0 ws) (λ bits. Ok (caps_line bits))) tt
-    (step_narrow (capabilities 0 ws) (λ bits. caps_line bits) (λ x e. tt))
-line_narrow lines.Limit n ws before h =
-    step_narrow (limit_set ws (limits before)) (λ l. limit_line l) (λ x e. tt)
-line_narrow lines.Constant n ws before h =
+    (and_then (capabilities capability_bits cs) (λ bits. Ok (caps_line bits))) tt
+    (step_narrow (capabilities capability_bits cs) (λ bits. caps_line bits) (λ x e. tt))
+line_narrow lines.Limit n cs before h =
+    step_narrow (limit_set cs (limits before)) (λ l. limit_line l) (λ x e. tt)
+line_narrow lines.Constant n cs before h =
     either_narrow (nat_lt (length (consts before)) 65536)
-    (and_then (constant_of ws) (λ v. Ok (const_line v))) (Err TooMany)
-    (step_narrow (constant_of ws) (λ v. const_line v) (λ x e. tt)) tt
-line_narrow lines.Name n ws before h =
+    (and_then (constant_of cs) (λ v. Ok (const_line v))) (Err TooMany)
+    (step_narrow (constant_of cs) (λ v. const_line v) (λ x e. tt)) tt
+line_narrow lines.Name n cs before h =
     either_narrow (nat_lt (length (names before)) 65536)
-    (and_then (text_of ws) (λ t. Ok (name_line t))) (Err TooMany)
-    (step_narrow (text_of ws) (λ t. name_line t) (λ x e. tt)) tt
-line_narrow lines.Operator n ws before h =
+    (and_then (text_of cs) (λ t. Ok (name_line t))) (Err TooMany)
+    (step_narrow (text_of cs) (λ t. name_line t) (λ x e. tt)) tt
+line_narrow lines.Operator n cs before h =
     either_narrow (nat_lt (length (tokens before)) 65536)
-    (and_then (token_of ws) (λ t. Ok (op_line t))) (Err TooMany)
-    (step_narrow (token_of ws) (λ t. op_line t) (λ x e. tt)) tt
-line_narrow lines.Assign n ws before h =
+    (and_then (token_of cs) (λ t. Ok (op_line t))) (Err TooMany)
+    (step_narrow (token_of cs) (λ t. op_line t) (λ x e. tt)) tt
+line_narrow lines.Assign n cs before h =
     either_narrow (nat_lt (length (assigns before)) 65536)
-    (and_then (assign_of n ws) (λ a. Ok (assign_line a))) (Err TooMany)
-    (step_narrow (assign_of n ws) (λ a. assign_line a) (λ x e. tt)) tt
-line_narrow lines.Entry n ws before h = step_narrow (entry_of ws) (λ x. scope_line x) (λ x e. tt)
-line_narrow lines.Main n ws before h = step_narrow (stack_of ws) (λ m. main_line m) (λ x e. tt)
-line_narrow lines.Function n ws before h =
-    let read : Result Statement Reason = and_then (header_of ws) (λ x. Ok (fn_line x)) in
+    (and_then (assign_of n cs) (λ a. Ok (assign_line a))) (Err TooMany)
+    (step_narrow (assign_of n cs) (λ a. assign_line a) (λ x e. tt)) tt
+line_narrow lines.Entry n cs before h = step_narrow (entry_of cs) (λ x. scope_line x) (λ x e. tt)
+line_narrow lines.Main n cs before h = step_narrow (stack_of cs) (λ m. main_line m) (λ x e. tt)
+line_narrow lines.Function n cs before h =
+    let read : Result Statement Reason = and_then (header_of cs) (λ x. Ok (fn_line x)) in
     either_narrow (nat_lt (length (functions before)) 65536)
-    (cond (nat_lt 65536 (parameters (drop 2 ws))) (Err TooMany) read) (Err TooMany)
-    (either_narrow (nat_lt 65536 (parameters (drop 2 ws))) (Err TooMany) read tt
-    (step_narrow (header_of ws) (λ x. fn_line x) (λ x e. tt))) tt
-line_narrow lines.Byte n ws before h =
-    step_narrow (byte_of ws) (λ b. code_line (Byte b.0) [] b.1) (λ x e. omega arith)
-line_narrow lines.End n ws before h = alone_narrow ws end_line tt
-line_narrow (lines.Instruction e) n ws before h = instruction_narrow e n ws h
-line_narrow lines.Later n ws before h = tt
+    (cond (is_crowded cs) (Err TooMany) read) (Err TooMany)
+    (either_narrow (is_crowded cs) (Err TooMany) read tt
+    (step_narrow (header_of cs) (λ x. fn_line x) (λ x e. tt))) tt
+line_narrow lines.Byte n cs before h =
+    step_narrow (byte_of cs) (λ b. code_line (Byte b.0) [] b.1) (λ x e. omega arith)
+line_narrow lines.End n cs before h = alone_narrow cs end_line tt
+line_narrow (lines.Instruction e) n cs before h = instruction_narrow e n cs h
+line_narrow lines.Later n cs before h = tt
 
-label_narrow : (t : Option (List ℕ)) (ws : List Word) (before : List Statement) →
-    AreNarrow (labelled t ws before)
-label_narrow None ws before = tt
-label_narrow (Some t) ws before =
+label_narrow : (t : Option (List ℕ)) (cs : List ℕ) (before : List Statement) →
+    AreNarrow (labelled t cs before)
+label_narrow None cs before = tt
+label_narrow (Some t) cs before =
     let inside : Result Statement Reason =
-    cond (is_some (label_address t (labels before))) (Err LabelTwice) (alone ws (label_line t)) in
+    cond (is_some (label_address (encode_utf8_all t) (labels before))) (Err LabelTwice)
+    (alone cs (label_line (encode_utf8_all t))) in
     either_narrow (begins_letter t) (cond (is_block (section before)) inside (Err OutOfPlace))
     (Err UnknownWord)
     (either_narrow (is_block (section before)) inside (Err OutOfPlace)
-    (either_narrow (is_some (label_address t (labels before))) (Err LabelTwice)
-    (alone ws (label_line t)) tt (alone_narrow ws (label_line t) tt)) tt) tt
+    (either_narrow (is_some (label_address (encode_utf8_all t) (labels before))) (Err LabelTwice)
+    (alone cs (label_line (encode_utf8_all t))) tt
+    (alone_narrow cs (label_line (encode_utf8_all t)) tt)) tt) tt
 
-known_narrow : (l : Option Line) (n : ℕ) (w : List ℕ) (ws : List Word) (before : List Statement) →
-    IsShort l → AreNarrow (known l n w ws before)
-known_narrow None n w ws before h = label_narrow (before_colon w) ws before
-known_narrow (Some l) n w ws before h =
-    either_narrow (stands l (section before)) (statement l n ws before) (Err OutOfPlace)
-    (line_narrow l n ws before h) tt
+known_narrow : (l : Option Line) (n : ℕ) (w : List ℕ) (cs : List ℕ) (before : List Statement) →
+    IsShort l → AreNarrow (known l n w cs before)
+known_narrow None n w cs before h = label_narrow (before_colon w) cs before
+known_narrow (Some l) n w cs before h =
+    either_narrow (stands l (section before)) (statement l n cs before) (Err OutOfPlace)
+    (line_narrow l n cs before h) tt
 
-begun_narrow : (w : Word) (n : ℕ) (ws : List Word) (before : List Statement) →
-    AreNarrow (begun_by w n ws before)
-begun_narrow (Bare w) n ws before = known_narrow (line_of w) n w ws before (short_line w)
-begun_narrow (Quoted t) n ws before = tt
-begun_narrow Character n ws before = tt
-begun_narrow Broken n ws before = tt
+begun_narrow : (o : Option (List ℕ × List ℕ)) (n : ℕ) (before : List Statement) →
+    AreNarrow (begun_by o n before)
+begun_narrow None n before = tt
+begun_narrow (Some a) n before =
+    known_narrow (line_of a.0) n a.0 a.1 before (short_line a.0)
 
-header_narrow : (ws : List Word) → AreNarrow (header_said ws)
-header_narrow [] = tt
-header_narrow (a ∷ []) = tt
-header_narrow (a ∷ b ∷ []) = either_narrow (is_bare (codes "grain") a && is_bare (codes "1") b)
-    (Ok header) (Err MissingHeader) tt tt
-header_narrow (a ∷ b ∷ c ∷ ws) = tt
+end_narrow : (o : Option (List ℕ)) → AreNarrow (header_end o)
+end_narrow None = tt
+end_narrow (Some cs) = either_narrow (is_over cs) (Ok header) (Err MissingHeader) tt tt
 
-section_narrow : (s : Section) (n : ℕ) (w : Word) (ws : List Word) (before : List Statement) →
-    AreNarrow (in_section s n w ws before)
-section_narrow sections.Start n w ws before = header_narrow (w ∷ ws)
-section_narrow sections.Pools n w ws before = begun_narrow w n ws before
-section_narrow sections.Block n w ws before = begun_narrow w n ws before
-section_narrow sections.After n w ws before = begun_narrow w n ws before
+number_narrow : (o : Option (List ℕ)) → AreNarrow (header_number o)
+number_narrow None = tt
+number_narrow (Some cs) = end_narrow (after_name (codes "1") cs)
 
-all_narrow : (n : ℕ) (ws : List Word) (before : List Statement) → AreNarrow (says n ws before)
-all_narrow n [] before = tt
-all_narrow n (w ∷ ws) before = section_narrow (section before) n w ws before
+section_narrow : (s : Section) (n : ℕ) (cs : List ℕ) (before : List Statement) →
+    AreNarrow (in_section s n cs before)
+section_narrow sections.Start n cs before = number_narrow (after_name (codes "grain") cs)
+section_narrow sections.Pools n cs before = begun_narrow (next_word cs) n before
+section_narrow sections.Block n cs before = begun_narrow (next_word cs) n before
+section_narrow sections.After n cs before = begun_narrow (next_word cs) n before
+
+all_narrow : (n : ℕ) (cs : List ℕ) (before : List Statement) → AreNarrow (says n cs before)
+all_narrow n cs before =
+    either_narrow (is_over cs) (Ok blank) (in_section (section before) n cs before) tt
+    (section_narrow (section before) n cs before)
 
 grown : (s : Statement) (before : List Statement) → IsNarrow s →
     address (s ∷ before) ≤ address before + 13
@@ -291,6 +304,6 @@ grown (code_line p ps at) before h = omega (arith, width-append (pieces before) 
 grown s before h = omega arith
 
 -- one more line gives at most 13 bytes
-pub narrow : (n : ℕ) (ws : List Word) (before : List Statement) (s : Statement) →
-    says n ws before ≡ Ok s → address (s ∷ before) ≤ address before + 13
-narrow n ws before s e = grown s before (subst AreNarrow e (all_narrow n ws before))
+pub narrow : (n : ℕ) (cs : List ℕ) (before : List Statement) (s : Statement) →
+    says n cs before ≡ Ok s → address (s ∷ before) ≤ address before + 13
+narrow n cs before s e = grown s before (subst AreNarrow e (all_narrow n cs before))

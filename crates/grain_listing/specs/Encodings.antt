@@ -5,4 +5,4 @@ use Rattle.grain_listing.specs.declared.table.Encoding.{Encoding}
 -- what a table has for a word
 abbrev pub encoding_among : List (List ℕ × Encoding) → List ℕ → Option Encoding
 encoding_among [] w = None
-encoding_among (f ∷ fs) w = if bytes_eq f.0 w then Some f.1 else encoding_among fs w
+encoding_among (f ∷ fs) w = if bytes_eq w f.0 then Some f.1 else encoding_among fs w

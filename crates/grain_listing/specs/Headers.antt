@@ -1,54 +1,66 @@
 -- What the lines say that begin a block, or join two operators.
-use Rattle.std.specs.Prelude.{ℕ, ◌+◌, ◌^◌, ◌-◌, List, [], ◌∷◌, Result, Ok, Err, codes, if◌then◌else◌}
+use Rattle.std.specs.Prelude.{ℕ, zero, suc, Bool, ◌&&◌, not, List, [], ◌∷◌, is_some, Result, Ok, Err, codes, if◌then◌else◌}
+use Rattle.grain_words.specs.Words.{is_over, after_word}
 use Rattle.grain_listing.specs.Steps.{and_then}
-use Rattle.grain_listing.specs.Operands.{first, alone, is_bare, number_word, index}
+use Rattle.grain_listing.specs.Operands.{alone, after_name, number_operand, index}
 use Rattle.grain_listing.specs.declared.headers.AssignLine.{AssignLine}
 use Rattle.grain_listing.specs.declared.headers.FunctionHeader.{FunctionHeader}
-use Rattle.grain_words.specs.declared.words.Word.{Word}
 use Rattle.grain_listing.specs.declared.reasons.Reason.{Reason}
-use Rattle.grain_listing.specs.declared.reasons.Reason.TheVariants.{BadOperand, NotBuilt}
+use Rattle.grain_listing.specs.declared.reasons.Reason.TheVariants.{TooMany, NotBuilt}
 
 -- after `main`: how many operands the block may have
-abbrev pub stack_of : List Word → Result ℕ Reason
-stack_of ws = and_then (first BadOperand ws)
-    (λ a. and_then (number_word 65535 a.0) (λ n. alone a.1 n))
+abbrev pub stack_of : List ℕ → Result ℕ Reason
+stack_of cs = and_then (number_operand 65535 cs) (λ a. alone a.1 a.0)
 
 -- after `assign`, at this line: four numbers
-abbrev pub assign_of : ℕ → List Word → Result AssignLine Reason
-assign_of line ws =
-    and_then (index ws) (λ a. and_then (index a.1)
+abbrev pub assign_of : ℕ → List ℕ → Result AssignLine Reason
+assign_of line cs =
+    and_then (index cs) (λ a. and_then (index a.1)
     (λ b. and_then (index b.1) (λ c. and_then (index c.1) (λ d.
     alone d.1 (record {
       line = line;
       op_assign = a.0;
       op_assign_name = b.0;
       op = c.0;
-      op_name =
-          d.0;
+      op_name = d.0;
     })))))
 
--- how many parameters there are, which `on` ends
-abbrev pub parameters : List Word → ℕ
-parameters [] = 0
-parameters (w ∷ ws) = if is_bare (codes "on") w then 0 else 1 + parameters ws
+-- `on` ends the parameters
+abbrev pub is_on : List ℕ → Bool
+is_on cs = is_some (after_name (codes "on") cs)
+
+-- a word stands next, and does not end the parameters
+abbrev pub has_parameter : List ℕ → Bool
+has_parameter cs = not (is_over cs) && not (is_on cs)
+
+-- there are more than so many parameters, whatever their words are
+unfoldable pub has_more : ℕ → List ℕ → Bool
+has_more zero cs = has_parameter cs
+has_more (suc n) cs = has_parameter cs && has_more n (after_word cs)
 
 -- a parameter; what `on` begins is not read yet
-abbrev pub parameter : Word → Result ℕ Reason
-parameter w = if is_bare (codes "on") w then Err NotBuilt else number_word (2 ^ 32 - 1) w
+abbrev pub parameter : List ℕ → Result (ℕ × List ℕ) Reason
+parameter cs = if is_on cs then Err NotBuilt else index cs
 
-abbrev pub parameters_of : List Word → Result (List ℕ) Reason
-parameters_of [] = Ok []
-parameters_of (w ∷ ws) = and_then (parameter w)
-    (λ n. and_then (parameters_of ws) (λ ns. Ok (n ∷ ns)))
+-- at most so many parameters
+unfoldable pub parameters_of : ℕ → List ℕ → Result (List ℕ) Reason
+parameters_of zero cs = if is_over cs then Ok [] else and_then (parameter cs) (λ a. Err TooMany)
+parameters_of (suc n) cs =
+    if is_over cs then Ok []
+    else and_then (parameter cs)
+    (λ a. and_then (parameters_of n a.1) (λ ns. Ok (a.0 ∷ ns)))
 
--- after `fn`: the name, how many operands the block may have, and the words after them
-abbrev pub name_and_stack : List Word → Result (ℕ × ℕ × List Word) Reason
-name_and_stack ws = and_then (index ws)
-    (λ a. and_then (first BadOperand a.1)
-    (λ b. and_then (number_word 65535 b.0) (λ n. Ok (a.0, n, b.1))))
+-- after `fn`: the name and how many operands the block may have
+abbrev pub name_and_stack : List ℕ → Result (ℕ × ℕ × List ℕ) Reason
+name_and_stack cs = and_then (index cs)
+    (λ a. and_then (number_operand 65535 a.1) (λ b. Ok (a.0, b.0, b.1)))
 
 -- after `fn`: the name, the operands and the parameters
-abbrev pub header_of : List Word → Result FunctionHeader Reason
-header_of ws =
-    and_then (name_and_stack ws) (λ a.
-    and_then (parameters_of a.2) (λ ps. Ok (record { name = a.0; stack = a.1; params = ps })))
+abbrev pub header_of : List ℕ → Result FunctionHeader Reason
+header_of cs =
+    and_then (name_and_stack cs) (λ a.
+    and_then (parameters_of 65536 a.2) (λ ps. Ok (record { name = a.0; stack = a.1; params = ps })))
+
+-- after `fn`: there are more parameters than a function may have
+abbrev pub is_crowded : List ℕ → Bool
+is_crowded cs = has_more 65536 (after_word (after_word cs))

@@ -45,7 +45,7 @@ flow_instructions =
 -- how the line is read of the instruction among these that has the word
 abbrev pub encoding_in : List Op → List ℕ → Option Encoding
 encoding_in [] w = None
-encoding_in (o ∷ os) w = if bytes_eq (word_of o) w then Some (encoding_of o) else encoding_in os w
+encoding_in (o ∷ os) w = if bytes_eq w (word_of o) then Some (encoding_of o) else encoding_in os w
 
 unfoldable pub value_encoding : List ℕ → Option Encoding
 value_encoding w = encoding_in value_instructions w

@@ -1,14 +1,14 @@
 -- What the format has and this crate does not read yet.
-use Rattle.std.specs.Prelude.{ℕ, Bool, false, ◌||◌, List, [], ◌∷◌, codes, bytes_eq, nat_eq}
-use Rattle.std.specs.List.{starts_with}
+use Rattle.std.specs.Prelude.{ℕ, Bool, false, ◌||◌, List, [], ◌∷◌, codes, bytes_eq, is_some}
+use Rattle.grain_words.specs.Words.{after_text}
 
 abbrev pub is_among : List (List ℕ) → List ℕ → Bool
 is_among [] w = false
-is_among (t ∷ ts) w = bytes_eq t w || is_among ts w
+is_among (t ∷ ts) w = bytes_eq w t || is_among ts w
 
 abbrev pub begins_among : List (List ℕ) → List ℕ → Bool
-begins_among [] w = false
-begins_among (t ∷ ts) w = starts_with nat_eq w t || begins_among ts w
+begins_among [] cs = false
+begins_among (t ∷ ts) cs = is_some (after_text t cs) || begins_among ts cs
 
 -- lines and blocks
 abbrev pub later_lines : List (List ℕ)
@@ -88,4 +88,4 @@ unfoldable pub is_later_operator : List ℕ → Bool
 is_later_operator t = is_among later_operators t
 
 unfoldable pub is_later_value : List ℕ → Bool
-is_later_value w = begins_among later_values w
+is_later_value cs = begins_among later_values cs

@@ -1,13 +1,11 @@
 -- Limits and capabilities.
-use Rattle.std.specs.Prelude.{ℕ, ◌+◌, ◌^◌, ◌-◌, List, [], ◌∷◌, Option, Some, None, Result, Ok, Err, codes, bytes_eq, ◌==◌, nat_lt, if◌then◌else◌}
-use Rattle.grain_listing.specs.Steps.{and_then, present}
+use Rattle.std.specs.Prelude.{ℕ, ◌+◌, ◌^◌, ◌-◌, List, [], ◌∷◌, Option, Some, None, Result, Ok, Err, codes, bytes_eq, ◌==◌, if◌then◌else◌}
+use Rattle.grain_listing.specs.Steps.{and_then}
 use Rattle.grain_listing.specs.Later.{is_later_limit}
-use Rattle.grain_listing.specs.Operands.{first, alone, number_word}
+use Rattle.grain_listing.specs.Operands.{word_operand, after_name, alone, number_operand}
 use Rattle.grain_listing.specs.declared.limits.Limit.{Limit}
 use Rattle.grain_listing.specs.declared.limits.Limit.TheVariants as limits
 use Rattle.grain_listing.specs.declared.limits.LimitLine.{LimitLine}
-use Rattle.grain_words.specs.declared.words.Word.{Word}
-use Rattle.grain_words.specs.declared.words.Word.TheVariants.{Bare}
 use Rattle.grain_listing.specs.declared.reasons.Reason.{Reason}
 use Rattle.grain_listing.specs.declared.reasons.Reason.TheVariants.{BadOperand, NotBuilt}
 
@@ -31,9 +29,8 @@ limit_of w =
     else (if is_later_limit w then Err NotBuilt
     else Err BadOperand)))
 
-abbrev pub limit_word : Word → Result Limit Reason
-limit_word (Bare w) = limit_of w
-limit_word w = Err BadOperand
+abbrev pub limit_operand : List ℕ → Result (Limit × List ℕ) Reason
+limit_operand cs = and_then (word_operand cs) (λ a. and_then (limit_of a.0) (λ l. Ok (l, a.1)))
 
 -- at least one operation is allowed, and any number of levels and variables
 abbrev pub allowed : Limit → ℕ → Result ℕ Reason
@@ -42,31 +39,28 @@ allowed limits.Levels n = Ok n
 allowed limits.Variables n = Ok n
 
 -- a limit's number, alone
-abbrev pub limit_number : Limit → List Word → Result ℕ Reason
-limit_number l ws =
-    and_then (first BadOperand ws) (λ a.
-    and_then (number_word (2 ^ 64 - 1) a.0) (λ n. and_then (allowed l n) (λ m. alone a.1 m)))
+abbrev pub limit_number : Limit → List ℕ → Result ℕ Reason
+limit_number l cs =
+    and_then (number_operand (2 ^ 64 - 1) cs) (λ a. and_then (allowed l a.0) (λ n. alone a.1 n))
 
--- the bit of the capability of that name
-abbrev pub capability : List ℕ → Option ℕ
-capability w =
-    if bytes_eq w (codes "function") then Some 1
-    else (if bytes_eq w (codes "module") then Some 2
-    else (if bytes_eq w (codes "closure") then Some 4
-    else (if bytes_eq w (codes "custom") then Some 8
-    else (if bytes_eq w (codes "fragment") then Some 16
-    else None))))
+-- the capabilities by their names, with the bit of each
+abbrev pub capability_bits : List (List ℕ × ℕ)
+capability_bits =
+    (codes "function", 1) ∷ (codes "module", 2) ∷ (codes "closure", 4) ∷ (codes "custom", 8) ∷
+    (codes "fragment", 16) ∷ []
 
--- the bits with one more, which is above all of them
-abbrev pub with_bit : ℕ → ℕ → Result ℕ Reason
-with_bit bits bit = if nat_lt bits bit then Ok (bits + bit) else Err BadOperand
+-- the bit of a name that stands next, and what is left after that
+abbrev pub bit_of : Option (List ℕ) → ℕ → ℕ
+bit_of None bit = 0
+bit_of (Some rest) bit = bit
 
-abbrev pub with_capability : ℕ → Word → Result ℕ Reason
-with_capability bits (Bare w) =
-    and_then (present BadOperand (capability w)) (λ bit. with_bit bits bit)
-with_capability bits w = Err BadOperand
+abbrev pub past : Option (List ℕ) → List ℕ → List ℕ
+past None cs = cs
+past (Some rest) cs = rest
 
--- after `caps` and those that say these bits: capabilities, each above those before it
-abbrev pub capabilities : ℕ → List Word → Result ℕ Reason
-capabilities bits [] = Ok bits
-capabilities bits (w ∷ ws) = and_then (with_capability bits w) (λ more. capabilities more ws)
+-- after `caps`: none or more of these names, in this order
+abbrev pub capabilities : List (List ℕ × ℕ) → List ℕ → Result ℕ Reason
+capabilities [] cs = alone cs 0
+capabilities (x ∷ xs) cs =
+    and_then (capabilities xs (past (after_name x.0 cs) cs))
+    (λ bits. Ok (bit_of (after_name x.0 cs) x.1 + bits))

@@ -1,41 +1,30 @@
 //! The lines that begin and end blocks, and labels.
 
-ghost use Rattle.std.specs.Prelude.{◌≡◌, drop, IfOk, option_map};
+ghost use Rattle.std.specs.Prelude.{◌≡◌, IfOk};
 ghost use Rattle.grain_listing.specs.declared.table.Line.TheVariants as lines;
 ghost use Rattle.grain_listing.specs.views.AssemblerView.{assembler_view, result_view};
 ghost use Rattle.grain_listing.specs.views.Assembling.{HasRoom, opened, with_block, closed, put_label, put_line};
 
 use crate::assembler::Assembler;
 use crate::blocks::OpenBlock;
-use crate::headers::{FunctionHeader, header_of, parameters, stack_of};
+use crate::headers::{FunctionHeader, header_of, is_crowded, stack_of};
 use crate::operands::alone;
 use crate::pool_lines::POOL_ROOM;
 use crate::reasons::Reason;
 use crate::table::{Section, is_block};
 use grain_program::{Chunk, Function};
 use grain_value::OutOfMemory;
-use grain_words::Word;
 use std::alloc::Global;
-
-/// What stands after the first two words.
-fn after_two(words: &[Word]) -> &[Word]
-    ensures { result.now ≡ drop 2 words.now }
-{
-    if words.len() < 2 {
-        return &[];
-    }
-    words.split_at(2).1
-}
 
 impl Assembler {
     /// The beginning of the main block.
-    pub fn put_main(&mut self, words: &[Word]) -> Result<(), Reason>
+    pub fn put_main(&mut self, rest: &[char]) -> Result<(), Reason>
         requires { HasRoom (assembler_view self.old) }
         ensures { result_view result (assembler_view self.new) ≡
-            put_line lines.Main words.now (assembler_view self.old) }
+            put_line lines.Main rest.now (assembler_view self.old) }
     {
         let address = self.code_address();
-        let stack = stack_of(words)?;
+        let stack = stack_of(rest)?;
         self.section = Section::Block;
         self.block = Some(OpenBlock::Main(address, stack));
         Ok(())
@@ -45,12 +34,12 @@ impl Assembler {
         &mut self,
         alloc: Global,
         address: u32,
-        words: &[Word],
+        rest: &[char],
     ) -> Result<Result<(), Reason>, OutOfMemory>
         ensures { IfOk result (λ r. result_view r (assembler_view self.new) ≡
-            opened address words.now (assembler_view self.old)) }
+            opened address rest.now (assembler_view self.old)) }
     {
-        match header_of(alloc, words)? {
+        match header_of(alloc, rest)? {
             Err(reason) => Ok(Err(reason)),
             Ok(header) => {
                 self.section = Section::Block;
@@ -64,20 +53,20 @@ impl Assembler {
     pub fn put_function(
         &mut self,
         alloc: Global,
-        words: &[Word],
+        rest: &[char],
     ) -> Result<Result<(), Reason>, OutOfMemory>
         requires { HasRoom (assembler_view self.old) }
         ensures { IfOk result (λ r. result_view r (assembler_view self.new) ≡
-            put_line lines.Function words.now (assembler_view self.old)) }
+            put_line lines.Function rest.now (assembler_view self.old)) }
     {
         if self.functions.len() >= POOL_ROOM {
             return Ok(Err(Reason::TooMany));
         }
-        if parameters(after_two(words)) > POOL_ROOM {
+        if is_crowded(rest) {
             return Ok(Err(Reason::TooMany));
         }
         let address = self.code_address();
-        self.open_function(alloc, address, words)
+        self.open_function(alloc, address, rest)
     }
 
     fn end_block(&mut self, block: OpenBlock, end: u32) -> Result<(), OutOfMemory>
@@ -127,12 +116,12 @@ impl Assembler {
     }
 
     /// The end of a block.
-    pub fn put_end(&mut self, words: &[Word]) -> Result<Result<(), Reason>, OutOfMemory>
+    pub fn put_end(&mut self, rest: &[char]) -> Result<Result<(), Reason>, OutOfMemory>
         requires { HasRoom (assembler_view self.old) }
         ensures { IfOk result (λ r. result_view r (assembler_view self.new) ≡
-            put_line lines.End words.now (assembler_view self.old)) }
+            put_line lines.End rest.now (assembler_view self.old)) }
     {
-        if let Err(reason) = alone(words) {
+        if let Err(reason) = alone(rest) {
             return Ok(Err(reason));
         }
         let address = self.code_address();
@@ -145,11 +134,11 @@ impl Assembler {
         &mut self,
         alloc: Global,
         label: &str,
-        words: &[Word],
+        rest: &[char],
     ) -> Result<Result<(), Reason>, OutOfMemory>
         requires { HasRoom (assembler_view self.old) }
         ensures { IfOk result (λ r. result_view r (assembler_view self.new) ≡
-            put_label label.now words.now (assembler_view self.old)) }
+            put_label label.now rest.now (assembler_view self.old)) }
     {
         if !is_block(self.section) {
             return Ok(Err(Reason::OutOfPlace));
@@ -157,7 +146,7 @@ impl Assembler {
         if self.labels.get(label).is_some() {
             return Ok(Err(Reason::LabelTwice));
         }
-        if let Err(reason) = alone(words) {
+        if let Err(reason) = alone(rest) {
             return Ok(Err(reason));
         }
         let address = self.code_address();

@@ -2,15 +2,15 @@
 
 ghost use Rattle.std.specs.Prelude.{◌≡◌, [], IfOk};
 ghost use Rattle.grain_listing.specs.declared.table.Line.TheVariants as lines;
-ghost use Rattle.grain_listing.specs.views.AssemblerView.{assembler_view, result_view};
-ghost use Rattle.grain_listing.specs.views.Assembling.{HasRoom, with_code, with_fixup, put_bare, put_operand, put_operands, put_line};
+ghost use Rattle.grain_listing.specs.views.AssemblerView.{assembler_view, result_view, rest_view};
+ghost use Rattle.grain_listing.specs.views.Assembling.{HasRoom, with_code, with_fixup, put_operand_word, put_operand, put_operands, put_line};
 
 use crate::assembler::{Assembler, Fixup};
-use crate::operands::{byte_of, position_after};
+use crate::operands::{byte_of, position_after, word_operand};
 use crate::reasons::Reason;
 use crate::table::{Encoding, OperandKind};
 use grain_value::{OutOfMemory, Text};
-use grain_words::{Word, begins_letter, number};
+use grain_words::{begins_letter, number, word_text};
 use std::alloc::Global;
 
 impl Assembler {
@@ -22,12 +22,11 @@ impl Assembler {
         Ok(())
     }
 
-    fn put_fixup(&mut self, alloc: Global, label: &str) -> Result<(), OutOfMemory>
+    fn put_fixup(&mut self, label: Text) -> Result<(), OutOfMemory>
         ensures { IfOk result (λ _. assembler_view self.new ≡
-            with_fixup label.now (assembler_view self.old)) }
+            with_fixup label (assembler_view self.old)) }
     {
         let at = self.code.len();
-        let label = Text::copy_of(alloc, label)?;
         self.fixups.push(Fixup {
             line: self.line,
             at,
@@ -37,29 +36,30 @@ impl Assembler {
         Ok(())
     }
 
-    fn put_bare(
+    fn put_operand_word(
         &mut self,
         alloc: Global,
         kind: OperandKind,
-        word: &str,
+        word: &[char],
     ) -> Result<Result<(), Reason>, OutOfMemory>
         ensures { IfOk result (λ r. result_view r (assembler_view self.new) ≡
-            put_bare kind word.now (assembler_view self.old)) }
+            put_operand_word kind word.now (assembler_view self.old)) }
     {
         match kind {
-            OperandKind::Byte => match number(255, word.as_bytes()) {
+            OperandKind::Byte => match number(255, word) {
                 None => return Ok(Err(Reason::BadOperand)),
                 Some(byte) => self.put_bytes(&[byte as u8])?,
             },
-            OperandKind::Index => match number(65_535, word.as_bytes()) {
+            OperandKind::Index => match number(65_535, word) {
                 None => return Ok(Err(Reason::BadOperand)),
                 Some(index) => self.put_bytes(&(index as u16).to_le_bytes())?,
             },
             OperandKind::Target => {
-                if begins_letter(word.as_bytes()) {
-                    self.put_fixup(alloc, word)?;
+                if begins_letter(word) {
+                    let label = word_text(alloc, word)?;
+                    self.put_fixup(label)?;
                 } else {
-                    match number(u32::MAX as u64, word.as_bytes()) {
+                    match number(u32::MAX as u64, word) {
                         None => return Ok(Err(Reason::BadOperand)),
                         Some(address) => self.put_bytes(&(address as u32).to_le_bytes())?,
                     }
@@ -69,26 +69,30 @@ impl Assembler {
         Ok(Ok(()))
     }
 
-    fn put_operand(
+    /// An operand, with what is left after it.
+    fn put_operand<'a>(
         &mut self,
         alloc: Global,
         kind: OperandKind,
-        word: &Word,
-    ) -> Result<Result<(), Reason>, OutOfMemory>
-        ensures { IfOk result (λ r. result_view r (assembler_view self.new) ≡
-            put_operand kind word.now (assembler_view self.old)) }
+        line: &'a [char],
+    ) -> Result<Result<&'a [char], Reason>, OutOfMemory>
+        ensures { IfOk result (λ r. rest_view r (assembler_view self.new) ≡
+            put_operand kind line.now (assembler_view self.old)) }
     {
-        match word {
-            Word::Bare(text) => self.put_bare(alloc, kind, text.as_str()),
-            _ => Ok(Err(Reason::BadOperand)),
+        match word_operand(line) {
+            Err(reason) => Ok(Err(reason)),
+            Ok((word, rest)) => match self.put_operand_word(alloc, kind, word)? {
+                Err(reason) => Ok(Err(reason)),
+                Ok(()) => Ok(Ok(rest)),
+            },
         }
     }
 
-    fn put_last(&mut self, address: u32, words: &[Word]) -> Result<Result<(), Reason>, OutOfMemory>
+    fn put_last(&mut self, address: u32, rest: &[char]) -> Result<Result<(), Reason>, OutOfMemory>
         ensures { IfOk result (λ r. result_view r (assembler_view self.new) ≡
-            put_operands address [] words.now (assembler_view self.old)) }
+            put_operands address [] rest.now (assembler_view self.old)) }
     {
-        match position_after(words) {
+        match position_after(rest) {
             Err(reason) => Ok(Err(reason)),
             Ok(position) => {
                 self.put_position(address, position)?;
@@ -102,20 +106,17 @@ impl Assembler {
         alloc: Global,
         address: u32,
         kinds: &[Option<OperandKind>],
-        words: &[Word],
+        line: &[char],
     ) -> Result<Result<(), Reason>, OutOfMemory>
         ensures { IfOk result (λ r. result_view r (assembler_view self.new) ≡
-            put_operands address kinds.now words.now (assembler_view self.old)) }
+            put_operands address kinds.now line.now (assembler_view self.old)) }
     {
-        let mut rest = words;
+        let mut rest = line;
         for kind in kinds {
             if let Some(kind) = kind {
-                let Some((word, after)) = rest.split_first() else {
-                    return Ok(Err(Reason::BadOperand));
-                };
-                match self.put_operand(alloc, *kind, word)? {
+                match self.put_operand(alloc, *kind, rest)? {
                     Err(reason) => return Ok(Err(reason)),
-                    Ok(()) => rest = after,
+                    Ok(after) => rest = after,
                 }
             }
         }
@@ -127,24 +128,24 @@ impl Assembler {
         &mut self,
         alloc: Global,
         encoding: Encoding,
-        words: &[Word],
+        rest: &[char],
     ) -> Result<Result<(), Reason>, OutOfMemory>
         requires { HasRoom (assembler_view self.old) }
         ensures { IfOk result (λ r. result_view r (assembler_view self.new) ≡
-            put_line (lines.Instruction encoding) words.now (assembler_view self.old)) }
+            put_line (lines.Instruction encoding) rest.now (assembler_view self.old)) }
     {
         let address = self.code_address();
         self.code.push(encoding.tag)?;
-        self.put_operands(alloc, address, &encoding.operands, words)
+        self.put_operands(alloc, address, &encoding.operands, rest)
     }
 
     /// The line of a single byte, by what stands after `byte`.
-    pub fn put_byte(&mut self, words: &[Word]) -> Result<Result<(), Reason>, OutOfMemory>
+    pub fn put_byte(&mut self, rest: &[char]) -> Result<Result<(), Reason>, OutOfMemory>
         requires { HasRoom (assembler_view self.old) }
         ensures { IfOk result (λ r. result_view r (assembler_view self.new) ≡
-            put_line lines.Byte words.now (assembler_view self.old)) }
+            put_line lines.Byte rest.now (assembler_view self.old)) }
     {
-        match byte_of(words) {
+        match byte_of(rest) {
             Err(reason) => Ok(Err(reason)),
             Ok((byte, position)) => {
                 let address = self.code_address();

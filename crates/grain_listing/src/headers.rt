@@ -1,15 +1,18 @@
 //! What the lines say that begin a block, or join two operators.
 
-ghost use Rattle.std.specs.Prelude.{◌≡◌, IfOk};
-ghost use Rattle.grain_listing.specs.Headers.{stack_of, assign_of, parameters, parameter, parameters_of, name_and_stack, header_of};
-ghost use Rattle.grain_listing.specs.views.Results.{name_view};
+ghost use Rattle.std.specs.Prelude.{◌≡◌, ◌≤◌, ◌^◌, IfOk};
+ghost use Rattle.grain_listing.specs.Headers.{stack_of, assign_of, is_on, has_parameter, has_more, parameter, parameters_of, name_and_stack, header_of, is_crowded};
+ghost use Rattle.grain_listing.specs.views.Results.{operand_view, name_view};
 
-use crate::operands::{alone, first, index, is_bare, number_word};
+use crate::operands::{after_name, alone, index, number_operand};
 use crate::reasons::Reason;
 use grain_program::Indices;
 use grain_value::OutOfMemory;
-use grain_words::Word;
+use grain_words::{after_word, is_over};
 use std::alloc::Global;
+
+/// How many parameters a function may have.
+const MOST_PARAMETERS: usize = 65_536;
 
 /// An `assign` line: two operators by their places among the `op` lines, each with its name by its
 /// index.
@@ -32,26 +35,25 @@ pub struct FunctionHeader {
 }
 
 /// The number after `main`.
-pub fn stack_of(words: &[Word]) -> Result<u16, Reason>
-    ensures { result ≡ stack_of words.now }
+pub fn stack_of(line: &[char]) -> Result<u16, Reason>
+    ensures { result ≡ stack_of line.now }
 {
-    let (word, rest) = first(Reason::BadOperand, words)?;
-    let number = number_word(65_535, word)?;
+    let (number, rest) = number_operand(65_535, line)?;
     alone(rest)?;
     Ok(number as u16)
 }
 
-/// The four numbers after `assign`, on this line.
-pub fn assign_of(line: usize, words: &[Word]) -> Result<AssignLine, Reason>
-    ensures { result ≡ assign_of line words.now }
+/// The four numbers after `assign`, which is the line with this number.
+pub fn assign_of(number: usize, line: &[char]) -> Result<AssignLine, Reason>
+    ensures { result ≡ assign_of number line.now }
 {
-    let (op_assign, rest) = index(words)?;
+    let (op_assign, rest) = index(line)?;
     let (op_assign_name, rest) = index(rest)?;
     let (op, rest) = index(rest)?;
     let (op_name, rest) = index(rest)?;
     alone(rest)?;
     Ok(AssignLine {
-        line,
+        line: number,
         op_assign,
         op_assign_name,
         op,
@@ -59,62 +61,104 @@ pub fn assign_of(line: usize, words: &[Word]) -> Result<AssignLine, Reason>
     })
 }
 
-/// How many parameters there are, which `on` ends.
-pub fn parameters(words: &[Word]) -> usize
-    ensures { result ≡ parameters words.now }
+/// Whether `on` stands next, which ends the parameters.
+fn is_on(line: &[char]) -> bool
+    ensures { result ≡ is_on line.now }
 {
-    let mut count = 0usize;
-    for word in words {
-        if is_bare("on", word) {
-            return count;
-        }
-        count += 1;
-    }
-    count
+    after_name("on", line).is_some()
 }
 
-fn parameter(word: &Word) -> Result<u32, Reason>
-    ensures { result ≡ parameter word.now }
+fn has_parameter(line: &[char]) -> bool
+    ensures { result ≡ has_parameter line.now }
 {
-    if is_bare("on", word) {
+    !is_over(line) && !is_on(line)
+}
+
+/// Whether more than `most` parameters stand here, whatever their words are.
+#[tactic(auto, using(crate::proofs::Parameters::more_step, crate::proofs::Parameters::more_none, crate::proofs::Parameters::more_last))]
+fn has_more(most: usize, line: &[char]) -> bool
+    ensures { result ≡ has_more most line.now }
+{
+    let mut room = most;
+    let mut rest = line;
+    'words: while room > 0 {
+        if !has_parameter(rest) {
+            return false;
+        }
+        room -= 1;
+        rest = after_word(rest);
+    }
+    has_parameter(rest)
+}
+
+/// Whether more parameters stand after `fn`, its name and its number than a function may have.
+pub fn is_crowded(line: &[char]) -> bool
+    ensures { result ≡ is_crowded line.now }
+{
+    has_more(MOST_PARAMETERS, after_word(after_word(line)))
+}
+
+fn parameter(line: &[char]) -> Result<(u32, &[char]), Reason>
+    ensures { operand_view result ≡ parameter line.now }
+{
+    if is_on(line) {
         return Err(Reason::NotBuilt);
     }
-    let number = number_word(u32::MAX as u64, word)?;
-    Ok(number as u32)
+    index(line)
 }
 
-fn parameters_of(alloc: Global, words: &[Word]) -> Result<Result<Indices, Reason>, OutOfMemory>
-    ensures { IfOk result (λ r. r ≡ parameters_of words.now) }
+/// At most `most` parameters.
+#[tactic(auto, using(crate::proofs::Parameters::found_first, crate::proofs::Parameters::all_found, crate::proofs::Parameters::one_refused, crate::proofs::Parameters::one_more, crate::proofs::Parameters::too_many))]
+fn parameters_of(
+    alloc: Global,
+    most: usize,
+    line: &[char],
+) -> Result<Result<Indices, Reason>, OutOfMemory>
+    ensures { IfOk result (λ r. r ≡ parameters_of most line.now) }
 {
     let mut found = Indices::new(alloc);
-    for word in words {
-        match parameter(word) {
+    let mut room = most;
+    let mut rest = line;
+    'words: while room > 0 {
+        if is_over(rest) {
+            return Ok(Ok(found));
+        }
+        match parameter(rest) {
             Err(reason) => return Ok(Err(reason)),
-            Ok(number) => found.push(number)?,
+            Ok((number, after)) => {
+                found.push(number)?;
+                room -= 1;
+                rest = after;
+            }
         }
     }
-    Ok(Ok(found))
+    if is_over(rest) {
+        return Ok(Ok(found));
+    }
+    match parameter(rest) {
+        Err(reason) => Ok(Err(reason)),
+        Ok(_) => Ok(Err(Reason::TooMany)),
+    }
 }
 
-fn name_and_stack(words: &[Word]) -> Result<(u32, u16, &[Word]), Reason>
-    ensures { name_view result ≡ name_and_stack words.now }
+fn name_and_stack(line: &[char]) -> Result<(u32, u16, &[char]), Reason>
+    ensures { name_view result ≡ name_and_stack line.now }
 {
-    let (name, rest) = index(words)?;
-    let (word, rest) = first(Reason::BadOperand, rest)?;
-    let number = number_word(65_535, word)?;
-    Ok((name, number as u16, rest))
+    let (name, rest) = index(line)?;
+    let (stack, rest) = number_operand(65_535, rest)?;
+    Ok((name, stack as u16, rest))
 }
 
 /// What stands after `fn`.
 pub fn header_of(
     alloc: Global,
-    words: &[Word],
+    line: &[char],
 ) -> Result<Result<FunctionHeader, Reason>, OutOfMemory>
-    ensures { IfOk result (λ r. r ≡ header_of words.now) }
+    ensures { IfOk result (λ r. r ≡ header_of line.now) }
 {
-    match name_and_stack(words) {
+    match name_and_stack(line) {
         Err(reason) => Ok(Err(reason)),
-        Ok((name, stack, rest)) => match parameters_of(alloc, rest)? {
+        Ok((name, stack, rest)) => match parameters_of(alloc, MOST_PARAMETERS, rest)? {
             Err(reason) => Ok(Err(reason)),
             Ok(params) => Ok(Ok(FunctionHeader {
                 name,

@@ -1,8 +1,9 @@
 //! What the format has and this crate does not read yet.
 
-ghost use Rattle.std.specs.Prelude.{◌≡◌, map, nat_eq};
-ghost use Rattle.std.specs.List.{starts_with};
+ghost use Rattle.std.specs.Prelude.{◌≡◌, map};
 ghost use Rattle.grain_listing.specs.Later.{is_among, begins_among, is_later_line, is_later_variable, is_later_call, is_later_other, is_later, is_later_limit, is_later_operator, is_later_value};
+
+use grain_words::{after_text, is_word};
 
 /// Lines and blocks.
 const LINES: [&str; 19] = [
@@ -81,28 +82,33 @@ const OPERATORS: [&str; 19] = [
 /// How values begin.
 const VALUES: [&str; 7] = ["[", "#{", "blob(", "fn(", "range(", "range=(", "foreign("];
 
-fn is_among(words: &[&str], word: &str) -> bool
+fn is_among(words: &[&str], word: &[char]) -> bool
     ensures { result ≡ is_among (map (λ w. w.now) words.now) word.now }
 {
     for other in words {
-        if *other == word {
+        if is_word(word, *other) {
             return true;
         }
     }
     false
 }
 
-fn begins_with(word: &str, front: &str) -> bool
-    ensures { result ≡ starts_with nat_eq word.now front.now }
+fn is_text_among(texts: &[&str], text: &str) -> bool
+    ensures { result ≡ is_among (map (λ w. w.now) texts.now) text.now }
 {
-    word.starts_with(front)
+    for other in texts {
+        if text == *other {
+            return true;
+        }
+    }
+    false
 }
 
-fn begins_among(fronts: &[&str], word: &str) -> bool
-    ensures { result ≡ begins_among (map (λ w. w.now) fronts.now) word.now }
+fn begins_among(fronts: &[&str], line: &[char]) -> bool
+    ensures { result ≡ begins_among (map (λ w. w.now) fronts.now) line.now }
 {
     for front in fronts {
-        if begins_with(word, *front) {
+        if after_text(*front, line).is_some() {
             return true;
         }
     }
@@ -110,28 +116,28 @@ fn begins_among(fronts: &[&str], word: &str) -> bool
 }
 
 #[tactic(auto, unfolding(crate::specs::Later::is_later_line))]
-fn is_later_line(word: &str) -> bool
+fn is_later_line(word: &[char]) -> bool
     ensures { result ≡ is_later_line word.now }
 {
     is_among(&LINES, word)
 }
 
 #[tactic(auto, unfolding(crate::specs::Later::is_later_variable))]
-fn is_later_variable(word: &str) -> bool
+fn is_later_variable(word: &[char]) -> bool
     ensures { result ≡ is_later_variable word.now }
 {
     is_among(&VARIABLES, word)
 }
 
 #[tactic(auto, unfolding(crate::specs::Later::is_later_call))]
-fn is_later_call(word: &str) -> bool
+fn is_later_call(word: &[char]) -> bool
     ensures { result ≡ is_later_call word.now }
 {
     is_among(&CALLS, word)
 }
 
 #[tactic(auto, unfolding(crate::specs::Later::is_later_other))]
-fn is_later_other(word: &str) -> bool
+fn is_later_other(word: &[char]) -> bool
     ensures { result ≡ is_later_other word.now }
 {
     is_among(&OTHERS, word)
@@ -139,7 +145,7 @@ fn is_later_other(word: &str) -> bool
 
 /// Whether the word begins a line or a block, or is an instruction.
 #[tactic(auto, unfolding(crate::specs::Later::is_later))]
-pub fn is_later(word: &str) -> bool
+pub fn is_later(word: &[char]) -> bool
     ensures { result ≡ is_later word.now }
 {
     is_later_line(word) || is_later_variable(word) || is_later_call(word) || is_later_other(word)
@@ -147,7 +153,7 @@ pub fn is_later(word: &str) -> bool
 
 /// Whether the word names a limit.
 #[tactic(auto, unfolding(crate::specs::Later::is_later_limit))]
-pub fn is_later_limit(word: &str) -> bool
+pub fn is_later_limit(word: &[char]) -> bool
     ensures { result ≡ is_later_limit word.now }
 {
     is_among(&LIMITS, word)
@@ -158,13 +164,13 @@ pub fn is_later_limit(word: &str) -> bool
 pub fn is_later_operator(text: &str) -> bool
     ensures { result ≡ is_later_operator text.now }
 {
-    is_among(&OPERATORS, text)
+    is_text_among(&OPERATORS, text)
 }
 
-/// Whether the word begins as a value.
+/// Whether a value begins here that is not read yet.
 #[tactic(auto, unfolding(crate::specs::Later::is_later_value))]
-pub fn is_later_value(word: &str) -> bool
-    ensures { result ≡ is_later_value word.now }
+pub fn is_later_value(line: &[char]) -> bool
+    ensures { result ≡ is_later_value line.now }
 {
-    begins_among(&VALUES, word)
+    begins_among(&VALUES, line)
 }

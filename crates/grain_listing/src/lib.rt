@@ -12,6 +12,8 @@ mod limits;
 mod line_rules;
 mod linking;
 mod literals;
+#[cfg(test)]
+mod operand_tests;
 mod operands;
 mod pool_lines;
 mod reading;

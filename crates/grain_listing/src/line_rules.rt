@@ -1,23 +1,29 @@
 //! One more line of a listing: by its first word and by where it stands.
 
 ghost use Rattle.std.specs.Prelude.{◌≡◌, IfOk, option_map};
+ghost use Rattle.grain_words.specs.Words.{next_word};
 ghost use Rattle.grain_listing.specs.Table.{line_of};
-ghost use Rattle.grain_listing.specs.LineMeanings.{before_colon};
+ghost use Rattle.grain_listing.specs.LineMeanings.{before_colon, header_said};
 ghost use Rattle.grain_listing.specs.views.AssemblerView.{assembler_view, result_view};
-ghost use Rattle.grain_listing.specs.views.Assembling.{HasRoom, put_line, label_line, known_line, header, after_header, take_line, is_start};
+ghost use Rattle.grain_listing.specs.views.Assembling.{HasRoom, put_line, label_line, known_line, with_header, after_header, take_line, is_start};
 
 use crate::assembler::Assembler;
-use crate::operands::is_bare;
+use crate::operands::after_name;
 use crate::reasons::Reason;
 use crate::table::{Line, Section, line_of, stands};
 use grain_value::OutOfMemory;
-use grain_words::{Word, begins_letter};
+use grain_words::{begins_letter, is_over, next_word, word_text};
 use std::alloc::Global;
 
-fn before_colon(word: &str) -> Option<&str>
+/// What stands before a colon at the word's end.
+#[tactic(auto, using(crate::proofs::Colons::colon_last, crate::proofs::Colons::other_last, crate::proofs::Colons::none_last))]
+fn before_colon(word: &[char]) -> Option<&[char]>
     ensures { option_map (λ t. t.now) result ≡ before_colon word.now }
 {
-    word.strip_suffix(':')
+    match word.split_last() {
+        Some((c, front)) => { if *c == ':' { Some(front) } else { None } }
+        None => None,
+    }
 }
 
 fn is_start(section: Section) -> bool
@@ -36,26 +42,26 @@ impl Assembler {
         &mut self,
         alloc: Global,
         line: Line,
-        words: &[Word],
+        rest: &[char],
     ) -> Result<Result<(), Reason>, OutOfMemory>
         requires { HasRoom (assembler_view self.old) }
         ensures { IfOk result (λ r. result_view r (assembler_view self.new) ≡
-            put_line line words.now (assembler_view self.old)) }
+            put_line line rest.now (assembler_view self.old)) }
     {
         match line {
             Line::Header => Ok(Err(Reason::OutOfPlace)),
-            Line::Capabilities => Ok(self.put_capabilities(words)),
-            Line::Limit => self.put_limit(words),
-            Line::Constant => self.put_constant(alloc, words),
-            Line::Name => self.put_name(alloc, words),
-            Line::Operator => self.put_operator(words),
-            Line::Assign => self.put_assign(words),
-            Line::Entry => self.put_entry(alloc, words),
-            Line::Main => Ok(self.put_main(words)),
-            Line::Function => self.put_function(alloc, words),
-            Line::Byte => self.put_byte(words),
-            Line::End => self.put_end(words),
-            Line::Instruction(encoding) => self.put_instruction(alloc, encoding, words),
+            Line::Capabilities => Ok(self.put_capabilities(rest)),
+            Line::Limit => self.put_limit(rest),
+            Line::Constant => self.put_constant(alloc, rest),
+            Line::Name => self.put_name(alloc, rest),
+            Line::Operator => self.put_operator(alloc, rest),
+            Line::Assign => self.put_assign(rest),
+            Line::Entry => self.put_entry(alloc, rest),
+            Line::Main => Ok(self.put_main(rest)),
+            Line::Function => self.put_function(alloc, rest),
+            Line::Byte => self.put_byte(rest),
+            Line::End => self.put_end(rest),
+            Line::Instruction(encoding) => self.put_instruction(alloc, encoding, rest),
             Line::Later => Ok(Err(Reason::NotBuilt)),
         }
     }
@@ -63,33 +69,36 @@ impl Assembler {
     fn label_line(
         &mut self,
         alloc: Global,
-        word: &str,
-        words: &[Word],
+        word: &[char],
+        rest: &[char],
     ) -> Result<Result<(), Reason>, OutOfMemory>
         requires { HasRoom (assembler_view self.old) }
         ensures { IfOk result (λ r. result_view r (assembler_view self.new) ≡
-            label_line (before_colon word.now) words.now (assembler_view self.old)) }
+            label_line (before_colon word.now) rest.now (assembler_view self.old)) }
     {
         match before_colon(word) {
             None => Ok(Err(Reason::UnknownWord)),
             Some(label) => {
-                if begins_letter(label.as_bytes()) {
-                    self.put_label(alloc, label, words)
-                } else {
-                    Ok(Err(Reason::UnknownWord))
+                if !begins_letter(label) {
+                    return Ok(Err(Reason::UnknownWord));
                 }
+                let label = word_text(alloc, label)?;
+                self.put_label(alloc, label.as_str(), rest)
             }
         }
     }
 
-    fn header(&mut self, words: &[Word]) -> Result<(), Reason>
+    fn header(&mut self, line: &[char]) -> Result<(), Reason>
         ensures { result_view result (assembler_view self.new) ≡
-            header words.now (assembler_view self.old) }
+            with_header (header_said line.now) (assembler_view self.old) }
     {
-        let [first, second] = words else {
+        let Some(rest) = after_name("grain", line) else {
             return Err(Reason::MissingHeader);
         };
-        if is_bare("grain", first) && is_bare("1", second) {
+        let Some(rest) = after_name("1", rest) else {
+            return Err(Reason::MissingHeader);
+        };
+        if is_over(rest) {
             self.section = Section::Pools;
             Ok(())
         } else {
@@ -100,18 +109,18 @@ impl Assembler {
     fn known_line(
         &mut self,
         alloc: Global,
-        word: &str,
-        words: &[Word],
+        word: &[char],
+        rest: &[char],
     ) -> Result<Result<(), Reason>, OutOfMemory>
         requires { HasRoom (assembler_view self.old) }
         ensures { IfOk result (λ r. result_view r (assembler_view self.new) ≡
-            known_line (line_of word.now) word.now words.now (assembler_view self.old)) }
+            known_line (line_of word.now) word.now rest.now (assembler_view self.old)) }
     {
         match line_of(word) {
-            None => self.label_line(alloc, word, words),
+            None => self.label_line(alloc, word, rest),
             Some(line) => {
                 if stands(line, self.section) {
-                    self.put_line(alloc, line, words)
+                    self.put_line(alloc, line, rest)
                 } else {
                     Ok(Err(Reason::OutOfPlace))
                 }
@@ -122,38 +131,35 @@ impl Assembler {
     fn after_header(
         &mut self,
         alloc: Global,
-        word: &Word,
-        words: &[Word],
+        line: &[char],
     ) -> Result<Result<(), Reason>, OutOfMemory>
         requires { HasRoom (assembler_view self.old) }
         ensures { IfOk result (λ r. result_view r (assembler_view self.new) ≡
-            after_header word.now words.now (assembler_view self.old)) }
+            after_header (next_word line.now) (assembler_view self.old)) }
     {
-        match word {
-            Word::Bare(text) => self.known_line(alloc, text.as_str(), words),
-            _ => Ok(Err(Reason::UnknownWord)),
+        match next_word(line) {
+            None => Ok(Err(Reason::UnknownWord)),
+            Some((word, rest)) => self.known_line(alloc, word, rest),
         }
     }
 
-    /// One more line, by its words. Nothing is known of the assembler where it is refused.
+    /// One more line, by its characters. Nothing is known of the assembler where it is refused.
     pub fn take_line(
         &mut self,
         alloc: Global,
-        words: &[Word],
+        line: &[char],
     ) -> Result<Result<(), Reason>, OutOfMemory>
         requires { HasRoom (assembler_view self.old) }
         ensures { IfOk result (λ r. result_view r (assembler_view self.new) ≡
-            take_line words.now (assembler_view self.old)) }
+            take_line line.now (assembler_view self.old)) }
     {
-        match words.split_first() {
-            None => Ok(Ok(())),
-            Some((first, others)) => {
-                if is_start(self.section) {
-                    Ok(self.header(words))
-                } else {
-                    self.after_header(alloc, first, others)
-                }
-            }
+        if is_over(line) {
+            return Ok(Ok(()));
+        }
+        if is_start(self.section) {
+            Ok(self.header(line))
+        } else {
+            self.after_header(alloc, line)
         }
     }
 }

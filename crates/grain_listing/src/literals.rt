@@ -1,108 +1,129 @@
 //! Values, texts and operators as a listing spells them.
 
-ghost use Rattle.std.specs.Prelude.{◌≡◌, true, IfOk};
-ghost use Rattle.grain_listing.specs.Literals.{value_of, value_word, text_word, constant_of, text_of, token_named, token_of, entry_in, entry_of};
-ghost use Rattle.grain_listing.specs.views.Results.{text_view, literal_value, literal_view, entry_view};
+ghost use Rattle.std.specs.Prelude.{◌≡◌, ◌∷◌, true, IfOk};
+ghost use Rattle.grain_listing.specs.Literals.{plain_value, value, value_operand, constant_of, text_operand, text_of, token_named, token_of, entry_in, entry_of};
+ghost use Rattle.grain_listing.specs.Operands.{alone};
+ghost use Rattle.grain_listing.specs.Steps.{and_then};
+ghost use Rattle.grain_listing.specs.views.Results.{operand_view, entry_view};
 
 use crate::later::{is_later_operator, is_later_value};
-use crate::operands::{alone, first, is_bare};
+use crate::operands::{after_name, alone};
 use crate::reasons::Reason;
-use grain_value::{Dynamic, OutOfMemory, Text, Token};
-use grain_words::{Word, integer};
+use grain_value::{Dynamic, Held, OutOfMemory, Text, Token};
+use grain_words::{after_text, integer_here, is_word_end, next_text, quoted, trim_start};
 use std::alloc::Global;
 
-/// A value that a line says. A text still lies among the line's words.
+/// A value, and what is left of the line after it.
+type Valued<'a> = Result<(Dynamic, &'a [char]), Reason>;
+
+/// What a `scope` line says: a name, and what it holds.
 #[derive(Drop)]
-pub enum Literal<'a> {
-    /// A value.
-    Value(Dynamic),
-    /// A text.
-    Text(&'a Text),
+pub struct ScopeEntry {
+    pub name: Text,
+    pub held: Held,
 }
 
-impl Literal<'_> {
-    /// The value, which takes memory for a text.
-    pub fn into_value(self, alloc: Global) -> Result<Dynamic, OutOfMemory>
-        ensures { IfOk result (λ v. v ≡ literal_value self.entry) }
-    {
-        match self {
-            Literal::Value(value) => Ok(value),
-            Literal::Text(text) => Ok(Dynamic::Text(text.copy(alloc)?)),
-        }
-    }
-}
-
-/// What a `scope` line says: a name, a value, and whether the entry can only be read.
-#[derive(Drop)]
-pub struct ScopeEntry<'a> {
-    pub name: &'a Text,
-    pub value: Literal<'a>,
-    pub read_only: bool,
-}
-
-// A value as a word: unit, a truth value or an integer.
-fn value_of(word: &str) -> Result<Dynamic, Reason>
-    ensures { result ≡ value_of word.now }
+fn plain_value(line: &[char]) -> Valued<'_>
+    ensures { operand_view result ≡ plain_value line.now }
 {
-    if word == "()" {
-        return Ok(Dynamic::Unit);
+    if let Some(rest) = after_text("()", line) {
+        return Ok((Dynamic::Unit, rest));
     }
-    if word == "true" {
-        return Ok(Dynamic::Bool(true));
+    if let Some(rest) = after_text("true", line) {
+        return Ok((Dynamic::Bool(true), rest));
     }
-    if word == "false" {
-        return Ok(Dynamic::Bool(false));
+    if let Some(rest) = after_text("false", line) {
+        return Ok((Dynamic::Bool(false), rest));
     }
-    if is_later_value(word) {
+    if is_later_value(line) {
         return Err(Reason::NotBuilt);
     }
-    match integer(word.as_bytes()) {
+    match integer_here(line) {
         None => Err(Reason::BadValue),
-        Some(integer) => Ok(Dynamic::Int(integer)),
+        Some((integer, rest)) => Ok((Dynamic::Int(integer), rest)),
     }
 }
 
-fn value_word(word: &Word) -> Result<Literal<'_>, Reason>
-    ensures { literal_view result ≡ value_word word.now }
+/// The text whose first quote stands before these characters.
+fn text_value(alloc: Global, chars: &[char]) -> Result<Valued<'_>, OutOfMemory>
+    ensures { IfOk result (λ r. operand_view r ≡ value (34 ∷ chars.now)) }
 {
-    match word {
-        Word::Bare(text) => {
-            let value = value_of(text.as_str())?;
-            Ok(Literal::Value(value))
+    match quoted(alloc, chars)? {
+        None => Ok(Err(Reason::BadValue)),
+        Some((text, rest)) => Ok(Ok((Dynamic::Text(text), rest))),
+    }
+}
+
+/// The value that begins here.
+fn value(alloc: Global, line: &[char]) -> Result<Valued<'_>, OutOfMemory>
+    ensures { IfOk result (λ r. operand_view r ≡ value line.now) }
+{
+    match line.split_first() {
+        None => Ok(Err(Reason::BadValue)),
+        Some((first, after)) => {
+            if *first == '"' {
+                text_value(alloc, after)
+            } else if *first == '\'' {
+                Ok(Err(Reason::NotBuilt))
+            } else {
+                Ok(plain_value(line))
+            }
         }
-        Word::Quoted(text) => Ok(Literal::Text(text)),
-        Word::Character => Err(Reason::NotBuilt),
-        Word::Broken => Err(Reason::BadValue),
     }
 }
 
-fn text_word(word: &Word) -> Result<&Text, Reason>
-    ensures { text_view result ≡ text_word word.now }
+/// A value that ends where a word ends.
+fn value_operand(alloc: Global, line: &[char]) -> Result<Valued<'_>, OutOfMemory>
+    ensures { IfOk result (λ r. operand_view r ≡ value_operand line.now) }
 {
-    match word {
-        Word::Quoted(text) => Ok(text),
-        _ => Err(Reason::BadValue),
+    match value(alloc, trim_start(line))? {
+        Err(reason) => Ok(Err(reason)),
+        Ok((value, rest)) => {
+            if is_word_end(rest) {
+                Ok(Ok((value, rest)))
+            } else {
+                Ok(Err(Reason::BadValue))
+            }
+        }
     }
 }
 
 /// The value after `const`.
-pub fn constant_of(words: &[Word]) -> Result<Literal<'_>, Reason>
-    ensures { literal_view result ≡ constant_of words.now }
+pub fn constant_of(alloc: Global, line: &[char]) -> Result<Result<Dynamic, Reason>, OutOfMemory>
+    ensures { IfOk result (λ r. r ≡ constant_of line.now) }
 {
-    let (word, rest) = first(Reason::BadValue, words)?;
-    let value = value_word(word)?;
-    alone(rest)?;
-    Ok(value)
+    match value_operand(alloc, line)? {
+        Err(reason) => Ok(Err(reason)),
+        Ok((value, rest)) => match alone(rest) {
+            Err(reason) => Ok(Err(reason)),
+            Ok(()) => Ok(Ok(value)),
+        },
+    }
+}
+
+fn text_operand(
+    alloc: Global,
+    line: &[char],
+) -> Result<Result<(Text, &[char]), Reason>, OutOfMemory>
+    ensures { IfOk result (λ r. operand_view r ≡ text_operand line.now) }
+{
+    match next_text(alloc, line)? {
+        None => Ok(Err(Reason::BadValue)),
+        Some((text, rest)) => Ok(Ok((text, rest))),
+    }
 }
 
 /// The text after `name`.
-pub fn text_of(words: &[Word]) -> Result<&Text, Reason>
-    ensures { text_view result ≡ text_of words.now }
+pub fn text_of(alloc: Global, line: &[char]) -> Result<Result<Text, Reason>, OutOfMemory>
+    ensures { IfOk result (λ r. r ≡ text_of line.now) }
 {
-    let (word, rest) = first(Reason::BadValue, words)?;
-    let text = text_word(word)?;
-    alone(rest)?;
-    Ok(text)
+    match text_operand(alloc, line)? {
+        Err(reason) => Ok(Err(reason)),
+        Ok((text, rest)) => match alone(rest) {
+            Err(reason) => Ok(Err(reason)),
+            Ok(()) => Ok(Ok(text)),
+        },
+    }
 }
 
 fn token_named(text: &str) -> Result<Token, Reason>
@@ -117,43 +138,51 @@ fn token_named(text: &str) -> Result<Token, Reason>
     }
 }
 
-/// The token whose text stands after `op`.
-pub fn token_of(words: &[Word]) -> Result<Token, Reason>
-    ensures { result ≡ token_of words.now }
+/// The token of the text, after which nothing may follow.
+fn token_alone(text: &str, rest: &[char]) -> Result<Token, Reason>
+    ensures { result ≡ and_then (token_named text.now) (λ k. alone rest.now k) }
 {
-    let (word, rest) = first(Reason::BadValue, words)?;
-    let text = text_word(word)?;
-    let token = token_named(text.as_str())?;
+    let token = token_named(text)?;
     alone(rest)?;
     Ok(token)
 }
 
-/// A name and a value, alone.
-fn entry_in(read_only: bool, words: &[Word]) -> Result<ScopeEntry<'_>, Reason>
-    ensures { entry_view result ≡ entry_in read_only words.now }
+/// The token whose text stands after `op`.
+pub fn token_of(alloc: Global, line: &[char]) -> Result<Result<Token, Reason>, OutOfMemory>
+    ensures { IfOk result (λ r. r ≡ token_of line.now) }
 {
-    let (word, rest) = first(Reason::BadValue, words)?;
-    let name = text_word(word)?;
-    let value = constant_of(rest)?;
-    Ok(ScopeEntry {
-        name,
-        value,
-        read_only,
-    })
+    match text_operand(alloc, line)? {
+        Err(reason) => Ok(Err(reason)),
+        Ok((text, rest)) => Ok(token_alone(text.as_str(), rest)),
+    }
+}
+
+/// A name and a value, alone.
+fn entry_in(
+    alloc: Global,
+    read_only: bool,
+    line: &[char],
+) -> Result<Result<ScopeEntry, Reason>, OutOfMemory>
+    ensures { IfOk result (λ r. entry_view r ≡ entry_in read_only line.now) }
+{
+    match text_operand(alloc, line)? {
+        Err(reason) => Ok(Err(reason)),
+        Ok((name, rest)) => match constant_of(alloc, rest)? {
+            Err(reason) => Ok(Err(reason)),
+            Ok(value) => Ok(Ok(ScopeEntry {
+                name,
+                held: Held { value, read_only },
+            })),
+        },
+    }
 }
 
 /// The name and what it holds after `scope`.
-pub fn entry_of(words: &[Word]) -> Result<ScopeEntry<'_>, Reason>
-    ensures { entry_view result ≡ entry_of words.now }
+pub fn entry_of(alloc: Global, line: &[char]) -> Result<Result<ScopeEntry, Reason>, OutOfMemory>
+    ensures { IfOk result (λ r. entry_view r ≡ entry_of line.now) }
 {
-    match words.split_first() {
-        None => Err(Reason::BadValue),
-        Some((word, rest)) => {
-            if is_bare("const", word) {
-                entry_in(true, rest)
-            } else {
-                entry_in(false, words)
-            }
-        }
+    match after_name("const", line) {
+        None => entry_in(alloc, false, line),
+        Some(rest) => entry_in(alloc, true, rest),
     }
 }

@@ -1,98 +1,96 @@
-//! Operands: what single words after a line's first word say.
+//! Operands: each is read from what is left of a line, and says what is then left.
 
-ghost use Rattle.std.specs.Prelude.{◌≡◌};
-ghost use Rattle.grain_listing.specs.Operands.{first, alone, is_bare, number_word, index, position_operand, position_after, byte_of};
-ghost use Rattle.grain_listing.specs.views.Results.{first_view, index_view};
+ghost use Rattle.std.specs.Prelude.{◌≡◌, option_map};
+ghost use Rattle.grain_listing.specs.Operands.{word_operand, alone, after_name, number_operand, index, position_operand, position_after, byte_of};
+ghost use Rattle.grain_listing.specs.views.Results.{operand_view, word_view};
 
 use crate::reasons::Reason;
 use grain_fault::Position;
-use grain_words::{Word, number, position_word};
+use grain_words::{is_over, is_word, next_word, number, position_word};
 
-/// The first word, whose absence is refused for this reason, and the words after it.
-pub fn first(reason: Reason, words: &[Word]) -> Result<(&Word, &[Word]), Reason>
-    ensures { first_view result ≡ first reason words.now }
+/// A word without quotes.
+pub fn word_operand(line: &[char]) -> Result<(&[char], &[char]), Reason>
+    ensures { word_view result ≡ word_operand line.now }
 {
-    match words.split_first() {
-        None => Err(reason),
+    match next_word(line) {
+        None => Err(Reason::BadOperand),
         Some((word, rest)) => Ok((word, rest)),
     }
 }
 
-/// Nothing may follow.
-pub fn alone(words: &[Word]) -> Result<(), Reason>
-    ensures { result ≡ alone words.now tt }
+/// What is left after the next word, if that is this name.
+pub fn after_name<'a>(name: &str, line: &'a [char]) -> Option<&'a [char]>
+    ensures { option_map (λ r. r.now) result ≡ after_name name.now line.now }
 {
-    if words.is_empty() {
+    match next_word(line) {
+        None => None,
+        Some((word, rest)) => {
+            if is_word(word, name) {
+                Some(rest)
+            } else {
+                None
+            }
+        }
+    }
+}
+
+/// Nothing may follow.
+pub fn alone(line: &[char]) -> Result<(), Reason>
+    ensures { result ≡ alone line.now tt }
+{
+    if is_over(line) {
         Ok(())
     } else {
         Err(Reason::BadOperand)
     }
 }
 
-/// Whether the word is this text, without quotes.
-pub fn is_bare(text: &str, word: &Word) -> bool
-    ensures { result ≡ is_bare text.now word.now }
+/// A number of at most `most`.
+pub fn number_operand(most: u64, line: &[char]) -> Result<(u64, &[char]), Reason>
+    ensures { operand_view result ≡ number_operand most line.now }
 {
-    match word {
-        Word::Bare(bare) => bare.as_str() == text,
-        _ => false,
+    let (word, rest) = word_operand(line)?;
+    match number(most, word) {
+        None => Err(Reason::BadOperand),
+        Some(number) => Ok((number, rest)),
     }
 }
 
-/// The number that the word says, if it is one of at most `most`.
-pub fn number_word(most: u64, word: &Word) -> Result<u64, Reason>
-    ensures { result ≡ number_word most word.now }
+/// A number of 32 bits.
+pub fn index(line: &[char]) -> Result<(u32, &[char]), Reason>
+    ensures { operand_view result ≡ index line.now }
 {
-    match word {
-        Word::Bare(text) => match number(most, text.as_str().as_bytes()) {
-            None => Err(Reason::BadOperand),
-            Some(number) => Ok(number),
-        },
-        _ => Err(Reason::BadOperand),
-    }
-}
-
-/// A number of 32 bits, and the words after it.
-pub fn index(words: &[Word]) -> Result<(u32, &[Word]), Reason>
-    ensures { index_view result ≡ index words.now }
-{
-    let (word, rest) = first(Reason::BadOperand, words)?;
-    let number = number_word(u32::MAX as u64, word)?;
+    let (number, rest) = number_operand(u32::MAX as u64, line)?;
     Ok((number as u32, rest))
 }
 
 /// The byte after `byte`, and its position if it has one.
-pub fn byte_of(words: &[Word]) -> Result<(u8, Option<Position>), Reason>
-    ensures { result ≡ byte_of words.now }
+pub fn byte_of(line: &[char]) -> Result<(u8, Option<Position>), Reason>
+    ensures { result ≡ byte_of line.now }
 {
-    let (word, rest) = first(Reason::BadOperand, words)?;
-    let byte = number_word(255, word)?;
+    let (byte, rest) = number_operand(255, line)?;
     let position = position_after(rest)?;
     Ok((byte as u8, position))
 }
 
-fn position_operand(word: &Word) -> Result<Position, Reason>
-    ensures { result ≡ position_operand word.now }
+fn position_operand(line: &[char]) -> Result<(Position, &[char]), Reason>
+    ensures { operand_view result ≡ position_operand line.now }
 {
-    match word {
-        Word::Bare(text) => match position_word(text.as_str().as_bytes()) {
-            None => Err(Reason::BadOperand),
-            Some(position) => Ok(position),
-        },
-        _ => Err(Reason::BadOperand),
+    let (word, rest) = word_operand(line)?;
+    match position_word(word) {
+        None => Err(Reason::BadOperand),
+        Some(position) => Ok((position, rest)),
     }
 }
 
 /// What stands after an instruction's operands: a position, or nothing.
-pub fn position_after(words: &[Word]) -> Result<Option<Position>, Reason>
-    ensures { result ≡ position_after words.now }
+pub fn position_after(line: &[char]) -> Result<Option<Position>, Reason>
+    ensures { result ≡ position_after line.now }
 {
-    match words.split_first() {
-        None => Ok(None),
-        Some((word, rest)) => {
-            let position = position_operand(word)?;
-            alone(rest)?;
-            Ok(Some(position))
-        }
+    if is_over(line) {
+        return Ok(None);
     }
+    let (position, rest) = position_operand(line)?;
+    alone(rest)?;
+    Ok(Some(position))
 }

@@ -9,12 +9,10 @@ ghost use Rattle.grain_listing.specs.views.Assembling.{unset, limit_line, put_li
 use crate::assembler::Assembler;
 use crate::headers::assign_of;
 use crate::limits::{Limit, LimitLine};
-use crate::literals::{constant_of, entry_of, text_of, token_of};
-use crate::operands::first;
+use crate::literals::{ScopeEntry, constant_of, entry_of, text_of, token_of};
 use crate::reasons::Reason;
-use crate::settings::{capabilities, limit_number, limit_word, number_in};
-use grain_value::{Held, Name, OutOfMemory};
-use grain_words::Word;
+use crate::settings::{capabilities, limit_number, limit_operand, number_in};
+use grain_value::{Name, OutOfMemory};
 use std::alloc::Global;
 
 /// How many entries a pool may have.
@@ -31,23 +29,22 @@ impl Assembler {
         }
     }
 
-    fn limit_line(&self, words: &[Word]) -> Result<LimitLine, Reason>
+    fn limit_line(&self, rest: &[char]) -> Result<LimitLine, Reason>
         ensures least { IfOk result (λ l. l.limit ≡ limit.Operations → 0 < l.number) }
-        ensures line { result ≡ limit_line words.now (assembler_view self.now) }
+        ensures line { result ≡ limit_line rest.now (assembler_view self.now) }
     {
-        let (word, rest) = first(Reason::BadOperand, words)?;
-        let limit = limit_word(word)?;
+        let (limit, rest) = limit_operand(rest)?;
         self.unset(limit)?;
         let number = limit_number(limit, rest)?;
         Ok(LimitLine { limit, number })
     }
 
     /// A limit.
-    pub fn put_limit(&mut self, words: &[Word]) -> Result<Result<(), Reason>, OutOfMemory>
+    pub fn put_limit(&mut self, rest: &[char]) -> Result<Result<(), Reason>, OutOfMemory>
         ensures { IfOk result (λ r. result_view r (assembler_view self.new) ≡
-            put_line lines.Limit words.now (assembler_view self.old)) }
+            put_line lines.Limit rest.now (assembler_view self.old)) }
     {
-        match self.limit_line(words) {
+        match self.limit_line(rest) {
             Err(reason) => Ok(Err(reason)),
             Ok(limit) => {
                 self.limits.push(limit)?;
@@ -57,14 +54,14 @@ impl Assembler {
     }
 
     /// The capabilities.
-    pub fn put_capabilities(&mut self, words: &[Word]) -> Result<(), Reason>
+    pub fn put_capabilities(&mut self, rest: &[char]) -> Result<(), Reason>
         ensures { result_view result (assembler_view self.new) ≡
-            put_line lines.Capabilities words.now (assembler_view self.old) }
+            put_line lines.Capabilities rest.now (assembler_view self.old) }
     {
         if self.caps.is_some() {
             return Err(Reason::OutOfPlace);
         }
-        let bits = capabilities(words)?;
+        let bits = capabilities(rest)?;
         self.caps = Some(bits);
         Ok(())
     }
@@ -73,18 +70,18 @@ impl Assembler {
     pub fn put_constant(
         &mut self,
         alloc: Global,
-        words: &[Word],
+        rest: &[char],
     ) -> Result<Result<(), Reason>, OutOfMemory>
         ensures { IfOk result (λ r. result_view r (assembler_view self.new) ≡
-            put_line lines.Constant words.now (assembler_view self.old)) }
+            put_line lines.Constant rest.now (assembler_view self.old)) }
     {
         if self.consts.len() >= POOL_ROOM {
             return Ok(Err(Reason::TooMany));
         }
-        match constant_of(words) {
+        match constant_of(alloc, rest)? {
             Err(reason) => Ok(Err(reason)),
-            Ok(literal) => {
-                self.consts.push(literal.into_value(alloc)?)?;
+            Ok(value) => {
+                self.consts.push(value)?;
                 Ok(Ok(()))
             }
         }
@@ -94,18 +91,18 @@ impl Assembler {
     pub fn put_name(
         &mut self,
         alloc: Global,
-        words: &[Word],
+        rest: &[char],
     ) -> Result<Result<(), Reason>, OutOfMemory>
         ensures { IfOk result (λ r. result_view r (assembler_view self.new) ≡
-            put_line lines.Name words.now (assembler_view self.old)) }
+            put_line lines.Name rest.now (assembler_view self.old)) }
     {
         if self.names.len() >= POOL_ROOM {
             return Ok(Err(Reason::TooMany));
         }
-        match text_of(words) {
+        match text_of(alloc, rest)? {
             Err(reason) => Ok(Err(reason)),
             Ok(text) => {
-                let name = Name::new(alloc, text.copy(alloc)?)?;
+                let name = Name::new(alloc, text)?;
                 self.names.push(name)?;
                 Ok(Ok(()))
             }
@@ -113,14 +110,18 @@ impl Assembler {
     }
 
     /// An operator.
-    pub fn put_operator(&mut self, words: &[Word]) -> Result<Result<(), Reason>, OutOfMemory>
+    pub fn put_operator(
+        &mut self,
+        alloc: Global,
+        rest: &[char],
+    ) -> Result<Result<(), Reason>, OutOfMemory>
         ensures { IfOk result (λ r. result_view r (assembler_view self.new) ≡
-            put_line lines.Operator words.now (assembler_view self.old)) }
+            put_line lines.Operator rest.now (assembler_view self.old)) }
     {
         if self.tokens.len() >= POOL_ROOM {
             return Ok(Err(Reason::TooMany));
         }
-        match token_of(words) {
+        match token_of(alloc, rest)? {
             Err(reason) => Ok(Err(reason)),
             Ok(token) => {
                 self.tokens.push(token)?;
@@ -130,14 +131,14 @@ impl Assembler {
     }
 
     /// An op-assignment.
-    pub fn put_assign(&mut self, words: &[Word]) -> Result<Result<(), Reason>, OutOfMemory>
+    pub fn put_assign(&mut self, rest: &[char]) -> Result<Result<(), Reason>, OutOfMemory>
         ensures { IfOk result (λ r. result_view r (assembler_view self.new) ≡
-            put_line lines.Assign words.now (assembler_view self.old)) }
+            put_line lines.Assign rest.now (assembler_view self.old)) }
     {
         if self.assigns.len() >= POOL_ROOM {
             return Ok(Err(Reason::TooMany));
         }
-        match assign_of(self.line, words) {
+        match assign_of(self.line, rest) {
             Err(reason) => Ok(Err(reason)),
             Ok(assign) => {
                 self.assigns.push(assign)?;
@@ -150,18 +151,16 @@ impl Assembler {
     pub fn put_entry(
         &mut self,
         alloc: Global,
-        words: &[Word],
+        rest: &[char],
     ) -> Result<Result<(), Reason>, OutOfMemory>
         ensures { IfOk result (λ r. result_view r (assembler_view self.new) ≡
-            put_line lines.Entry words.now (assembler_view self.old)) }
+            put_line lines.Entry rest.now (assembler_view self.old)) }
     {
-        match entry_of(words) {
+        match entry_of(alloc, rest)? {
             Err(reason) => Ok(Err(reason)),
             Ok(entry) => {
-                let read_only = entry.read_only;
-                let name = entry.name.copy(alloc)?;
-                let value = entry.value.into_value(alloc)?;
-                self.scope.push(name, Held { value, read_only })?;
+                let ScopeEntry { name, held } = entry;
+                self.scope.push(name, held)?;
                 Ok(Ok(()))
             }
         }

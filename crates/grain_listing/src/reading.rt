@@ -10,7 +10,7 @@ use crate::linking::ending;
 use crate::reasons::{BadLine, Reason};
 use crate::setups::Setup;
 use grain_value::OutOfMemory;
-use grain_words::{next_line, words_of};
+use grain_words::next_line;
 use std::alloc::Global;
 
 /// How many bytes a listing may have.
@@ -28,8 +28,7 @@ fn read_lines(alloc: Global, text: &[char]) -> Result<Result<Setup, BadLine>, Ou
         let (line, after) = next_line(rest);
         n += 1;
         assembler.line = n;
-        let words = words_of(alloc, line)?;
-        match assembler.take_line(alloc, words.as_slice())? {
+        match assembler.take_line(alloc, line)? {
             Err(reason) => return Ok(Err(BadLine { line: n, reason })),
             Ok(()) => rest = after,
         }

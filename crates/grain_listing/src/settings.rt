@@ -1,14 +1,25 @@
 //! What the program may do: limits and capabilities.
 
-ghost use Rattle.std.specs.Prelude.{◌≡◌, ◌<◌, ◌≤◌, IfOk, IfSome};
-ghost use Rattle.grain_listing.specs.Settings.{place, number_in, limit_of, limit_word, allowed, limit_number, capability, with_capability, capabilities};
+ghost use Rattle.std.specs.Prelude.{◌≡◌, ◌<◌, IfOk, map};
+ghost use Rattle.std.specs.List.{sum_by};
+ghost use Rattle.grain_listing.specs.Settings.{place, number_in, limit_of, limit_operand, allowed, limit_number, capability_bits, capabilities};
+ghost use Rattle.grain_listing.specs.views.Results.{operand_view};
 ghost use Rattle.grain_listing.specs.declared.limits.Limit.TheVariants as limits;
 
 use crate::later::is_later_limit;
 use crate::limits::{Limit, LimitLine};
-use crate::operands::{alone, first, number_word};
+use crate::operands::{after_name, alone, number_operand, word_operand};
 use crate::reasons::Reason;
-use grain_words::Word;
+use grain_words::is_word;
+
+/// The capabilities by their names, in the order in which they stand, with the bit of each.
+const CAPABILITIES: [(&str, u8); 5] = [
+    ("function", 1),
+    ("module", 2),
+    ("closure", 4),
+    ("custom", 8),
+    ("fragment", 16),
+];
 
 /// The place of the limit among the limits.
 fn place(limit: Limit) -> u8
@@ -33,16 +44,16 @@ pub fn number_in(limit: Limit, lines: &[LimitLine]) -> Option<u64>
     None
 }
 
-fn limit_of(word: &str) -> Result<Limit, Reason>
+fn limit_of(word: &[char]) -> Result<Limit, Reason>
     ensures { result ≡ limit_of word.now }
 {
-    if word == "operations" {
+    if is_word(word, "operations") {
         return Ok(Limit::Operations);
     }
-    if word == "levels" {
+    if is_word(word, "levels") {
         return Ok(Limit::Levels);
     }
-    if word == "variables" {
+    if is_word(word, "variables") {
         return Ok(Limit::Variables);
     }
     if is_later_limit(word) {
@@ -51,14 +62,13 @@ fn limit_of(word: &str) -> Result<Limit, Reason>
     Err(Reason::BadOperand)
 }
 
-/// The limit that the word names.
-pub fn limit_word(word: &Word) -> Result<Limit, Reason>
-    ensures { result ≡ limit_word word.now }
+/// A limit, by its name.
+pub fn limit_operand(line: &[char]) -> Result<(Limit, &[char]), Reason>
+    ensures { operand_view result ≡ limit_operand line.now }
 {
-    match word {
-        Word::Bare(text) => limit_of(text.as_str()),
-        _ => Err(Reason::BadOperand),
-    }
+    let (word, rest) = word_operand(line)?;
+    let limit = limit_of(word)?;
+    Ok((limit, rest))
 }
 
 fn allowed(limit: Limit, number: u64) -> Result<u64, Reason>
@@ -78,62 +88,36 @@ fn allowed(limit: Limit, number: u64) -> Result<u64, Reason>
 }
 
 /// The number of a limit; at least one operation is allowed.
-pub fn limit_number(limit: Limit, words: &[Word]) -> Result<u64, Reason>
-    ensures number { result ≡ limit_number limit words.now }
+pub fn limit_number(limit: Limit, line: &[char]) -> Result<u64, Reason>
+    ensures number { result ≡ limit_number limit line.now }
     ensures least { limit ≡ limits.Operations → IfOk result (λ n. 0 < n) }
 {
-    let (word, rest) = first(Reason::BadOperand, words)?;
-    let number = number_word(u64::MAX, word)?;
+    let (number, rest) = number_operand(u64::MAX, line)?;
     let number = allowed(limit, number)?;
     alone(rest)?;
     Ok(number)
 }
 
-// The bit of the capability of that name.
-fn capability(word: &str) -> Option<u8>
-    ensures bit { result ≡ capability word.now }
-    ensures most { IfSome result (λ bit. bit ≤ 16) }
+/// The bits of those names that stand here, in this order.
+fn capabilities_among(names: &[(&str, u8)], line: &[char]) -> Result<u8, Reason>
+    requires { sum_by (λ x. x.1) names.now < 256 }
+    ensures { result ≡ capabilities (map (λ x. (x.0.now, x.1)) names.now) line.now }
 {
-    if word == "function" {
-        Some(1)
-    } else if word == "module" {
-        Some(2)
-    } else if word == "closure" {
-        Some(4)
-    } else if word == "custom" {
-        Some(8)
-    } else if word == "fragment" {
-        Some(16)
-    } else {
-        None
+    let mut bits = 0u8;
+    let mut rest = line;
+    for (name, bit) in names {
+        if let Some(after) = after_name(*name, rest) {
+            bits += *bit;
+            rest = after;
+        }
     }
-}
-
-fn with_capability(bits: u8, word: &Word) -> Result<u8, Reason>
-    ensures { result ≡ with_capability bits word.now }
-{
-    match word {
-        Word::Bare(text) => match capability(text.as_str()) {
-            None => Err(Reason::BadOperand),
-            Some(bit) => {
-                if bits < bit {
-                    Ok(bits + bit)
-                } else {
-                    Err(Reason::BadOperand)
-                }
-            }
-        },
-        _ => Err(Reason::BadOperand),
-    }
+    alone(rest)?;
+    Ok(bits)
 }
 
 /// The bits of the capabilities after `caps`.
-pub fn capabilities(words: &[Word]) -> Result<u8, Reason>
-    ensures { result ≡ capabilities 0 words.now }
+pub fn capabilities(line: &[char]) -> Result<u8, Reason>
+    ensures { result ≡ capabilities capability_bits line.now }
 {
-    let mut bits = 0u8;
-    for word in words {
-        bits = with_capability(bits, word)?;
-    }
-    Ok(bits)
+    capabilities_among(&CAPABILITIES, line)
 }

@@ -7,6 +7,7 @@ ghost use Rattle.grain_listing.specs.Instructions.{word_of, encoding_of, value_e
 ghost use Rattle.grain_listing.specs.Table.{own_line, line_of, is_pools, is_block, is_after, stands};
 
 use crate::later::is_later;
+use grain_words::is_word;
 
 /// Where the next line of a listing stands.
 #[derive(Clone, Copy, Debug, PartialEq, Eq)]
@@ -250,11 +251,11 @@ const FLOW: [(&str, Encoding); 12] = [
     ),
 ];
 
-fn find(encodings: &[(&str, Encoding)], word: &str) -> Option<Encoding>
+fn find(encodings: &[(&str, Encoding)], word: &[char]) -> Option<Encoding>
     ensures { result ≡ encoding_among (map (λ e. (e.0.now, e.1)) encodings.now) word.now }
 {
     for (first, encoding) in encodings {
-        if *first == word {
+        if is_word(word, *first) {
             return Some(*encoding);
         }
     }
@@ -262,14 +263,14 @@ fn find(encodings: &[(&str, Encoding)], word: &str) -> Option<Encoding>
 }
 
 #[tactic(auto, unfolding(crate::specs::Instructions::value_encoding))]
-fn value_encoding(word: &str) -> Option<Encoding>
+fn value_encoding(word: &[char]) -> Option<Encoding>
     ensures { result ≡ value_encoding word.now }
 {
     find(&VALUES, word)
 }
 
 #[tactic(auto, unfolding(crate::specs::Instructions::flow_encoding))]
-fn flow_encoding(word: &str) -> Option<Encoding>
+fn flow_encoding(word: &[char]) -> Option<Encoding>
     ensures { result ≡ flow_encoding word.now }
 {
     find(&FLOW, word)
@@ -277,7 +278,7 @@ fn flow_encoding(word: &str) -> Option<Encoding>
 
 /// How the line of the instruction with the word is read.
 #[tactic(auto, unfolding(crate::specs::Instructions::encoding_named))]
-fn encoding_named(word: &str) -> Option<Encoding>
+fn encoding_named(word: &[char]) -> Option<Encoding>
     ensures { result ≡ encoding_named word.now }
 {
     if let Some(encoding) = value_encoding(word) {
@@ -288,32 +289,32 @@ fn encoding_named(word: &str) -> Option<Encoding>
 
 /// A line that is no instruction's.
 #[tactic(auto, unfolding(crate::specs::Table::own_line))]
-fn own_line(word: &str) -> Option<Line>
+fn own_line(word: &[char]) -> Option<Line>
     ensures { result ≡ own_line word.now }
 {
-    if word == "grain" {
+    if is_word(word, "grain") {
         Some(Line::Header)
-    } else if word == "caps" {
+    } else if is_word(word, "caps") {
         Some(Line::Capabilities)
-    } else if word == "limit" {
+    } else if is_word(word, "limit") {
         Some(Line::Limit)
-    } else if word == "const" {
+    } else if is_word(word, "const") {
         Some(Line::Constant)
-    } else if word == "name" {
+    } else if is_word(word, "name") {
         Some(Line::Name)
-    } else if word == "op" {
+    } else if is_word(word, "op") {
         Some(Line::Operator)
-    } else if word == "assign" {
+    } else if is_word(word, "assign") {
         Some(Line::Assign)
-    } else if word == "scope" {
+    } else if is_word(word, "scope") {
         Some(Line::Entry)
-    } else if word == "main" {
+    } else if is_word(word, "main") {
         Some(Line::Main)
-    } else if word == "fn" {
+    } else if is_word(word, "fn") {
         Some(Line::Function)
-    } else if word == "byte" {
+    } else if is_word(word, "byte") {
         Some(Line::Byte)
-    } else if word == "end" {
+    } else if is_word(word, "end") {
         Some(Line::End)
     } else {
         None
@@ -322,7 +323,7 @@ fn own_line(word: &str) -> Option<Line>
 
 /// The line that begins with the word.
 #[tactic(auto, unfolding(crate::specs::Table::line_of))]
-pub fn line_of(word: &str) -> Option<Line>
+pub fn line_of(word: &[char]) -> Option<Line>
     ensures { result ≡ line_of word.now }
 {
     if let Some(line) = own_line(word) {

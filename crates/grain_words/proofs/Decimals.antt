@@ -8,6 +8,7 @@ use Rattle.std.proofs.lemmas.Fmt.{decimal_by_steps}
 use Rattle.std.specs.Fmt.{decimal, signed_decimal}
 use Rattle.grain_words.specs.Numerals.{is_digit, are_digits, number_from, is_empty, is_numeral, number, integer, minus, begins_letter}
 use Rattle.grain_words.specs.Spelled.{IsLong, is_plain, is_plain_word}
+use Rattle.grain_words.specs.Words.{up_to, onward_from, ends_integer, integer_here}
 
 -- the first digit is no zero
 abbrev BeginsAboveZero : List ℕ → Type 0
@@ -134,3 +135,52 @@ letterless (c ∷ cs) h =
 
 pub decimal_letterless : (n : ℕ) → n < 2 ^ 64 → begins_letter (decimal n) ≡ false
 decimal_letterless n h = letterless (decimal n) (said n h).digits
+
+-- an integer is read up to what is no digit and no minus
+goes_on : (c : ℕ) → is_digit c ≡ true → ends_integer c ≡ false
+goes_on c h = rw h refl
+
+taken : (ds rest : List ℕ) → are_digits ds ≡ true → up_to ends_integer rest ≡ [] →
+    up_to ends_integer (ds ++ rest) ≡ ds
+taken [] rest h e = e
+taken (c ∷ cs) rest h e =
+    rw (goes_on c (first_true (is_digit c) (are_digits cs) h))
+    (ap (λ l. c ∷ l) (taken cs rest (second_true (is_digit c) (are_digits cs) h) e))
+
+stopped : (c : ℕ) (cs : List ℕ) (b : Bool) → cond b [] (c ∷ up_to ends_integer cs) ≡ [] →
+    cond b (c ∷ cs) (onward_from ends_integer cs) ≡ c ∷ cs
+stopped c cs true e = refl
+stopped c cs false e = absurd cc
+
+none_left : (rest : List ℕ) → up_to ends_integer rest ≡ [] → onward_from ends_integer rest ≡ rest
+none_left [] e = refl
+none_left (c ∷ cs) e = stopped c cs (ends_integer c) e
+
+left : (ds rest : List ℕ) → are_digits ds ≡ true → up_to ends_integer rest ≡ [] →
+    onward_from ends_integer (ds ++ rest) ≡ rest
+left [] rest h e = none_left rest e
+left (c ∷ cs) rest h e =
+    rw (goes_on c (first_true (is_digit c) (are_digits cs) h))
+    (left cs rest (second_true (is_digit c) (are_digits cs) h) e)
+
+signed : (z : ℤ) (ds rest : List ℕ) → integer ds ≡ Some z →
+    up_to ends_integer (ds ++ rest) ≡ ds → onward_from ends_integer (ds ++ rest) ≡ rest →
+    integer_here (ds ++ rest) ≡ Some (z, rest)
+signed z ds rest is front others =
+    ap (λ (l : List ℕ). option_map (λ y. (y, l))
+    (integer (up_to ends_integer (ds ++ rest)))) others ∙
+    ap (λ l. option_map (λ y. (y, rest)) (integer l)) front ∙
+    ap (option_map (λ y. (y, rest))) is
+
+pub integer_read : (z : ℤ) (rest : List ℕ) → IsLong z → up_to ends_integer rest ≡ [] →
+    integer_here (signed_decimal z ++ rest) ≡ Some (z, rest)
+integer_read (pos n) rest h e =
+    let s = said n (omega arith) in
+    signed (pos n) (decimal n) rest (integer_of_decimal (pos n) h)
+    (taken (decimal n) rest s.digits e)
+    (left (decimal n) rest s.digits e)
+integer_read (negsuc n) rest h e =
+    let s = said (suc n) (omega arith) in
+    signed (negsuc n) (signed_decimal (negsuc n)) rest (integer_of_decimal (negsuc n) h)
+    (ap (λ l. 45 ∷ l) (taken (decimal (suc n)) rest s.digits e))
+    (left (decimal (suc n)) rest s.digits e)

@@ -1,4 +1,5 @@
 pub mod LineEnds
+pub mod Stretches
 pub mod Fronts
 pub mod Digits
 pub mod LabelMaps

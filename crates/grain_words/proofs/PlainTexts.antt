@@ -1,15 +1,11 @@
 -- Plain words and lines are read as they are written.
-use Rattle.std.proofs.Common.{◌≡◌, ◌≢◌, ◌∷◌, ◌++◌, ◌==◌, ◌<◌, ◌&&◌, ◌||◌, not, ℕ, Bool, true, false, cond, nat_lt, List, [], map, refl, ap, ◌∙◌, arith, append_assoc}
+use Rattle.std.proofs.Common.{◌≡◌, ◌≢◌, ◌∷◌, ◌++◌, ◌==◌, ◌<◌, ◌&&◌, ◌||◌, not, ℕ, Bool, true, false, cond, nat_lt, List, [], Option, Some, refl, ap, ◌∙◌, arith, append_assoc}
 use Rattle.std.proofs.lemmas.Bool.{ne_eqb}
 use Rattle.std.proofs.lemmas.Bool.Decides.{Decides-ltb}
-use Rattle.std.proofs.lemmas.Str.{encode_ascii}
 use Rattle.std.specs.List.{flat_map, list_all}
-use Rattle.std.specs.Char.{encode_utf8}
 use Rattle.grain_words.specs.Lines.{lines_of, onto, begins}
-use Rattle.grain_words.specs.Words.{words_of, bare, is_gap, in_front}
-use Rattle.grain_words.specs.Spelled.{is_plain, is_plain_word, spaced, is_inside, text_of}
-use Rattle.grain_words.specs.declared.words.Word.{Word}
-use Rattle.grain_words.specs.declared.words.Word.TheVariants.{Bare}
+use Rattle.grain_words.specs.Words.{is_gap, ends_word, up_to, onward_from, next_word, is_over}
+use Rattle.grain_words.specs.Spelled.{is_plain, is_plain_word, after_words, spaced, is_inside, text_of}
 
 first_true : (b c : Bool) → b && c ≡ true → b ≡ true
 first_true true c h = refl
@@ -31,7 +27,6 @@ record IsPlain (c : ℕ) : Type 0 where
   gap : is_gap c ≡ false
   quote : (c == 34) ≡ false
   apostrophe : (c == 39) ≡ false
-  itself : encode_utf8 c ≡ c ∷ []
 
 gap_not : (b d : Bool) → b ≡ false → d ≡ false → b || d ≡ false
 gap_not b d hb hd = rw (hb, hd) refl
@@ -53,43 +48,61 @@ plain c h =
       gap = gap_not (c == 32) (c == 9) (ne_eqb c 32 space) (ne_eqb c 9 tab);
       quote = ne_eqb c 34 two;
       apostrophe = ne_eqb c 39 one;
-      itself = encode_ascii c (omega arith);
     }
 
-bare_goes : (c : ℕ) (cs : List ℕ) → IsPlain c → bare (c ∷ cs) ≡ in_front (c ∷ []) (bare cs)
-bare_goes c cs p = rw (p.gap, p.comment, p.itself) refl
+goes_on : (c : ℕ) → IsPlain c → ends_word c ≡ false
+goes_on c p = gap_not (is_gap c) (c == 59) p.gap p.comment
 
-word_begins : (c : ℕ) (cs : List ℕ) → IsPlain c → words_of (c ∷ cs) ≡ in_front (c ∷ []) (bare cs)
-word_begins c cs p = rw (p.gap, p.comment, p.quote, p.apostrophe, p.itself) refl
+all_taken : (w rest : List ℕ) → list_all is_plain w ≡ true → up_to ends_word rest ≡ [] →
+    up_to ends_word (w ++ rest) ≡ w
+all_taken [] rest h e = e
+all_taken (c ∷ cs) rest h e =
+    let p = plain c (first_true (is_plain c) (list_all is_plain cs) h) in
+    rw (goes_on c p) (ap (λ l. c ∷ l)
+    (all_taken cs rest (second_true (is_plain c) (list_all is_plain cs) h) e))
 
-bare_all : (w rest : List ℕ) (others : List Word) → list_all is_plain w ≡ true →
-    bare rest ≡ Bare [] ∷ others → bare (w ++ rest) ≡ Bare w ∷ others
-bare_all [] rest others h e = e
-bare_all (c ∷ cs) rest others h e =
-    bare_goes c (cs ++ rest) (plain c (first_true (is_plain c) (list_all is_plain cs) h)) ∙
-    ap (in_front (c ∷ [])) (bare_all cs rest others
-    (second_true (is_plain c) (list_all is_plain cs) h) e)
+all_left : (w rest : List ℕ) → list_all is_plain w ≡ true → onward_from ends_word rest ≡ rest →
+    onward_from ends_word (w ++ rest) ≡ rest
+all_left [] rest h e = e
+all_left (c ∷ cs) rest h e =
+    let p = plain c (first_true (is_plain c) (list_all is_plain cs) h) in
+    rw (goes_on c p) (all_left cs rest (second_true (is_plain c) (list_all is_plain cs) h) e)
 
-word_all : (w rest : List ℕ) (others : List Word) → is_plain_word w ≡ true →
-    bare rest ≡ Bare [] ∷ others → words_of (w ++ rest) ≡ Bare w ∷ others
-word_all [] rest others h e = absurd cc
-word_all (c ∷ cs) rest others h e =
-    word_begins c (cs ++ rest) (plain c (first_true (is_plain c) (list_all is_plain cs) h)) ∙
-    ap (in_front (c ∷ [])) (bare_all cs rest others
-    (second_true (is_plain c) (list_all is_plain cs) h) e)
+none_taken : (ws : List (List ℕ)) → up_to ends_word (after_words ws) ≡ []
+none_taken [] = refl
+none_taken (w ∷ ws) = refl
 
-after : (ws : List (List ℕ)) → list_all is_plain_word ws ≡ true →
-    bare (flat_map (λ v. 32 ∷ v) ws) ≡ Bare [] ∷ map (λ w. Bare w) ws
-after [] h = refl
-after (w ∷ ws) h =
-    ap (λ l. Bare [] ∷ l) (word_all w (flat_map (λ v. 32 ∷ v) ws) (map (λ v. Bare v) ws)
-    (first_true (is_plain_word w) (list_all is_plain_word ws) h)
-    (after ws (second_true (is_plain_word w) (list_all is_plain_word ws) h)))
+none_left : (ws : List (List ℕ)) → onward_from ends_word (after_words ws) ≡ after_words ws
+none_left [] = refl
+none_left (w ∷ ws) = refl
 
-pub plain_words : (w : List ℕ) (ws : List (List ℕ)) → is_plain_word w ≡ true →
-    list_all is_plain_word ws ≡ true → words_of (spaced w ws) ≡ Bare w ∷ map (λ v. Bare v) ws
-plain_words w ws h hs = word_all w (flat_map (λ v. 32 ∷ v) ws) (map (λ v. Bare v) ws) h
-    (after ws hs)
+abbrev Found_as : List ℕ → List ℕ → Option (List ℕ × List ℕ)
+Found_as a b = Some (a, b)
+
+both : {a b x y : List ℕ} → a ≡ x → b ≡ y → Found_as a b ≡ Found_as x y
+both p q = cc
+
+pub first_word : (w : List ℕ) (ws : List (List ℕ)) → is_plain_word w ≡ true →
+    next_word (spaced w ws) ≡ Some (w, after_words ws)
+first_word [] ws h = absurd cc
+first_word (c ∷ cs) ws h =
+    let p = plain c (first_true (is_plain c) (list_all is_plain cs) h) in
+    let taken : up_to ends_word ((c ∷ cs) ++ after_words ws) ≡ c ∷ cs =
+    all_taken (c ∷ cs) (after_words ws) h (none_taken ws) in
+    let left : onward_from ends_word ((c ∷ cs) ++ after_words ws) ≡ after_words ws =
+    all_left (c ∷ cs) (after_words ws) h (none_left ws) in
+    rw (p.gap, p.comment, p.quote, p.apostrophe) (both taken left)
+
+pub another_word : (w : List ℕ) (ws : List (List ℕ)) → is_plain_word w ≡ true →
+    next_word (after_words (w ∷ ws)) ≡ Some (w, after_words ws)
+another_word w ws h = first_word w ws h
+
+pub not_over : (w : List ℕ) (ws : List (List ℕ)) → is_plain_word w ≡ true →
+    is_over (after_words (w ∷ ws)) ≡ false
+not_over [] ws h = absurd cc
+not_over (c ∷ cs) ws h =
+    let p = plain c (first_true (is_plain c) (list_all is_plain cs) h) in
+    rw (p.gap, p.comment) refl
 
 inside_plain : (c : ℕ) → is_plain c ≡ true → is_inside c ≡ true
 inside_plain c h =

@@ -1,5 +1,5 @@
--- The words of a quoted text are that text alone.
-use Rattle.std.proofs.Common.{◌≡◌, ◌∷◌, ◌++◌, ◌==◌, ◌&&◌, ℕ, Bool, true, false, cond, List, [], refl, sym, ap, ◌∙◌, eqb-true, append_assoc}
+-- A quoted text is read as that text.
+use Rattle.std.proofs.Common.{◌≡◌, ◌∷◌, ◌++◌, ◌==◌, ◌&&◌, ℕ, Bool, true, false, cond, List, [], Some, refl, sym, ap, ◌∙◌, eqb-true, append_assoc}
 use Rattle.std.specs.List.{flat_map}
 use Rattle.std.specs.Char.{encode_utf8}
 use Rattle.std.specs.Str.{encode_utf8_all, chars, IsUtf8}
@@ -7,9 +7,8 @@ use Rattle.std.proofs.Math.Utf8.{scalar, scalars}
 use Rattle.std.proofs.lemmas.Str.{chars-encodes, encodes-chars, scalars-chars}
 use Rattle.grain_value.specs.Quoting.{quoted_text}
 use Rattle.grain_value.specs.Quoting.{escaped as escaped_bytes}
-use Rattle.grain_words.specs.Words.{words_of, quoted, in_front}
+use Rattle.grain_words.specs.Words.{quoted, in_front, whole, next_text, is_word_end}
 use Rattle.grain_words.specs.Spelled.{between_quotes, quoted_characters}
-use Rattle.grain_words.specs.declared.words.Word.TheVariants.{Quoted}
 
 -- what a spelled character gives, by the answers of the tests for the characters that are spelled
 -- with a backslash
@@ -30,16 +29,21 @@ one : (c : ℕ) (rest : List ℕ) →
     quoted (between_quotes c ++ rest) ≡ in_front (encode_utf8 c) (quoted rest)
 one c rest = tested c (c == 34) (c == 92) (c == 10) (c == 13) (c == 9) rest refl refl refl refl refl
 
-all : (cs : List ℕ) → quoted (flat_map between_quotes cs ++ 34 ∷ []) ≡
-    Quoted (encode_utf8_all cs) ∷ []
-all [] = refl
-all (c ∷ cs) =
-    ap quoted (append_assoc (between_quotes c) (flat_map between_quotes cs) (34 ∷ [])) ∙
-    one c (flat_map between_quotes cs ++ 34 ∷ []) ∙ ap (in_front (encode_utf8 c)) (all cs)
+pub inside : (cs rest : List ℕ) → quoted (flat_map between_quotes cs ++ 34 ∷ rest) ≡
+    Some (encode_utf8_all cs, rest)
+inside [] rest = refl
+inside (c ∷ cs) rest =
+    ap quoted (append_assoc (between_quotes c) (flat_map between_quotes cs) (34 ∷ rest)) ∙
+    one c (flat_map between_quotes cs ++ 34 ∷ rest) ∙ ap (in_front (encode_utf8 c)) (inside cs rest)
 
-pub quoted_alone : (cs : List ℕ) →
-    words_of (quoted_characters cs) ≡ Quoted (encode_utf8_all cs) ∷ []
-quoted_alone cs = all cs
+ended : (t rest : List ℕ) → is_word_end rest ≡ true → whole (Some (t, rest)) ≡ Some (t, rest)
+ended t rest h = rw h refl
+
+pub quoted_read : (cs rest : List ℕ) → is_word_end rest ≡ true →
+    next_text (quoted_characters cs ++ rest) ≡ Some (encode_utf8_all cs, rest)
+quoted_read cs rest h =
+    ap (λ l. whole (quoted l)) (append_assoc (flat_map between_quotes cs) (34 ∷ []) rest) ∙
+    ap whole (inside cs rest) ∙ ended (encode_utf8_all cs) rest h
 
 -- the same of a text as it is written
 ends : (b c : Bool) → b ≡ true → c ≡ true → b && c ≡ true
@@ -97,14 +101,16 @@ all_scalar (c ∷ cs) h =
     (flat_map between_quotes cs ++ 34 ∷ []) (left_true (scalar c) (scalars cs) h)
     (all_scalar cs (right_true (scalar c) (scalars cs) h))
 
-whole : (cs : List ℕ) → encode_utf8_all (quoted_characters cs) ≡
+written : (cs : List ℕ) → encode_utf8_all (quoted_characters cs) ≡
     34 ∷ (flat_map escaped_bytes cs ++ 34 ∷ [])
 unfolding encode_utf8
-whole cs = ap (λ l. 34 ∷ l) (all_spelled cs)
+written cs = ap (λ l. 34 ∷ l) (all_spelled cs)
 
-pub written_alone : (s : List ℕ) → IsUtf8 s → words_of (chars (quoted_text s)) ≡ Quoted s ∷ []
-written_alone s text =
-    ap (λ l. words_of (chars l)) (sym (whole (chars s))) ∙
-    ap words_of (chars-encodes (quoted_characters (chars s))
-    (all_scalar (chars s) (scalars-chars s text))) ∙
-    quoted_alone (chars s) ∙ ap (λ t. Quoted t ∷ []) (encodes-chars s text)
+pub written_read : (s rest : List ℕ) → IsUtf8 s → is_word_end rest ≡ true →
+    next_text (chars (quoted_text s) ++ rest) ≡ Some (s, rest)
+written_read s rest valid h =
+    ap (λ l. next_text (chars l ++ rest)) (sym (written (chars s))) ∙
+    ap (λ l. next_text (l ++ rest)) (chars-encodes (quoted_characters (chars s))
+    (all_scalar (chars s) (scalars-chars s valid))) ∙
+    quoted_read (chars s) rest h ∙
+    ap (λ (t : List ℕ). Some (t, rest)) (encodes-chars s valid)

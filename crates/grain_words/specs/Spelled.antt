@@ -31,9 +31,13 @@ abbrev pub is_plain_word : List ℕ → Bool
 is_plain_word [] = false
 is_plain_word (c ∷ cs) = list_all is_plain (c ∷ cs)
 
+-- words with a space before each
+abbrev pub after_words : List (List ℕ) → List ℕ
+after_words ws = flat_map (λ v. 32 ∷ v) ws
+
 -- words with a space before each but the first
 abbrev pub spaced : List ℕ → List (List ℕ) → List ℕ
-spaced w ws = w ++ flat_map (λ v. 32 ∷ v) ws
+spaced w ws = w ++ after_words ws
 
 -- neither LF nor CR
 abbrev pub is_inside : ℕ → Bool

@@ -1,40 +1,48 @@
 //! What is written is read.
 
-ghost use Rattle.std.specs.Prelude.{◌≡◌, ◌≤◌, ◌<◌, ◌^◌, ◌∷◌, [], ℕ, ℤ, true, false, List, map, Some};
-ghost use Rattle.std.specs.List.{list_all};
+ghost use Rattle.std.specs.Prelude.{◌≡◌, ◌≤◌, ◌<◌, ◌^◌, ◌∷◌, ◌++◌, [], ℕ, ℤ, true, false, List, Some};
+ghost use Rattle.std.specs.List.{flat_map, list_all};
 ghost use Rattle.std.specs.Fmt.{decimal, signed_decimal};
 ghost use Rattle.std.specs.Str.{encode_utf8_all, chars, IsUtf8};
 ghost use Rattle.grain_value.specs.Quoting.{quoted_text};
 ghost use Rattle.grain_words.specs.Lines.{lines_of};
 ghost use Rattle.grain_words.specs.Numerals.{number, integer, begins_letter};
-ghost use Rattle.grain_words.specs.Spelled.{IsLong, quoted_characters, is_plain_word, spaced, is_inside, text_of};
-ghost use Rattle.grain_words.specs.Words.{words_of};
-ghost use Rattle.grain_words.specs.declared.words.Word.TheVariants as words;
+ghost use Rattle.grain_words.specs.Spelled.{IsLong, between_quotes, quoted_characters, is_plain_word, after_words, spaced, is_inside, text_of};
+ghost use Rattle.grain_words.specs.Words.{next_word, is_over, is_word_end, quoted, next_text, ends_integer, integer_here, up_to};
 
 /// The number of a decimal is the number, and so is the integer of a decimal that may have a minus.
-/// A decimal is a plain word, and begins with no letter.
+/// A decimal is a plain word, and begins with no letter. An integer is read up to what is no digit
+/// and no minus.
 pub fn decimals_are_read()
     ensures numbers { (most n : ℕ) → n ≤ most → n < 2 ^ 64 → number most (decimal n) ≡ Some n }
     ensures plain { (n : ℕ) → n < 2 ^ 64 → is_plain_word (decimal n) ≡ true }
     ensures letterless { (n : ℕ) → n < 2 ^ 64 → begins_letter (decimal n) ≡ false }
     ensures integers { (z : ℤ) → IsLong z → integer (signed_decimal z) ≡ Some z }
+    ensures here { (z : ℤ) (rest : List ℕ) → IsLong z → up_to ends_integer rest ≡ [] →
+        integer_here (signed_decimal z ++ rest) ≡ Some (z, rest) }
 {}
 
-/// The words of a quoted text are that text alone, whatever characters it has; and so are those of
-/// a text as it is written between quotes.
+/// A text that is spelled between quotes is read as that text, whatever characters it has, and so
+/// is a text as it is written between quotes. What follows it is left; the word has to end there.
 pub fn quoted_texts_are_read()
-    ensures written { (s : List ℕ) → IsUtf8 s →
-        words_of (chars (quoted_text s)) ≡ words.Quoted s ∷ [] }
-    ensures characters { (cs : List ℕ) → words_of (quoted_characters cs) ≡
-        words.Quoted (encode_utf8_all cs) ∷ [] }
+    ensures written { (s rest : List ℕ) → IsUtf8 s → is_word_end rest ≡ true →
+        next_text (chars (quoted_text s) ++ rest) ≡ Some (s, rest) }
+    ensures characters { (cs rest : List ℕ) → is_word_end rest ≡ true →
+        next_text (quoted_characters cs ++ rest) ≡ Some (encode_utf8_all cs, rest) }
+    ensures inside { (cs rest : List ℕ) → quoted (flat_map between_quotes cs ++ 34 ∷ rest) ≡
+        Some (encode_utf8_all cs, rest) }
 {}
 
-/// Plain words with a space before each but the first are read as those words, and lines with LF
-/// after each, none of which has LF or CR, as those lines. Plain words have neither.
+/// Plain words with a space before each but the first are read one after the other as those words,
+/// and lines with LF after each, none of which has LF or CR, as those lines. Plain words have
+/// neither.
 pub fn plain_texts_are_read()
-    ensures words { (w : List ℕ) (ws : List (List ℕ)) → is_plain_word w ≡ true →
-        list_all is_plain_word ws ≡ true →
-        words_of (spaced w ws) ≡ words.Bare w ∷ map (λ v. words.Bare v) ws }
+    ensures first { (w : List ℕ) (ws : List (List ℕ)) → is_plain_word w ≡ true →
+        next_word (spaced w ws) ≡ Some (w, after_words ws) }
+    ensures next { (w : List ℕ) (ws : List (List ℕ)) → is_plain_word w ≡ true →
+        next_word (after_words (w ∷ ws)) ≡ Some (w, after_words ws) }
+    ensures over { (w : List ℕ) (ws : List (List ℕ)) → is_plain_word w ≡ true →
+        is_over (after_words (w ∷ ws)) ≡ false }
     ensures inside { (w : List ℕ) (ws : List (List ℕ)) → is_plain_word w ≡ true →
         list_all is_plain_word ws ≡ true →
         list_all is_inside (spaced w ws) ≡ true }

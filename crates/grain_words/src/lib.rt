@@ -7,6 +7,7 @@ mod laws;
 mod lines;
 mod numerals;
 mod position_words;
+mod texts;
 mod words;
 
 pub use labels::Labels;
@@ -14,4 +15,7 @@ pub use laws::{decimals_are_read, plain_texts_are_read, quoted_texts_are_read};
 pub use lines::next_line;
 pub use numerals::{begins_letter, integer, number};
 pub use position_words::position_word;
-pub use words::{Word, words_of};
+pub use texts::{next_text, quoted, word_text};
+pub use words::{
+    after_text, after_word, integer_here, is_over, is_word, is_word_end, next_word, trim_start,
+};

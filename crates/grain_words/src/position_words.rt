@@ -8,13 +8,13 @@ use grain_fault::Position;
 
 /// What stands before the first colon, and after it.
 #[tactic(auto, using(crate::proofs::FirstColons::colon_here, crate::proofs::FirstColons::colon_later, crate::proofs::FirstColons::no_colon))]
-fn at_colon(word: &[u8]) -> Option<(&[u8], &[u8])>
+fn at_colon(word: &[char]) -> Option<(&[char], &[char])>
     ensures { option_map (λ x. (x.0.now, x.1.now)) result ≡ at_colon word.now }
 {
     let mut count = 0usize;
     let mut rest = word;
     'scan: while let Some((c, after)) = rest.split_first() {
-        if *c == b':' {
+        if *c == ':' {
             let (before, _) = word.split_at(count);
             return Some((before, after));
         }
@@ -25,11 +25,11 @@ fn at_colon(word: &[u8]) -> Option<(&[u8], &[u8])>
 }
 
 /// The position that the word says.
-pub fn position_word(word: &[u8]) -> Option<Position>
+pub fn position_word(word: &[char]) -> Option<Position>
     ensures { result ≡ position_word word.now }
 {
     let (first, others) = word.split_first()?;
-    if *first != b'@' {
+    if *first != '@' {
         return None;
     }
     let (line, column) = at_colon(others)?;

@@ -1,24 +1,10 @@
-//! The words of a line.
+//! The words of a line, read from its characters one after the other.
 
-ghost use Rattle.std.specs.Prelude.{◌≡◌, ◌∷◌, ◌≢◌, false, ◌<◌, ◌≤◌, ◌*◌, ◌+◌, length, IfOk, MatchOption};
-ghost use Rattle.std.specs.Char.{encode_utf8};
-ghost use Rattle.grain_words.specs.Words.{words_of, bare, quoted, closed, escaped, braced, first_digit, digits, broken, in_front, is_gap};
+ghost use Rattle.std.specs.Prelude.{◌≡◌, ◌∷◌, ◌≢◌, ◌<◌, ◌≤◌, ◌*◌, ◌+◌, length, position, None, MatchOption, option_map, bytes_eq};
+ghost use Rattle.grain_words.specs.Words.{ends_word, trim_start, is_over, is_word_end, up_to, onward_from, is_quote, bare, next_word, skipped, after_word, is_gap, after_text, ends_integer, integer_here};
 
-use grain_value::{OutOfMemory, Text};
-use std::alloc::Global;
-
-/// A word of a line.
-#[derive(Drop)]
-pub enum Word {
-    /// Characters as they stand.
-    Bare(Text),
-    /// A text that stood between quotes.
-    Quoted(Text),
-    /// What begins with an apostrophe, with all that follows it on its line.
-    Character,
-    /// What is no word, with all that follows it on its line.
-    Broken,
-}
+use crate::numerals::integer;
+use crate::texts::skip_text;
 
 fn is_gap(c: char) -> bool
     ensures { result ≡ is_gap c }
@@ -26,172 +12,176 @@ fn is_gap(c: char) -> bool
     c == ' ' || c == '\t'
 }
 
-/// The bare word that begins with `first`, and what follows it.
-#[tactic(auto, using(crate::proofs::Fronts::bare_more, crate::proofs::Fronts::bare_over, crate::proofs::Fronts::bare_comment))]
-fn bare(alloc: Global, first: char, chars: &[char]) -> Result<(Word, &[char]), OutOfMemory>
-    ensures { IfOk result (λ r. (r.0 ∷ words_of r.1.now ≡
-        in_front (encode_utf8 first) (bare chars.now)) × (length r.1.now ≤ length chars.now)) }
+fn ends_word(c: char) -> bool
+    ensures { result ≡ ends_word c }
 {
-    let mut text = Text::new(alloc);
-    text.push(first)?;
-    let mut rest = chars;
-    'scan: while let Some((c, after)) = rest.split_first() {
-        if is_gap(*c) {
-            return Ok((Word::Bare(text), after));
-        }
-        if *c == ';' {
-            return Ok((Word::Bare(text), &[]));
-        }
-        text.push(*c)?;
-        rest = after;
-    }
-    Ok((Word::Bare(text), &[]))
+    is_gap(c) || c == ';'
 }
 
-/// The number with one more hexadecimal digit, where it is still at most 10ffff.
-fn grown(number: u32, digit: u32) -> Option<u32>
-    requires number { number ≤ 0x10ffff }
-    requires digit { digit < 16 }
-    ensures { MatchOption result (0x10ffff < number * 16 + digit) (λ n. (n ≡ number * 16 + digit) ×
-        (n ≤ 0x10ffff)) }
+fn is_quote(c: char) -> bool
+    ensures { result ≡ is_quote c }
 {
-    let more = number * 16 + digit;
-    if more > 0x10ffff { None } else { Some(more) }
+    c == '"' || c == '\''
 }
 
-/// The character whose hexadecimal digits begin with `first`, and what follows its brace.
-fn digits(first: u32, chars: &[char]) -> Option<(char, &[char])>
-    requires { first < 16 }
-    ensures { MatchOption result (digits first chars.now ≡ broken)
-        (λ r. (digits first chars.now ≡ in_front (encode_utf8 r.0) (quoted r.1.now)) ×
-        (length r.1.now ≤ length chars.now)) }
+/// What is left of a line from its next word on.
+pub fn trim_start(line: &[char]) -> &[char]
+    ensures { result.now ≡ trim_start line.now }
 {
-    let mut number = first;
-    let mut rest = chars;
-    'scan: while let Some((c, after)) = rest.split_first() {
-        if *c == '}' {
-            let character = char::from_u32(number)?;
-            return Some((character, after));
-        }
-        let digit = c.to_digit(16)?;
-        number = grown(number, digit)?;
-        rest = after;
-    }
-    None
-}
-
-/// What stands after `\u{`: a character's digits, and what follows its brace.
-fn first_digit(chars: &[char]) -> Option<(char, &[char])>
-    ensures { MatchOption result (first_digit chars.now ≡ broken)
-        (λ r. (first_digit chars.now ≡ in_front (encode_utf8 r.0) (quoted r.1.now)) ×
-        (length r.1.now ≤ length chars.now)) }
-{
-    let (c, after) = chars.split_first()?;
-    let digit = c.to_digit(16)?;
-    digits(digit, after)
-}
-
-/// What stands after a backslash: a character, and what follows it.
-fn escaped(chars: &[char]) -> Option<(char, &[char])>
-    ensures { MatchOption result (escaped chars.now ≡ broken)
-        (λ r. (escaped chars.now ≡ in_front (encode_utf8 r.0) (quoted r.1.now)) ×
-        (length r.1.now ≤ length chars.now)) }
-{
-    match chars {
-        ['"', after @ ..] => Some(('"', after)),
-        ['\\', after @ ..] => Some(('\\', after)),
-        ['n', after @ ..] => Some(('\n', after)),
-        ['r', after @ ..] => Some(('\r', after)),
-        ['t', after @ ..] => Some(('\t', after)),
-        ['u', '{', after @ ..] => first_digit(after),
-        _ => None,
-    }
-}
-
-/// The next character between quotes, which begins with `c`, and what follows it.
-fn inner(c: char, after: &[char]) -> Option<(char, &[char])>
-    requires { c ≢ 34 }
-    ensures { MatchOption result (quoted (c ∷ after.now) ≡ broken)
-        (λ r. (quoted (c ∷ after.now) ≡ in_front (encode_utf8 r.0) (quoted r.1.now)) ×
-        (length r.1.now ≤ length after.now)) }
-{
-    if c == '\\' {
-        escaped(after)
-    } else {
-        Some((c, after))
-    }
-}
-
-/// The text whose second quote stands before `after`, and what follows it.
-fn closed(text: Text, after: &[char]) -> (Word, &[char])
-    ensures word { result.0 ∷ words_of result.1.now ≡ in_front text (closed after.now) }
-    ensures less { length result.1.now ≤ length after.now }
-{
-    let Some((c, others)) = after.split_first() else {
-        return (Word::Quoted(text), &[]);
-    };
-    if is_gap(*c) {
-        (Word::Quoted(text), others)
-    } else if *c == ';' {
-        (Word::Quoted(text), &[])
-    } else {
-        (Word::Broken, &[])
-    }
-}
-
-/// The text after a quote, and what follows it.
-#[tactic(auto, using(crate::proofs::Fronts::quoted_more))]
-fn quoted(alloc: Global, chars: &[char]) -> Result<(Word, &[char]), OutOfMemory>
-    ensures { IfOk result (λ r. (r.0 ∷ words_of r.1.now ≡ quoted chars.now) ×
-        (length r.1.now ≤ length chars.now)) }
-{
-    let mut text = Text::new(alloc);
-    let mut rest = chars;
-    'scan: while let Some((c, after)) = rest.split_first() {
-        if *c == '"' {
-            return Ok(closed(text, after));
-        }
-        let Some((character, others)) = inner(*c, after) else {
-            return Ok((Word::Broken, &[]));
-        };
-        text.push(character)?;
-        rest = others;
-    }
-    Ok((Word::Broken, &[]))
-}
-
-/// The word that begins with `first`, and what follows it.
-fn next_word(alloc: Global, first: char, after: &[char]) -> Result<(Word, &[char]), OutOfMemory>
-    requires gap { is_gap first ≡ false }
-    requires comment { first ≢ 59 }
-    ensures { IfOk result (λ r. (r.0 ∷ words_of r.1.now ≡ words_of (first ∷ after.now)) ×
-        (length r.1.now ≤ length after.now)) }
-{
-    if first == '"' {
-        quoted(alloc, after)
-    } else if first == '\'' {
-        Ok((Word::Character, &[]))
-    } else {
-        bare(alloc, first, after)
-    }
-}
-
-/// The words of a line.
-pub fn words_of(alloc: Global, line: &[char]) -> Result<Vec<Word>, OutOfMemory>
-    ensures { IfOk result (λ v. v.items ≡ words_of line.now) }
-{
-    let mut found = Vec::new(alloc);
     let mut rest = line;
     'scan: while let Some((c, after)) = rest.split_first() {
         if is_gap(*c) {
             rest = after;
         } else if *c == ';' {
-            rest = &[];
+            return &[];
         } else {
-            let (next, others) = next_word(alloc, *c, after)?;
-            found.push(next)?;
-            rest = others;
+            return rest;
         }
     }
-    Ok(found)
+    &[]
+}
+
+/// Whether no word is left.
+pub fn is_over(line: &[char]) -> bool
+    ensures { result ≡ is_over line.now }
+{
+    trim_start(line).is_empty()
+}
+
+/// Whether the line is over here, or a space, a tab or a comment stands here.
+pub fn is_word_end(line: &[char]) -> bool
+    ensures { result ≡ is_word_end line.now }
+{
+    match line.split_first() {
+        None => true,
+        Some((c, _)) => ends_word(*c),
+    }
+}
+
+fn word_end(line: &[char]) -> Option<usize>
+    ensures { result ≡ position (λ c. ends_word c) line.now }
+{
+    line.iter().position(|c| ends_word(*c))
+}
+
+/// The word without quotes that stands here, and what follows it.
+#[tactic(auto, using(crate::proofs::Stretches::stretch_found, crate::proofs::Stretches::rest_found, crate::proofs::Stretches::stretch_whole, crate::proofs::Stretches::rest_none, crate::proofs::Stretches::found_within))]
+fn split_word(line: &[char]) -> (&[char], &[char])
+    ensures word { result.0.now ≡ up_to ends_word line.now }
+    ensures rest { result.1.now ≡ onward_from ends_word line.now }
+{
+    match word_end(line) {
+        Some(end) => line.split_at(end),
+        None => (line, &[]),
+    }
+}
+
+fn bare(line: &[char]) -> Option<(&[char], &[char])>
+    ensures { option_map (λ r. (r.0.now, r.1.now)) result ≡ bare line.now }
+{
+    let (first, _) = line.split_first()?;
+    if is_quote(*first) {
+        None
+    } else {
+        Some(split_word(line))
+    }
+}
+
+/// The next word, if it is one without quotes, and what follows it.
+pub fn next_word(line: &[char]) -> Option<(&[char], &[char])>
+    ensures { option_map (λ r. (r.0.now, r.1.now)) result ≡ next_word line.now }
+{
+    bare(trim_start(line))
+}
+
+fn skipped(line: &[char]) -> &[char]
+    ensures { result.now ≡ skipped line.now }
+{
+    match line.split_first() {
+        None => &[],
+        Some((first, after)) => {
+            if *first == '"' {
+                skip_text(after)
+            } else if *first == '\'' {
+                &[]
+            } else {
+                split_word(line).1
+            }
+        }
+    }
+}
+
+/// What follows the next word, whatever that is.
+pub fn after_word(line: &[char]) -> &[char]
+    ensures { result.now ≡ after_word line.now }
+{
+    skipped(trim_start(line))
+}
+
+/// Whether the word is this text, whose characters are ASCII.
+pub fn is_word(word: &[char], text: &str) -> bool
+    ensures { result ≡ bytes_eq word.now text.now }
+{
+    let mut left = word;
+    let mut bytes = text.as_bytes();
+    'scan: while let Some((c, after)) = left.split_first() {
+        let Some((byte, others)) = bytes.split_first() else {
+            return false;
+        };
+        if u32::from(*c) != u32::from(*byte) {
+            return false;
+        }
+        left = after;
+        bytes = others;
+    }
+    bytes.is_empty()
+}
+
+/// What follows the text, whose characters are ASCII, if the characters begin with it.
+pub fn after_text<'a>(text: &str, line: &'a [char]) -> Option<&'a [char]>
+    ensures { option_map (λ r. r.now) result ≡ after_text text.now line.now }
+{
+    let mut rest = line;
+    let mut bytes = text.as_bytes();
+    'scan: while let Some((byte, others)) = bytes.split_first() {
+        let (c, after) = rest.split_first()?;
+        if u32::from(*c) != u32::from(*byte) {
+            return None;
+        }
+        rest = after;
+        bytes = others;
+    }
+    Some(rest)
+}
+
+fn ends_integer(c: char) -> bool
+    ensures { result ≡ ends_integer c }
+{
+    !c.is_ascii_digit() && c != '-'
+}
+
+fn integer_end(line: &[char]) -> Option<usize>
+    ensures { result ≡ position (λ c. ends_integer c) line.now }
+{
+    line.iter().position(|c| ends_integer(*c))
+}
+
+#[tactic(auto, using(crate::proofs::Stretches::stretch_found, crate::proofs::Stretches::rest_found, crate::proofs::Stretches::stretch_whole, crate::proofs::Stretches::rest_none, crate::proofs::Stretches::found_within))]
+fn split_integer(line: &[char]) -> (&[char], &[char])
+    ensures digits { result.0.now ≡ up_to ends_integer line.now }
+    ensures rest { result.1.now ≡ onward_from ends_integer line.now }
+{
+    match integer_end(line) {
+        Some(end) => line.split_at(end),
+        None => (line, &[]),
+    }
+}
+
+/// The integer that begins here, and what follows its digits.
+pub fn integer_here(line: &[char]) -> Option<(i64, &[char])>
+    ensures { option_map (λ r. (r.0, r.1.now)) result ≡ integer_here line.now }
+{
+    let (digits, rest) = split_integer(line);
+    let integer = integer(digits)?;
+    Some((integer, rest))
 }

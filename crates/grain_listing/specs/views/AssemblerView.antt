@@ -1,5 +1,6 @@
 -- An assembler as lists and numbers.
-use Rattle.std.specs.Prelude.{Result, Ok, Err}
+use Rattle.std.specs.Prelude.{ℕ, List, Result, Ok, Err}
+use Rattle.std.specs.Borrow.{Bor}
 use Rattle.grain_listing.specs.views.Assembling.{AssemblerView}
 use Rattle.grain_listing.specs.declared.assembler.Assembler.{Assembler}
 use Rattle.grain_listing.specs.declared.reasons.Reason.{Reason}
@@ -30,3 +31,9 @@ abbrev pub result_view : {A : Type 0} → Result A Reason → AssemblerView →
     Result AssemblerView Reason
 result_view (Ok x) v = Ok v
 result_view (Err e) v = Err e
+
+-- what a step left of its line, beside what it left of the assembler
+abbrev pub rest_view : Result (Bor (List ℕ)) Reason → AssemblerView →
+    Result (AssemblerView × List ℕ) Reason
+rest_view (Ok rest) v = Ok (v, rest.now)
+rest_view (Err e) v = Err e

@@ -1,5 +1,6 @@
 -- What the assembler has, as lists and numbers, and what each of its steps does.
-use Rattle.std.specs.Prelude.{ℕ, ◌<◌, ◌-◌, ◌^◌, Bool, true, false, ◌&&◌, List, [], ◌∷◌, ◌++◌, length, drop, Option, Some, None, is_some, Result, Ok, Err, codes, if◌then◌else◌}
+use Rattle.std.specs.Prelude.{ℕ, ◌<◌, ◌-◌, ◌^◌, Bool, true, false, List, [], ◌∷◌, ◌++◌, length, Option, Some, None, is_some, Result, Ok, Err, if◌then◌else◌}
+use Rattle.std.specs.Str.{encode_utf8_all}
 use Rattle.std.specs.Int.{w16, w32, to_le_bytes}
 use Rattle.grain_value.specs.declared.values.Dynamic.{Dynamic}
 use Rattle.grain_value.specs.declared.operators.Token.{Token}
@@ -10,17 +11,16 @@ use Rattle.grain_program.specs.declared.code.parts.PositionEntry.{PositionEntry}
 use Rattle.grain_program.specs.declared.code.functions.Function.{Function}
 use Rattle.grain_words.specs.Numerals.{number, begins_letter}
 use Rattle.grain_words.specs.Labels.{Addresses, address_of, with_label}
-use Rattle.grain_words.specs.declared.words.Word.{Word}
-use Rattle.grain_words.specs.declared.words.Word.TheVariants.{Bare}
+use Rattle.grain_words.specs.Words.{is_over, next_word}
 use Rattle.grain_listing.specs.Steps.{and_then, present}
-use Rattle.grain_listing.specs.Operands.{alone, is_bare, position_after, byte_of}
+use Rattle.grain_listing.specs.Operands.{word_operand, alone, position_after, byte_of}
 use Rattle.grain_listing.specs.Literals.{constant_of, text_of, token_of, entry_of}
-use Rattle.grain_listing.specs.Settings.{capabilities}
-use Rattle.grain_listing.specs.Headers.{stack_of, assign_of, parameters, header_of}
+use Rattle.grain_listing.specs.Settings.{capability_bits, capabilities}
+use Rattle.grain_listing.specs.Headers.{stack_of, assign_of, header_of}
 use Rattle.grain_listing.specs.Table.{line_of, stands, is_block}
-use Rattle.grain_listing.specs.Statements.{main_ended, functions_ended}
+use Rattle.grain_listing.specs.Statements.{Statement, main_ended, functions_ended}
 use Rattle.grain_listing.specs.LineMeanings
-use Rattle.grain_listing.specs.LineMeanings.{limit_set, in_pool, in_list, before_colon}
+use Rattle.grain_listing.specs.LineMeanings.{limit_set, in_pool, in_list, before_colon, header_said}
 use Rattle.grain_listing.specs.declared.assembler.Fixup.{Fixup}
 use Rattle.grain_listing.specs.declared.blocks.OpenBlock.{OpenBlock}
 use Rattle.grain_listing.specs.declared.blocks.OpenBlock.TheVariants as blocks
@@ -34,7 +34,7 @@ use Rattle.grain_listing.specs.declared.table.OperandKind.TheVariants as kinds
 use Rattle.grain_listing.specs.declared.table.Section.{Section}
 use Rattle.grain_listing.specs.declared.table.Section.TheVariants as sections
 use Rattle.grain_listing.specs.declared.reasons.Reason.{Reason}
-use Rattle.grain_listing.specs.declared.reasons.Reason.TheVariants.{MissingHeader, UnknownWord, OutOfPlace, BadOperand, LabelTwice, NotBuilt}
+use Rattle.grain_listing.specs.declared.reasons.Reason.TheVariants.{UnknownWord, OutOfPlace, BadOperand, LabelTwice, NotBuilt}
 
 -- what the lines so far have given, and the number of the line that is read
 pub record AssemblerView : Type 0 where
@@ -94,29 +94,29 @@ with_position address None v = v
 with_position address (Some p) v =
     record v { positions = v.positions ++ record { address = address; position = p } ∷ [] }
 
--- an operand of one bare word, the lowest byte first; a target that begins with a letter is a label
-abbrev pub put_bare : OperandKind → List ℕ → AssemblerView → Result AssemblerView Reason
-put_bare kinds.Byte w v = and_then (present BadOperand (number 255 w))
+-- an operand of one word, the lowest byte first; a target that begins with a letter is a label
+abbrev pub put_operand_word : OperandKind → List ℕ → AssemblerView → Result AssemblerView Reason
+put_operand_word kinds.Byte w v = and_then (present BadOperand (number 255 w))
     (λ n. Ok (with_code (n ∷ []) v))
-put_bare kinds.Index w v = and_then (present BadOperand (number 65535 w))
+put_operand_word kinds.Index w v = and_then (present BadOperand (number 65535 w))
     (λ n. Ok (with_code (to_le_bytes w16 n) v))
-put_bare kinds.Target w v =
-    if begins_letter w then Ok (with_fixup w v)
+put_operand_word kinds.Target w v =
+    if begins_letter w then Ok (with_fixup (encode_utf8_all w) v)
     else and_then (present BadOperand (number (2 ^ 32 - 1) w))
     (λ n. Ok (with_code (to_le_bytes w32 n) v))
 
-abbrev pub put_operand : OperandKind → Word → AssemblerView → Result AssemblerView Reason
-put_operand k (Bare w) v = put_bare k w v
-put_operand k w v = Err BadOperand
+abbrev pub put_operand : OperandKind → List ℕ → AssemblerView →
+    Result (AssemblerView × List ℕ) Reason
+put_operand k cs v =
+    and_then (word_operand cs) (λ a. and_then (put_operand_word k a.0 v) (λ u. Ok (u, a.1)))
 
--- the operands of the instruction at the address, a word each, and its position after them
-abbrev pub put_operands : ℕ → List (Option OperandKind) → List Word → AssemblerView →
+-- the operands of the instruction at the address, and its position after them
+abbrev pub put_operands : ℕ → List (Option OperandKind) → List ℕ → AssemblerView →
     Result AssemblerView Reason
-put_operands address [] ws v = and_then (position_after ws) (λ p. Ok (with_position address p v))
-put_operands address (None ∷ ks) ws v = put_operands address ks ws v
-put_operands address (Some k ∷ ks) [] v = Err BadOperand
-put_operands address (Some k ∷ ks) (w ∷ ws) v =
-    and_then (put_operand k w v) (λ u. put_operands address ks ws u)
+put_operands address [] cs v = and_then (position_after cs) (λ p. Ok (with_position address p v))
+put_operands address (None ∷ ks) cs v = put_operands address ks cs v
+put_operands address (Some k ∷ ks) cs v =
+    and_then (put_operand k cs v) (λ a. put_operands address ks a.1 a.0)
 
 -- the address of what comes next has 32 bits
 abbrev pub HasRoom : AssemblerView → Type 0
@@ -126,8 +126,8 @@ HasRoom v = length v.code < 2 ^ 32
 abbrev pub unset : Limit → AssemblerView → Result (Unit {0}) Reason
 unset l v = LineMeanings.unset l v.limits
 
-abbrev pub limit_line : List Word → AssemblerView → Result LimitLine Reason
-limit_line ws v = limit_set ws v.limits
+abbrev pub limit_line : List ℕ → AssemblerView → Result LimitLine Reason
+limit_line cs v = limit_set cs v.limits
 
 -- the block is over at the address
 abbrev pub with_block : ℕ → OpenBlock → AssemblerView → AssemblerView
@@ -147,73 +147,75 @@ closed a b v = record v {
 }
 
 -- after `fn`: a function's block begins at the address
-abbrev pub opened : ℕ → List Word → AssemblerView → Result AssemblerView Reason
-opened a ws v = and_then (header_of ws)
+abbrev pub opened : ℕ → List ℕ → AssemblerView → Result AssemblerView Reason
+opened a cs v = and_then (header_of cs)
     (λ h. Ok (record v { section = sections.Block; block = Some (blocks.Function a h) }))
 
 -- a line that begins with a word of the table
-abbrev pub put_line : Line → List Word → AssemblerView → Result AssemblerView Reason
-put_line lines.Header ws v = Err OutOfPlace
-put_line lines.Capabilities ws v =
+abbrev pub put_line : Line → List ℕ → AssemblerView → Result AssemblerView Reason
+put_line lines.Header cs v = Err OutOfPlace
+put_line lines.Capabilities cs v =
     if is_some v.caps then Err OutOfPlace else
-    and_then (capabilities 0 ws) (λ bits. Ok (record v { caps = Some bits }))
-put_line lines.Limit ws v = and_then (limit_line ws v)
+    and_then (capabilities capability_bits cs) (λ bits. Ok (record v { caps = Some bits }))
+put_line lines.Limit cs v = and_then (limit_line cs v)
     (λ l. Ok (record v { limits = v.limits ++ l ∷ [] }))
-put_line lines.Constant ws v = in_pool v.consts
-    (and_then (constant_of ws) (λ c. Ok (record v { consts = v.consts ++ c ∷ [] })))
-put_line lines.Name ws v = in_pool v.names
-    (and_then (text_of ws) (λ t. Ok (record v { names = v.names ++ t ∷ [] })))
-put_line lines.Operator ws v = in_pool v.tokens
-    (and_then (token_of ws) (λ t. Ok (record v { tokens = v.tokens ++ t ∷ [] })))
-put_line lines.Assign ws v =
-    in_pool v.assigns (and_then (assign_of v.line ws)
+put_line lines.Constant cs v = in_pool v.consts
+    (and_then (constant_of cs) (λ c. Ok (record v { consts = v.consts ++ c ∷ [] })))
+put_line lines.Name cs v = in_pool v.names
+    (and_then (text_of cs) (λ t. Ok (record v { names = v.names ++ t ∷ [] })))
+put_line lines.Operator cs v = in_pool v.tokens
+    (and_then (token_of cs) (λ t. Ok (record v { tokens = v.tokens ++ t ∷ [] })))
+put_line lines.Assign cs v =
+    in_pool v.assigns (and_then (assign_of v.line cs)
     (λ a. Ok (record v { assigns = v.assigns ++ a ∷ [] })))
-put_line lines.Entry ws v = and_then (entry_of ws)
+put_line lines.Entry cs v = and_then (entry_of cs)
     (λ e. Ok (record v { scope = v.scope ++ e ∷ [] }))
-put_line lines.Main ws v =
-    and_then (stack_of ws) (λ n. Ok
+put_line lines.Main cs v =
+    and_then (stack_of cs) (λ n. Ok
     (record v { section = sections.Block; block = Some (blocks.Main (length v.code) n) }))
-put_line lines.Function ws v =
-    in_pool v.functions (in_list (parameters (drop 2 ws)) (opened (length v.code) ws v))
-put_line lines.Byte ws v =
-    and_then (byte_of ws) (λ b. Ok (with_position (length v.code) b.1 (with_code (b.0 ∷ []) v)))
-put_line lines.End ws v = alone ws (closed (length v.code) v.block v)
-put_line (lines.Instruction e) ws v =
-    put_operands (length v.code) e.operands ws (with_code (e.tag ∷ []) v)
-put_line lines.Later ws v = Err NotBuilt
+put_line lines.Function cs v =
+    in_pool v.functions (in_list cs (opened (length v.code) cs v))
+put_line lines.Byte cs v =
+    and_then (byte_of cs) (λ b. Ok (with_position (length v.code) b.1 (with_code (b.0 ∷ []) v)))
+put_line lines.End cs v = alone cs (closed (length v.code) v.block v)
+put_line (lines.Instruction e) cs v =
+    put_operands (length v.code) e.operands cs (with_code (e.tag ∷ []) v)
+put_line lines.Later cs v = Err NotBuilt
 
 -- a label, alone on its line in the block, that no line before it has
-abbrev pub put_label : List ℕ → List Word → AssemblerView → Result AssemblerView Reason
-put_label t ws v =
+abbrev pub put_label : List ℕ → List ℕ → AssemblerView → Result AssemblerView Reason
+put_label t cs v =
     if is_block v.section then
     (if is_some (address_of t v.labels) then Err LabelTwice
-    else alone ws (record v { labels = with_label t (length v.code) v.labels }))
+    else alone cs (record v { labels = with_label t (length v.code) v.labels }))
     else Err OutOfPlace
 
-abbrev pub label_line : Option (List ℕ) → List Word → AssemblerView → Result AssemblerView Reason
-label_line None ws v = Err UnknownWord
-label_line (Some t) ws v = if begins_letter t then put_label t ws v else Err UnknownWord
+abbrev pub label_line : Option (List ℕ) → List ℕ → AssemblerView → Result AssemblerView Reason
+label_line None cs v = Err UnknownWord
+label_line (Some t) cs v =
+    if begins_letter t then put_label (encode_utf8_all t) cs v else Err UnknownWord
 
-abbrev pub known_line : Option Line → List ℕ → List Word → AssemblerView →
+abbrev pub known_line : Option Line → List ℕ → List ℕ → AssemblerView →
     Result AssemblerView Reason
-known_line None w ws v = label_line (before_colon w) ws v
-known_line (Some l) w ws v = if stands l v.section then put_line l ws v else Err OutOfPlace
+known_line None w cs v = label_line (before_colon w) cs v
+known_line (Some l) w cs v = if stands l v.section then put_line l cs v else Err OutOfPlace
 
 -- the header: `grain 1`
-abbrev pub header : List Word → AssemblerView → Result AssemblerView Reason
-header (a ∷ b ∷ []) v = if is_bare (codes "grain") a && is_bare (codes "1") b then
-    Ok (record v { section = sections.Pools }) else Err MissingHeader
-header ws v = Err MissingHeader
+abbrev pub with_header : Result Statement Reason → AssemblerView → Result AssemblerView Reason
+with_header (Ok s) v = Ok (record v { section = sections.Pools })
+with_header (Err e) v = Err e
 
 abbrev pub is_start : Section → Bool
 is_start sections.Start = true
 is_start s = false
 
-abbrev pub after_header : Word → List Word → AssemblerView → Result AssemblerView Reason
-after_header (Bare w) ws v = known_line (line_of w) w ws v
-after_header w ws v = Err UnknownWord
+abbrev pub after_header : Option (List ℕ × List ℕ) → AssemblerView → Result AssemblerView Reason
+after_header None v = Err UnknownWord
+after_header (Some a) v = known_line (line_of a.0) a.0 a.1 v
 
--- one more line; an empty one gives nothing
-abbrev pub take_line : List Word → AssemblerView → Result AssemblerView Reason
-take_line [] v = Ok v
-take_line (w ∷ ws) v = if is_start v.section then header (w ∷ ws) v else after_header w ws v
+-- one more line; one without a word gives nothing
+abbrev pub take_line : List ℕ → AssemblerView → Result AssemblerView Reason
+take_line cs v =
+    if is_over cs then Ok v
+    else (if is_start v.section then with_header (header_said cs) v
+    else after_header (next_word cs) v)

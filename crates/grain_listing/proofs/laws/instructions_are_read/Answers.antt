@@ -7,7 +7,9 @@ returns c =
       numbers = c.decimals_are_read.ensures.numbers;
       plain = c.decimals_are_read.ensures.plain;
       letterless = c.decimals_are_read.ensures.letterless;
-      words = c.plain_texts_are_read.ensures.words;
+      first = c.plain_texts_are_read.ensures.first;
+      next = c.plain_texts_are_read.ensures.next;
+      over = c.plain_texts_are_read.ensures.over;
       inside = c.plain_texts_are_read.ensures.inside;
       lines = c.plain_texts_are_read.ensures.lines;
     } in

@@ -1,5 +1,4 @@
 use Rattle.std.proofs.Common.{rules, ◌≡◌, ◌+◌, length, Result, IfOk, subst}
-use Rattle.grain_words.specs.Words.{words_of}
 use Rattle.grain_listing.specs.Reading.{SetUp}
 use Rattle.grain_listing.specs.SetUpView.{outcome}
 use Rattle.grain_listing.specs.views.AssemblerView.{assembler_view}
@@ -12,10 +11,9 @@ use Rattle.grain_listing.proofs.reading.read_lines.Goals as goal
 pub returns-in-Err-clause-setup : goal.returns-in-Err-clause-setup
 returns-in-Err-clause-setup c =
     let before : AssemblerView = assembler_view c.lines.assembler in
-    let words : c.as_slice.result.now ≡ words_of c.next_line.result.0.now = search rules in
-    let result = rw (c.in-Err.is, words) at c.in_ok-reason.ensures in
+    let result = rw c.in-Err.is at c.in_ok-reason.ensures in
     let took : refused_for c.in-Err.reason ≡
-    take_line (words_of c.next_line.result.0.now) (record before { line = c.lines.n + 1 }) =
+    take_line c.next_line.result.0.now (record before { line = c.lines.n + 1 }) =
     result in
     line_refused c.args.text.now c.lines.rest.now c.next_line.result.0.now c.next_line.result.1.now
     c.lines.n before c.in-Err.reason c.next_line.ensures.line took c.lines.invariant
@@ -24,9 +22,8 @@ pub lines-preserved : goal.lines-preserved
 lines-preserved c =
     let before : AssemblerView = assembler_view c.lines.assembler in
     let after : AssemblerView = assembler_view c.take_line.new.self in
-    let words : c.as_slice.result.now ≡ words_of c.next_line.result.0.now = search rules in
-    let result = rw (c.in-Ok.is, words) at c.in_ok-reason.ensures in
-    let took : given after ≡ take_line (words_of c.next_line.result.0.now)
+    let result = rw c.in-Ok.is at c.in_ok-reason.ensures in
+    let took : given after ≡ take_line c.next_line.result.0.now
     (record before { line = c.lines.n + 1 }) = result in
     line_read c.args.text.now c.lines.rest.now c.next_line.result.0.now c.next_line.result.1.now
     c.lines.n before after c.next_line.ensures.line c.next_line.ensures.less took c.lines.invariant

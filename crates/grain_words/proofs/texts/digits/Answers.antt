@@ -1,7 +1,7 @@
 use Rattle.std.proofs.Common.{rules, arith, ◌≡◌, ◌∷◌, ◌<◌, ◌*◌, ◌+◌}
 use Rattle.std.specs.Char.{digit_value}
 use Rattle.grain_words.proofs.Digits.{digits_over}
-use Rattle.grain_words.proofs.words.digits.Goals as goal
+use Rattle.grain_words.proofs.texts.digits.Goals as goal
 
 pub returns-in_err-number : goal.returns-in_err-number
 returns-in_err-number c =

@@ -1,6 +1,6 @@
 use Rattle.std.proofs.Common.{◌≡◌, ◌≤◌, length}
 use Rattle.grain_words.specs.Words.{digits}
-use Rattle.grain_words.proofs.words.digits.Given as goal
+use Rattle.grain_words.proofs.texts.digits.Given as goal
 
 abbrev pub invariant-scan : goal.invariant-scan
 invariant-scan l = (digits l.number l.rest ≡ digits l.fn.first l.chars) × (l.number ≤ 0x10ffff) ×
