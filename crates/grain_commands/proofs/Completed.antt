@@ -1,0 +1,167 @@
+-- What an ended call says, and which status was due in it.
+use Rattle.std.proofs.Common.{◌≡◌, inl, inr, ℕ, true, false, List, Option, Some, Result, Ok, Err, IfSome, refl, sym, ap, ◌∙◌, subst}
+use Rattle.std.specs.Bool.{⊤}
+use Rattle.grain_program.specs.View.{View}
+use Rattle.grain_program.specs.Typing.{IsProgram, IsRefusal}
+use Rattle.grain_program.specs.declared.verifier.refusals.Refusal.{Refusal}
+use Rattle.grain_global.specs.declared.engines.Engine.{Engine}
+use Rattle.grain_means.specs.Worlds.{Answer, Came, Failed}
+use Rattle.grain_means.specs.Means.{Begin, Finish, Means}
+use Rattle.grain_listing.specs.Reading.{SetUp, reads}
+use Rattle.grain_commands.specs.Replies.{Counts, Replies, no_listing, refused, reported, Answers, no_command, replied, Ended, wrote, source_failed, sink_failed, no_memory, is_run, usage_text, bad_line_text, refusal_text}
+use Rattle.grain_commands.specs.Reports.{report_value, report_fault}
+use Rattle.grain_commands.specs.Runs.{Reported, engine_of, start, status_of, answer_report, report}
+use Rattle.grain_commands.specs.Statuses.{RunEnds, Gives, Completes}
+use Rattle.grain_commands.specs.Streams.{Rose, added}
+use Rattle.grain_listing.specs.declared.reasons.BadLine.{BadLine}
+
+-- a program means one end
+abbrev pub MeansOne : Type 0
+MeansOne = (program : View) (engine : Engine) (b : Begin ⊤) (e f : Finish ⊤) (n k : ℕ) →
+    Means program engine b e n → Means program engine b f k → (e ≡ f) × (n ≡ k)
+
+-- parts have one refusal
+abbrev pub RefusedOnce : Type 0
+RefusedOnce = (p : View) (r s : Refusal) → IsRefusal p r → IsRefusal p s → r ≡ s
+
+same_set_up : (said : Result SetUp BadLine) (s t : SetUp) → said ≡ Ok s → said ≡ Ok t → t ≡ s
+same_set_up said s t one other = cc
+
+-- the end that is told is the end that the program means
+same_report : MeansOne → (s : SetUp) (end : Finish ⊤) (n status : ℕ) (text : List ℕ) →
+    Means s.parts (engine_of s.limits) (start s.scope) end n →
+    Reported s.parts s.limits s.scope status text →
+    (status ≡ status_of end.answer) × (text ≡ report end)
+same_report law s end n status text means told =
+    let one = law s.parts (engine_of s.limits)
+    (start s.scope) end told.end n told.instructions means told.means in (
+      told.number ∙ ap (λ (x : Finish ⊤). status_of x.answer) (sym one.0),
+      told.written ∙
+          ap report (sym one.0),
+    )
+
+same_end : MeansOne → (said : Result SetUp BadLine) (s : SetUp) (end : Finish ⊤) (n status : ℕ)
+    (text : List ℕ) → said ≡ Ok s → IsProgram s.parts →
+    Means s.parts (engine_of s.limits) (start s.scope) end n → Replies said status text →
+    (status ≡ status_of end.answer) × (text ≡ report end)
+same_end law said s end n status text is valid means (no_listing e) = absurd cc
+same_end law said s end n status text is valid means (refused {s = t} e invalid first) =
+    absurd (invalid (subst (λ (x : SetUp). IsProgram x.parts) (same_set_up said t s e is) valid))
+same_end law said s end n status text is valid means (reported {s = t} e v h) =
+    same_report law s end n status text means
+    (subst (λ (x : SetUp). Reported x.parts x.limits x.scope status text)
+    (same_set_up said s t is e) h)
+
+same_reason : (said : Result SetUp BadLine) (bad : BadLine) (status : ℕ) (text : List ℕ) →
+    said ≡ Err bad → Replies said status text → (status ≡ 3) × (text ≡ bad_line_text bad)
+same_reason said bad status text is (no_listing {bad = r} e) =
+    let one : r ≡ bad = cc in
+    (refl, ap bad_line_text one)
+same_reason said bad status text is (refused e invalid first) = absurd cc
+same_reason said bad status text is (reported e v h) = absurd cc
+
+same_refusal : RefusedOnce → (said : Result SetUp BadLine) (s : SetUp) (r : Refusal) (status : ℕ)
+    (text : List ℕ) → said ≡ Ok s → (IsProgram s.parts → ⊥) → IsRefusal s.parts r →
+    Replies said status text → (status ≡ 4) × (text ≡ refusal_text r)
+same_refusal law said s r status text is invalid first (no_listing e) = absurd cc
+same_refusal law said s r status text is invalid first (refused {s = t} {r = q} e other h) =
+    let same : IsRefusal s.parts q = subst (λ (x : SetUp). IsRefusal x.parts q)
+    (same_set_up said s t is e) h in
+    (refl, ap refusal_text (law s.parts q r same first))
+same_refusal law said s r status text is invalid first (reported {s = t} e v h) =
+    absurd (invalid (subst (λ (x : SetUp). IsProgram x.parts) (same_set_up said s t is e) v))
+
+-- each answer has this status and this text
+abbrev OnlyAnswer : List (List ℕ) → Option (List ℕ) → ℕ → List ℕ → Type 0
+OnlyAnswer words input due wanted = (status : ℕ) (text : List ℕ) → Answers words input status text →
+    (status ≡ due) × (text ≡ wanted)
+
+-- where no stream failed, the only answer was given
+given : (words : List (List ℕ)) (input before now : Option (List ℕ)) (counts : Counts)
+    (status due : ℕ) (wanted : List ℕ) → OnlyAnswer words input due wanted →
+    (is_run words ≡ true → Rose counts.source_before counts.source_now → ⊥) →
+    (Rose counts.sink_before counts.sink_now → ⊥) →
+    Ended words input before now counts status → Gives due wanted before now status
+given words input before now counts status due wanted only source sink
+    (wrote {status = number} {text} a w) =
+    let one = only status text a in
+    inl (one.0, w ∙ ap (λ x. added x before) one.1)
+given words input before now counts status due wanted only source sink
+    (source_failed command rose w) = absurd (source command rose)
+given words input before now counts status due wanted only source sink (sink_failed a part rose) =
+    absurd (sink rose)
+given words input before now counts status due wanted only source sink (no_memory w) = inr (refl, w)
+
+-- the told bytes say what was said
+said_of : (input : Option (List ℕ)) (bytes : List ℕ) (said wanted : Result SetUp BadLine) →
+    input ≡ Some bytes → reads bytes ≡ wanted → IfSome input (λ b. reads b ≡ said) → said ≡ wanted
+said_of input bytes said wanted told is h = sym
+    (subst (λ (o : Option (List ℕ)). IfSome o (λ b. reads b ≡ said)) told h) ∙ is
+
+-- an answer to `run` is a reply to what the bytes say
+only_reply : (words : List (List ℕ)) (input : Option (List ℕ)) (bytes : List ℕ)
+    (wanted : Result SetUp BadLine) (due : ℕ) (text : List ℕ) → is_run words ≡ true →
+    input ≡ Some bytes →
+    reads bytes ≡ wanted → ((said : Result SetUp BadLine) (n : ℕ) (t : List ℕ) → said ≡ wanted →
+    Replies said n t → (n ≡ due) × (t ≡ text)) → OnlyAnswer words input due text
+only_reply words input bytes wanted due text command told is only status t (no_command none) =
+    absurd cc
+only_reply words input bytes wanted due text command told is only status t
+    (replied {said} is_command h reply) =
+    only said status t (said_of input bytes said wanted told is h) reply
+
+only_usage : (words : List (List ℕ)) (input : Option (List ℕ)) → is_run words ≡ false →
+    OnlyAnswer words input 2 usage_text
+only_usage words input none status text (no_command other) = (refl, refl)
+only_usage words input none status text (replied is_command h reply) = absurd cc
+
+only_end : MeansOne → (words : List (List ℕ)) (input : Option (List ℕ)) (bytes : List ℕ)
+    (end : Finish ⊤) → is_run words ≡ true → input ≡ Some bytes → RunEnds bytes end →
+    OnlyAnswer words input (status_of end.answer) (report end)
+only_end law words input bytes end command told run =
+    only_reply words input bytes (Ok run.set_up) (status_of end.answer)
+    (report end) command told run.said
+    (λ said n t is reply. same_end law said run.set_up end run.instructions n t is run.valid
+    run.means reply)
+
+-- the answer alone is the end's, by its trace
+end_at : (end : Finish ⊤) (a : Answer) → end.answer ≡ a → (status_of end.answer ≡ status_of a) ×
+    (report end ≡ answer_report a end.trace)
+end_at end a is = (ap status_of is, ap (λ x. answer_report x end.trace) is)
+
+only_at : (words : List (List ℕ)) (input : Option (List ℕ)) (end : Finish ⊤) (a : Answer) →
+    end.answer ≡ a → OnlyAnswer words input (status_of end.answer) (report end) →
+    OnlyAnswer words input (status_of a) (answer_report a end.trace)
+only_at words input end a is only status text answers =
+    let one = only status text answers in
+    let at = end_at end a is in
+    (one.0 ∙ at.0, one.1 ∙ at.1)
+
+pub completed : MeansOne → RefusedOnce → (words : List (List ℕ))
+    (input before now : Option (List ℕ)) (counts : Counts) (status : ℕ) →
+    Ended words input before now counts status → Completes words input before now counts status
+completed means refuses words input before now counts status ended = record {
+  value = λ command none bytes told v end is run.
+      given words input before now counts status 0 (report_value v)
+      (only_at words input end (Came v) is
+      (only_end means words input bytes end command told run))
+      (λ _. none.source) none.sink ended;
+  fault = λ command none bytes told p end is run.
+      given words input before now counts status 1 (report_fault p end.trace)
+      (only_at words input end (Failed p) is
+      (only_end means words input bytes end command told run))
+      (λ _. none.source) none.sink ended;
+  usage = λ none sink. given words input before now counts status 2 usage_text
+      (only_usage words input none) (λ command rose. absurd cc) sink ended;
+  no_listing = λ command none bytes told bad is.
+      given words input before now counts status 3 (bad_line_text bad)
+      (only_reply words input bytes (Err bad) 3 (bad_line_text bad) command told is
+      (λ said n t e reply. same_reason said bad n t e reply))
+      (λ _. none.source) none.sink ended;
+  refused = λ command none bytes told refusal h.
+      given words input before now counts status 4 (refusal_text refusal)
+      (only_reply words input bytes (Ok h.set_up) 4 (refusal_text refusal) command told h.said
+      (λ said n t e reply. same_refusal refuses said h.set_up refusal n t e h.invalid h.first
+      reply))
+      (λ _. none.source) none.sink ended;
+}

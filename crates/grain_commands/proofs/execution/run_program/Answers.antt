@@ -1,0 +1,42 @@
+use Rattle.std.proofs.Common.{◌≡◌, ◌∙◌, ap, refl}
+use Rattle.grain_frame.specs.Machines.{begin, finish}
+use Rattle.grain_commands.specs.Runs.{engine_of, start}
+use Rattle.grain_commands.proofs.Ends.{engine_is, begin_is, value_told, fault_told}
+use Rattle.grain_commands.proofs.execution.run_program.Goals as goal
+
+pub returns-in-Ok : goal.returns-in-Ok
+returns-in-Ok g c =
+    let engine : c.in_ok-vm.vm.engine ≡ engine_of c.args.limits =
+    ap (λ m. m.engine) c.in_ok-vm.ensures ∙
+    engine_is c.new-engine.result c.args.limits c.new-engine.ensures.limits
+    c.new-engine.ensures.flags in
+    let begun : begin c.args.scope c.new-cells.result tt c.in_ok-vm.vm.global ≡ start c.args.scope =
+    begin_is c.args.scope c.new-cells.result c.in_ok-vm.vm c.new-engine.result c.new-cells.ensures
+    c.in_ok-vm.ensures in
+    let run = c.in-Ok.ensures.evaluates in
+    value_told c.args.program.now c.args.limits c.args.scope c.in-Ok.value c.in_ok-vm.vm.engine
+    (begin c.args.scope c.new-cells.result tt c.in_ok-vm.vm.global)
+    (finish c.eval_with_callbacks.new.self.trace c.eval_with_callbacks.new.scope
+    c.eval_with_callbacks.new.cells tt c.eval_with_callbacks.new.self.global)
+    c.eval_with_callbacks.new.self.trace run.0 c.value_reply.result engine begun
+    (λ a. (refl, refl))
+    run.1.0 c.value_reply.ensures.status c.value_reply.ensures.text
+
+pub returns : goal.returns
+returns g c =
+    let engine : c.in_ok-vm.vm.engine ≡ engine_of c.args.limits =
+    ap (λ m. m.engine) c.in_ok-vm.ensures ∙
+    engine_is c.new-engine.result c.args.limits c.new-engine.ensures.limits
+    c.new-engine.ensures.flags in
+    let begun : begin c.args.scope c.new-cells.result tt c.in_ok-vm.vm.global ≡ start c.args.scope =
+    begin_is c.args.scope c.new-cells.result c.in_ok-vm.vm c.new-engine.result c.new-cells.ensures
+    c.in_ok-vm.ensures in
+    let run = c.in-Err.ensures.evaluates in
+    let text = rw c.fault_trace.ensures at c.fault_reply.ensures.text in
+    fault_told c.args.program.now c.args.limits c.args.scope c.in-Err.fault c.in_ok-vm.vm.engine
+    (begin c.args.scope c.new-cells.result tt c.in_ok-vm.vm.global)
+    (finish c.eval_with_callbacks.new.self.trace c.eval_with_callbacks.new.scope
+    c.eval_with_callbacks.new.cells tt c.eval_with_callbacks.new.self.global)
+    c.eval_with_callbacks.new.self.trace run.0 c.fault_reply.result engine begun
+    (λ a. (refl, refl))
+    run.1.0 c.fault_reply.ensures.status text c.fault_reply.ensures.memory

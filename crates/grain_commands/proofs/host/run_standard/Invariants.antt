@@ -1,0 +1,4 @@
+use Rattle.grain_commands.proofs.host.run_standard.Given as goal
+
+abbrev pub ghosts-run_args : goal.ghosts-run_args
+ghosts-run_args a = record { name = a.blank.name; parts = a.blank.parts }

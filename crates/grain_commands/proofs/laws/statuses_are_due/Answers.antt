@@ -1,0 +1,11 @@
+use Rattle.grain_commands.proofs.Completed.{completed}
+use Rattle.grain_commands.proofs.Says.{beside}
+use Rattle.grain_commands.proofs.laws.statuses_are_due.Goals as goal
+
+pub returns-clause-beside : goal.returns-clause-beside
+returns-clause-beside c words input before now counts status ended =
+    beside words input before now counts status ended
+
+pub returns-clause-complete : goal.returns-clause-complete
+returns-clause-complete c words input before now counts status ended =
+    completed c.one_meaning.ensures c.one_refusal.ensures words input before now counts status ended

@@ -1,0 +1,17 @@
+use Rattle.std.proofs.Common.{◌≡◌, rules}
+use Rattle.grain_program.specs.View.{view_of}
+use Rattle.grain_listing.specs.SetUpView.{set_up_of}
+use Rattle.grain_commands.proofs.Answering.{answers_refusal, answers_end}
+use Rattle.grain_commands.proofs.replies.run_set_up.Goals as goal
+
+pub returns-in-Err : goal.returns-in-Err
+returns-in-Err g c =
+    answers_refusal (set_up_of c.args.setup) c.in-Err.refusal c.refused.result
+    c.refused.ensures.status c.refused.ensures.text c.refused.ensures.rule
+    c.in-Err.ensures.complete c.in-Err.ensures.first
+
+pub returns-in-Ok : goal.returns-in-Ok
+returns-in-Ok g c =
+    let program : c.in-Ok.program ≡ view_of c.args.setup.parts = search rules in
+    let told = rw program at c.run_program.ensures in
+    answers_end (set_up_of c.args.setup) c.run_program.result c.in-Ok.ensures.sound told

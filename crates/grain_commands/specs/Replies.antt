@@ -1,0 +1,108 @@
+-- What the program answers: a status and a text.
+use Rattle.std.specs.Prelude.{◌≡◌, ◌⊎◌, ℕ, Bool, true, false, List, [], ◌∷◌, ◌++◌, Option, Result, Ok, Err, IfSome, codes, bytes_eq}
+use Rattle.std.specs.Fmt.{decimal}
+use Rattle.grain_program.specs.Rules.{address_of}
+use Rattle.grain_program.specs.Typing.{IsProgram, IsRefusal}
+use Rattle.grain_program.specs.declared.verifier.refusals.Refusal.{Refusal}
+use Rattle.grain_program.specs.declared.verifier.refusals.Refusal.TheVariants as refusals
+use Rattle.grain_listing.specs.Reading.{SetUp, reads}
+use Rattle.grain_listing.specs.Reasons.{reason_text}
+use Rattle.grain_commands.specs.Puts.{PutWhole, PutPart}
+use Rattle.grain_commands.specs.Reports.{line_end}
+use Rattle.grain_commands.specs.Runs.{Reported}
+use Rattle.grain_commands.specs.Streams.{Rose, added, PartAdded}
+use Rattle.grain_commands.specs.declared.sinks.Put.{Put}
+use Rattle.grain_listing.specs.declared.reasons.BadLine.{BadLine}
+
+-- the one command so far is the one word `run`
+abbrev pub is_run : List (List ℕ) → Bool
+is_run (w ∷ []) = bytes_eq w (codes "run")
+is_run ws = false
+
+abbrev pub usage_text : List ℕ
+usage_text = codes "usage: run, check, list or self N" ++ line_end
+
+-- the first line that is wrong, and why
+abbrev pub bad_line_text : BadLine → List ℕ
+bad_line_text bad =
+    codes "listing line " ++ decimal bad.line ++ codes ": " ++ reason_text bad.reason ++ line_end
+
+-- the name of its variant
+abbrev pub refusal_name : Refusal → List ℕ
+refusal_name (refusals.Undecodable a) = codes "Undecodable"
+refusal_name (refusals.PoolIndex a) = codes "PoolIndex"
+refusal_name (refusals.JumpTarget a) = codes "JumpTarget"
+refusal_name (refusals.FallsOff a) = codes "FallsOff"
+refusal_name (refusals.HeightDisagrees a) = codes "HeightDisagrees"
+refusal_name (refusals.TooDeep a) = codes "TooDeep"
+refusal_name (refusals.Underflow a) = codes "Underflow"
+refusal_name (refusals.Capability a) = codes "Capability"
+refusal_name refusals.Memory = codes "Memory"
+
+abbrev pub refusal_text : Refusal → List ℕ
+refusal_text r =
+    codes "refused at " ++ decimal (address_of r) ++ codes ": " ++ refusal_name r ++ line_end
+
+-- what is answered to what the bytes read to
+pub data Replies (said : Result SetUp BadLine) : ℕ → List ℕ → Type 0 where
+  -- it is no listing
+  no_listing : {bad : BadLine} → said ≡ Err bad → Replies said 3 (bad_line_text bad)
+  -- its parts are no program
+  refused : {s : SetUp} {r : Refusal} → said ≡ Ok s → (IsProgram s.parts → ⊥) →
+      IsRefusal s.parts r → Replies said 4 (refusal_text r)
+  -- its program is run
+  reported : {s : SetUp} {status : ℕ} {text : List ℕ} → said ≡ Ok s → IsProgram s.parts →
+      Reported s.parts s.limits s.scope status text → Replies said status text
+
+-- what is answered to the words and to the bytes of the source, if it says them
+pub data Answers (words : List (List ℕ)) (input : Option (List ℕ)) : ℕ → List ℕ → Type 0 where
+  -- the words are no command
+  no_command : is_run words ≡ false → Answers words input 2 usage_text
+  -- the words are `run`, and the source was read to its end
+  replied : {said : Result SetUp BadLine} {status : ℕ} {text : List ℕ} → is_run words ≡ true →
+      IfSome input (λ bytes. reads bytes ≡ said) → Replies said status text →
+      Answers words input status text
+
+-- the counts of faults of a source and of a sink, before a call and after it
+pub record Counts : Type 0 where
+  pub source_before : ℕ
+  pub source_now : ℕ
+  pub sink_before : ℕ
+  pub sink_now : ℕ
+
+abbrev pub counts_of : ℕ → ℕ → ℕ → ℕ → Counts
+counts_of source_before source_now sink_before sink_now = record {
+  source_before = source_before;
+  source_now = source_now;
+  sink_before = sink_before;
+  sink_now = sink_now;
+}
+
+-- how a call of the program ends: with a status, and with what is written, before and after it
+pub data Ended (words : List (List ℕ)) (input before now : Option (List ℕ)) (counts : Counts) :
+    ℕ → Type 0 where
+  -- the answer's text is written, and nothing else
+  wrote : {status : ℕ} {text : List ℕ} → Answers words input status text → now ≡ added text before →
+      Ended words input before now counts status
+  -- the source failed: its count rose, and nothing is written
+  source_failed : is_run words ≡ true → Rose counts.source_before counts.source_now → now ≡ before →
+      Ended words input before now counts 5
+  -- the sink failed: its count rose, and a part of the answer's text is written
+  sink_failed : {status : ℕ} {text : List ℕ} → Answers words input status text →
+      PartAdded text before now → Rose counts.sink_before counts.sink_now →
+      Ended words input before now counts 6
+  -- memory was out, and nothing is written
+  no_memory : now ≡ before → Ended words input before now counts 7
+
+-- What a call puts to the sink, by its status.
+pub data Handed {S : Type 0} (puts : S → List ℕ → Put → S → Type 0) (words : List (List ℕ))
+    (input : Option (List ℕ)) (first last : S) : ℕ → Type 0 where
+  -- all of the answer's text, and nothing else
+  whole : {status : ℕ} {text : List ℕ} → Answers words input status text →
+      PutWhole puts text first last → Handed puts words input first last status
+  -- a part of it: the sink failed
+  part : {status : ℕ} {text : List ℕ} → Answers words input status text →
+      PutPart puts text first last → Handed puts words input first last 6
+  -- nothing: the source failed, or memory was out
+  nothing : {status : ℕ} → (status ≡ 5) ⊎ (status ≡ 7) → last ≡ first →
+      Handed puts words input first last status

@@ -1,0 +1,60 @@
+//! Runs of programs, and the replies that report their ends.
+
+ghost use Rattle.std.specs.Prelude.{◌≡◌, ◌≢◌, ◌<◌, IfOk};
+ghost use Rattle.grain_fault.specs.Problems.{problem_of};
+ghost use Rattle.grain_fault.specs.declared.faults.EvalAltResult.TheVariants as faults;
+ghost use Rattle.grain_commands.specs.Reports.{report_value, report_fault};
+ghost use Rattle.grain_commands.specs.Runs.{Reported};
+
+use crate::replies::Reply;
+use crate::reports::{report_fault, report_value};
+use grain_fault::{EvalAltResult, Fault};
+use grain_program::Program;
+use grain_value::{Dynamic, Limits, OutOfMemory, Scope, Store};
+use grain_vm::{Engine, Steps, Vm};
+use std::alloc::Global;
+use std::sync::ledger::Ledger;
+
+/// The reply to a run that ended in a value: 0 and its report.
+fn value_reply(alloc: Global, value: &Dynamic) -> Result<Reply, OutOfMemory>
+    ensures status { IfOk result (λ r. r.status ≡ 0) }
+    ensures text { IfOk result (λ r. r.text ≡ report_value value.now) }
+{
+    let text = report_value(alloc, value)?;
+    Ok(Reply { status: 0, text })
+}
+
+/// The reply to a run that ended in a fault: 1 and its report. If the fault is want of memory,
+/// there is none.
+fn fault_reply(alloc: Global, fault: &EvalAltResult, trace: &[Fault]) -> Result<Reply, OutOfMemory>
+    ensures status { IfOk result (λ r. r.status ≡ 1) }
+    ensures text { IfOk result (λ r. r.text ≡ report_fault (problem_of fault.now) trace.now) }
+    ensures memory { IfOk result (λ _. fault.now ≢ faults.Memory) }
+{
+    if let EvalAltResult::Memory = fault {
+        return Err(OutOfMemory);
+    }
+    let text = report_fault(alloc, fault, trace)?;
+    Ok(Reply { status: 1, text })
+}
+
+/// Runs the program on the scope, and reports the end. At least one operation is allowed.
+pub fn run_program<L: Ledger>(
+    alloc: Global,
+    program: &Program,
+    limits: Limits,
+    scope: Scope,
+    steps: &mut Steps<L>,
+) -> Result<Reply, OutOfMemory>
+    requires { 0 < limits.operations }
+    ensures { IfOk result (λ r. Reported program.now limits scope r.status r.text) }
+{
+    let engine = Engine::new(alloc, limits);
+    let mut vm = Vm::new(alloc, &engine)?;
+    let mut scope = scope;
+    let mut cells = Store::new(alloc);
+    match vm.eval_with_callbacks(alloc, &mut (), &mut cells, &mut scope, program, steps) {
+        Ok(value) => value_reply(alloc, &value),
+        Err(fault) => fault_reply(alloc, &fault, vm.fault_trace()),
+    }
+}

@@ -1,0 +1,22 @@
+//! Laws of how calls end.
+
+ghost use Rattle.std.specs.Prelude.{ℕ, List, Option};
+ghost use Rattle.grain_commands.specs.Replies.{Counts, Ended};
+ghost use Rattle.grain_commands.specs.Statuses.{Beside, Completes};
+
+use grain_means::one_meaning;
+use grain_program::one_refusal;
+
+/// How a call ended settles what its status says and what stands beside it, and which status was
+/// due.
+pub fn statuses_are_due()
+    ensures beside { (words : List (List ℕ)) (input before now : Option (List ℕ))
+        (counts : Counts) (status : ℕ) → Ended words input before now counts status →
+        Beside words input before now counts status }
+    ensures complete { (words : List (List ℕ)) (input before now : Option (List ℕ))
+        (counts : Counts) (status : ℕ) → Ended words input before now counts status →
+        Completes words input before now counts status }
+{
+    one_meaning::<()>();
+    one_refusal();
+}

@@ -1,0 +1,34 @@
+//! What the program does: the commands, over any source and sink, and the program over the standard
+//! streams.
+#![tactic(auto)]
+
+mod call_numbers;
+mod commands;
+mod execution;
+mod host;
+mod inputs;
+mod laws;
+mod memory_sink;
+mod memory_source;
+mod outputs;
+mod program;
+mod replies;
+mod reports;
+mod sinks;
+mod sources;
+mod standard;
+mod status;
+#[cfg(test)]
+mod tests;
+
+pub use call_numbers::CallNumbers;
+pub use commands::run_words;
+pub use host::run_standard;
+pub use laws::statuses_are_due;
+pub use memory_sink::MemorySink;
+pub use memory_source::MemorySource;
+pub use program::{Exit, run_args};
+pub use sinks::{Put, Sink};
+pub use sources::{Read, Source};
+pub use standard::{StdSink, StdSource};
+pub use status::{Status, exit_code};

@@ -1,7 +1,0 @@
-use Rattle.std.proofs.Common.{◌≡◌, ◌++◌, drop}
-use Rattle.grain_run.specs.Reports.{entries_text}
-use Rattle.grain_run.proofs.reports.push_entries.Given as goal
-
-abbrev pub invariant-loop-entry : goal.invariant-loop-entry
-invariant-loop-entry l = l.out ++ entries_text
-    (drop l.entry-index l.entries) ≡ l.initial.out ++ entries_text l.entries
