@@ -48,10 +48,6 @@ later_others =
     codes "export_local" ∷ codes "export_named" ∷
     codes "import" ∷ codes "custom_syntax" ∷ codes "eval_ast" ∷ codes "eval_ast_keep" ∷ []
 
--- the words of `limit`
-abbrev pub later_limits : List (List ℕ)
-later_limits = codes "modules" ∷ codes "text" ∷ codes "array" ∷ codes "map" ∷ []
-
 -- the texts of `op`
 abbrev pub later_operators : List (List ℕ)
 later_operators =
@@ -80,9 +76,6 @@ is_later_other w = is_among later_others w
 -- a line or an instruction
 unfoldable pub is_later : List ℕ → Bool
 is_later w = is_later_line w || (is_later_variable w || (is_later_call w || is_later_other w))
-
-unfoldable pub is_later_limit : List ℕ → Bool
-is_later_limit w = is_among later_limits w
 
 unfoldable pub is_later_operator : List ℕ → Bool
 is_later_operator t = is_among later_operators t

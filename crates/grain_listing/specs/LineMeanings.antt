@@ -9,12 +9,10 @@ use Rattle.grain_words.specs.Numerals.{number, begins_letter}
 use Rattle.grain_listing.specs.Steps.{and_then, present}
 use Rattle.grain_listing.specs.Operands.{word_operand, after_name, alone, position_after, byte_of}
 use Rattle.grain_listing.specs.Literals.{constant_of, text_of, token_of, entry_of}
-use Rattle.grain_listing.specs.Settings.{number_in, limit_operand, limit_number, capability_bits, capabilities}
+use Rattle.grain_listing.specs.Settings.{entry_named, limit_named, limit_number, capability_bits, capabilities}
 use Rattle.grain_listing.specs.Headers.{stack_of, assign_of, header_of, is_crowded}
 use Rattle.grain_listing.specs.Table.{line_of, stands, is_block}
 use Rattle.grain_listing.specs.Statements.{Piece, Byte, Goto, Statement, blank, header, caps_line, limit_line, const_line, name_line, op_line, assign_line, scope_line, main_line, fn_line, end_line, code_line, label_line, section, caps, limits, consts, names, tokens, assigns, functions, labels, label_address, bad_line}
-use Rattle.grain_listing.specs.declared.limits.Limit.{Limit}
-use Rattle.grain_listing.specs.declared.limits.LimitLine.{LimitLine}
 use Rattle.grain_listing.specs.declared.table.Line.{Line}
 use Rattle.grain_listing.specs.declared.table.Line.TheVariants as lines
 use Rattle.grain_listing.specs.declared.table.OperandKind.{OperandKind}
@@ -61,13 +59,15 @@ abbrev pub in_list : {B : Type 0} → List ℕ → Result B Reason → Result B 
 in_list cs more = if is_crowded cs then Err TooMany else more
 
 -- each limit is set once
-abbrev pub unset : Limit → List LimitLine → Result (Unit {0}) Reason
-unset l before = if is_some (number_in l before) then Err OutOfPlace else Ok tt
+abbrev pub unset : List ℕ → List (List ℕ × ℕ) → Result (Unit {0}) Reason
+unset name before = if is_some (entry_named name before) then Err OutOfPlace else Ok tt
 
-abbrev pub limit_set : List ℕ → List LimitLine → Result LimitLine Reason
+-- a limit's name and its number
+abbrev pub limit_set : List ℕ → List (List ℕ × ℕ) → Result (List ℕ × ℕ) Reason
 limit_set cs before =
-    and_then (limit_operand cs) (λ a. and_then (unset a.0 before) (λ _.
-    and_then (limit_number a.0 a.1) (λ n. Ok (record { limit = a.0; number = n }))))
+    and_then (word_operand cs) (λ a. and_then (limit_named a.0)
+    (λ l. and_then (unset l.0 before)
+    (λ _. and_then (limit_number l.1 a.1) (λ n. Ok (l.0, n)))))
 
 -- a line that begins with a word of the table, by what is left after it
 abbrev pub statement : Line → ℕ → List ℕ → List Statement → Result Statement Reason

@@ -1,6 +1,6 @@
 -- What a listing says. It is lines; each says something after those before it; and what they say
 -- makes the parts of a program, the limits of its run and the scope in which that begins.
-use Rattle.std.specs.Prelude.{ℕ, ◌+◌, List, [], ◌∷◌, length, take, count_by, Option, Some, None, Result, Ok, Err, ◌==◌, nat_lt, if◌then◌else◌, slice_get, chars}
+use Rattle.std.specs.Prelude.{ℕ, ◌+◌, List, [], ◌∷◌, length, take, count_by, Option, Some, None, Result, Ok, Err, ◌==◌, nat_lt, if◌then◌else◌, slice_get, chars, codes}
 use Rattle.std.specs.Str.{is_utf8}
 use Rattle.std.specs.Str.Lossy.{utf8_valid_len}
 use Rattle.grain_value.specs.declared.values.Limits.{Limits}
@@ -10,13 +10,11 @@ use Rattle.grain_program.specs.View.{View}
 use Rattle.grain_program.specs.declared.code.parts.AssignOp.{AssignOp}
 use Rattle.grain_words.specs.Lines.{lines_of}
 use Rattle.grain_listing.specs.Steps.{and_then, present}
-use Rattle.grain_listing.specs.Settings.{number_in}
+use Rattle.grain_listing.specs.Settings.{number_of}
 use Rattle.grain_listing.specs.Statements
 use Rattle.grain_listing.specs.Statements.{Statement, section, caps, limits, assigns, pieces, labels, main_chunk, functions, positions, code_of}
 use Rattle.grain_listing.specs.LineMeanings.{statements}
 use Rattle.grain_listing.specs.declared.headers.AssignLine.{AssignLine}
-use Rattle.grain_listing.specs.declared.limits.Limit.TheVariants as limit
-use Rattle.grain_listing.specs.declared.limits.LimitLine.{LimitLine}
 use Rattle.grain_listing.specs.declared.table.Section.{Section}
 use Rattle.grain_listing.specs.declared.table.Section.TheVariants as sections
 use Rattle.grain_listing.specs.declared.reasons.BadLine.{BadLine}
@@ -40,19 +38,17 @@ abbrev pub or_number : ℕ → Option ℕ → ℕ
 or_number n None = n
 or_number n (Some m) = m
 
--- Without lines of their own a million operations, 64 levels and 10,000 variables are allowed; no
--- line sets
--- the others so far.
-abbrev pub limits_of : List LimitLine → Limits
+-- the limits, by their names
+abbrev pub limits_of : List (List ℕ × ℕ) → Limits
 limits_of set =
     record {
-      operations = or_number 1000000 (number_in limit.Operations set);
-      levels = or_number 64 (number_in limit.Levels set);
-      variables = or_number 10000 (number_in limit.Variables set);
-      modules = 1000;
-      text = 0;
-      array = 0;
-      map = 0;
+      operations = number_of (codes "operations") set;
+      levels = number_of (codes "levels") set;
+      variables = number_of (codes "variables") set;
+      modules = number_of (codes "modules") set;
+      text = number_of (codes "text") set;
+      array = number_of (codes "array") set;
+      map = number_of (codes "map") set;
     }
 
 -- the token of that `op` line, which has to be there

@@ -1,42 +1,55 @@
 -- Limits and capabilities.
-use Rattle.std.specs.Prelude.{ℕ, ◌+◌, ◌^◌, ◌-◌, List, [], ◌∷◌, Option, Some, None, Result, Ok, Err, codes, bytes_eq, ◌==◌, if◌then◌else◌}
+use Rattle.std.specs.Prelude.{ℕ, ◌+◌, ◌^◌, ◌-◌, Bool, true, false, List, [], ◌∷◌, Option, Some, None, Result, Ok, Err, codes, bytes_eq, nat_lt, if◌then◌else◌}
 use Rattle.grain_listing.specs.Steps.{and_then}
-use Rattle.grain_listing.specs.Later.{is_later_limit}
-use Rattle.grain_listing.specs.Operands.{word_operand, after_name, alone, number_operand}
+use Rattle.grain_listing.specs.Operands.{after_name, alone, number_operand}
 use Rattle.grain_listing.specs.declared.limits.Limit.{Limit}
-use Rattle.grain_listing.specs.declared.limits.Limit.TheVariants as limits
-use Rattle.grain_listing.specs.declared.limits.LimitLine.{LimitLine}
 use Rattle.grain_listing.specs.declared.reasons.Reason.{Reason}
 use Rattle.grain_listing.specs.declared.reasons.Reason.TheVariants.{BadOperand, NotBuilt}
 
--- the place of a limit among the limits
-abbrev pub place : Limit → ℕ
-place limits.Operations = 0
-place limits.Levels = 1
-place limits.Variables = 2
+abbrev pub limit : ℕ → ℕ → Bool → Limit
+limit default least is_built =
+    record { default = default; least = least; is_built = is_built }
 
--- the number of the limit, if a line sets it
-abbrev pub number_in : Limit → List LimitLine → Option ℕ
-number_in l [] = None
-number_in l (x ∷ xs) = if place x.limit == place l then Some x.number else number_in l xs
+-- the limits by their names: what is allowed without a line, the least that a line may allow, and
+-- whether such a line is read so far
+abbrev pub limit_table : List (List ℕ × Limit)
+limit_table =
+    (codes "operations", limit 1000000 1 true) ∷
+    (codes "levels", limit 64 0 true) ∷
+    (codes "variables", limit 10000 0 true) ∷
+    (codes "modules", limit 1000 0 false) ∷
+    (codes "text", limit 0 0 false) ∷
+    (codes "array", limit 0 0 false) ∷
+    (codes "map", limit 0 0 false) ∷ []
 
--- the limit of that name
-abbrev pub limit_of : List ℕ → Result Limit Reason
-limit_of w =
-    if bytes_eq w (codes "operations") then Ok limits.Operations
-    else (if bytes_eq w (codes "levels") then Ok limits.Levels
-    else (if bytes_eq w (codes "variables") then Ok limits.Variables
-    else (if is_later_limit w then Err NotBuilt
-    else Err BadOperand)))
+-- the entry of that name, and what it has
+abbrev pub entry_named : {A : Type 0} → List ℕ → List (List ℕ × A) → Option (List ℕ × A)
+entry_named w [] = None
+entry_named w (x ∷ xs) = if bytes_eq w x.0 then Some x else entry_named w xs
 
-abbrev pub limit_operand : List ℕ → Result (Limit × List ℕ) Reason
-limit_operand cs = and_then (word_operand cs) (λ a. and_then (limit_of a.0) (λ l. Ok (l, a.1)))
+abbrev pub default_in : Option (List ℕ × Limit) → ℕ
+default_in None = 0
+default_in (Some x) = x.1.default
 
--- at least one operation is allowed, and any number of levels and variables
+abbrev pub number_or : ℕ → Option (List ℕ × ℕ) → ℕ
+number_or n None = n
+number_or n (Some x) = x.1
+
+-- what is allowed of the limit of that name: what the lines set, or else what the table has
+unfoldable pub number_of : List ℕ → List (List ℕ × ℕ) → ℕ
+number_of w set = number_or (default_in (entry_named w limit_table)) (entry_named w set)
+
+-- a limit is one of the table
+abbrev pub built : Option (List ℕ × Limit) → Result (List ℕ × Limit) Reason
+built None = Err BadOperand
+built (Some x) = if x.1.is_built then Ok x else Err NotBuilt
+
+unfoldable pub limit_named : List ℕ → Result (List ℕ × Limit) Reason
+limit_named w = built (entry_named w limit_table)
+
+-- at least the least number is allowed
 abbrev pub allowed : Limit → ℕ → Result ℕ Reason
-allowed limits.Operations n = if n == 0 then Err BadOperand else Ok n
-allowed limits.Levels n = Ok n
-allowed limits.Variables n = Ok n
+allowed l n = if nat_lt n l.least then Err BadOperand else Ok n
 
 -- a limit's number, alone
 abbrev pub limit_number : Limit → List ℕ → Result ℕ Reason

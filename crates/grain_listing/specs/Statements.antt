@@ -14,7 +14,6 @@ use Rattle.grain_listing.specs.declared.blocks.OpenBlock.{OpenBlock}
 use Rattle.grain_listing.specs.declared.blocks.OpenBlock.TheVariants as blocks
 use Rattle.grain_listing.specs.declared.headers.AssignLine.{AssignLine}
 use Rattle.grain_listing.specs.declared.headers.FunctionHeader.{FunctionHeader}
-use Rattle.grain_listing.specs.declared.limits.LimitLine.{LimitLine}
 use Rattle.grain_listing.specs.declared.reasons.BadLine.{BadLine}
 use Rattle.grain_listing.specs.declared.reasons.Reason.{Reason}
 use Rattle.grain_listing.specs.declared.reasons.Reason.TheVariants.{UnknownLabel}
@@ -31,9 +30,9 @@ pub data Statement : Type 0 where
   -- an empty line, and the header
   blank : Statement
   header : Statement
-  -- the bits of the capabilities, and a limit
+  -- the bits of the capabilities, and a limit's name with its number
   caps_line : ℕ → Statement
-  limit_line : LimitLine → Statement
+  limit_line : List ℕ × ℕ → Statement
   -- an entry of a pool, and one of the starting scope
   const_line : Dynamic → Statement
   name_line : List ℕ → Statement
@@ -63,7 +62,7 @@ caps [] = None
 caps (caps_line bits ∷ before) = Some bits
 caps (s ∷ before) = caps before
 
-abbrev pub limits : List Statement → List LimitLine
+abbrev pub limits : List Statement → List (List ℕ × ℕ)
 limits [] = []
 limits (limit_line l ∷ before) = limits before ++ l ∷ []
 limits (s ∷ before) = limits before

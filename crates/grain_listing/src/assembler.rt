@@ -1,9 +1,7 @@
 //! What the lines of a listing so far have given.
 
-ghost use Rattle.std.specs.Prelude.{◌≡◌, ◌<◌, IfOk, length};
-ghost use Rattle.std.specs.Option.{ForSome};
-ghost use Rattle.grain_listing.specs.Settings.{number_in};
-ghost use Rattle.grain_listing.specs.declared.limits.Limit.TheVariants as limit;
+ghost use Rattle.std.specs.Prelude.{◌≡◌, IfOk, length};
+ghost use Rattle.grain_listing.specs.views.Limits.{AreAllowed};
 
 use crate::blocks::OpenBlock;
 use crate::headers::AssignLine;
@@ -43,7 +41,7 @@ pub struct Assembler {
     pub positions: Positions,
     pub labels: Labels,
     pub fixups: Vec<Fixup>,
-    ghost allowed: { ForSome (number_in limit.Operations limits.items) (λ n. 0 < n) },
+    ghost allowed: { AreAllowed limits.items },
 }
 
 impl Assembler {

@@ -1,7 +1,7 @@
 //! What the format has and this crate does not read yet.
 
 ghost use Rattle.std.specs.Prelude.{◌≡◌, map};
-ghost use Rattle.grain_listing.specs.Later.{is_among, begins_among, is_later_line, is_later_variable, is_later_call, is_later_other, is_later, is_later_limit, is_later_operator, is_later_value};
+ghost use Rattle.grain_listing.specs.Later.{is_among, begins_among, is_later_line, is_later_variable, is_later_call, is_later_other, is_later, is_later_operator, is_later_value};
 
 use grain_words::{after_text, is_word};
 
@@ -69,9 +69,6 @@ const OTHERS: [&str; 20] = [
     "eval_ast",
     "eval_ast_keep",
 ];
-
-/// The words of `limit`.
-const LIMITS: [&str; 4] = ["modules", "text", "array", "map"];
 
 /// The texts of `op`.
 const OPERATORS: [&str; 19] = [
@@ -149,14 +146,6 @@ pub fn is_later(word: &[char]) -> bool
     ensures { result ≡ is_later word.now }
 {
     is_later_line(word) || is_later_variable(word) || is_later_call(word) || is_later_other(word)
-}
-
-/// Whether the word names a limit.
-#[tactic(auto, unfolding(crate::specs::Later::is_later_limit))]
-pub fn is_later_limit(word: &[char]) -> bool
-    ensures { result ≡ is_later_limit word.now }
-{
-    is_among(&LIMITS, word)
 }
 
 /// Whether the text is an operator's.

@@ -2,9 +2,7 @@
 
 ghost use Rattle.std.specs.Prelude.{◌≡◌, ◌+◌, IfOk, ◌<◌, slice_set, length};
 ghost use Rattle.grain_listing.specs.Reading.{assign_op_of, assign_ops_of, token_at, limits_of, caps_of, last_line};
-ghost use Rattle.std.specs.Option.{ForSome};
-ghost use Rattle.grain_listing.specs.Settings.{number_in};
-ghost use Rattle.grain_listing.specs.declared.limits.Limit.TheVariants as limit;
+ghost use Rattle.grain_listing.specs.views.Limits.{AreAllowed, limits_view};
 ghost use Rattle.grain_listing.specs.SetUpView.{outcome, IsReady};
 ghost use Rattle.grain_listing.specs.views.AssemblerView.{assembler_view};
 ghost use Rattle.grain_listing.specs.views.Linking.{ending, finish, filled, fill, write_at, left};
@@ -12,9 +10,9 @@ ghost use Rattle.grain_listing.specs.views.Ordered.{IsOrdered};
 
 use crate::assembler::{Assembler, Fixup};
 use crate::headers::AssignLine;
-use crate::limits::{Limit, LimitLine};
+use crate::limits::LimitLine;
 use crate::reasons::{BadLine, Reason};
-use crate::settings::number_in;
+use crate::settings::number_of;
 use crate::setups::Setup;
 use crate::table::Section;
 use bitflags::Flags;
@@ -101,19 +99,20 @@ fn fill(labels: &Labels, fixups: &[Fixup], code: &mut Vec<u8>) -> Result<(), Bad
     Ok(())
 }
 
+#[tactic(auto, using(crate::proofs::AllowedLimits::operations_allowed))]
 fn limits_of(lines: &[LimitLine]) -> Limits
-    requires { ForSome (number_in limit.Operations lines.now) (λ n. 0 < n) }
-    ensures limits { result ≡ limits_of lines.now }
+    requires { AreAllowed lines.now }
+    ensures limits { result ≡ limits_of (limits_view lines.now) }
     ensures allowed { 0 < result.operations }
 {
     Limits {
-        operations: number_in(Limit::Operations, lines).unwrap_or(1_000_000),
-        levels: number_in(Limit::Levels, lines).unwrap_or(64) as usize,
-        variables: number_in(Limit::Variables, lines).unwrap_or(10_000) as usize,
-        modules: 1_000,
-        text: 0,
-        array: 0,
-        map: 0,
+        operations: number_of("operations", lines),
+        levels: number_of("levels", lines) as usize,
+        variables: number_of("variables", lines) as usize,
+        modules: number_of("modules", lines) as usize,
+        text: number_of("text", lines) as usize,
+        array: number_of("array", lines) as usize,
+        map: number_of("map", lines) as usize,
     }
 }
 

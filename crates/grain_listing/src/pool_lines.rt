@@ -1,17 +1,18 @@
 //! The lines before the blocks: capabilities, limits, pools and the starting scope.
 
-ghost use Rattle.std.specs.Prelude.{◌≡◌, ◌<◌, IfOk};
-ghost use Rattle.grain_listing.specs.declared.limits.Limit.TheVariants as limit;
+ghost use Rattle.std.specs.Prelude.{◌≡◌, IfOk};
 ghost use Rattle.grain_listing.specs.declared.table.Line.TheVariants as lines;
 ghost use Rattle.grain_listing.specs.views.AssemblerView.{assembler_view, result_view};
+ghost use Rattle.grain_listing.specs.views.Limits.{Allows, set_view};
 ghost use Rattle.grain_listing.specs.views.Assembling.{unset, limit_line, put_line};
 
 use crate::assembler::Assembler;
 use crate::headers::assign_of;
-use crate::limits::{Limit, LimitLine};
+use crate::limits::LimitLine;
 use crate::literals::{ScopeEntry, constant_of, entry_of, text_of, token_of};
+use crate::operands::word_operand;
 use crate::reasons::Reason;
-use crate::settings::{capabilities, limit_number, limit_operand, number_in};
+use crate::settings::{capabilities, limit_named, limit_number, line_named};
 use grain_value::{Name, OutOfMemory};
 use std::alloc::Global;
 
@@ -19,10 +20,10 @@ use std::alloc::Global;
 pub const POOL_ROOM: usize = 65_536;
 
 impl Assembler {
-    fn unset(&self, limit: Limit) -> Result<(), Reason>
-        ensures { result ≡ unset limit (assembler_view self.now) }
+    fn unset(&self, name: &str) -> Result<(), Reason>
+        ensures { result ≡ unset name.now (assembler_view self.now) }
     {
-        if number_in(limit, self.limits.as_slice()).is_some() {
+        if line_named(name, self.limits.as_slice()).is_some() {
             Err(Reason::OutOfPlace)
         } else {
             Ok(())
@@ -30,13 +31,14 @@ impl Assembler {
     }
 
     fn limit_line(&self, rest: &[char]) -> Result<LimitLine, Reason>
-        ensures least { IfOk result (λ l. l.limit ≡ limit.Operations → 0 < l.number) }
-        ensures line { result ≡ limit_line rest.now (assembler_view self.now) }
+        ensures least { IfOk result (λ l. Allows l.name.now l.number) }
+        ensures line { set_view result ≡ limit_line rest.now (assembler_view self.now) }
     {
-        let (limit, rest) = limit_operand(rest)?;
-        self.unset(limit)?;
+        let (word, rest) = word_operand(rest)?;
+        let (name, limit) = limit_named(word)?;
+        self.unset(name)?;
         let number = limit_number(limit, rest)?;
-        Ok(LimitLine { limit, number })
+        Ok(LimitLine { name, number })
     }
 
     /// A limit.

@@ -1,14 +1,12 @@
 //! What the program may do: limits and capabilities.
 
-ghost use Rattle.std.specs.Prelude.{◌≡◌, ◌<◌, IfOk, map};
+ghost use Rattle.std.specs.Prelude.{◌≡◌, ◌<◌, ◌≤◌, IfOk, map, option_map};
 ghost use Rattle.std.specs.List.{sum_by};
-ghost use Rattle.grain_listing.specs.Settings.{place, number_in, limit_of, limit_operand, allowed, limit_number, capability_bits, capabilities};
-ghost use Rattle.grain_listing.specs.views.Results.{operand_view};
-ghost use Rattle.grain_listing.specs.declared.limits.Limit.TheVariants as limits;
+ghost use Rattle.grain_listing.specs.Settings.{entry_named, default_in, number_of, limit_named, allowed, limit_number, capability_bits, capabilities};
+ghost use Rattle.grain_listing.specs.views.Limits.{Allows, limit_line_view, limits_view, row_view, named_view};
 
-use crate::later::is_later_limit;
-use crate::limits::{Limit, LimitLine};
-use crate::operands::{after_name, alone, number_operand, word_operand};
+use crate::limits::{LIMITS, Limit, LimitLine};
+use crate::operands::{after_name, alone, number_operand};
 use crate::reasons::Reason;
 use grain_words::is_word;
 
@@ -21,76 +19,85 @@ const CAPABILITIES: [(&str, u8); 5] = [
     ("fragment", 16),
 ];
 
-/// The place of the limit among the limits.
-fn place(limit: Limit) -> u8
-    ensures { result ≡ place limit }
-{
-    match limit {
-        Limit::Operations => 0,
-        Limit::Levels => 1,
-        Limit::Variables => 2,
-    }
-}
-
-/// The number of the limit, if a line sets it.
-pub fn number_in(limit: Limit, lines: &[LimitLine]) -> Option<u64>
-    ensures { result ≡ number_in limit lines.now }
+/// The line that sets the limit of that name, if one does.
+pub fn line_named(name: &str, lines: &[LimitLine]) -> Option<LimitLine>
+    ensures { option_map limit_line_view result ≡ entry_named name.now (limits_view lines.now) }
 {
     for line in lines {
-        if place(line.limit) == place(limit) {
-            return Some(line.number);
+        if name == line.name {
+            return Some(*line);
         }
     }
     None
 }
 
-fn limit_of(word: &[char]) -> Result<Limit, Reason>
-    ensures { result ≡ limit_of word.now }
+/// What is allowed of the limit of that name without a line.
+fn default_among(table: &[(&str, Limit)], name: &str) -> u64
+    ensures { result ≡ default_in (entry_named name.now (map row_view table.now)) }
 {
-    if is_word(word, "operations") {
-        return Ok(Limit::Operations);
+    for (other, limit) in table {
+        if name == *other {
+            return limit.default;
+        }
     }
-    if is_word(word, "levels") {
-        return Ok(Limit::Levels);
-    }
-    if is_word(word, "variables") {
-        return Ok(Limit::Variables);
-    }
-    if is_later_limit(word) {
-        return Err(Reason::NotBuilt);
-    }
-    Err(Reason::BadOperand)
+    0
 }
 
-/// A limit, by its name.
-pub fn limit_operand(line: &[char]) -> Result<(Limit, &[char]), Reason>
-    ensures { operand_view result ≡ limit_operand line.now }
+/// What is allowed of the limit of that name.
+#[tactic(auto, unfolding(crate::specs::Settings::number_of))]
+pub fn number_of(name: &str, lines: &[LimitLine]) -> u64
+    ensures { result ≡ number_of name.now (limits_view lines.now) }
 {
-    let (word, rest) = word_operand(line)?;
-    let limit = limit_of(word)?;
-    Ok((limit, rest))
+    match line_named(name, lines) {
+        None => default_among(&LIMITS, name),
+        Some(line) => line.number,
+    }
+}
+
+fn row_among(table: &[(&'static str, Limit)], word: &[char]) -> Option<(&'static str, Limit)>
+    ensures { option_map row_view result ≡ entry_named word.now (map row_view table.now) }
+{
+    for (name, limit) in table {
+        if is_word(word, *name) {
+            return Some((*name, *limit));
+        }
+    }
+    None
+}
+
+/// The limit of that name, which a line may set.
+#[tactic(auto, unfolding(crate::specs::Settings::limit_named), using(crate::proofs::AllowedLimits::least_named))]
+pub fn limit_named(word: &[char]) -> Result<(&'static str, Limit), Reason>
+    ensures row { named_view result ≡ limit_named word.now }
+    ensures least { IfOk result (λ x. Allows x.0.now x.1.least) }
+{
+    match row_among(&LIMITS, word) {
+        None => Err(Reason::BadOperand),
+        Some((name, limit)) => {
+            if limit.is_built {
+                Ok((name, limit))
+            } else {
+                Err(Reason::NotBuilt)
+            }
+        }
+    }
 }
 
 fn allowed(limit: Limit, number: u64) -> Result<u64, Reason>
     ensures number { result ≡ allowed limit number }
-    ensures least { limit ≡ limits.Operations → IfOk result (λ n. 0 < n) }
+    ensures least { IfOk result (λ n. limit.least ≤ n) }
 {
-    match limit {
-        Limit::Operations => {
-            if number == 0 {
-                Err(Reason::BadOperand)
-            } else {
-                Ok(number)
-            }
-        }
-        Limit::Levels | Limit::Variables => Ok(number),
+    if number < limit.least {
+        Err(Reason::BadOperand)
+    } else {
+        Ok(number)
     }
 }
 
-/// The number of a limit; at least one operation is allowed.
+/// The number of a limit, which is at least its least.
 pub fn limit_number(limit: Limit, line: &[char]) -> Result<u64, Reason>
     ensures number { result ≡ limit_number limit line.now }
-    ensures least { limit ≡ limits.Operations → IfOk result (λ n. 0 < n) }
+    ensures least { IfOk result (λ n. limit.least ≤ n) }
 {
     let (number, rest) = number_operand(u64::MAX, line)?;
     let number = allowed(limit, number)?;

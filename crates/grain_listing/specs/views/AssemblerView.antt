@@ -1,6 +1,7 @@
 -- An assembler as lists and numbers.
 use Rattle.std.specs.Prelude.{ℕ, List, Result, Ok, Err}
 use Rattle.std.specs.Borrow.{Bor}
+use Rattle.grain_listing.specs.views.Limits.{limits_view}
 use Rattle.grain_listing.specs.views.Assembling.{AssemblerView}
 use Rattle.grain_listing.specs.declared.assembler.Assembler.{Assembler}
 use Rattle.grain_listing.specs.declared.reasons.Reason.{Reason}
@@ -11,7 +12,7 @@ assembler_view a =
       line = a.line;
       section = a.section;
       caps = a.caps;
-      limits = a.limits.items;
+      limits = limits_view a.limits.items;
       scope = a.scope;
       consts = a.consts;
       names = a.names;

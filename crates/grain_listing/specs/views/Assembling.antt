@@ -25,8 +25,6 @@ use Rattle.grain_listing.specs.declared.assembler.Fixup.{Fixup}
 use Rattle.grain_listing.specs.declared.blocks.OpenBlock.{OpenBlock}
 use Rattle.grain_listing.specs.declared.blocks.OpenBlock.TheVariants as blocks
 use Rattle.grain_listing.specs.declared.headers.AssignLine.{AssignLine}
-use Rattle.grain_listing.specs.declared.limits.Limit.{Limit}
-use Rattle.grain_listing.specs.declared.limits.LimitLine.{LimitLine}
 use Rattle.grain_listing.specs.declared.table.Line.{Line}
 use Rattle.grain_listing.specs.declared.table.Line.TheVariants as lines
 use Rattle.grain_listing.specs.declared.table.OperandKind.{OperandKind}
@@ -41,7 +39,7 @@ pub record AssemblerView : Type 0 where
   pub line : ℕ
   pub section : Section
   pub caps : Option ℕ
-  pub limits : List LimitLine
+  pub limits : List (List ℕ × ℕ)
   pub scope : List Entry
   pub consts : List Dynamic
   pub names : List (List ℕ)
@@ -123,10 +121,10 @@ abbrev pub HasRoom : AssemblerView → Type 0
 HasRoom v = length v.code < 2 ^ 32
 
 -- each limit is set once
-abbrev pub unset : Limit → AssemblerView → Result (Unit {0}) Reason
-unset l v = LineMeanings.unset l v.limits
+abbrev pub unset : List ℕ → AssemblerView → Result (Unit {0}) Reason
+unset name v = LineMeanings.unset name v.limits
 
-abbrev pub limit_line : List ℕ → AssemblerView → Result LimitLine Reason
+abbrev pub limit_line : List ℕ → AssemblerView → Result (List ℕ × ℕ) Reason
 limit_line cs v = limit_set cs v.limits
 
 -- the block is over at the address
