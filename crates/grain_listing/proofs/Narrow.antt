@@ -6,7 +6,7 @@ use Rattle.std.specs.Int.{w16, w32, to_le_bytes}
 use Rattle.grain_fault.specs.declared.places.Position.{Position}
 use Rattle.grain_program.specs.declared.code.instructions.Op.{Op}
 use Rattle.grain_program.specs.declared.code.fields.Field.{Field}
-use Rattle.grain_program.specs.InstructionSet.{fields_of}
+use Rattle.grain_program.specs.InstructionSet.{instructions, fields_of}
 use Rattle.grain_words.specs.Numerals.{number, begins_letter}
 use Rattle.grain_listing.specs.Steps.{and_then, present}
 use Rattle.grain_listing.specs.Later.{is_later}
@@ -14,7 +14,8 @@ use Rattle.grain_listing.specs.Operands.{word_operand, after_name, alone, positi
 use Rattle.grain_listing.specs.Literals.{constant_of, text_of, token_of, entry_of}
 use Rattle.grain_listing.specs.Settings.{capability_bits, capabilities}
 use Rattle.grain_listing.specs.Headers.{stack_of, assign_of, header_of, is_crowded}
-use Rattle.grain_listing.specs.Instructions.{word_of, kinds_of, encoding_of, encoding_in, value_instructions, flow_instructions, value_encoding, flow_encoding, or_encoding, encoding_named}
+use Rattle.grain_listing.specs.Encodings.{encoding_among}
+use Rattle.grain_listing.specs.Instructions.{word_of, kinds_of, encoding_of, encodings, encoding_named}
 use Rattle.grain_listing.specs.Table.{own_line, instruction_line_of, later_line, or_else, line_of, stands, is_block}
 use Rattle.grain_listing.specs.Statements.{Piece, Byte, Goto, Statement, blank, header, caps_line, limit_line, const_line, name_line, op_line, assign_line, scope_line, main_line, fn_line, end_line, code_line, label_line, section, caps, limits, consts, names, tokens, assigns, functions, labels, label_address, pieces, width, address}
 use Rattle.grain_listing.specs.LineMeanings.{bytes, operand, code_operand, operands, limit_set, statement, before_colon, labelled, known, header_end, header_number, begun_by, in_section, says}
@@ -48,19 +49,15 @@ either_few : (b : Bool) (x y : Option Encoding) → IsFew x → IsFew y → IsFe
 either_few true x y hx hy = hx
 either_few false x y hx hy = hy
 
-few_in : (os : List Op) (w : List ℕ) → IsFew (encoding_in os w)
+few_in : (os : List (List ℕ → Op)) (w : List ℕ) → IsFew (encoding_among (encodings os) w)
 few_in [] w = tt
-few_in (o ∷ os) w = either_few (bytes_eq w (word_of o)) (Some (encoding_of o)) (encoding_in os w)
-    (three (fields_of o)) (few_in os w)
-
-few_or : (x y : Option Encoding) → IsFew x → IsFew y → IsFew (or_encoding x y)
-few_or None y hx hy = hy
-few_or (Some e) y hx hy = hx
+few_in (o ∷ os) w =
+    either_few (bytes_eq w (word_of (o []))) (Some (encoding_of (o [])))
+    (encoding_among (encodings os) w) (three (fields_of (o []))) (few_in os w)
 
 few_named : (w : List ℕ) → IsFew (encoding_named w)
-unfolding encoding_named value_encoding flow_encoding
-few_named w = few_or (encoding_in value_instructions w) (encoding_in flow_instructions w)
-    (few_in value_instructions w) (few_in flow_instructions w)
+unfolding encoding_named
+few_named w = few_in instructions w
 
 either_short : (b : Bool) (x y : Option Line) → IsShort x → IsShort y → IsShort (cond b x y)
 either_short true x y hx hy = hx

@@ -1,3 +1,4 @@
+pub mod Tables
 pub mod Limits
 pub mod Results
 pub mod Assembling

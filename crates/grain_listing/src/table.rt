@@ -3,7 +3,8 @@
 ghost use Rattle.std.specs.Prelude.{◌≡◌, map, Some};
 ghost use Rattle.grain_program.specs.declared.code.instructions.Op.{Op};
 ghost use Rattle.grain_listing.specs.Encodings.{encoding_among};
-ghost use Rattle.grain_listing.specs.Instructions.{word_of, encoding_of, value_encoding, flow_encoding, encoding_named};
+ghost use Rattle.grain_listing.specs.Instructions.{word_of, encoding_of, encoding_named};
+ghost use Rattle.grain_listing.specs.views.Tables.{value_encoding, flow_encoding};
 ghost use Rattle.grain_listing.specs.Table.{own_line, line_of, is_pools, is_block, is_after, stands};
 
 use crate::later::is_later;
@@ -262,14 +263,14 @@ fn find(encodings: &[(&str, Encoding)], word: &[char]) -> Option<Encoding>
     None
 }
 
-#[tactic(auto, unfolding(crate::specs::Instructions::value_encoding))]
+#[tactic(auto, unfolding(crate::specs::views::Tables::value_encoding))]
 fn value_encoding(word: &[char]) -> Option<Encoding>
     ensures { result ≡ value_encoding word.now }
 {
     find(&VALUES, word)
 }
 
-#[tactic(auto, unfolding(crate::specs::Instructions::flow_encoding))]
+#[tactic(auto, unfolding(crate::specs::views::Tables::flow_encoding))]
 fn flow_encoding(word: &[char]) -> Option<Encoding>
     ensures { result ≡ flow_encoding word.now }
 {
@@ -277,7 +278,7 @@ fn flow_encoding(word: &[char]) -> Option<Encoding>
 }
 
 /// How the line of the instruction with the word is read.
-#[tactic(auto, unfolding(crate::specs::Instructions::encoding_named))]
+#[tactic(auto, using(crate::proofs::Spelled::found_first, crate::proofs::Spelled::found_second))]
 fn encoding_named(word: &[char]) -> Option<Encoding>
     ensures { result ≡ encoding_named word.now }
 {
