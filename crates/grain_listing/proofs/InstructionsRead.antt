@@ -1,5 +1,5 @@
 -- The lines of instructions are read as those instructions.
-use Rattle.std.proofs.Common.{◌≡◌, ℕ, suc, ◌+◌, ◌-◌, ◌^◌, ◌<◌, ◌≤◌, true, false, ◌&&◌, cond, List, [], ◌∷◌, ◌++◌, length, map, Option, Some, None, Result, Ok, Err, refl, sym, ap, ◌∙◌, arith, append_assoc, append-nil}
+use Rattle.std.proofs.Common.{◌≡◌, ℕ, suc, ◌+◌, ◌-◌, ◌^◌, ◌<◌, ◌≤◌, true, false, ◌&&◌, cond, List, [], ◌∷◌, ◌++◌, map, Option, Some, None, option_map, Result, Ok, Err, refl, sym, ap, ◌∙◌, arith, append_assoc, append-nil}
 use Rattle.std.specs.List.{flat_map, list_all, All, AllByRecursion}
 use Rattle.std.specs.Str.{encode_utf8_all}
 use Rattle.std.specs.Fmt.{decimal}
@@ -16,7 +16,7 @@ use Rattle.grain_words.specs.Words.{next_word, is_over}
 use Rattle.grain_words.specs.Numerals.{number, begins_letter}
 use Rattle.grain_words.specs.Spelled.{is_plain_word, after_words, spaced, is_inside, text_of}
 use Rattle.grain_listing.specs.Steps.{and_then, present}
-use Rattle.grain_listing.specs.Instructions.{word_of, kind_of, kinds_of, encoding_of, encoding_named}
+use Rattle.grain_listing.specs.Instructions.{word_of, kind_of, kinds_of, encoding_of, op_named}
 use Rattle.grain_listing.specs.InstructionLines.{numbers_of, instruction_line, instruction_text}
 use Rattle.grain_listing.specs.Table.{is_block, line_of, own_line, instruction_line_of, later_line, or_else}
 use Rattle.grain_listing.specs.Statements.{Piece, Byte, Goto, Statement, blank, code_line, section, pieces}
@@ -40,17 +40,28 @@ plain_word : (o : Op) → is_plain_word (word_of o) ≡ true
 plain_word op.Unit = refl
 plain_word _ = refl
 
-few : (o : Op) → length (fields_of o) ≤ 3
-few op.Unit = omega arith
-few _ = omega arith
+-- what is found has the same tag and operands
+abbrev IsFound : Op → Op → Type 0
+IsFound o i = (line_of (word_of o) ≡ Some (lines.Instruction i)) × (encoding_of i ≡ encoding_of o)
 
-its_line : (o : Op) → line_of (word_of o) ≡ Some (lines.Instruction (encoding_of o))
+found : (r : Option Op) (x : ℕ × List OperandKind) → option_map encoding_of r ≡ Some x →
+    (i : Op) × ((r ≡ Some i) × (encoding_of i ≡ x))
+found None x e = absurd cc
+found (Some i) x e = (i, (refl, cc))
+
+its_line : (o : Op) → (i : Op) × IsFound o i
 unfolding line_of
 its_line o =
-    ap (λ (l : Option Line). or_else l
-    (or_else (instruction_line_of (encoding_named (word_of o))) (later_line (word_of o))))
-    (other_line o) ∙
-    ap (λ e. or_else (instruction_line_of e) (later_line (word_of o))) (in_table o)
+    let it = found (op_named (word_of o)) (encoding_of o) (in_table o) in (
+      it.0,
+      (
+        ap (λ (l : Option Line). or_else l
+            (or_else (instruction_line_of (op_named (word_of o))) (later_line (word_of o))))
+            (other_line o) ∙
+            ap (λ e. or_else (instruction_line_of e) (later_line (word_of o))) it.1.0,
+        it.1.1,
+      ),
+    )
 
 -- what is taken from the laws of numbers and words
 pub record Laws : Type 0 where
@@ -96,10 +107,10 @@ bytes-append [] ys = refl
 bytes-append (x ∷ xs) ys = ap (λ l. Byte x ∷ l) (bytes-append xs ys)
 
 -- one more operand before the others
-first_read : Laws → (line : ℕ) (f : Field) (fs : List Field) (ks : List (Option OperandKind)) →
+first_read : Laws → (line : ℕ) (f : Field) (fs : List Field) (ks : List OperandKind) →
     NumberFits (size_of f) (number_of f) →
     operands line ks (after_words (numbers_of fs)) ≡ Ok (bytes (fields_spelled fs), None) →
-    operands line (Some (kind_of (size_of f)) ∷ ks) (after_words (numbers_of (f ∷ fs))) ≡
+    operands line (kind_of (size_of f) ∷ ks) (after_words (numbers_of (f ∷ fs))) ≡
     Ok (bytes (fields_spelled (f ∷ fs)), None)
 first_read laws line f fs ks fits rest =
     let more : (List Piece × List ℕ) → Operands =
@@ -117,21 +128,12 @@ first_read laws line f fs ks fits rest =
     ap (λ (ps : List Piece). Ok (ps, None))
     (sym (bytes-append (spelled (size_of f) (number_of f)) (fields_spelled fs)))
 
-fields_read : Laws → (line : ℕ) (fs : List Field) → AllByRecursion FieldFits fs → length fs ≤ 3 →
+fields_read : Laws → (line : ℕ) (fs : List Field) → AllByRecursion FieldFits fs →
     operands line (kinds_of fs) (after_words (numbers_of fs)) ≡
     Ok (bytes (fields_spelled fs), None)
-fields_read laws line [] fit three = refl
-fields_read laws line (a ∷ []) fit three = first_read laws line a [] (None ∷ None ∷ []) fit.0 refl
-fields_read laws line (a ∷ b ∷ []) fit three =
-    first_read laws line a (b ∷ []) (Some (kind_of (size_of b)) ∷ None ∷ []) fit.0
-    (first_read laws line b [] (None ∷ []) fit.1.0 refl)
-fields_read laws line (a ∷ b ∷ c ∷ []) fit three =
-    first_read laws line a (b ∷ c ∷ [])
-    (Some (kind_of (size_of b)) ∷ Some (kind_of (size_of c)) ∷ [])
-    fit.0
-    (first_read laws line b (c ∷ []) (Some (kind_of (size_of c)) ∷ []) fit.1.0
-    (first_read laws line c [] [] fit.1.1.0 refl))
-fields_read laws line (a ∷ b ∷ c ∷ d ∷ fs) fit three = absurd (omega arith)
+fields_read laws line [] fit = refl
+fields_read laws line (f ∷ fs) fit =
+    first_read laws line f fs (kinds_of fs) fit.0 (fields_read laws line fs fit.1)
 
 plain_numbers : Laws → (fs : List Field) → AllByRecursion FieldFits fs →
     list_all is_plain_word (numbers_of fs) ≡
@@ -150,18 +152,19 @@ one_read : Laws → (n : ℕ) (o : Op) (before : List Statement) → OpFits o �
     says n (instruction_line o) before ≡ Ok (instruction_said o)
 one_read laws n o before fits block =
     let cs : List ℕ = after_words (numbers_of (fields_of o)) in
-    let within : Result Statement Reason =
-    and_then (operands n (encoding_of o).operands cs)
-    (λ x. Ok (code_line (Byte (tag_of o)) x.0 x.1)) in
+    let it = its_line o in
+    let with_encoding : ℕ × List OperandKind → Result Statement Reason =
+    λ e. and_then (operands n e.1 cs) (λ x. Ok (code_line (Byte e.0) x.0 x.1)) in
     ap (λ b. cond b (Ok blank) (in_section (section before) n (instruction_line o) before))
     (laws.over (word_of o) (numbers_of (fields_of o)) (plain_word o)) ∙
     ap (λ s. in_section s n (instruction_line o) before) block ∙
     ap (λ a. begun_by a n before)
     (laws.first (word_of o) (numbers_of (fields_of o)) (plain_word o)) ∙
-    ap (λ l. known l n (word_of o) cs before) (its_line o) ∙
-    ap (λ s. cond (is_block s) within (Err OutOfPlace)) block ∙
+    ap (λ l. known l n (word_of o) cs before) it.1.0 ∙
+    ap (λ s. cond (is_block s) (with_encoding (encoding_of it.0)) (Err OutOfPlace)) block ∙
+    ap with_encoding it.1.1 ∙
     ap (λ (r : Operands). and_then r (λ x. Ok (code_line (Byte (tag_of o)) x.0 x.1)))
-    (fields_read laws n (fields_of o) fits (few o))
+    (fields_read laws n (fields_of o) fits)
 
 first_fits : (o : Op) (os : List Op) → All OpFits (o ∷ os) → OpFits o
 first_fits o os fit = fit 0 o (omega arith)

@@ -1,25 +1,22 @@
 -- No line gives more than 13 bytes of code: a tag, and three operands of up to four bytes.
-use Rattle.std.proofs.Common.{◌≡◌, ℕ, ◌+◌, ◌*◌, ◌-◌, ◌^◌, ◌≤◌, Bool, true, false, cond, nat_lt, bytes_eq, codes, is_some, List, [], ◌∷◌, ◌++◌, length, Option, Some, None, Result, Ok, Err, refl, subst, arith}
+use Rattle.std.proofs.Common.{◌≡◌, ℕ, ◌+◌, ◌*◌, ◌-◌, ◌^◌, ◌≤◌, Bool, true, false, cond, nat_lt, codes, is_some, List, [], ◌∷◌, ◌++◌, length, Option, Some, None, Result, Ok, Err, refl, subst, arith}
 use Rattle.std.specs.Str.{encode_utf8_all}
 use Rattle.grain_words.specs.Words.{is_over, next_word}
 use Rattle.std.specs.Int.{w16, w32, to_le_bytes}
 use Rattle.grain_fault.specs.declared.places.Position.{Position}
 use Rattle.grain_program.specs.declared.code.instructions.Op.{Op}
-use Rattle.grain_program.specs.declared.code.fields.Field.{Field}
-use Rattle.grain_program.specs.InstructionSet.{instructions, fields_of}
+use Rattle.grain_program.specs.declared.code.instructions.Op.TheVariants as op
+use Rattle.grain_program.specs.InstructionSet.{tag_of, fields_of}
 use Rattle.grain_words.specs.Numerals.{number, begins_letter}
 use Rattle.grain_listing.specs.Steps.{and_then, present}
-use Rattle.grain_listing.specs.Later.{is_later}
 use Rattle.grain_listing.specs.Operands.{word_operand, after_name, alone, position_after, byte_of}
 use Rattle.grain_listing.specs.Literals.{constant_of, text_of, token_of, entry_of}
 use Rattle.grain_listing.specs.Settings.{capability_bits, capabilities}
 use Rattle.grain_listing.specs.Headers.{stack_of, assign_of, header_of, is_crowded}
-use Rattle.grain_listing.specs.Encodings.{encoding_among}
-use Rattle.grain_listing.specs.Instructions.{word_of, kinds_of, encoding_of, encodings, encoding_named}
-use Rattle.grain_listing.specs.Table.{own_line, instruction_line_of, later_line, or_else, line_of, stands, is_block}
+use Rattle.grain_listing.specs.Instructions.{kinds_of}
+use Rattle.grain_listing.specs.Table.{line_of, stands, is_block}
 use Rattle.grain_listing.specs.Statements.{Piece, Byte, Goto, Statement, blank, header, caps_line, limit_line, const_line, name_line, op_line, assign_line, scope_line, main_line, fn_line, end_line, code_line, label_line, section, caps, limits, consts, names, tokens, assigns, functions, labels, label_address, pieces, width, address}
 use Rattle.grain_listing.specs.LineMeanings.{bytes, operand, code_operand, operands, limit_set, statement, before_colon, labelled, known, header_end, header_number, begun_by, in_section, says}
-use Rattle.grain_listing.specs.declared.table.Encoding.{Encoding}
 use Rattle.grain_listing.specs.declared.table.Line.{Line}
 use Rattle.grain_listing.specs.declared.table.Line.TheVariants as lines
 use Rattle.grain_listing.specs.declared.table.OperandKind.{OperandKind}
@@ -31,69 +28,9 @@ use Rattle.grain_listing.specs.declared.reasons.Reason.TheVariants.{MissingHeade
 use Rattle.grain_listing.proofs.Assembled.{width-append}
 
 -- an instruction has at most three operands
-abbrev IsShort : Option Line → Type 0
-IsShort (Some (lines.Instruction e)) = length e.operands ≤ 3
-IsShort l = Unit {0}
-
-abbrev IsFew : Option Encoding → Type 0
-IsFew None = Unit {0}
-IsFew (Some e) = length e.operands ≤ 3
-
-three : (fs : List Field) → length (kinds_of fs) ≤ 3
-three [] = omega arith
-three (a ∷ []) = omega arith
-three (a ∷ b ∷ []) = omega arith
-three (a ∷ b ∷ c ∷ others) = omega arith
-
-either_few : (b : Bool) (x y : Option Encoding) → IsFew x → IsFew y → IsFew (cond b x y)
-either_few true x y hx hy = hx
-either_few false x y hx hy = hy
-
-few_in : (os : List (List ℕ → Op)) (w : List ℕ) → IsFew (encoding_among (encodings os) w)
-few_in [] w = tt
-few_in (o ∷ os) w =
-    either_few (bytes_eq w (word_of (o []))) (Some (encoding_of (o [])))
-    (encoding_among (encodings os) w) (three (fields_of (o []))) (few_in os w)
-
-few_named : (w : List ℕ) → IsFew (encoding_named w)
-unfolding encoding_named
-few_named w = few_in instructions w
-
-either_short : (b : Bool) (x y : Option Line) → IsShort x → IsShort y → IsShort (cond b x y)
-either_short true x y hx hy = hx
-either_short false x y hx hy = hy
-
-short_own : (w : List ℕ) → IsShort (own_line w)
-unfolding own_line
-short_own w =
-    either_short (bytes_eq w (codes "grain")) _ _ tt
-    (either_short (bytes_eq w (codes "caps")) _ _ tt
-    (either_short (bytes_eq w (codes "limit")) _ _ tt
-    (either_short (bytes_eq w (codes "const")) _ _ tt
-    (either_short (bytes_eq w (codes "name")) _ _ tt (either_short (bytes_eq w (codes "op")) _ _ tt
-    (either_short (bytes_eq w (codes "assign")) _ _ tt
-    (either_short (bytes_eq w (codes "scope")) _ _ tt
-    (either_short (bytes_eq w (codes "main")) _ _ tt
-    (either_short (bytes_eq w (codes "fn")) _ _ tt
-    (either_short (bytes_eq w (codes "byte")) _ _ tt
-    (either_short (bytes_eq w (codes "end")) _ _ tt tt)))))))))))
-
-short_or : (x y : Option Line) → IsShort x → IsShort y → IsShort (or_else x y)
-short_or None y hx hy = hy
-short_or (Some l) y hx hy = hx
-
-short_instruction : (o : Option Encoding) → IsFew o → IsShort (instruction_line_of o)
-short_instruction None h = tt
-short_instruction (Some e) h = h
-
-short_line : (w : List ℕ) → IsShort (line_of w)
-unfolding line_of
-short_line w =
-    short_or (own_line w) (or_else (instruction_line_of (encoding_named w)) (later_line w))
-    (short_own w)
-    (short_or (instruction_line_of (encoding_named w)) (later_line w)
-    (short_instruction (encoding_named w) (few_named w))
-    (either_short (is_later w) (Some lines.Later) None tt tt))
+few : (o : Op) → length (kinds_of (fields_of o)) ≤ 3
+few op.Unit = omega arith
+few _ = omega arith
 
 -- a statement, if there is one, gives at most 13 bytes
 abbrev IsNarrow : Statement → Type 0
@@ -189,64 +126,64 @@ both_up_to k (Ok a) others hf ho = at (others a.1) (ho a.1) where
   at (Err e) h = tt
 both_up_to k (Err e) others hf ho = tt
 
-up_to : (line : ℕ) (ks : List (Option OperandKind)) (cs : List ℕ) →
+up_to : (line : ℕ) (ks : List OperandKind) (cs : List ℕ) →
     AreUpTo (4 * length ks) (operands line ks cs)
-up_to line [] cs = wider 0 (4 * length {A = Option OperandKind} [])
+up_to line [] cs = wider 0 (4 * length {A = OperandKind} [])
     (and_then (position_after cs) (λ p. Ok ([], p))) (omega arith) (none_up_to (position_after cs))
-up_to line (None ∷ ks) cs = wider (4 * length ks) (4 * length (None ∷ ks)) (operands line ks cs)
-    (omega arith) (up_to line ks cs)
-up_to line (Some k ∷ ks) cs =
-    wider (4 * length ks + 4) (4 * length (Some k ∷ ks)) (operands line (Some k ∷ ks) cs)
+up_to line (k ∷ ks) cs =
+    wider (4 * length ks + 4) (4 * length (k ∷ ks)) (operands line (k ∷ ks) cs)
     (omega arith)
     (both_up_to (4 * length ks) (code_operand line k cs) (λ rest. operands line ks rest)
     (word_within line k cs) (λ rest. up_to line ks rest))
 
-instruction_narrow : (e : Encoding) (n : ℕ) (cs : List ℕ) → length e.operands ≤ 3 →
-    AreNarrow (and_then (operands n e.operands cs) (λ o. Ok (code_line (Byte e.tag) o.0 o.1)))
-instruction_narrow e n cs few = at (operands n e.operands cs) (up_to n e.operands cs) where
-  at : (r : Operands) → AreUpTo (4 * length e.operands) r →
-      AreNarrow (and_then r (λ o. Ok (code_line (Byte e.tag) o.0 o.1)))
-  at (Ok x) h = omega (arith, h, few)
-  at (Err m) h = tt
+instruction_narrow : (i : Op) (n : ℕ) (cs : List ℕ) →
+    AreNarrow (and_then (operands n (kinds_of (fields_of i)) cs)
+    (λ o. Ok (code_line (Byte (tag_of i)) o.0 o.1)))
+instruction_narrow i n cs =
+    at (operands n (kinds_of (fields_of i)) cs) (up_to n (kinds_of (fields_of i)) cs) where
+      at : (r : Operands) → AreUpTo (4 * length (kinds_of (fields_of i))) r →
+          AreNarrow (and_then r (λ o. Ok (code_line (Byte (tag_of i)) o.0 o.1)))
+      at (Ok x) h = omega (arith, h, few i)
+      at (Err m) h = tt
 
-line_narrow : (l : Line) (n : ℕ) (cs : List ℕ) (before : List Statement) → IsShort (Some l) →
+line_narrow : (l : Line) (n : ℕ) (cs : List ℕ) (before : List Statement) →
     AreNarrow (statement l n cs before)
-line_narrow lines.Header n cs before h = tt
-line_narrow lines.Capabilities n cs before h =
+line_narrow lines.Header n cs before = tt
+line_narrow lines.Capabilities n cs before =
     either_narrow (is_some (caps before)) (Err OutOfPlace)
     (and_then (capabilities capability_bits cs) (λ bits. Ok (caps_line bits))) tt
     (step_narrow (capabilities capability_bits cs) (λ bits. caps_line bits) (λ x e. tt))
-line_narrow lines.Limit n cs before h =
+line_narrow lines.Limit n cs before =
     step_narrow (limit_set cs (limits before)) (λ l. limit_line l) (λ x e. tt)
-line_narrow lines.Constant n cs before h =
+line_narrow lines.Constant n cs before =
     either_narrow (nat_lt (length (consts before)) 65536)
     (and_then (constant_of cs) (λ v. Ok (const_line v))) (Err TooMany)
     (step_narrow (constant_of cs) (λ v. const_line v) (λ x e. tt)) tt
-line_narrow lines.Name n cs before h =
+line_narrow lines.Name n cs before =
     either_narrow (nat_lt (length (names before)) 65536)
     (and_then (text_of cs) (λ t. Ok (name_line t))) (Err TooMany)
     (step_narrow (text_of cs) (λ t. name_line t) (λ x e. tt)) tt
-line_narrow lines.Operator n cs before h =
+line_narrow lines.Operator n cs before =
     either_narrow (nat_lt (length (tokens before)) 65536)
     (and_then (token_of cs) (λ t. Ok (op_line t))) (Err TooMany)
     (step_narrow (token_of cs) (λ t. op_line t) (λ x e. tt)) tt
-line_narrow lines.Assign n cs before h =
+line_narrow lines.Assign n cs before =
     either_narrow (nat_lt (length (assigns before)) 65536)
     (and_then (assign_of n cs) (λ a. Ok (assign_line a))) (Err TooMany)
     (step_narrow (assign_of n cs) (λ a. assign_line a) (λ x e. tt)) tt
-line_narrow lines.Entry n cs before h = step_narrow (entry_of cs) (λ x. scope_line x) (λ x e. tt)
-line_narrow lines.Main n cs before h = step_narrow (stack_of cs) (λ m. main_line m) (λ x e. tt)
-line_narrow lines.Function n cs before h =
+line_narrow lines.Entry n cs before = step_narrow (entry_of cs) (λ x. scope_line x) (λ x e. tt)
+line_narrow lines.Main n cs before = step_narrow (stack_of cs) (λ m. main_line m) (λ x e. tt)
+line_narrow lines.Function n cs before =
     let read : Result Statement Reason = and_then (header_of cs) (λ x. Ok (fn_line x)) in
     either_narrow (nat_lt (length (functions before)) 65536)
     (cond (is_crowded cs) (Err TooMany) read) (Err TooMany)
     (either_narrow (is_crowded cs) (Err TooMany) read tt
     (step_narrow (header_of cs) (λ x. fn_line x) (λ x e. tt))) tt
-line_narrow lines.Byte n cs before h =
+line_narrow lines.Byte n cs before =
     step_narrow (byte_of cs) (λ b. code_line (Byte b.0) [] b.1) (λ x e. omega arith)
-line_narrow lines.End n cs before h = alone_narrow cs end_line tt
-line_narrow (lines.Instruction e) n cs before h = instruction_narrow e n cs h
-line_narrow lines.Later n cs before h = tt
+line_narrow lines.End n cs before = alone_narrow cs end_line tt
+line_narrow (lines.Instruction i) n cs before = instruction_narrow i n cs
+line_narrow lines.Later n cs before = tt
 
 label_narrow : (t : Option (List ℕ)) (cs : List ℕ) (before : List Statement) →
     AreNarrow (labelled t cs before)
@@ -263,17 +200,17 @@ label_narrow (Some t) cs before =
     (alone_narrow cs (label_line (encode_utf8_all t)) tt)) tt) tt
 
 known_narrow : (l : Option Line) (n : ℕ) (w : List ℕ) (cs : List ℕ) (before : List Statement) →
-    IsShort l → AreNarrow (known l n w cs before)
-known_narrow None n w cs before h = label_narrow (before_colon w) cs before
-known_narrow (Some l) n w cs before h =
+    AreNarrow (known l n w cs before)
+known_narrow None n w cs before = label_narrow (before_colon w) cs before
+known_narrow (Some l) n w cs before =
     either_narrow (stands l (section before)) (statement l n cs before) (Err OutOfPlace)
-    (line_narrow l n cs before h) tt
+    (line_narrow l n cs before) tt
 
 begun_narrow : (o : Option (List ℕ × List ℕ)) (n : ℕ) (before : List Statement) →
     AreNarrow (begun_by o n before)
 begun_narrow None n before = tt
 begun_narrow (Some a) n before =
-    known_narrow (line_of a.0) n a.0 a.1 before (short_line a.0)
+    known_narrow (line_of a.0) n a.0 a.1 before
 
 end_narrow : (o : Option (List ℕ)) → AreNarrow (header_end o)
 end_narrow None = tt

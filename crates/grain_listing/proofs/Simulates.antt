@@ -11,6 +11,9 @@ use Rattle.grain_listing.specs.Operands.{word_operand, after_name, alone, positi
 use Rattle.grain_listing.specs.Literals.{constant_of, text_of, token_of, entry_of}
 use Rattle.grain_listing.specs.Settings.{capability_bits, capabilities}
 use Rattle.grain_listing.specs.Headers.{stack_of, assign_of, header_of, is_crowded}
+use Rattle.grain_program.specs.declared.code.instructions.Op.{Op}
+use Rattle.grain_program.specs.InstructionSet.{tag_of, fields_of}
+use Rattle.grain_listing.specs.Instructions.{kinds_of}
 use Rattle.grain_listing.specs.Table.{line_of, stands, is_block}
 use Rattle.grain_listing.specs.Statements.{Piece, Byte, Goto, Statement, blank, header, caps_line, limit_line, const_line, name_line, op_line, assign_line, scope_line, main_line, fn_line, end_line, code_line, label_line, section, caps, limits, consts, names, tokens, assigns, functions, labels, label_address, address, open_block}
 use Rattle.grain_listing.specs.LineMeanings.{bytes, operand, code_operand, operands, in_list, limit_set, statement, before_colon, label_said, labelled, known, header_end, header_number, header_said, begun_by, in_section, says}
@@ -18,7 +21,6 @@ use Rattle.grain_listing.specs.views.Assembling
 use Rattle.grain_listing.specs.views.Assembling.{AssemblerView, with_code, with_fixup, with_position, put_operand_word, put_operand, put_operands, closed, opened, put_line, put_label, known_line, with_header, is_start, after_header, take_line}
 use Rattle.grain_listing.specs.declared.blocks.OpenBlock.TheVariants as blocks
 use Rattle.grain_listing.specs.declared.headers.FunctionHeader.{FunctionHeader}
-use Rattle.grain_listing.specs.declared.table.Encoding.{Encoding}
 use Rattle.grain_listing.specs.declared.table.Line.{Line}
 use Rattle.grain_listing.specs.declared.table.Line.TheVariants as lines
 use Rattle.grain_listing.specs.declared.table.OperandKind.{OperandKind}
@@ -145,15 +147,14 @@ bytes_none v = ap (λ c. record v { code = c }) (sym (append-nil v.code))
 nothing_put : (v : AssemblerView) → v ≡ with_pieces [] v
 nothing_put v = bytes_none v ∙ bytes_put [] v
 
-operands_put : (a : ℕ) (ks : List (Option OperandKind)) (cs : List ℕ) (v : AssemblerView) →
+operands_put : (a : ℕ) (ks : List OperandKind) (cs : List ℕ) (v : AssemblerView) →
     put_operands a ks cs v ≡ and_then (operands v.line ks cs) (put a v)
 operands_put a [] cs v = at (position_after cs) where
   at : (r : Result (Option Position) Reason) → and_then r (λ p. given (with_position a p v)) ≡
       and_then (and_then r (λ p. Ok ([], p))) (put a v)
   at (Ok p) = ap (λ u. given (with_position a p u)) (nothing_put v)
   at (Err e) = refl
-operands_put a (None ∷ ks) cs v = operands_put a ks cs v
-operands_put a (Some k ∷ ks) cs v =
+operands_put a (k ∷ ks) cs v =
     ap (λ r. and_then r (λ u. put_operands a ks u.1 u.0)) (operand_put k cs v) ∙
     at (code_operand v.line k cs) (λ ps rest. operands_put a ks rest (with_pieces ps v)) where
       at : (r : Result (List Piece × List ℕ) Reason) →
@@ -172,21 +173,25 @@ placed : (n : ℕ) (said : List Statement) (p : Piece) (ps : List Piece) (o : Op
 placed n said p ps None = refl
 placed n said p ps (Some x) = refl
 
-instruction_said : (n : ℕ) (said : List Statement) (e : Encoding) (cs : List ℕ) →
-    put_line (lines.Instruction e) cs (assembled n said) ≡
-    and_then (statement (lines.Instruction e) n cs said) (next n said)
-instruction_said n said e cs =
-    at_next n said (λ a. put_operands a e.operands cs (with_code (e.tag ∷ []) (assembled n said)))
-    (and_then (operands n e.operands cs) (λ o. Ok (code_line (Byte e.tag) o.0 o.1)))
-    (ap (λ v. put_operands (address said) e.operands cs v)
-    (bytes_put (e.tag ∷ []) (assembled n said)) ∙
-    operands_put (address said) e.operands cs (with_pieces (Byte e.tag ∷ []) (assembled n said)) ∙
-    onward (address said) (Byte e.tag ∷ []) (assembled n said) (operands n e.operands cs) ∙
-    at (operands n e.operands cs)) where
+instruction_said : (n : ℕ) (said : List Statement) (i : Op) (cs : List ℕ) →
+    put_line (lines.Instruction i) cs (assembled n said) ≡
+    and_then (statement (lines.Instruction i) n cs said) (next n said)
+instruction_said n said i cs =
+    at_next n said (λ a. put_operands a (kinds_of (fields_of i)) cs
+    (with_code (tag_of i ∷ []) (assembled n said)))
+    (and_then (operands n (kinds_of (fields_of i)) cs)
+    (λ o. Ok (code_line (Byte (tag_of i)) o.0 o.1)))
+    (ap (λ v. put_operands (address said) (kinds_of (fields_of i)) cs v)
+    (bytes_put (tag_of i ∷ []) (assembled n said)) ∙
+    operands_put (address said) (kinds_of (fields_of i)) cs
+    (with_pieces (Byte (tag_of i) ∷ []) (assembled n said)) ∙
+    onward (address said) (Byte (tag_of i) ∷ []) (assembled n said)
+    (operands n (kinds_of (fields_of i)) cs) ∙
+    at (operands n (kinds_of (fields_of i)) cs)) where
       at : (r : Result (List Piece × Option Position) Reason) →
-          and_then (pieces_first (Byte e.tag ∷ []) r) (put (address said) (assembled n said)) ≡
-          and_then (and_then r (λ o. Ok (code_line (Byte e.tag) o.0 o.1))) (next n said)
-      at (Ok x) = ap given (placed n said (Byte e.tag) x.0 x.1)
+          and_then (pieces_first (Byte (tag_of i) ∷ []) r) (put (address said) (assembled n said)) ≡
+          and_then (and_then r (λ o. Ok (code_line (Byte (tag_of i)) o.0 o.1))) (next n said)
+      at (Ok x) = ap given (placed n said (Byte (tag_of i)) x.0 x.1)
       at (Err m) = refl
 
 byte_said : (n : ℕ) (said : List Statement) (cs : List ℕ) →
@@ -291,7 +296,7 @@ line_said lines.End n cs said =
     (alone cs end_line)
     (alone_said n said cs (closed (address said) (open_block said) (assembled n said)) end_line
     refl)
-line_said (lines.Instruction e) n cs said = instruction_said n said e cs
+line_said (lines.Instruction i) n cs said = instruction_said n said i cs
 line_said lines.Later n cs said = refl
 
 label_put : (n : ℕ) (said : List Statement) (t : List ℕ) (cs : List ℕ) →

@@ -2,7 +2,6 @@
 -- what they cite. `views` has what the reader's own parts mean, which private contracts alone cite.
 pub mod Steps
 pub mod Reasons
-pub mod Encodings
 pub mod Instructions
 pub mod Later
 pub mod Table

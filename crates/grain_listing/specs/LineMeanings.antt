@@ -11,6 +11,8 @@ use Rattle.grain_listing.specs.Operands.{word_operand, after_name, alone, positi
 use Rattle.grain_listing.specs.Literals.{constant_of, text_of, token_of, entry_of}
 use Rattle.grain_listing.specs.Settings.{entry_named, limit_named, limit_number, capability_bits, capabilities}
 use Rattle.grain_listing.specs.Headers.{stack_of, assign_of, header_of, is_crowded}
+use Rattle.grain_program.specs.InstructionSet.{tag_of, fields_of}
+use Rattle.grain_listing.specs.Instructions.{kinds_of}
 use Rattle.grain_listing.specs.Table.{line_of, stands, is_block}
 use Rattle.grain_listing.specs.Statements.{Piece, Byte, Goto, Statement, blank, header, caps_line, limit_line, const_line, name_line, op_line, assign_line, scope_line, main_line, fn_line, end_line, code_line, label_line, section, caps, limits, consts, names, tokens, assigns, functions, labels, label_address, bad_line}
 use Rattle.grain_listing.specs.declared.table.Line.{Line}
@@ -42,11 +44,10 @@ code_operand line k cs =
     and_then (word_operand cs) (λ a. and_then (operand line k a.0) (λ ps. Ok (ps, a.1)))
 
 -- an instruction's operands, and its position after them if it has one
-abbrev pub operands : ℕ → List (Option OperandKind) → List ℕ →
+abbrev pub operands : ℕ → List OperandKind → List ℕ →
     Result (List Piece × Option Position) Reason
 operands line [] cs = and_then (position_after cs) (λ p. Ok ([], p))
-operands line (None ∷ ks) cs = operands line ks cs
-operands line (Some k ∷ ks) cs =
+operands line (k ∷ ks) cs =
     and_then (code_operand line k cs)
     (λ a. and_then (operands line ks a.1) (λ o. Ok (a.0 ++ o.0, o.1)))
 
@@ -91,8 +92,9 @@ statement lines.Function n cs before =
     (and_then (header_of cs) (λ h. Ok (fn_line h))))
 statement lines.Byte n cs before = and_then (byte_of cs) (λ b. Ok (code_line (Byte b.0) [] b.1))
 statement lines.End n cs before = alone cs end_line
-statement (lines.Instruction e) n cs before =
-    and_then (operands n e.operands cs) (λ o. Ok (code_line (Byte e.tag) o.0 o.1))
+statement (lines.Instruction o) n cs before =
+    and_then (operands n (kinds_of (fields_of o)) cs)
+    (λ a. Ok (code_line (Byte (tag_of o)) a.0 a.1))
 statement lines.Later n cs before = Err NotBuilt
 
 -- the text before a colon at the end of a word

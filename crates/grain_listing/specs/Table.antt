@@ -1,10 +1,10 @@
 -- The lines of a listing, by their first words.
 use Rattle.std.specs.Prelude.{ℕ, Bool, true, false, List, Option, Some, None, if◌then◌else◌, codes, bytes_eq}
-use Rattle.grain_listing.specs.Instructions.{encoding_named}
+use Rattle.grain_listing.specs.Instructions.{op_named}
 use Rattle.grain_listing.specs.Later.{is_later}
 use Rattle.grain_listing.specs.declared.table.Section.{Section}
 use Rattle.grain_listing.specs.declared.table.Section.TheVariants as sections
-use Rattle.grain_listing.specs.declared.table.Encoding.{Encoding}
+use Rattle.grain_program.specs.declared.code.instructions.Op.{Op}
 use Rattle.grain_listing.specs.declared.table.Line.{Line}
 use Rattle.grain_listing.specs.declared.table.Line.TheVariants as lines
 
@@ -26,9 +26,9 @@ own_line w =
     else None)))))))))))
 
 -- an instruction's line
-abbrev pub instruction_line_of : Option Encoding → Option Line
+abbrev pub instruction_line_of : Option Op → Option Line
 instruction_line_of None = None
-instruction_line_of (Some e) = Some (lines.Instruction e)
+instruction_line_of (Some o) = Some (lines.Instruction o)
 
 -- a line that is not read yet
 abbrev pub later_line : List ℕ → Option Line
@@ -40,7 +40,7 @@ or_else (Some l) o = Some l
 
 -- the line that begins with the word
 unfoldable pub line_of : List ℕ → Option Line
-line_of w = or_else (own_line w) (or_else (instruction_line_of (encoding_named w)) (later_line w))
+line_of w = or_else (own_line w) (or_else (instruction_line_of (op_named w)) (later_line w))
 
 abbrev pub is_pools : Section → Bool
 is_pools sections.Start = false
@@ -76,5 +76,5 @@ stands lines.Main s = is_pools s
 stands lines.Function s = is_after s
 stands lines.Byte s = is_block s
 stands lines.End s = is_block s
-stands (lines.Instruction e) s = is_block s
+stands (lines.Instruction o) s = is_block s
 stands lines.Later s = true

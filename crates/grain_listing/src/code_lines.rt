@@ -1,6 +1,8 @@
 //! The lines that give code: instructions and single bytes.
 
 ghost use Rattle.std.specs.Prelude.{◌≡◌, [], IfOk};
+ghost use Rattle.grain_program.specs.Fields.{present, size_of};
+ghost use Rattle.grain_listing.specs.Instructions.{kind_of, kinds_of};
 ghost use Rattle.grain_listing.specs.declared.table.Line.TheVariants as lines;
 ghost use Rattle.grain_listing.specs.views.AssemblerView.{assembler_view, result_view, rest_view};
 ghost use Rattle.grain_listing.specs.views.Assembling.{HasRoom, with_code, with_fixup, put_operand_word, put_operand, put_operands, put_line};
@@ -8,10 +10,27 @@ ghost use Rattle.grain_listing.specs.views.Assembling.{HasRoom, with_code, with_
 use crate::assembler::{Assembler, Fixup};
 use crate::operands::{byte_of, position_after, word_operand};
 use crate::reasons::Reason;
-use crate::table::{Encoding, OperandKind};
+use crate::table::OperandKind;
+use grain_program::{Field, Op};
 use grain_value::{OutOfMemory, Text};
 use grain_words::{begins_letter, number, word_text};
 use std::alloc::Global;
+
+/// How an operand of the kind is read.
+fn kind_of(field: Field) -> OperandKind
+    ensures { result ≡ kind_of (size_of field) }
+{
+    match field {
+        Field::Count(_) => OperandKind::Byte,
+        Field::Constant(_)
+        | Field::Name(_)
+        | Field::Assignment(_)
+        | Field::Token(_)
+        | Field::Slot(_)
+        | Field::Number(_) => OperandKind::Index,
+        Field::Target(_) => OperandKind::Target,
+    }
+}
 
 impl Assembler {
     fn put_bytes(&mut self, bytes: &[u8]) -> Result<(), OutOfMemory>
@@ -105,16 +124,17 @@ impl Assembler {
         &mut self,
         alloc: Global,
         address: u32,
-        kinds: &[Option<OperandKind>],
+        places: &[Option<Field>],
         line: &[char],
     ) -> Result<Result<(), Reason>, OutOfMemory>
         ensures { IfOk result (λ r. result_view r (assembler_view self.new) ≡
-            put_operands address kinds.now line.now (assembler_view self.old)) }
+            put_operands address (kinds_of (present places.now)) line.now
+            (assembler_view self.old)) }
     {
         let mut rest = line;
-        for kind in kinds {
-            if let Some(kind) = kind {
-                match self.put_operand(alloc, *kind, rest)? {
+        for place in places {
+            if let Some(field) = place {
+                match self.put_operand(alloc, kind_of(*field), rest)? {
                     Err(reason) => return Ok(Err(reason)),
                     Ok(after) => rest = after,
                 }
@@ -127,16 +147,17 @@ impl Assembler {
     pub fn put_instruction(
         &mut self,
         alloc: Global,
-        encoding: Encoding,
+        op: Op,
         rest: &[char],
     ) -> Result<Result<(), Reason>, OutOfMemory>
         requires { HasRoom (assembler_view self.old) }
         ensures { IfOk result (λ r. result_view r (assembler_view self.new) ≡
-            put_line (lines.Instruction encoding) rest.now (assembler_view self.old)) }
+            put_line (lines.Instruction op) rest.now (assembler_view self.old)) }
     {
         let address = self.code_address();
-        self.code.push(encoding.tag)?;
-        self.put_operands(alloc, address, &encoding.operands, rest)
+        let row = op.descriptor();
+        self.code.push(row.tag)?;
+        self.put_operands(alloc, address, row.fields.as_slice(), rest)
     }
 
     /// The line of a single byte, by what stands after `byte`.

@@ -61,7 +61,7 @@ impl Assembler {
             Line::Function => self.put_function(alloc, rest),
             Line::Byte => self.put_byte(rest),
             Line::End => self.put_end(rest),
-            Line::Instruction(encoding) => self.put_instruction(alloc, encoding, rest),
+            Line::Instruction(op) => self.put_instruction(alloc, op, rest),
             Line::Later => Ok(Err(Reason::NotBuilt)),
         }
     }

@@ -1,13 +1,13 @@
 //! The words that begin a line, and what may stand where.
 
-ghost use Rattle.std.specs.Prelude.{◌≡◌, map, Some};
+ghost use Rattle.std.specs.Prelude.{◌≡◌, map, option_map, Some};
 ghost use Rattle.grain_program.specs.declared.code.instructions.Op.{Op};
-ghost use Rattle.grain_listing.specs.Encodings.{encoding_among};
-ghost use Rattle.grain_listing.specs.Instructions.{word_of, encoding_of, encoding_named};
-ghost use Rattle.grain_listing.specs.views.Tables.{value_encoding, flow_encoding};
+ghost use Rattle.grain_listing.specs.Instructions.{word_of, encoding_of, op_among, op_named};
+ghost use Rattle.grain_listing.specs.views.Tables.{value_op, flow_op};
 ghost use Rattle.grain_listing.specs.Table.{own_line, line_of, is_pools, is_block, is_after, stands};
 
 use crate::later::is_later;
+use grain_program::Op;
 use grain_words::is_word;
 
 /// Where the next line of a listing stands.
@@ -34,13 +34,6 @@ pub enum OperandKind {
     Target,
 }
 
-/// An instruction's byte and its operands, in the order of its words and of its bytes.
-#[derive(Clone, Copy)]
-pub struct Encoding {
-    pub tag: u8,
-    pub operands: [Option<OperandKind>; 3],
-}
-
 /// What a line does.
 #[derive(Clone, Copy)]
 pub enum Line {
@@ -56,236 +49,79 @@ pub enum Line {
     Function,
     Byte,
     End,
-    Instruction(Encoding),
+    /// An instruction, whatever the numbers of its operands are.
+    Instruction(Op),
     /// It is not read yet.
     Later,
 }
 
 /// The instructions of values and variables, by their words.
-const VALUES: [(&str, Encoding); 13] = [
-    (
-        "load_const",
-        Encoding {
-            tag: 0x01,
-            operands: [Some(OperandKind::Index), None, None],
-        },
-    ),
-    (
-        "unit",
-        Encoding {
-            tag: 0x02,
-            operands: [None, None, None],
-        },
-    ),
-    (
-        "false",
-        Encoding {
-            tag: 0x03,
-            operands: [None, None, None],
-        },
-    ),
-    (
-        "true",
-        Encoding {
-            tag: 0x04,
-            operands: [None, None, None],
-        },
-    ),
-    (
-        "load_local",
-        Encoding {
-            tag: 0x05,
-            operands: [Some(OperandKind::Index), None, None],
-        },
-    ),
-    (
-        "store_local",
-        Encoding {
-            tag: 0x06,
-            operands: [Some(OperandKind::Index), None, None],
-        },
-    ),
-    (
-        "store_const",
-        Encoding {
-            tag: 0x07,
-            operands: [Some(OperandKind::Index), None, None],
-        },
-    ),
-    (
-        "declare_local",
-        Encoding {
-            tag: 0x0d,
-            operands: [Some(OperandKind::Index), None, None],
-        },
-    ),
-    (
-        "declare_const",
-        Encoding {
-            tag: 0x0e,
-            operands: [Some(OperandKind::Index), None, None],
-        },
-    ),
-    (
-        "assign_local",
-        Encoding {
-            tag: 0x10,
-            operands: [Some(OperandKind::Index), Some(OperandKind::Index), None],
-        },
-    ),
-    (
-        "assign_local_op",
-        Encoding {
-            tag: 0x11,
-            operands: [
-                Some(OperandKind::Index),
-                Some(OperandKind::Index),
-                Some(OperandKind::Index),
-            ],
-        },
-    ),
-    (
-        "pop",
-        Encoding {
-            tag: 0x1b,
-            operands: [None, None, None],
-        },
-    ),
-    (
-        "rotate",
-        Encoding {
-            tag: 0x1c,
-            operands: [Some(OperandKind::Byte), None, None],
-        },
-    ),
+const VALUES: [(&str, Op); 13] = [
+    ("load_const", Op::LoadConst(0)),
+    ("unit", Op::Unit),
+    ("false", Op::False),
+    ("true", Op::True),
+    ("load_local", Op::LoadLocal(0)),
+    ("store_local", Op::StoreLocal(0)),
+    ("store_const", Op::StoreConst(0)),
+    ("declare_local", Op::DeclareLocal(0)),
+    ("declare_const", Op::DeclareConst(0)),
+    ("assign_local", Op::AssignLocal(0, 0)),
+    ("assign_local_op", Op::AssignLocalOp(0, 0, 0)),
+    ("pop", Op::Pop),
+    ("rotate", Op::Rotate(0)),
 ];
 
 /// The instructions that go elsewhere, call, count or cut, by their words.
-const FLOW: [(&str, Encoding); 12] = [
-    (
-        "jump",
-        Encoding {
-            tag: 0x1d,
-            operands: [Some(OperandKind::Target), None, None],
-        },
-    ),
-    (
-        "jump_if_false",
-        Encoding {
-            tag: 0x1e,
-            operands: [Some(OperandKind::Target), None, None],
-        },
-    ),
-    (
-        "jump_if_true",
-        Encoding {
-            tag: 0x1f,
-            operands: [Some(OperandKind::Target), None, None],
-        },
-    ),
-    (
-        "skip_if_not_unit",
-        Encoding {
-            tag: 0x20,
-            operands: [Some(OperandKind::Target), None, None],
-        },
-    ),
-    (
-        "call",
-        Encoding {
-            tag: 0x22,
-            operands: [Some(OperandKind::Index), Some(OperandKind::Byte), None],
-        },
-    ),
-    (
-        "call_op",
-        Encoding {
-            tag: 0x23,
-            operands: [
-                Some(OperandKind::Index),
-                Some(OperandKind::Byte),
-                Some(OperandKind::Index),
-            ],
-        },
-    ),
-    (
-        "unwind_to",
-        Encoding {
-            tag: 0x38,
-            operands: [Some(OperandKind::Index), None, None],
-        },
-    ),
-    (
-        "tick",
-        Encoding {
-            tag: 0x39,
-            operands: [None, None, None],
-        },
-    ),
-    (
-        "checkpoint",
-        Encoding {
-            tag: 0x3a,
-            operands: [None, None, None],
-        },
-    ),
-    (
-        "statement",
-        Encoding {
-            tag: 0x3b,
-            operands: [Some(OperandKind::Index), None, None],
-        },
-    ),
-    (
-        "throw",
-        Encoding {
-            tag: 0x49,
-            operands: [None, None, None],
-        },
-    ),
-    (
-        "return",
-        Encoding {
-            tag: 0x4a,
-            operands: [None, None, None],
-        },
-    ),
+const FLOW: [(&str, Op); 12] = [
+    ("jump", Op::Jump(0)),
+    ("jump_if_false", Op::JumpIfFalse(0)),
+    ("jump_if_true", Op::JumpIfTrue(0)),
+    ("skip_if_not_unit", Op::SkipIfNotUnit(0)),
+    ("call", Op::Call(0, 0)),
+    ("call_op", Op::CallOp(0, 0, 0)),
+    ("unwind_to", Op::UnwindTo(0)),
+    ("tick", Op::Tick),
+    ("checkpoint", Op::Checkpoint),
+    ("statement", Op::Statement(0)),
+    ("throw", Op::Throw),
+    ("return", Op::Return),
 ];
 
-fn find(encodings: &[(&str, Encoding)], word: &[char]) -> Option<Encoding>
-    ensures { result ≡ encoding_among (map (λ e. (e.0.now, e.1)) encodings.now) word.now }
+fn find(ops: &[(&str, Op)], word: &[char]) -> Option<Op>
+    ensures { result ≡ op_among (map (λ e. (e.0.now, e.1)) ops.now) word.now }
 {
-    for (first, encoding) in encodings {
+    for (first, op) in ops {
         if is_word(word, *first) {
-            return Some(*encoding);
+            return Some(*op);
         }
     }
     None
 }
 
-#[tactic(auto, unfolding(crate::specs::views::Tables::value_encoding))]
-fn value_encoding(word: &[char]) -> Option<Encoding>
-    ensures { result ≡ value_encoding word.now }
+#[tactic(auto, unfolding(crate::specs::views::Tables::value_op))]
+fn value_op(word: &[char]) -> Option<Op>
+    ensures { result ≡ value_op word.now }
 {
     find(&VALUES, word)
 }
 
-#[tactic(auto, unfolding(crate::specs::views::Tables::flow_encoding))]
-fn flow_encoding(word: &[char]) -> Option<Encoding>
-    ensures { result ≡ flow_encoding word.now }
+#[tactic(auto, unfolding(crate::specs::views::Tables::flow_op))]
+fn flow_op(word: &[char]) -> Option<Op>
+    ensures { result ≡ flow_op word.now }
 {
     find(&FLOW, word)
 }
 
-/// How the line of the instruction with the word is read.
+/// The instruction with the word.
 #[tactic(auto, using(crate::proofs::Spelled::found_first, crate::proofs::Spelled::found_second))]
-fn encoding_named(word: &[char]) -> Option<Encoding>
-    ensures { result ≡ encoding_named word.now }
+fn op_named(word: &[char]) -> Option<Op>
+    ensures { result ≡ op_named word.now }
 {
-    if let Some(encoding) = value_encoding(word) {
-        return Some(encoding);
+    if let Some(op) = value_op(word) {
+        return Some(op);
     }
-    flow_encoding(word)
+    flow_op(word)
 }
 
 /// A line that is no instruction's.
@@ -330,8 +166,8 @@ pub fn line_of(word: &[char]) -> Option<Line>
     if let Some(line) = own_line(word) {
         return Some(line);
     }
-    if let Some(encoding) = encoding_named(word) {
-        return Some(Line::Instruction(encoding));
+    if let Some(op) = op_named(word) {
+        return Some(Line::Instruction(op));
     }
     if is_later(word) {
         Some(Line::Later)
@@ -388,7 +224,7 @@ pub fn stands(line: Line, section: Section) -> bool
     }
 }
 
-/// Each instruction is read by its word, to the tag and the operands with which the code has it.
+/// Each instruction is found by its word, with the tag and the operands that the code has of it.
 pub fn instructions_are_in_the_table()
-    ensures { (o : Op) → encoding_named (word_of o) ≡ Some (encoding_of o) }
+    ensures { (o : Op) → option_map encoding_of (op_named (word_of o)) ≡ Some (encoding_of o) }
 {}

@@ -17,6 +17,8 @@ use Rattle.grain_listing.specs.Operands.{word_operand, alone, position_after, by
 use Rattle.grain_listing.specs.Literals.{constant_of, text_of, token_of, entry_of}
 use Rattle.grain_listing.specs.Settings.{capability_bits, capabilities}
 use Rattle.grain_listing.specs.Headers.{stack_of, assign_of, header_of}
+use Rattle.grain_program.specs.InstructionSet.{tag_of, fields_of}
+use Rattle.grain_listing.specs.Instructions.{kinds_of}
 use Rattle.grain_listing.specs.Table.{line_of, stands, is_block}
 use Rattle.grain_listing.specs.Statements.{Statement, main_ended, functions_ended}
 use Rattle.grain_listing.specs.LineMeanings
@@ -109,11 +111,10 @@ put_operand k cs v =
     and_then (word_operand cs) (λ a. and_then (put_operand_word k a.0 v) (λ u. Ok (u, a.1)))
 
 -- the operands of the instruction at the address, and its position after them
-abbrev pub put_operands : ℕ → List (Option OperandKind) → List ℕ → AssemblerView →
+abbrev pub put_operands : ℕ → List OperandKind → List ℕ → AssemblerView →
     Result AssemblerView Reason
 put_operands address [] cs v = and_then (position_after cs) (λ p. Ok (with_position address p v))
-put_operands address (None ∷ ks) cs v = put_operands address ks cs v
-put_operands address (Some k ∷ ks) cs v =
+put_operands address (k ∷ ks) cs v =
     and_then (put_operand k cs v) (λ a. put_operands address ks a.1 a.0)
 
 -- the address of what comes next has 32 bits
@@ -176,8 +177,8 @@ put_line lines.Function cs v =
 put_line lines.Byte cs v =
     and_then (byte_of cs) (λ b. Ok (with_position (length v.code) b.1 (with_code (b.0 ∷ []) v)))
 put_line lines.End cs v = alone cs (closed (length v.code) v.block v)
-put_line (lines.Instruction e) cs v =
-    put_operands (length v.code) e.operands cs (with_code (e.tag ∷ []) v)
+put_line (lines.Instruction o) cs v =
+    put_operands (length v.code) (kinds_of (fields_of o)) cs (with_code (tag_of o ∷ []) v)
 put_line lines.Later cs v = Err NotBuilt
 
 -- a label, alone on its line in the block, that no line before it has
