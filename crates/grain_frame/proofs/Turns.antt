@@ -1,6 +1,5 @@
 -- One turn of a frame's loop, and how a frame is left.
-use Rattle.std.proofs.Common.{◌≡◌, ◌+◌, ℕ, Option, Some, None, [], ◌∷◌, ◌++◌, Bool, true, false, Result, Ok, List, length, ◌<◌, ◌≤◌, ◌∙◌, take, refl, sym, subst, ap, arith}
-use Rattle.grain_value.specs.declared.values.Dynamic.{Dynamic}
+use Rattle.std.proofs.Common.{◌≡◌, ◌+◌, ℕ, Option, Some, None, [], ◌∷◌, ◌++◌, Bool, true, false, Ok, List, length, ◌∙◌, take, refl, sym, subst, ap, arith}
 use Rattle.grain_fault.specs.declared.faults.EvalAltResult.{EvalAltResult}
 use Rattle.grain_fault.specs.Problems.{Problem}
 use Rattle.grain_program.specs.declared.code.instructions.Op.{Op}
@@ -14,7 +13,7 @@ use Rattle.grain_means.specs.Rules.{or_return, start_instruction, instr, leave_b
 use Rattle.grain_means.specs.Ends.{went}
 use Rattle.grain_means.specs.Simulation.{LocalState, Computation, Simulates, SimulatesExactly, StopPersists}
 use Rattle.grain_means.specs.lemmas.Stretches.{same, compose, before}
-use Rattle.grain_frame.specs.Abstraction.{instruction_here, continuation, KeepsFrame, Runs, OnTrue, OnFalse, Unchanged}
+use Rattle.grain_frame.specs.Abstraction.{instruction_here, continuation, KeepsFrame, Runs, Unchanged}
 use Rattle.grain_frame.specs.declared.runs.Progress.{Progress}
 use Rattle.grain_frame.specs.declared.runs.Run.{Run}
 use Rattle.grain_frame.specs.declared.activations.Activation.{Activation}

@@ -1,7 +1,6 @@
 -- What the code has of a world, and where a stretch of it led.
 use Rattle.std.specs.Prelude.{◌≡◌, ◌⊎◌, ◌<◌, ◌≤◌, ◌+◌, ◌-◌, ℕ, List, [], ◌∷◌, ◌++◌, Bool, true, false, Option, Some, None, Result, Ok, Err, length, take, slice_index_or}
 use Rattle.grain_value.specs.declared.values.Dynamic.{Dynamic}
-use Rattle.grain_value.specs.declared.values.Held.{Held}
 use Rattle.grain_value.specs.declared.memory.OutOfMemory.{OutOfMemory}
 use Rattle.grain_value.specs.Operands.{top, under}
 use Rattle.grain_fault.specs.Problems.{NoMemory, problem_of}
@@ -18,7 +17,7 @@ use Rattle.grain_program.specs.View.{View}
 use Rattle.grain_global.specs.declared.engines.Engine.{Engine}
 use Rattle.grain_stack.specs.Views.{innermost, without_frame}
 use Rattle.grain_means.specs.Worlds.{Go, End, Then, Answer, Came, Failed, Frame, InFrame, Place}
-use Rattle.grain_means.specs.Rules.{leave_by_fault, instr, or_return, frame_at, resume_caller, without}
+use Rattle.grain_means.specs.Rules.{leave_by_fault, instr, or_return, frame_at, resume_caller}
 use Rattle.grain_means.specs.Simulation.{LocalState, Computation, Simulates, SimulatesExactly}
 use Rattle.grain_means.specs.Means.{setup}
 use Rattle.grain_frame.specs.Counts.{Counts}

@@ -1,5 +1,5 @@
 -- How the operands of all frames lie in one list: each frame's begin where those of the frame around it end.
-use Rattle.std.specs.Prelude.{ℕ, ◌+◌, ◌≤◌, Bool, true, false, if◌then◌else◌, List, [], ◌∷◌, length, take, drop, reverse}
+use Rattle.std.specs.Prelude.{ℕ, ◌+◌, ◌≤◌, Bool, if◌then◌else◌, List, [], ◌∷◌, length, take, drop, reverse}
 use Rattle.std.specs.Vec.{vec_capacity}
 use Rattle.grain_value.specs.declared.values.Held.{Held}
 use Rattle.grain_stack.specs.declared.stacks.Floor.{Floor}

@@ -1,4 +1,4 @@
-use Rattle.std.proofs.Common.{◌≡◌, ◌∙◌, ◌+◌, None, refl, ap, subst}
+use Rattle.std.proofs.Common.{◌≡◌, ◌∙◌, ◌+◌, None, ap, subst}
 use Rattle.grain_stack.specs.Views.{StacksView}
 use Rattle.grain_means.specs.Worlds.{Setup}
 use Rattle.grain_means.specs.Rules.{called}

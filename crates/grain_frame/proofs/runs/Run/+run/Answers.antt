@@ -1,6 +1,4 @@
-use Rattle.std.proofs.Common.{◌∙◌, ◌≡◌, ◌+◌, ◌-◌, ℕ, true, false, Option, Some, Ok, Err, length, refl, ap, sym, subst, arith}
-use Rattle.grain_program.specs.declared.code.instructions.Op.{Op}
-use Rattle.grain_program.specs.declared.code.instructions.Op.TheVariants as op
+use Rattle.std.proofs.Common.{◌∙◌, ◌≡◌, Option, Ok, Err, length, refl, ap, subst, arith}
 use Rattle.grain_means.specs.Worlds.{Frame, Place}
 use Rattle.grain_means.specs.Rules.{without}
 use Rattle.grain_frame.specs.Counts.{Counts}
@@ -12,7 +10,7 @@ use Rattle.grain_frame.specs.declared.loops.Pending.{Pending}
 use Rattle.grain_frame.proofs.Arms.{call_stepped}
 use Rattle.grain_frame.proofs.Calling.{call_over, call_ran, has_begun, not_begun, entered_with, found_is, params_are, there_is, outer_is}
 use Rattle.grain_frame.proofs.Measure.{falls}
-use Rattle.grain_frame.proofs.Turns.{moved_on, moved_back, turn, flowed, left_out, next_runs}
+use Rattle.grain_frame.proofs.Turns.{moved_back, turn, flowed, left_out, next_runs}
 use Rattle.grain_frame.proofs.runs.Run.+run.Goals as goal
 
 pub call-returns-in-Err-clause-goes : goal.call-returns-in-Err-clause-goes

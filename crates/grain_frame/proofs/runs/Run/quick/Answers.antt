@@ -1,7 +1,5 @@
-use Rattle.std.proofs.Common.{◌≡◌, ◌+◌, ℕ, Ok, Some, refl, subst, sym}
+use Rattle.std.proofs.Common.{refl}
 use Rattle.grain_program.specs.declared.code.instructions.Op.TheVariants as op
-use Rattle.grain_frame.specs.Abstraction.{Performs}
-use Rattle.grain_frame.specs.declared.runs.Progress.{Progress}
 use Rattle.grain_frame.proofs.Arms.{tried_out, stepped, stands}
 use Rattle.grain_frame.proofs.runs.Run.quick.Goals as goal
 

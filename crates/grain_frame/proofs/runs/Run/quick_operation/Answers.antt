@@ -1,4 +1,4 @@
-use Rattle.std.proofs.Common.{◌≡◌, ◌≤◌, ◌∙◌, true, refl, ap, sym, length, arith, rules}
+use Rattle.std.proofs.Common.{◌≡◌, ◌≤◌, ◌∙◌, true, ap, length, arith, rules}
 use Rattle.grain_program.specs.View.{token_of}
 use Rattle.grain_frame.proofs.Pairs.{arguments_two}
 use Rattle.grain_frame.proofs.runs.Run.quick_operation.Goals as goal

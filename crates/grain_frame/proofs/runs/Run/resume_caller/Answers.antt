@@ -1,4 +1,3 @@
-use Rattle.std.proofs.Common.{◌≡◌}
 use Rattle.grain_frame.proofs.runs.Run.resume_caller.Goals as goal
 
 pub returns-in-Fault-clause-same : goal.returns-in-Fault-clause-same

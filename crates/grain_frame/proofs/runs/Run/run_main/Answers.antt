@@ -1,5 +1,5 @@
-use Rattle.std.proofs.Common.{◌≡◌, ◌∙◌, ap, refl, List, ◌∷◌}
-use Rattle.grain_stack.specs.Views.{StackFrame, StacksView, innermost}
+use Rattle.std.proofs.Common.{◌≡◌, ◌∙◌, ap, refl, ◌∷◌}
+use Rattle.grain_stack.specs.Views.{StacksView, innermost}
 use Rattle.grain_frame.specs.Abstraction.{abstraction, entry_of}
 use Rattle.grain_frame.proofs.Mains.{main_ran, main_runs, answered_stack}
 use Rattle.grain_frame.proofs.runs.Run.run_main.Goals as goal

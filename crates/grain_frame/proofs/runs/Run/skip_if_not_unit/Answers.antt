@@ -1,12 +1,7 @@
-use Rattle.std.proofs.Common.{rules, refl, sym, ap, arith, ◌≡◌, ◌∙◌, ◌+◌, ◌-◌, length, true, false, Some, Ok, inl, inr}
-use Rattle.grain_value.specs.declared.values.Held.{Held}
-use Rattle.grain_value.specs.Operands.{top, below, under, arguments}
-use Rattle.grain_value.specs.Looking.{truth_of, is_unit}
-use Rattle.grain_stack.specs.Views.{StacksView}
-use Rattle.grain_ops.specs.Outcomes.{NotBuiltIn, Gave, ArithmeticFault}
-use Rattle.grain_means.specs.Rules.{operated, agrees}
-use Rattle.std.proofs.lemmas.List.{length-take}
-use Rattle.grain_frame.proofs.Arms.{implements_after, raises_exactly, kept_write, to_target, to_next}
+use Rattle.std.proofs.Common.{rules, refl, arith, ◌≡◌, true, false}
+use Rattle.grain_value.specs.Operands.{top}
+use Rattle.grain_value.specs.Looking.{is_unit}
+use Rattle.grain_frame.proofs.Arms.{implements_after, to_target, to_next}
 use Rattle.grain_frame.proofs.runs.Run.skip_if_not_unit.Goals as goal
 
 pub returns-then-is_unit : goal.returns-then-is_unit

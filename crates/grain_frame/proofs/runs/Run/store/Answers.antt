@@ -1,8 +1,5 @@
-use Rattle.std.proofs.Common.{rules, refl, sym, ap, arith, ◌≡◌, ◌∙◌, ◌+◌, ◌-◌, length, true, false, Some, Ok, inl, inr}
-use Rattle.grain_value.specs.declared.values.Held.{Held}
-use Rattle.grain_value.specs.Operands.{top, below, under, arguments}
-use Rattle.grain_stack.specs.Views.{StacksView}
-use Rattle.grain_frame.proofs.Arms.{implements_after, raises_exactly, kept_write, to_target, to_next}
+use Rattle.std.proofs.Common.{rules, refl}
+use Rattle.grain_frame.proofs.Arms.{kept_write}
 use Rattle.grain_frame.proofs.runs.Run.store.Goals as goal
 
 pub returns-in-Some : goal.returns-in-Some

@@ -1,5 +1,4 @@
-use Rattle.std.proofs.Common.{◌≡◌, ◌<◌, ◌≤◌, ◌+◌, ◌-◌, ◌++◌, ◌∷◌, ◌∙◌, [], length, take, refl, sym, ap, arith, rules}
-use Rattle.std.proofs.lemmas.List.{take-append-le}
+use Rattle.std.proofs.Common.{◌∙◌, ap, arith}
 use Rattle.grain_stack.specs.Filled.{Filled}
 use Rattle.grain_stack.proofs.slots.Slots.make.Goals as goal
 

@@ -1,7 +1,6 @@
-use Rattle.std.proofs.Common.{◌≡◌, ◌<◌, ◌≤◌, ◌+◌, ◌-◌, ◌++◌, ◌∷◌, ◌∙◌, [], length, take, refl, sym, ap, arith, rules}
+use Rattle.std.proofs.Common.{◌≡◌, ◌<◌, take, refl, ap}
 use Rattle.grain_value.specs.declared.values.Held.{Held}
 use Rattle.grain_value.specs.Operands.{read_write}
-use Rattle.std.specs.Prelude.{slice_set}
 use Rattle.grain_stack.specs.Filled.{Filled, operand_at}
 use Rattle.grain_stack.proofs.Lists.{set_taken, at_taken, below_height, set_length}
 use Rattle.grain_stack.proofs.slots.Slots.make_read_write.Goals as goal

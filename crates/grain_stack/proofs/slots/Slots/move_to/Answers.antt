@@ -1,5 +1,4 @@
-use Rattle.std.proofs.Common.{◌≡◌, ◌<◌, ◌≤◌, ◌+◌, ◌-◌, ◌++◌, ◌∷◌, ◌∙◌, [], length, take, refl, sym, ap, arith, rules}
-use Rattle.std.specs.Prelude.{slice_set}
+use Rattle.std.proofs.Common.{◌<◌, refl, ap}
 use Rattle.grain_stack.specs.Filled.{Filled}
 use Rattle.grain_stack.proofs.Lists.{set_taken, below_height, set_length}
 use Rattle.grain_stack.proofs.slots.Slots.move_to.Goals as goal

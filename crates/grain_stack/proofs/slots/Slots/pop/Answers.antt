@@ -1,4 +1,4 @@
-use Rattle.std.proofs.Common.{◌≡◌, ◌<◌, ◌≤◌, ◌+◌, ◌-◌, ◌++◌, ◌∷◌, ◌∙◌, [], length, take, refl, sym, ap, arith, rules}
+use Rattle.std.proofs.Common.{◌<◌, ◌∙◌, length, take, ap}
 use Rattle.grain_value.specs.Operands.{top}
 use Rattle.grain_stack.specs.Filled.{Filled}
 use Rattle.grain_stack.proofs.Lists.{top_taken}

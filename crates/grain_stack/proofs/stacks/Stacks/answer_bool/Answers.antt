@@ -1,5 +1,5 @@
-use Rattle.std.proofs.Common.{◌≡◌, ◌<◌, ◌≤◌, ◌+◌, ◌-◌, ◌++◌, ◌∷◌, [], length, take, drop, ap, ◌∙◌, refl, arith, length-drop}
-use Rattle.grain_value.specs.Operands.{top, under, read_write}
+use Rattle.std.proofs.Common.{◌≡◌, ◌≤◌, ◌+◌, length, drop, ap, refl, arith, length-drop}
+use Rattle.grain_value.specs.Operands.{read_write}
 use Rattle.grain_stack.specs.Views.{StacksView}
 use Rattle.grain_value.specs.declared.values.Dynamic.TheVariants as dynamic
 use Rattle.grain_stack.proofs.Lists.{answer_own, answer_rest}

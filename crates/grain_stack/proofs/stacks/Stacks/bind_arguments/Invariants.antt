@@ -1,4 +1,4 @@
-use Rattle.std.proofs.Common.{◌≡◌, ◌+◌, ◌≤◌, ◌++◌, drop, take, length}
+use Rattle.std.proofs.Common.{◌≡◌, ◌+◌, ◌++◌, drop, take, length}
 use Rattle.grain_value.specs.Operands.{bound_entries}
 use Rattle.grain_stack.proofs.stacks.Stacks.bind_arguments.Given as goal
 

@@ -1,6 +1,4 @@
-use Rattle.std.proofs.Common.{◌≡◌, ◌<◌, ◌≤◌, ◌+◌, ◌-◌, ◌++◌, ◌∷◌, [], length, take, drop, ap, ◌∙◌, refl, arith, length-drop}
-use Rattle.grain_value.specs.Operands.{top, under, read_write}
-use Rattle.grain_stack.specs.Views.{StacksView}
+use Rattle.std.proofs.Common.{refl}
 use Rattle.grain_stack.proofs.Lists.{cut_frame, cut_others}
 use Rattle.grain_stack.proofs.stacks.Stacks.cut.Goals as goal
 

@@ -1,6 +1,5 @@
-use Rattle.std.proofs.Common.{◌≡◌, ◌≤◌, ◌++◌, ◌∷◌, [], ◌∙◌, List, reverse, refl, ap}
+use Rattle.std.proofs.Common.{◌≡◌, ◌∷◌, [], ◌∙◌, reverse, refl, ap}
 use Rattle.std.proofs.lemmas.List.{reverse-append}
-use Rattle.grain_stack.specs.declared.stacks.Floor.{Floor}
 use Rattle.grain_stack.specs.Floors.{floors}
 use Rattle.grain_stack.proofs.Lists.{joined_operands, take_shorter}
 use Rattle.grain_stack.proofs.stacks.Stacks.join_frame.Goals as goal

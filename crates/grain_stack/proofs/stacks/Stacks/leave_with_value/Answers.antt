@@ -1,4 +1,4 @@
-use Rattle.std.proofs.Common.{◌≡◌, ◌∙◌, refl}
+use Rattle.std.proofs.Common.{◌∙◌}
 use Rattle.grain_value.specs.Operands.{top}
 use Rattle.grain_stack.proofs.Nesting.{joined_value}
 use Rattle.grain_stack.proofs.stacks.Stacks.leave_with_value.Goals as goal

@@ -1,8 +1,4 @@
-use Rattle.std.proofs.Common.{◌≡◌, ◌<◌, ◌≤◌, ◌+◌, ◌-◌, ◌++◌, ◌∷◌, [], length, take, drop, false, ap, ◌∙◌, refl, arith, length-drop, rules}
-use Rattle.grain_value.specs.declared.values.Held.{Held}
-use Rattle.grain_value.specs.declared.values.Dynamic.{Dynamic}
-use Rattle.grain_value.specs.declared.values.Dynamic.TheVariants as dynamic
-use Rattle.grain_value.specs.Operands.{read_write, under}
+use Rattle.std.proofs.Common.{◌≡◌, length, take, false, ap, ◌∙◌, refl, arith}
 use Rattle.grain_stack.specs.Views.{StacksView}
 use Rattle.grain_stack.specs.Floors.{frames_on, floors}
 use Rattle.grain_stack.proofs.Nesting.{note_room, noted_sound}

@@ -1,5 +1,4 @@
-use Rattle.std.proofs.Common.{◌≡◌, ◌<◌, ◌≤◌, ◌+◌, ◌-◌, ◌++◌, ◌∷◌, [], length, take, drop, ap, ◌∙◌, refl, arith, length-drop}
-use Rattle.grain_value.specs.Operands.{top, under, read_write}
+use Rattle.std.proofs.Common.{◌≡◌, ◌<◌, ◌+◌, ◌-◌, length, drop, ap, ◌∙◌, arith, length-drop}
 use Rattle.grain_stack.specs.Views.{StacksView}
 use Rattle.grain_stack.proofs.Lists.{peek_of}
 use Rattle.grain_stack.proofs.stacks.Stacks.peek.Goals as goal

@@ -1,5 +1,4 @@
-use Rattle.std.proofs.Common.{◌≡◌, ◌<◌, ◌≤◌, ◌+◌, ◌-◌, ◌++◌, ◌∷◌, [], length, take, drop, ap, ◌∙◌, refl, arith, length-drop}
-use Rattle.grain_value.specs.Operands.{top, under, read_write}
+use Rattle.std.proofs.Common.{◌≡◌, ◌<◌, ◌+◌, length, drop, ap, refl, arith, length-drop}
 use Rattle.grain_stack.specs.Views.{StacksView}
 use Rattle.grain_stack.proofs.Lists.{rotated_own, rotated_rest}
 use Rattle.grain_stack.proofs.stacks.Stacks.rotate.Goals as goal

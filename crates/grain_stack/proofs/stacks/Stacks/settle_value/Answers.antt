@@ -1,4 +1,4 @@
-use Rattle.std.proofs.Common.{◌≡◌, ◌<◌, ◌∙◌, ◌∷◌, List, length, take, sym, ap, arith}
+use Rattle.std.proofs.Common.{◌≡◌, ◌<◌, ◌∙◌, List, length, take, sym, ap, arith}
 use Rattle.grain_stack.specs.Views.{StackFrame, StacksView}
 use Rattle.grain_stack.specs.Filled.{Filled}
 use Rattle.grain_stack.specs.Floors.{frames_on, floors}
