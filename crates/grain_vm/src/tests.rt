@@ -12,7 +12,7 @@ use grain_program::{
     AssignOps, Caps, Chunk, Function, Functions, Indices, Names, Op, Parts, Positions, Program,
     Tokens, assemble, verify,
 };
-use grain_value::{Array, Dynamic, Limits, OutOfMemory, Scope, Store, Text};
+use grain_value::{Array, Dynamic, Limits, Name, OutOfMemory, Scope, Store, Text};
 use std::alloc::Global;
 use std::marker::Brand;
 use std::process::Abort;
@@ -38,7 +38,8 @@ fn parts_of(alloc: Global, ops: &[Op], end: u32) -> Result<Parts, OutOfMemory>
     let mut consts = Array::new(alloc);
     consts.push(Dynamic::Int(7))?;
     let mut names = Names::new(alloc);
-    names.push(Text::copy_of(alloc, "f")?)?;
+    let name = Text::copy_of(alloc, "f")?;
+    names.push(Name::new(alloc, name)?)?;
     let mut functions = Functions::new(alloc);
     let whole = u32::try_from(code.len()).unwrap_or(end);
     if whole > end {
