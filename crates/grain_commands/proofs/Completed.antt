@@ -1,6 +1,7 @@
 -- What an ended call says, and which status was due in it.
-use Rattle.std.proofs.Common.{◌≡◌, inl, inr, ℕ, true, false, List, Option, Some, Result, Ok, Err, IfSome, refl, sym, ap, ◌∙◌, subst}
-use Rattle.std.specs.Bool.{⊤}
+use Rattle.std.proofs.Common.{◌≡◌, ◌++◌, inl, inr, ℕ, true, false, List, Option, Some, Result, Ok, Err, IfSome, refl, sym, ap, ◌∙◌, subst}
+use Rattle.grain_host.specs.Tables.{table_law}
+use Rattle.grain_host.specs.declared.tables.TableHost.{TableHost}
 use Rattle.grain_program.specs.View.{View}
 use Rattle.grain_program.specs.Typing.{IsProgram, IsRefusal}
 use Rattle.grain_program.specs.declared.verifier.refusals.Refusal.{Refusal}
@@ -17,8 +18,9 @@ use Rattle.grain_listing.specs.declared.reasons.BadLine.{BadLine}
 
 -- a program means one end
 abbrev pub MeansOne : Type 0
-MeansOne = (program : View) (engine : Engine) (b : Begin ⊤) (e f : Finish ⊤) (n k : ℕ) →
-    Means program engine b e n → Means program engine b f k → (e ≡ f) × (n ≡ k)
+MeansOne =
+    (program : View) (engine : Engine) (b : Begin TableHost) (e f : Finish TableHost) (n k : ℕ) →
+    Means table_law program engine b e n → Means table_law program engine b f k → (e ≡ f) × (n ≡ k)
 
 -- parts have one refusal
 abbrev pub RefusedOnce : Type 0
@@ -28,21 +30,22 @@ same_set_up : (said : Result SetUp BadLine) (s t : SetUp) → said ≡ Ok s → 
 same_set_up said s t one other = cc
 
 -- the end that is told is the end that the program means
-same_report : MeansOne → (s : SetUp) (end : Finish ⊤) (n status : ℕ) (text : List ℕ) →
-    Means s.parts (engine_of s.limits) (start s.scope) end n →
+same_report : MeansOne → (s : SetUp) (end : Finish TableHost) (n status : ℕ) (text : List ℕ) →
+    Means table_law s.parts (engine_of s.limits) (start s.scope) end n →
     Reported s.parts s.limits s.scope status text →
     (status ≡ status_of end.answer) × (text ≡ report end)
 same_report law s end n status text means told =
     let one = law s.parts (engine_of s.limits)
     (start s.scope) end told.end n told.instructions means told.means in (
-      told.number ∙ ap (λ (x : Finish ⊤). status_of x.answer) (sym one.0),
+      told.number ∙ ap (λ (x : Finish TableHost). status_of x.answer) (sym one.0),
       told.written ∙
           ap report (sym one.0),
     )
 
-same_end : MeansOne → (said : Result SetUp BadLine) (s : SetUp) (end : Finish ⊤) (n status : ℕ)
+same_end : MeansOne → (said : Result SetUp BadLine) (s : SetUp) (end : Finish TableHost)
+    (n status : ℕ)
     (text : List ℕ) → said ≡ Ok s → IsProgram s.parts →
-    Means s.parts (engine_of s.limits) (start s.scope) end n → Replies said status text →
+    Means table_law s.parts (engine_of s.limits) (start s.scope) end n → Replies said status text →
     (status ≡ status_of end.answer) × (text ≡ report end)
 same_end law said s end n status text is valid means (no_listing e) = absurd cc
 same_end law said s end n status text is valid means (refused {s = t} e invalid first) =
@@ -94,7 +97,8 @@ given words input before now counts status due wanted only source sink (no_memor
 
 -- the told bytes say what was said
 said_of : (input : Option (List ℕ)) (bytes : List ℕ) (said wanted : Result SetUp BadLine) →
-    input ≡ Some bytes → reads bytes ≡ wanted → IfSome input (λ b. reads b ≡ said) → said ≡ wanted
+    input ≡ Some bytes → reads bytes ≡ wanted → IfSome input (λ b. reads b ≡ said) →
+    said ≡ wanted
 said_of input bytes said wanted told is h = sym
     (subst (λ (o : Option (List ℕ)). IfSome o (λ b. reads b ≡ said)) told h) ∙ is
 
@@ -116,7 +120,7 @@ only_usage words input none status text (no_command other) = (refl, refl)
 only_usage words input none status text (replied is_command h reply) = absurd cc
 
 only_end : MeansOne → (words : List (List ℕ)) (input : Option (List ℕ)) (bytes : List ℕ)
-    (end : Finish ⊤) → is_run words ≡ true → input ≡ Some bytes → RunEnds bytes end →
+    (end : Finish TableHost) → is_run words ≡ true → input ≡ Some bytes → RunEnds bytes end →
     OnlyAnswer words input (status_of end.answer) (report end)
 only_end law words input bytes end command told run =
     only_reply words input bytes (Ok run.set_up) (status_of end.answer)
@@ -125,13 +129,14 @@ only_end law words input bytes end command told run =
     run.means reply)
 
 -- the answer alone is the end's, by its trace
-end_at : (end : Finish ⊤) (a : Answer) → end.answer ≡ a → (status_of end.answer ≡ status_of a) ×
-    (report end ≡ answer_report a end.trace)
-end_at end a is = (ap status_of is, ap (λ x. answer_report x end.trace) is)
+end_at : (end : Finish TableHost) (a : Answer) → end.answer ≡ a →
+    (status_of end.answer ≡ status_of a) ×
+    (report end ≡ end.host.printed ++ answer_report a end.trace)
+end_at end a is = (ap status_of is, ap (λ x. end.host.printed ++ answer_report x end.trace) is)
 
-only_at : (words : List (List ℕ)) (input : Option (List ℕ)) (end : Finish ⊤) (a : Answer) →
+only_at : (words : List (List ℕ)) (input : Option (List ℕ)) (end : Finish TableHost) (a : Answer) →
     end.answer ≡ a → OnlyAnswer words input (status_of end.answer) (report end) →
-    OnlyAnswer words input (status_of a) (answer_report a end.trace)
+    OnlyAnswer words input (status_of a) (end.host.printed ++ answer_report a end.trace)
 only_at words input end a is only status text answers =
     let one = only status text answers in
     let at = end_at end a is in
@@ -142,12 +147,12 @@ pub completed : MeansOne → RefusedOnce → (words : List (List ℕ))
     Ended words input before now counts status → Completes words input before now counts status
 completed means refuses words input before now counts status ended = record {
   value = λ command none bytes told v end is run.
-      given words input before now counts status 0 (report_value v)
+      given words input before now counts status 0 (end.host.printed ++ report_value v)
       (only_at words input end (Came v) is
       (only_end means words input bytes end command told run))
       (λ _. none.source) none.sink ended;
   fault = λ command none bytes told p end is run.
-      given words input before now counts status 1 (report_fault p end.trace)
+      given words input before now counts status 1 (end.host.printed ++ report_fault p end.trace)
       (only_at words input end (Failed p) is
       (only_end means words input bytes end command told run))
       (λ _. none.source) none.sink ended;

@@ -1,6 +1,5 @@
 -- A call of the machine, as the end that the program means.
-use Rattle.std.proofs.Common.{◌≡◌, ◌≢◌, ℕ, Bool, true, List, [], Result, Ok, Err, IfOk, refl, ap, ◌∙◌}
-use Rattle.std.specs.Bool.{⊤}
+use Rattle.std.proofs.Common.{◌≡◌, ◌≢◌, ◌++◌, ℕ, Bool, true, List, [], Result, Ok, Err, IfOk, refl, ap, ◌∙◌}
 use Rattle.grain_value.specs.declared.memory.OutOfMemory.{OutOfMemory}
 use Rattle.grain_value.specs.declared.values.Dynamic.{Dynamic}
 use Rattle.grain_value.specs.declared.values.Limits.{Limits}
@@ -8,6 +7,8 @@ use Rattle.grain_fault.specs.Problems.{NoMemory, problem_of}
 use Rattle.grain_fault.specs.declared.traces.Fault.{Fault}
 use Rattle.grain_fault.specs.declared.faults.EvalAltResult.{EvalAltResult}
 use Rattle.grain_fault.specs.declared.faults.EvalAltResult.TheVariants as faults
+use Rattle.grain_host.specs.Tables.{blank, table_law}
+use Rattle.grain_host.specs.declared.tables.TableHost.{TableHost}
 use Rattle.grain_program.specs.View.{View}
 use Rattle.grain_global.specs.declared.engines.Engine.{Engine}
 use Rattle.grain_value.specs.declared.scopes.Entry.{Entry}
@@ -21,18 +22,25 @@ use Rattle.grain_commands.specs.Runs.{Reported, engine_of, start}
 use Rattle.grain_commands.specs.declared.replies.Reply.{Reply}
 
 -- a fault other than want of memory is the end that the program means
-meant : (p : View) (e : Engine) (b : Begin ⊤) (x : EvalAltResult) (finish : Answer →
-    Finish ⊤) (ran : ℕ) → x ≢ faults.Memory → Evaluates p e b (Err x) finish ran →
-    Means p e b (finish (Failed (problem_of x))) ran
+meant : (p : View) (e : Engine) (b : Begin TableHost) (x : EvalAltResult) (finish : Answer →
+    Finish TableHost) (ran : ℕ) → x ≢ faults.Memory → Evaluates table_law p e b (Err x) finish ran →
+    Means table_law p e b (finish (Failed (problem_of x))) ran
 meant p e b (faults.ErrorFunctionNotFound s q) finish ran other h = h
 meant p e b (faults.ErrorMismatchDataType r a q) finish ran other h = h
 meant p e b (faults.ErrorAssignmentToConstant s q) finish ran other h = h
 meant p e b (faults.ErrorInFunctionCall' f s k x q) finish ran other h = h
 meant p e b (faults.ErrorRuntime v q) finish ran other h = h
 meant p e b (faults.ErrorStackOverflow q) finish ran other h = h
+meant p e b (faults.ErrorDataTooLarge s q) finish ran other h = h
 meant p e b (faults.ErrorArithmetic s q) finish ran other h = h
 meant p e b (faults.ErrorTooManyOperations q) finish ran other h = h
 meant p e b (faults.ErrorTooManyVariables q) finish ran other h = h
+meant p e b (faults.ErrorIndexingType t q) finish ran other h = h
+meant p e b (faults.ErrorNonPureMethodCallOnConstant f q) finish ran other h = h
+meant p e b (faults.ErrorDotExpr s q) finish ran other h = h
+meant p e b (faults.ErrorTerminated v q) finish ran other h = h
+meant p e b (faults.Exit v q) finish ran other h = h
+meant p e b (faults.ErrorSystem s r) finish ran other h = h
 meant p e b (faults.Malformed k q) finish ran other h = h
 meant p e b faults.Memory finish ran other h = absurd (other refl)
 
@@ -43,9 +51,16 @@ no_want (faults.ErrorAssignmentToConstant s q) other e = cc
 no_want (faults.ErrorInFunctionCall' f s k x q) other e = cc
 no_want (faults.ErrorRuntime v q) other e = cc
 no_want (faults.ErrorStackOverflow q) other e = cc
+no_want (faults.ErrorDataTooLarge s q) other e = cc
 no_want (faults.ErrorArithmetic s q) other e = cc
 no_want (faults.ErrorTooManyOperations q) other e = cc
 no_want (faults.ErrorTooManyVariables q) other e = cc
+no_want (faults.ErrorIndexingType t q) other e = cc
+no_want (faults.ErrorNonPureMethodCallOnConstant f q) other e = cc
+no_want (faults.ErrorDotExpr s q) other e = cc
+no_want (faults.ErrorTerminated v q) other e = cc
+no_want (faults.Exit v q) other e = cc
+no_want (faults.ErrorSystem s r) other e = cc
 no_want (faults.Malformed k q) other e = cc
 no_want faults.Memory other e = absurd (other refl)
 
@@ -53,28 +68,35 @@ no_value : (v : Dynamic) → Came v ≢ Failed NoMemory
 no_value v e = cc
 
 -- an end, by its answer
-abbrev pub EndsAs : (Answer → Finish ⊤) → List Fault → Type 0
-EndsAs finish trace = (a : Answer) → ((finish a).answer ≡ a) × ((finish a).trace ≡ trace)
+abbrev pub EndsAs : (Answer → Finish TableHost) → List ℕ → List Fault → Type 0
+EndsAs finish printed trace = (a : Answer) → ((finish a).answer ≡ a) ×
+    ((finish a).trace ≡ trace) × ((finish a).host.printed ≡ printed)
 
-pub engine_is : (e : Engine) (l : Limits) → e.limits ≡ l → e.fast_operators ≡ true → e ≡ engine_of l
+pub engine_is : (e : Engine) (l : Limits) → e.limits ≡ l → e.fast_operators ≡ true →
+    e ≡ engine_of l
 engine_is e l limits fast = ap
     (λ (x : Limits). record { limits = x; fast_operators = e.fast_operators }) limits ∙
     ap (λ (b : Bool). record { limits = l; fast_operators = b }) fast
 
-pub begin_is : (scope : List Entry) (cells : List Cell) (m : VmView) (e : Engine) → cells ≡ [] →
+pub begin_is : (scope : List Entry) (cells : List Cell) (host : TableHost) (m : VmView)
+    (e : Engine) → cells ≡ [] → host ≡ blank →
     m ≡ record { engine = e; global = record { num_operations = 0; level = 0 }; trace = [] } →
-    begin scope cells tt m.global ≡ start scope
-begin_is scope cells m e none fresh =
-    ap (λ (x : List Cell). begin scope x tt m.global) none ∙
-    ap (λ (x : VmView). begin scope [] tt x.global) fresh
+    begin scope cells host m.global ≡ start scope
+begin_is scope cells host m e none empty fresh =
+    ap (λ (x : List Cell). begin scope x host m.global) none ∙
+    (ap (λ (x : TableHost). begin scope [] x m.global) empty ∙
+    ap (λ (x : VmView). begin scope [] blank x.global) fresh)
 
-pub value_told : (p : View) (l : Limits) (s : List Entry) (v : Dynamic) (e : Engine) (b : Begin ⊤)
-    (finish : Answer → Finish ⊤) (trace : List Fault) (ran : ℕ) (r : Result Reply OutOfMemory) →
+pub value_told : (p : View) (l : Limits) (s : List Entry) (v : Dynamic) (e : Engine)
+    (b : Begin TableHost)
+    (finish : Answer → Finish TableHost) (printed : List ℕ) (trace : List Fault) (ran : ℕ)
+    (r : Result Reply OutOfMemory) →
     e ≡ engine_of l → b ≡ start s →
-    EndsAs finish trace → Evaluates p e b (Ok v) finish ran → IfOk r (λ x. x.status ≡ 0) →
-    IfOk r (λ x. x.text ≡ report_value v) → IfOk r (λ x. Reported p l s x.status x.text)
-value_told p l s v e b finish trace ran (Err m) engine begun ends h status text = tt
-value_told p l s v e b finish trace ran (Ok x) engine begun ends h status text =
+    EndsAs finish printed trace → Evaluates table_law p e b (Ok v) finish ran →
+    IfOk r (λ x. x.status ≡ 0) →
+    IfOk r (λ x. x.text ≡ printed ++ report_value v) → IfOk r (λ x. Reported p l s x.status x.text)
+value_told p l s v e b finish printed trace ran (Err m) engine begun ends h status text = tt
+value_told p l s v e b finish printed trace ran (Ok x) engine begun ends h status text =
     let is = ends (Came v) in
     record {
       end = finish (Came v);
@@ -82,18 +104,21 @@ value_told p l s v e b finish trace ran (Ok x) engine begun ends h status text =
       means = rw (engine, begun) at h;
       number =
           rw is.0 status;
-      written = rw is.0 text;
+      written = rw (is.0, is.2) text;
       memory = rw is.0 (no_value v);
     }
 
 pub fault_told : (p : View) (l : Limits) (s : List Entry) (f : EvalAltResult) (e : Engine)
-    (b : Begin ⊤) (finish : Answer → Finish ⊤) (trace : List Fault) (ran : ℕ)
+    (b : Begin TableHost) (finish : Answer → Finish TableHost) (printed : List ℕ)
+    (trace : List Fault) (ran : ℕ)
     (r : Result Reply OutOfMemory) → e ≡ engine_of l → b ≡ start s →
-    EndsAs finish trace → Evaluates p e b (Err f) finish ran → IfOk r (λ x. x.status ≡ 1) →
-    IfOk r (λ x. x.text ≡ report_fault (problem_of f) trace) → IfOk r (λ x. f ≢ faults.Memory) →
+    EndsAs finish printed trace → Evaluates table_law p e b (Err f) finish ran →
+    IfOk r (λ x. x.status ≡ 1) →
+    IfOk r (λ x. x.text ≡ printed ++ report_fault (problem_of f) trace) →
+    IfOk r (λ x. f ≢ faults.Memory) →
     IfOk r (λ x. Reported p l s x.status x.text)
-fault_told p l s f e b finish trace ran (Err m) engine begun ends h status text other = tt
-fault_told p l s f e b finish trace ran (Ok x) engine begun ends h status text other =
+fault_told p l s f e b finish printed trace ran (Err m) engine begun ends h status text other = tt
+fault_told p l s f e b finish printed trace ran (Ok x) engine begun ends h status text other =
     let is = ends (Failed (problem_of f)) in
     let means = meant p e b f finish ran other h in
     record {
@@ -102,6 +127,6 @@ fault_told p l s f e b finish trace ran (Ok x) engine begun ends h status text o
       means =
           rw (engine, begun) at means;
       number = rw is.0 status;
-      written = rw (is.0, is.1) text;
+      written = rw (is.0, is.1, is.2) text;
       memory = rw is.0 (no_want f other);
     }

@@ -16,7 +16,8 @@ empty [] e = refl
 empty (x ∷ xs) e = absurd (omega arith)
 
 -- where nothing moved into a slice with room, nothing is left
-pub spent : (place n room : ℕ) (bytes : List ℕ) → n ≡ min (length (drop place bytes)) room → n ≡ 0 →
+pub spent : (place n room : ℕ) (bytes : List ℕ) → n ≡ min (length (drop place bytes)) room →
+    n ≡ 0 →
     0 < room → drop (place + n) bytes ≡ []
 spent place n room bytes count none some =
     let over : length (drop place bytes) ≡ 0 = omega arith in

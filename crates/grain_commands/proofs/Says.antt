@@ -1,8 +1,8 @@
 -- What an answer says, by its status.
-use Rattle.std.proofs.Common.{◌≡◌, ℕ, true, false, List, Option, Some, None, Result, Err, IfSome, refl, sym, ◌∙◌, subst, arith}
-use Rattle.std.specs.Bool.{⊤}
+use Rattle.std.proofs.Common.{◌≡◌, ◌++◌, ℕ, true, false, List, Option, Some, None, Result, Err, IfSome, refl, sym, ◌∙◌, subst, arith}
 use Rattle.grain_value.specs.declared.values.Dynamic.{Dynamic}
 use Rattle.grain_fault.specs.Problems.{Problem}
+use Rattle.grain_host.specs.declared.tables.TableHost.{TableHost}
 use Rattle.grain_program.specs.declared.verifier.refusals.Refusal.{Refusal}
 use Rattle.grain_means.specs.Worlds.{Answer, Came, Failed}
 use Rattle.grain_means.specs.Means.{Finish}
@@ -32,9 +32,10 @@ usage_says words input none = record {
   refused = λ e. absurd (omega arith);
 }
 
-value_says : (words : List (List ℕ)) (input : Option (List ℕ)) (v : Dynamic) (end : Finish ⊤) →
+value_says : (words : List (List ℕ)) (input : Option (List ℕ)) (v : Dynamic)
+    (end : Finish TableHost) →
     is_run words ≡ true → end.answer ≡ Came v → IfSome input (λ bytes. RunEnds bytes end) →
-    Says words input 0 (report_value v)
+    Says words input 0 (end.host.printed ++ report_value v)
 value_says words input v end command is run = record {
   known = omega arith;
   no_command = λ e. absurd cc;
@@ -45,9 +46,10 @@ value_says words input v end command is run = record {
   refused = λ e. absurd (omega arith);
 }
 
-fault_says : (words : List (List ℕ)) (input : Option (List ℕ)) (p : Problem) (end : Finish ⊤) →
+fault_says : (words : List (List ℕ)) (input : Option (List ℕ)) (p : Problem)
+    (end : Finish TableHost) →
     is_run words ≡ true → end.answer ≡ Failed p → IfSome input (λ bytes. RunEnds bytes end) →
-    Says words input 1 (report_fault p end.trace)
+    Says words input 1 (end.host.printed ++ report_fault p end.trace)
 fault_says words input p end command is run = record {
   known = omega arith;
   no_command = λ e. absurd cc;
@@ -85,9 +87,9 @@ refusal_says words input r command said = record {
 }
 
 -- an end's status and report say the end
-end_says : (words : List (List ℕ)) (input : Option (List ℕ)) (end : Finish ⊤) (a : Answer) →
+end_says : (words : List (List ℕ)) (input : Option (List ℕ)) (end : Finish TableHost) (a : Answer) →
     is_run words ≡ true → end.answer ≡ a → IfSome input (λ bytes. RunEnds bytes end) →
-    Says words input (status_of a) (answer_report a end.trace)
+    Says words input (status_of a) (end.host.printed ++ answer_report a end.trace)
 end_says words input end (Came v) command is run = value_says words input v end command is run
 end_says words input end (Failed p) command is run = fault_says words input p end command is run
 
@@ -121,7 +123,7 @@ reply_says words input said status text command told (reported {s} e valid h) =
       means = h.means;
     }) told in
     says_as words input status (status_of h.end.answer) text
-    (answer_report h.end.answer h.end.trace) h.number h.written
+    (h.end.host.printed ++ answer_report h.end.answer h.end.trace) h.number h.written
     (end_says words input h.end h.end.answer command refl run)
 
 answer_says : (words : List (List ℕ)) (input : Option (List ℕ)) (status : ℕ) (text : List ℕ) →

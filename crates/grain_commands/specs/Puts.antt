@@ -14,7 +14,8 @@ pub data AllTook {S : Type 0} (puts : S → List ℕ → Put → S → Type 0) (
       AllTook puts text first (count + n) t
 
 -- all of the text was put
-abbrev pub PutWhole : {S : Type 0} → (S → List ℕ → Put → S → Type 0) → List ℕ → S → S → Type 0
+abbrev pub PutWhole : {S : Type 0} → (S → List ℕ → Put → S → Type 0) → List ℕ → S → S →
+    Type 0
 PutWhole puts text first last = AllTook puts text first (length text) last
 
 -- the sink failed before all of the text was put, and no put came after that

@@ -82,7 +82,8 @@ counts_of source_before source_now sink_before sink_now = record {
 pub data Ended (words : List (List ℕ)) (input before now : Option (List ℕ)) (counts : Counts) :
     ℕ → Type 0 where
   -- the answer's text is written, and nothing else
-  wrote : {status : ℕ} {text : List ℕ} → Answers words input status text → now ≡ added text before →
+  wrote : {status : ℕ} {text : List ℕ} → Answers words input status text →
+      now ≡ added text before →
       Ended words input before now counts status
   -- the source failed: its count rose, and nothing is written
   source_failed : is_run words ≡ true → Rose counts.source_before counts.source_now → now ≡ before →

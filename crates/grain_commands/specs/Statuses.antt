@@ -1,8 +1,10 @@
 -- What each status says of the words and of the source's bytes, what is written with it, and which
 -- status is due.
-use Rattle.std.specs.Prelude.{⊤, ◌≡◌, ◌≤◌, ◌⊎◌, ℕ, true, false, List, Option, Some, Ok, Err, IfSome}
+use Rattle.std.specs.Prelude.{◌≡◌, ◌≤◌, ◌⊎◌, ◌++◌, ℕ, true, false, List, Option, Some, Ok, Err, IfSome}
 use Rattle.grain_value.specs.declared.values.Dynamic.{Dynamic}
 use Rattle.grain_fault.specs.Problems.{Problem}
+use Rattle.grain_host.specs.Tables.{table_law}
+use Rattle.grain_host.specs.declared.tables.TableHost.{TableHost}
 use Rattle.grain_program.specs.Typing.{IsProgram, IsRefusal}
 use Rattle.grain_program.specs.declared.verifier.refusals.Refusal.{Refusal}
 use Rattle.grain_means.specs.Worlds.{Came, Failed}
@@ -16,12 +18,13 @@ use Rattle.grain_listing.specs.declared.reasons.BadLine.{BadLine}
 
 -- the bytes are a listing whose parts are a program, and within the listing's limits the program
 -- means this end
-pub record RunEnds (bytes : List ℕ) (end : Finish ⊤) : Type 0 where
+pub record RunEnds (bytes : List ℕ) (end : Finish TableHost) : Type 0 where
   pub set_up : SetUp
   pub said : reads bytes ≡ Ok set_up
   pub valid : IsProgram set_up.parts
   pub instructions : ℕ
-  pub means : Means set_up.parts (engine_of set_up.limits) (start set_up.scope) end instructions
+  pub means : Means table_law set_up.parts (engine_of set_up.limits) (start set_up.scope) end
+      instructions
 
 -- the bytes are a listing whose parts are no program: this is the first rule that they break
 pub record IsRefused (bytes : List ℕ) (refusal : Refusal) : Type 0 where
@@ -38,12 +41,13 @@ pub record Says (words : List (List ℕ)) (input : Option (List ℕ)) (status : 
   -- 2 exactly where the words are no command: the usage
   pub no_command : is_run words ≡ false → status ≡ 2
   pub usage : status ≡ 2 → (is_run words ≡ false) × (text ≡ usage_text)
-  -- 0: the run ends in a value, and the text is its report
-  pub value : status ≡ 0 → (v : Dynamic) × (end : Finish ⊤) × (end.answer ≡ Came v) ×
-      IfSome input (λ bytes. RunEnds bytes end) × (text ≡ report_value v)
-  -- 1: the run ends in a fault, and the text is its report
-  pub fault : status ≡ 1 → (p : Problem) × (end : Finish ⊤) × (end.answer ≡ Failed p) ×
-      IfSome input (λ bytes. RunEnds bytes end) × (text ≡ report_fault p end.trace)
+  -- 0: the run ends in a value, and the text is what was printed and its report
+  pub value : status ≡ 0 → (v : Dynamic) × (end : Finish TableHost) × (end.answer ≡ Came v) ×
+      IfSome input (λ bytes. RunEnds bytes end) × (text ≡ end.host.printed ++ report_value v)
+  -- 1: the run ends in a fault, and the text is what was printed and its report
+  pub fault : status ≡ 1 → (p : Problem) × (end : Finish TableHost) × (end.answer ≡ Failed p) ×
+      IfSome input (λ bytes. RunEnds bytes end) ×
+      (text ≡ end.host.printed ++ report_fault p end.trace)
   -- 3: the bytes are no listing, and the text has the line and the reason
   pub no_listing : status ≡ 3 → (bad : BadLine) × IfSome input (λ bytes. reads bytes ≡ Err bad) ×
       (text ≡ bad_line_text bad)
@@ -81,19 +85,20 @@ pub record NoneRose (counts : Counts) : Type 0 where
 -- Which status and text are due if no stream failed. Want of memory alone may stand in their place.
 pub record Completes (words : List (List ℕ)) (input before now : Option (List ℕ)) (counts : Counts)
     (status : ℕ) : Type 0 where
-  -- a run that ends in a value: 0 and its report
+  -- a run that ends in a value: 0, what was printed and its report
   pub value : is_run words ≡ true → NoneRose counts → (bytes : List ℕ) → input ≡ Some bytes →
-      (v : Dynamic) (end : Finish ⊤) → end.answer ≡ Came v → RunEnds bytes end →
-      Gives 0 (report_value v) before now status
-  -- a run that ends in a fault: 1 and its report
+      (v : Dynamic) (end : Finish TableHost) → end.answer ≡ Came v → RunEnds bytes end →
+      Gives 0 (end.host.printed ++ report_value v) before now status
+  -- a run that ends in a fault: 1, what was printed and its report
   pub fault : is_run words ≡ true → NoneRose counts → (bytes : List ℕ) → input ≡ Some bytes →
-      (p : Problem) (end : Finish ⊤) → end.answer ≡ Failed p → RunEnds bytes end →
-      Gives 1 (report_fault p end.trace) before now status
+      (p : Problem) (end : Finish TableHost) → end.answer ≡ Failed p → RunEnds bytes end →
+      Gives 1 (end.host.printed ++ report_fault p end.trace) before now status
   -- no command: 2 and the usage, whatever the source does
   pub usage : is_run words ≡ false → (Rose counts.sink_before counts.sink_now → ⊥) →
       Gives 2 usage_text before now status
   -- no listing: 3, the line and the reason
-  pub no_listing : is_run words ≡ true → NoneRose counts → (bytes : List ℕ) → input ≡ Some bytes →
+  pub no_listing : is_run words ≡ true → NoneRose counts → (bytes : List ℕ) →
+      input ≡ Some bytes →
       (bad : BadLine) → reads bytes ≡ Err bad →
       Gives 3 (bad_line_text bad) before now status
   -- no program: 4 and the first rule that is broken

@@ -1,6 +1,6 @@
 //! Runs of programs, and the replies that report their ends.
 
-ghost use Rattle.std.specs.Prelude.{◌≡◌, ◌≢◌, ◌<◌, IfOk};
+ghost use Rattle.std.specs.Prelude.{◌≡◌, ◌≢◌, ◌<◌, ◌++◌, IfOk};
 ghost use Rattle.grain_fault.specs.Problems.{problem_of};
 ghost use Rattle.grain_fault.specs.declared.faults.EvalAltResult.TheVariants as faults;
 ghost use Rattle.grain_commands.specs.Reports.{report_value, report_fault};
@@ -9,36 +9,48 @@ ghost use Rattle.grain_commands.specs.Runs.{Reported};
 use crate::replies::Reply;
 use crate::reports::{report_fault, report_value};
 use grain_fault::{EvalAltResult, Fault};
+use grain_host::TableHost;
 use grain_program::Program;
-use grain_value::{Dynamic, Limits, OutOfMemory, Scope, Store};
+use grain_value::{Dynamic, Limits, OutOfMemory, Scope, Store, Text};
 use grain_vm::{Engine, Steps, Vm};
 use std::alloc::Global;
 use std::sync::ledger::Ledger;
 
-/// The reply to a run that ended in a value: 0 and its report.
-fn value_reply(alloc: Global, value: &Dynamic) -> Result<Reply, OutOfMemory>
+/// The reply to a run that ended in a value: 0, what was printed, and the value's report.
+fn value_reply(alloc: Global, printed: &Text, value: &Dynamic) -> Result<Reply, OutOfMemory>
     ensures status { IfOk result (λ r. r.status ≡ 0) }
-    ensures text { IfOk result (λ r. r.text ≡ report_value value.now) }
+    ensures text { IfOk result (λ r. r.text ≡ printed.now ++ report_value value.now) }
 {
-    let text = report_value(alloc, value)?;
+    let report = report_value(alloc, value)?;
+    let mut text = printed.copy(alloc)?;
+    text.push_str(report.as_str())?;
     Ok(Reply { status: 0, text })
 }
 
-/// The reply to a run that ended in a fault: 1 and its report. If the fault is want of memory,
-/// there is none.
-fn fault_reply(alloc: Global, fault: &EvalAltResult, trace: &[Fault]) -> Result<Reply, OutOfMemory>
+/// The reply to a run that ended in a fault: 1, what was printed, and the fault's report. If the
+/// fault is want of memory, there is none.
+fn fault_reply(
+    alloc: Global,
+    printed: &Text,
+    fault: &EvalAltResult,
+    trace: &[Fault],
+) -> Result<Reply, OutOfMemory>
     ensures status { IfOk result (λ r. r.status ≡ 1) }
-    ensures text { IfOk result (λ r. r.text ≡ report_fault (problem_of fault.now) trace.now) }
+    ensures text { IfOk result (λ r.
+        r.text ≡ printed.now ++ report_fault (problem_of fault.now) trace.now) }
     ensures memory { IfOk result (λ _. fault.now ≢ faults.Memory) }
 {
     if let EvalAltResult::Memory = fault {
         return Err(OutOfMemory);
     }
-    let text = report_fault(alloc, fault, trace)?;
+    let report = report_fault(alloc, fault, trace)?;
+    let mut text = printed.copy(alloc)?;
+    text.push_str(report.as_str())?;
     Ok(Reply { status: 1, text })
 }
 
-/// Runs the program on the scope, and reports the end. At least one operation is allowed.
+/// Runs the program on the scope, with a host in memory, and reports the end. At least one
+/// operation is allowed.
 pub fn run_program<L: Ledger>(
     alloc: Global,
     program: &Program,
@@ -53,8 +65,9 @@ pub fn run_program<L: Ledger>(
     let mut vm = Vm::new(alloc, &engine)?;
     let mut scope = scope;
     let mut cells = Store::new(alloc);
-    match vm.eval_with_callbacks(alloc, &mut (), &mut cells, &mut scope, program, steps) {
-        Ok(value) => value_reply(alloc, &value),
-        Err(fault) => fault_reply(alloc, &fault, vm.fault_trace()),
+    let mut host = TableHost::new(alloc);
+    match vm.eval_with_callbacks(alloc, &mut host, &mut cells, &mut scope, program, steps) {
+        Ok(value) => value_reply(alloc, host.printed(), &value),
+        Err(fault) => fault_reply(alloc, host.printed(), &fault, vm.fault_trace()),
     }
 }

@@ -4,6 +4,7 @@ ghost use Rattle.std.specs.Prelude.{ℕ, List, Option};
 ghost use Rattle.grain_commands.specs.Replies.{Counts, Ended};
 ghost use Rattle.grain_commands.specs.Statuses.{Beside, Completes};
 
+use grain_host::TableHost;
 use grain_means::one_meaning;
 use grain_program::one_refusal;
 
@@ -17,6 +18,6 @@ pub fn statuses_are_due()
         (counts : Counts) (status : ℕ) → Ended words input before now counts status →
         Completes words input before now counts status }
 {
-    one_meaning::<()>();
+    one_meaning::<TableHost>();
     one_refusal();
 }

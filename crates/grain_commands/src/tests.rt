@@ -3,7 +3,9 @@
 mod calls;
 mod edges;
 mod memory;
+mod natives;
 mod streams;
+mod values;
 
 use crate::call_numbers::CallNumbers;
 use crate::memory_sink::MemorySink;

@@ -1,6 +1,6 @@
 -- The three classes of faults: each fault is in exactly one.
 use Rattle.std.specs.Prelude.{Bool, true, false, not, ◌&&◌}
-use Rattle.grain_fault.specs.Problems.{Problem, FunctionNotFound, MismatchDataType, InFunctionCall, AssignmentToConstant, Arithmetic, Runtime, TooManyOperations, TooManyVariables, StackOverflow, Malformed, NoMemory}
+use Rattle.grain_fault.specs.Problems.{Problem, FunctionNotFound, MismatchDataType, InFunctionCall, AssignmentToConstant, IndexingType, NonPureCall, DotExpr, Arithmetic, Runtime, TooManyOperations, TooManyVariables, StackOverflow, DataTooLarge, Terminated, Exit, SystemError, Malformed, NoMemory}
 
 pub data Class : Type 0 where
   -- no fault, but how control leaves a construct
@@ -10,18 +10,25 @@ pub data Class : Type 0 where
   -- it ends the run, whatever the script does
   System : Class
 
--- catchable is what a script may do wrong; limits, malformed programs and want of memory are the
--- system's
+-- catchable is what a script may do wrong; limits, a host that ends the run, malformed programs and
+-- want of memory are the system's; an exit is a way to end a run with a value
 abbrev pub class_of : Problem → Class
 class_of (FunctionNotFound s p) = Catchable
 class_of (MismatchDataType r a p) = Catchable
 class_of (InFunctionCall f s x p) = Catchable
 class_of (AssignmentToConstant s p) = Catchable
+class_of (IndexingType t p) = Catchable
+class_of (NonPureCall f p) = Catchable
+class_of (DotExpr s p) = Catchable
 class_of (Arithmetic s p) = Catchable
 class_of (Runtime v p) = Catchable
 class_of (TooManyOperations p) = System
 class_of (TooManyVariables p) = System
 class_of (StackOverflow p) = System
+class_of (DataTooLarge t p) = System
+class_of (Terminated v p) = System
+class_of (Exit v p) = Pseudo
+class_of (SystemError s e) = System
 class_of (Malformed k p) = System
 class_of NoMemory = System
 

@@ -3,5 +3,6 @@
 pub mod Places
 pub mod Problems
 pub mod Classes
+pub mod Exits
 pub mod Positions
 pub mod Texts

@@ -7,7 +7,7 @@ ghost use Rattle.grain_fault.specs.Classes.{pseudo_error, catchable, system_exce
 use crate::faults::EvalAltResult;
 
 impl EvalAltResult {
-    /// Whether this is no fault, but how control leaves a construct. There are no such yet.
+    /// Whether this is no fault, but how control leaves a construct. That is an exit alone so far.
     pub fn is_pseudo_error(&self) -> bool
         ensures { result ≡ pseudo_error (problem_of self.now) }
     {
@@ -16,11 +16,18 @@ impl EvalAltResult {
             EvalAltResult::ErrorMismatchDataType(..) => false,
             EvalAltResult::ErrorInFunctionCall(..) => false,
             EvalAltResult::ErrorAssignmentToConstant(..) => false,
+            EvalAltResult::ErrorIndexingType(..) => false,
+            EvalAltResult::ErrorNonPureMethodCallOnConstant(..) => false,
+            EvalAltResult::ErrorDotExpr(..) => false,
             EvalAltResult::ErrorArithmetic(..) => false,
             EvalAltResult::ErrorRuntime(..) => false,
             EvalAltResult::ErrorTooManyOperations(..) => false,
             EvalAltResult::ErrorTooManyVariables(..) => false,
             EvalAltResult::ErrorStackOverflow(..) => false,
+            EvalAltResult::ErrorDataTooLarge(..) => false,
+            EvalAltResult::ErrorTerminated(..) => false,
+            EvalAltResult::Exit(..) => true,
+            EvalAltResult::ErrorSystem(..) => false,
             EvalAltResult::Malformed(..) => false,
             EvalAltResult::Memory => false,
         }
@@ -35,11 +42,18 @@ impl EvalAltResult {
             EvalAltResult::ErrorMismatchDataType(..) => true,
             EvalAltResult::ErrorInFunctionCall(..) => true,
             EvalAltResult::ErrorAssignmentToConstant(..) => true,
+            EvalAltResult::ErrorIndexingType(..) => true,
+            EvalAltResult::ErrorNonPureMethodCallOnConstant(..) => true,
+            EvalAltResult::ErrorDotExpr(..) => true,
             EvalAltResult::ErrorArithmetic(..) => true,
             EvalAltResult::ErrorRuntime(..) => true,
             EvalAltResult::ErrorTooManyOperations(..) => false,
             EvalAltResult::ErrorTooManyVariables(..) => false,
             EvalAltResult::ErrorStackOverflow(..) => false,
+            EvalAltResult::ErrorDataTooLarge(..) => false,
+            EvalAltResult::ErrorTerminated(..) => false,
+            EvalAltResult::Exit(..) => false,
+            EvalAltResult::ErrorSystem(..) => false,
             EvalAltResult::Malformed(..) => false,
             EvalAltResult::Memory => false,
         }

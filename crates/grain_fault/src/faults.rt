@@ -36,6 +36,13 @@ pub enum EvalAltResult {
     ErrorInFunctionCall(Text, Text, Box<EvalAltResult>, Position),
     /// An assignment to an entry of this name that can only be read.
     ErrorAssignmentToConstant(Text, Position),
+    /// No indexer for these types.
+    ErrorIndexingType(Text, Position),
+    /// A call of a native of this name, which writes its first argument, where that can only be
+    /// read.
+    ErrorNonPureMethodCallOnConstant(Text, Position),
+    /// A property that is not there, as the text says.
+    ErrorDotExpr(Text, Position),
     /// Arithmetic without a result.
     ErrorArithmetic(Text, Position),
     /// A value that the script threw.
@@ -46,6 +53,14 @@ pub enum EvalAltResult {
     ErrorTooManyVariables(Position),
     /// The limit of calls within one another is reached.
     ErrorStackOverflow(Position),
+    /// A value would be larger than a limit allows. The text says what of it is too large.
+    ErrorDataTooLarge(Text, Position),
+    /// The host ended the run, with this value.
+    ErrorTerminated(Dynamic, Position),
+    /// A native ended the script, with this value. It is no fault: it is how control leaves.
+    Exit(Dynamic, Position),
+    /// A failure of the host's own: what it is about, empty if it is about nothing, and the reason.
+    ErrorSystem(Text, Text),
     /// The program asks for what is not there.
     Malformed(MalformedKind, Position),
     /// There was no memory for what the run wanted to make or grow.

@@ -9,7 +9,7 @@ use crate::faults::EvalAltResult;
 use crate::places::Position;
 
 impl EvalAltResult {
-    /// Where the fault was raised. Want of memory has no position.
+    /// Where the fault was raised. `ErrorSystem` and want of memory have no position.
     pub fn position(&self) -> Position
         ensures { result ≡ position_of_problem (problem_of self.now) }
     {
@@ -18,17 +18,24 @@ impl EvalAltResult {
             EvalAltResult::ErrorMismatchDataType(_, _, position) => *position,
             EvalAltResult::ErrorInFunctionCall(_, _, _, position) => *position,
             EvalAltResult::ErrorAssignmentToConstant(_, position) => *position,
+            EvalAltResult::ErrorIndexingType(_, position) => *position,
+            EvalAltResult::ErrorNonPureMethodCallOnConstant(_, position) => *position,
+            EvalAltResult::ErrorDotExpr(_, position) => *position,
             EvalAltResult::ErrorArithmetic(_, position) => *position,
             EvalAltResult::ErrorRuntime(_, position) => *position,
             EvalAltResult::ErrorTooManyOperations(position) => *position,
             EvalAltResult::ErrorTooManyVariables(position) => *position,
             EvalAltResult::ErrorStackOverflow(position) => *position,
+            EvalAltResult::ErrorDataTooLarge(_, position) => *position,
+            EvalAltResult::ErrorTerminated(_, position) => *position,
+            EvalAltResult::Exit(_, position) => *position,
+            EvalAltResult::ErrorSystem(..) => Position::NONE,
             EvalAltResult::Malformed(_, position) => *position,
             EvalAltResult::Memory => Position::NONE,
         }
     }
 
-    /// Puts the fault at this position. Want of memory stays without one.
+    /// Puts the fault at this position. `ErrorSystem` and want of memory stay without one.
     pub fn set_position(&mut self, new_position: Position)
         ensures whole { problem_of self.new ≡ at_position new_position (problem_of self.old) }
         ensures position { position_of_problem (problem_of self.new)
@@ -39,11 +46,20 @@ impl EvalAltResult {
             EvalAltResult::ErrorMismatchDataType(_, _, position) => *position = new_position,
             EvalAltResult::ErrorInFunctionCall(_, _, _, position) => *position = new_position,
             EvalAltResult::ErrorAssignmentToConstant(_, position) => *position = new_position,
+            EvalAltResult::ErrorIndexingType(_, position) => *position = new_position,
+            EvalAltResult::ErrorNonPureMethodCallOnConstant(_, position) => {
+                *position = new_position;
+            }
+            EvalAltResult::ErrorDotExpr(_, position) => *position = new_position,
             EvalAltResult::ErrorArithmetic(_, position) => *position = new_position,
             EvalAltResult::ErrorRuntime(_, position) => *position = new_position,
             EvalAltResult::ErrorTooManyOperations(position) => *position = new_position,
             EvalAltResult::ErrorTooManyVariables(position) => *position = new_position,
             EvalAltResult::ErrorStackOverflow(position) => *position = new_position,
+            EvalAltResult::ErrorDataTooLarge(_, position) => *position = new_position,
+            EvalAltResult::ErrorTerminated(_, position) => *position = new_position,
+            EvalAltResult::Exit(_, position) => *position = new_position,
+            EvalAltResult::ErrorSystem(..) => {}
             EvalAltResult::Malformed(_, position) => *position = new_position,
             EvalAltResult::Memory => {}
         }
@@ -88,11 +104,18 @@ impl EvalAltResult {
             EvalAltResult::ErrorFunctionNotFound(..) => self,
             EvalAltResult::ErrorMismatchDataType(..) => self,
             EvalAltResult::ErrorAssignmentToConstant(..) => self,
+            EvalAltResult::ErrorIndexingType(..) => self,
+            EvalAltResult::ErrorNonPureMethodCallOnConstant(..) => self,
+            EvalAltResult::ErrorDotExpr(..) => self,
             EvalAltResult::ErrorArithmetic(..) => self,
             EvalAltResult::ErrorRuntime(..) => self,
             EvalAltResult::ErrorTooManyOperations(..) => self,
             EvalAltResult::ErrorTooManyVariables(..) => self,
             EvalAltResult::ErrorStackOverflow(..) => self,
+            EvalAltResult::ErrorDataTooLarge(..) => self,
+            EvalAltResult::ErrorTerminated(..) => self,
+            EvalAltResult::Exit(..) => self,
+            EvalAltResult::ErrorSystem(..) => self,
             EvalAltResult::Malformed(..) => self,
             EvalAltResult::Memory => self,
         }

@@ -3,7 +3,7 @@
 ghost use Rattle.std.specs.Prelude.{◌≡◌, ◌++◌, Some, is_ok, if◌then◌else◌};
 ghost use Rattle.std.specs.Fmt.{WritesOnOk};
 ghost use Rattle.grain_fault.specs.Problems.{problem_of};
-ghost use Rattle.grain_fault.specs.Texts.{fault_name, fault_text, message, mismatch_text, kind_text, line_and_column_text, location_text, call_text, origin_text, thrown_value_text};
+ghost use Rattle.grain_fault.specs.Texts.{fault_name, fault_text, message, mismatch_text, kind_text, line_and_column_text, location_text, call_text, origin_text, non_pure_text, thrown_value_text};
 
 use crate::faults::{EvalAltResult, MalformedKind};
 use crate::places::Position;
@@ -20,11 +20,20 @@ impl EvalAltResult {
             EvalAltResult::ErrorMismatchDataType(..) => "ErrorMismatchDataType",
             EvalAltResult::ErrorInFunctionCall(..) => "ErrorInFunctionCall",
             EvalAltResult::ErrorAssignmentToConstant(..) => "ErrorAssignmentToConstant",
+            EvalAltResult::ErrorIndexingType(..) => "ErrorIndexingType",
+            EvalAltResult::ErrorNonPureMethodCallOnConstant(..) => {
+                "ErrorNonPureMethodCallOnConstant"
+            }
+            EvalAltResult::ErrorDotExpr(..) => "ErrorDotExpr",
             EvalAltResult::ErrorArithmetic(..) => "ErrorArithmetic",
             EvalAltResult::ErrorRuntime(..) => "ErrorRuntime",
             EvalAltResult::ErrorTooManyOperations(..) => "ErrorTooManyOperations",
             EvalAltResult::ErrorTooManyVariables(..) => "ErrorTooManyVariables",
             EvalAltResult::ErrorStackOverflow(..) => "ErrorStackOverflow",
+            EvalAltResult::ErrorDataTooLarge(..) => "ErrorDataTooLarge",
+            EvalAltResult::ErrorTerminated(..) => "ErrorTerminated",
+            EvalAltResult::Exit(..) => "Exit",
+            EvalAltResult::ErrorSystem(..) => "ErrorSystem",
             EvalAltResult::Malformed(..) => "Malformed",
             EvalAltResult::Memory => "Memory",
         }
@@ -96,6 +105,18 @@ fn write_message<W: fmt::Write>(fault: &EvalAltResult, f: &mut fmt::Formatter<W>
         EvalAltResult::ErrorAssignmentToConstant(variable, _) => {
             write!(f, "Cannot modify constant {variable}")
         }
+        EvalAltResult::ErrorIndexingType(types, _) => write!(f, "Indexer unavailable: {types}"),
+        EvalAltResult::ErrorNonPureMethodCallOnConstant(function, _) => {
+            let call = NonPureCall(function);
+            write!(f, "{call}")
+        }
+        EvalAltResult::ErrorDotExpr(reason, _) => {
+            if reason.is_empty() {
+                write!(f, "Malformed dot expression")
+            } else {
+                write!(f, "{reason}")
+            }
+        }
         EvalAltResult::ErrorArithmetic(reason, _) => {
             if reason.is_empty() {
                 write!(f, "Arithmetic error")
@@ -110,6 +131,16 @@ fn write_message<W: fmt::Write>(fault: &EvalAltResult, f: &mut fmt::Formatter<W>
         EvalAltResult::ErrorTooManyOperations(_) => write!(f, "Too many operations"),
         EvalAltResult::ErrorTooManyVariables(_) => write!(f, "Too many variables defined"),
         EvalAltResult::ErrorStackOverflow(_) => write!(f, "Stack overflow"),
+        EvalAltResult::ErrorDataTooLarge(what, _) => write!(f, "{what} too large"),
+        EvalAltResult::ErrorTerminated(..) => write!(f, "Script terminated"),
+        EvalAltResult::Exit(..) => write!(f, "NOT AN ERROR - exit value"),
+        EvalAltResult::ErrorSystem(about, reason) => {
+            if about.is_empty() {
+                write!(f, "{reason}")
+            } else {
+                write!(f, "{about}: {reason}")
+            }
+        }
         EvalAltResult::Malformed(kind, _) => write!(f, "Malformed program: {kind}"),
         EvalAltResult::Memory => write!(f, "Out of memory"),
     }
@@ -137,6 +168,35 @@ impl fmt::Display for Mismatch<'_> {
     }
 }
 
+/// A call of a native that writes, on a value that may not be written.
+#[derive(Drop)]
+struct NonPureCall<'a>(&'a Text);
+
+impl fmt::Display for NonPureCall<'_> {
+    ghost output = { λ c. Some (non_pure_text c.0.now) };
+
+    fn fmt<W: fmt::Write>(&self, f: &mut fmt::Formatter<W>) -> fmt::Result {
+        let function = self.0.as_str();
+        if let Some(property) = function.strip_prefix("get$") {
+            write!(
+                f,
+                "Non-pure property {property} cannot be accessed on constant"
+            )
+        } else if let Some(property) = function.strip_prefix("set$") {
+            write!(f, "Cannot modify property '{property}' of constant")
+        } else if function == "index$get$" {
+            write!(f, "Non-pure indexer cannot be accessed on constant")
+        } else if function == "index$set$" {
+            write!(f, "Cannot assign to indexer of constant")
+        } else {
+            write!(
+                f,
+                "Non-pure method '{function}' cannot be called on constant"
+            )
+        }
+    }
+}
+
 /// A value that was thrown, after a colon. Unit and the empty text print nothing.
 #[derive(Drop)]
 struct ThrownValue<'a>(&'a Dynamic);
@@ -148,8 +208,6 @@ impl fmt::Display for ThrownValue<'_> {
         let value = self.0;
         match value {
             Dynamic::Unit => Ok(()),
-            Dynamic::Bool(_) => write!(f, ": {value}"),
-            Dynamic::Int(_) => write!(f, ": {value}"),
             Dynamic::Text(text) => {
                 if text.is_empty() {
                     Ok(())
@@ -157,6 +215,7 @@ impl fmt::Display for ThrownValue<'_> {
                     write!(f, ": {text}")
                 }
             }
+            _ => write!(f, ": {value}"),
         }
     }
 }

@@ -23,116 +23,218 @@ use Rattle.grain_frame.specs.declared.runs.Run.{Run}
 use Rattle.grain_frame.specs.declared.runs.Progress.{Progress}
 use Rattle.grain_frame.specs.declared.runs.Progress.TheVariants as progress
 
-module _ {H : Type 0} {m : Setup H} (f : Option Place → Frame) (n k next : ℕ) (g : Function) (found : function_found m.program n k ≡ Some g) where
+module _ {H : Type 0} {m : Setup H} (f : Option Place → Frame) (n k next : ℕ) (g : Function)
+    (found : function_found m.program n k ≡ Some g) where
   -- the function is found
-  finds : (old : LocalState H) → Simulates m old (λ p place w. instr p (op.Call n k) next (f place) w) false old
-      (λ p place w. enter_function p g (arguments k (f place).operands) (without k (f place)) next w)
-  finds old = same (record { this = refl; order = omega arith; equal = λ stop clear halts u place. rw found refl })
+  finds : (old : LocalState H) →
+      Simulates m old (λ p place w. instr p (op.Call n k) next (f place) w) false old
+      (λ p place w. enter_function p g (arguments k (f place).operands) (without k (f place)) next
+      w)
+  finds old =
+      same (record {
+        this = refl;
+        order = omega arith;
+        equal = λ stop clear halts u place.
+            rw found refl;
+      })
 
   -- the call did not come to its body
   pub call_over : {old new : LocalState H} {l : ℕ} {out : Bool} {last : Computation H} → l ≡ k →
-      SimulatesExactly m old (λ p place w. enter_function p g (arguments l (f place).operands) (without l (f place)) next w) out new last → Simulates m old (λ p place w. instr p (op.Call n k) next (f place) w) out new last
+      SimulatesExactly m old
+      (λ p place w. enter_function p g (arguments l (f place).operands) (without l (f place))
+      next w) out new last →
+      Simulates m old (λ p place w. instr p (op.Call n k) next (f place) w) out new last
   call_over {old} {new} {out = out} {last} all h =
-      compose (finds old) (same (subst (λ (q : ℕ). SimulatesExactly m old (λ p place w. enter_function p g (arguments q (f place).operands) (without q (f place)) next w) out new last) all h)) tt
+      compose (finds old)
+      (same (subst
+      (λ (q : ℕ).
+      SimulatesExactly m old
+      (λ p place w. enter_function p g (arguments q (f place).operands) (without q (f place))
+      next w) out new last) all h)) tt
 
   -- the body was run, and the caller goes on
-  pub call_ran : {old mid after there new : LocalState H} {inner outer : Option Place → Frame} (scope : List Entry) (level : ℕ) {l : ℕ} {b : Answer} {one two : Bool} {last : Computation H} → l ≡ k →
-      SimulatesExactly m old (λ p place w. enter_function p g (arguments l (f place).operands) (without l (f place)) next w) false mid
-      (λ p place w. Then (Go (InFrame (frame_at g.chunk 0 None)) w) (λ a w2. resume_caller p g (without l (f place)) next a (record w2 { scope = scope; level = level }))) →
-      ((place : Option Place) → inner place ≡ frame_at g.chunk 0 place) → mid.this ≡ None → Simulates m mid (λ p place w. Go (InFrame (inner place)) w) one after (λ p place w. End b w) →
-      there ≡ record after { scope = scope; level = level } → ((place : Option Place) → outer place ≡ without k (f place)) → SimulatesExactly m there (λ p place w. resume_caller p g (outer place) next b w) two new last → StopPersists one after.passed two new.passed →
+  pub call_ran : {old mid after there new : LocalState H} {inner outer : Option Place → Frame}
+      (scope : List Entry) (level : ℕ) {l : ℕ} {b : Answer} {one two : Bool}
+      {last : Computation H} → l ≡ k →
+      SimulatesExactly m old
+      (λ p place w. enter_function p g (arguments l (f place).operands) (without l (f place))
+      next w) false mid
+      (λ p place w. Then (Go (InFrame (frame_at g.chunk 0 None)) w)
+      (λ a w2. resume_caller p g (without l (f place)) next a
+      (record w2 { scope = scope; level = level }))) →
+      ((place : Option Place) → inner place ≡ frame_at g.chunk 0 place) → mid.this ≡ None →
+      Simulates m mid (λ p place w. Go (InFrame (inner place)) w) one after
+      (λ p place w. End b w) →
+      there ≡ record after { scope = scope; level = level } →
+      ((place : Option Place) → outer place ≡ without k (f place)) →
+      SimulatesExactly m there (λ p place w. resume_caller p g (outer place) next b w) two new
+      last → StopPersists one after.passed two new.passed →
       Simulates m old (λ p place w. instr p (op.Call n k) next (f place) w) two new last
-  call_ran {old} {mid} {after} {there} {new} {inner} {outer} scope level {b = b} {one} {two} {last} all begins at none ran is rest resumes persists =
-      let body : Simulates m mid (λ p place w. Go (InFrame (frame_at g.chunk 0 None)) w) one after (λ p place w. End b w) =
-      alone {first = λ p place w. Go (InFrame (frame_at g.chunk 0 place)) w} none (by_frame at ran) in
-      let here : SimulatesExactly m (record after { scope = scope; level = level }) (λ p place w. resume_caller p g (outer place) next b w) two new last = subst (λ (q : LocalState H). SimulatesExactly m q (λ p place w. resume_caller p g (outer place) next b w) two new last) is resumes in
-      compose (finds old) (compose (same (subst (λ (q : ℕ). SimulatesExactly m old (λ p place w. enter_function p g (arguments q (f place).operands) (without q (f place)) next w) false mid
-      (λ p place w. Then (Go (InFrame (frame_at g.chunk 0 None)) w) (λ a w2. resume_caller p g (without q (f place)) next a (record w2 { scope = scope; level = level })))) all begins))
-      (compose (continued (λ p place a w2. resume_caller p g (without k (f place)) next a (record w2 { scope = scope; level = level })) body) (same (goes_on here rest)) persists) tt) tt where
-        by_frame : ((place : Option Place) → inner place ≡ frame_at g.chunk 0 place) → Simulates m mid (λ p place w. Go (InFrame (inner place)) w) one after (λ p place w. End b w) → Simulates m mid (λ p place w. Go (InFrame (frame_at g.chunk 0 place)) w) one after (λ p place w. End b w)
-        by_frame at ran = compose {one = false} (same (record { this = refl; order = omega arith; equal = λ stop clear halts u place. rw (at place) refl })) ran tt
+  call_ran {old} {mid} {after} {there} {new} {inner} {outer} scope level {b = b} {one} {two} {last}
+      all begins at none ran is rest resumes persists =
+      let body : Simulates m mid (λ p place w. Go (InFrame (frame_at g.chunk 0 None)) w) one after
+      (λ p place w. End b w) =
+      alone {first = λ p place w. Go (InFrame (frame_at g.chunk 0 place)) w} none (by_frame at ran)
+      in
+      let here : SimulatesExactly m (record after { scope = scope; level = level })
+      (λ p place w. resume_caller p g (outer place) next b w) two new last =
+      subst (λ (q : LocalState H).
+      SimulatesExactly m q (λ p place w. resume_caller p g (outer place) next b w) two new last)
+      is resumes in
+      compose (finds old)
+      (compose (same
+      (subst (λ (q : ℕ).
+      SimulatesExactly m old
+      (λ p place w. enter_function p g (arguments q (f place).operands) (without q (f place))
+      next w) false mid
+      (λ p place w. Then (Go (InFrame (frame_at g.chunk 0 None)) w)
+      (λ a w2. resume_caller p g (without q (f place)) next a
+      (record w2 { scope = scope; level = level })))) all begins))
+      (compose (continued
+      (λ p place a w2. resume_caller p g (without k (f place)) next a
+      (record w2 { scope = scope; level = level })) body) (same (goes_on here rest)) persists)
+      tt) tt where
+        by_frame : ((place : Option Place) → inner place ≡ frame_at g.chunk 0 place) →
+            Simulates m mid (λ p place w. Go (InFrame (inner place)) w) one after
+            (λ p place w. End b w) →
+            Simulates m mid (λ p place w. Go (InFrame (frame_at g.chunk 0 place)) w) one after
+            (λ p place w. End b w)
+        by_frame at ran =
+            compose {one = false}
+            (same (record {
+              this = refl;
+              order = omega arith;
+              equal = λ stop clear halts u place.
+                  rw (at place) refl;
+            })) ran tt
 
         -- the caller's scope and level are back
-        goes_on : SimulatesExactly m (record after { scope = scope; level = level }) (λ p place w. resume_caller p g (outer place) next b w) two new last → ((place : Option Place) → outer place ≡ without k (f place)) →
-            SimulatesExactly m after (λ p place w. resume_caller p g (without k (f place)) next b (record w { scope = scope; level = level })) two new last
-        goes_on h rest = record { this = h.this; order = h.order; equal = λ stop clear halts u place. rw (← rest place) (h.equal stop clear halts u place) }
+        goes_on : SimulatesExactly m (record after { scope = scope; level = level })
+            (λ p place w. resume_caller p g (outer place) next b w) two new last →
+            ((place : Option Place) → outer place ≡ without k (f place)) →
+            SimulatesExactly m after
+            (λ p place w. resume_caller p g (without k (f place)) next b
+            (record w { scope = scope; level = level })) two new last
+        goes_on h rest =
+            record {
+              this = h.this;
+              order = h.order;
+              equal = λ stop clear halts u place.
+                  rw (← rest place) (h.equal stop clear halts u place);
+            }
 
 -- the call has begun
-pub has_begun : {H : Type 0} {m : Setup H} {old new : LocalState H} {start : Computation H} (b : Bool) (s s1 : Run H) (g : Function) (f : Option Place → Frame) (next : ℕ) → b ≡ true → SimulatesExactly m old start false new (call_continuation (Ok b) s s1 g f next) →
+pub has_begun : {H : Type 0} {m : Setup H} {old new : LocalState H} {start : Computation H}
+    (b : Bool) (s s1 : Run H) (g : Function) (f : Option Place → Frame) (next : ℕ) → b ≡ true →
+    SimulatesExactly m old start false new (call_continuation (Ok b) s s1 g f next) →
     SimulatesExactly m old start false new (call_continuation (Ok true) s s1 g f next)
-has_begun {m = m} {old} {new} {start} b s s1 g f next e h = subst (λ (q : Bool). SimulatesExactly m old start false new (call_continuation (Ok q) s s1 g f next)) e h
+has_begun {m = m} {old} {new} {start} b s s1 g f next e h =
+    subst (λ (q : Bool). SimulatesExactly m old start false new
+    (call_continuation (Ok q) s s1 g f next)) e h
 
 -- a fault left the frame before the call began
-pub not_begun : {H : Type 0} {m : Setup H} {old new : LocalState H} {start : Computation H} (b : Bool) (s s1 : Run H) (g : Function) (f : Option Place → Frame) (next : ℕ) → b ≡ false → SimulatesExactly m old start false new (call_continuation (Ok b) s s1 g f next) →
+pub not_begun : {H : Type 0} {m : Setup H} {old new : LocalState H} {start : Computation H}
+    (b : Bool) (s s1 : Run H) (g : Function) (f : Option Place → Frame) (next : ℕ) → b ≡ false →
+    SimulatesExactly m old start false new (call_continuation (Ok b) s s1 g f next) →
     SimulatesExactly m old start false new (call_continuation (Ok false) s s1 g f next)
-not_begun {m = m} {old} {new} {start} b s s1 g f next e h = subst (λ (q : Bool). SimulatesExactly m old start false new (call_continuation (Ok q) s s1 g f next)) e h
+not_begun {m = m} {old} {new} {start} b s s1 g f next e h =
+    subst (λ (q : Bool). SimulatesExactly m old start false new
+    (call_continuation (Ok q) s s1 g f next)) e h
 
 -- the function that the code found is the meaning's
-pub found_is : (p : View) (name count name' count' number : ℕ) (g : Function) → name' ≡ name → count' ≡ count → Some number ≡ function_of p name' count' → slice_get p.functions number ≡ Some g → function_found p name count ≡ Some g
+pub found_is : (p : View) (name count name' count' number : ℕ) (g : Function) → name' ≡ name →
+    count' ≡ count → Some number ≡ function_of p name' count' → slice_get p.functions number ≡
+    Some g → function_found p name count ≡ Some g
 found_is p name count name' count' number g en ec e is =
-    let here : function_of p name count ≡ Some number = subst (λ (q : ℕ). function_of p q count ≡ Some number) en (subst (λ (q : ℕ). function_of p name' q ≡ Some number) ec (sym e)) in
+    let here : function_of p name count ≡ Some number =
+    subst (λ (q : ℕ). function_of p q count ≡ Some number) en
+    (subst (λ (q : ℕ). function_of p name' q ≡ Some number) ec (sym e)) in
     ap (function_numbered p) here ∙ is
 
 -- it has as many parameters as there are arguments
-pub params_are : (p : View) (name count count' number : ℕ) (g : Function) → count' ≡ count → Called p name count' number → slice_get p.functions number ≡ Some g → length g.params ≡ count
+pub params_are : (p : View) (name count count' number : ℕ) (g : Function) → count' ≡ count →
+    Called p name count' number → slice_get p.functions number ≡ Some g → length g.params ≡ count
 params_are p name count count' number g ec called is =
     let both : Some called.function ≡ Some g = sym called.is ∙ is in
     let alike : called.function ≡ g = cc in
     ap (λ (k : Function). length k.params) (sym alike) ∙ (called.count_is ∙ ec)
 
-pub entered_with : {H : Type 0} (engine : Engine) (g : Function) (s s1 : Run H) (b : Bool) → b ≡ true → EnterResult engine g s s1 (Ok b) → CallEntered engine g s s1
+pub entered_with : {H : Type 0} (engine : Engine) (g : Function) (s s1 : Run H) (b : Bool) →
+    b ≡ true → EnterResult engine g s s1 (Ok b) → CallEntered engine g s s1
 entered_with engine g s s1 true e h = h
 entered_with engine g s s1 false e h = absurd cc
 
-pub kept_with : {H : Type 0} (engine : Engine) (g : Function) (s s1 : Run H) (b : Bool) → b ≡ false → EnterResult engine g s s1 (Ok b) → CallNotEntered s s1
+pub kept_with : {H : Type 0} (engine : Engine) (g : Function) (s s1 : Run H) (b : Bool) →
+    b ≡ false → EnterResult engine g s s1 (Ok b) → CallNotEntered s s1
 kept_with engine g s s1 true e h = absurd cc
 kept_with engine g s s1 false e h = h
 
 -- the scope that was put aside last
-last_saved : (xs : List (List Entry)) (x : List Entry) (n : ℕ) → n ≡ length xs → slice_index_or (xs ++ x ∷ []) n [] ≡ x
+last_saved : (xs : List (List Entry)) (x : List Entry) (n : ℕ) → n ≡ length xs →
+    slice_index_or (xs ++ x ∷ []) n [] ≡ x
 last_saved [] x zero e = refl
 last_saved [] x (suc n) e = absurd (omega (arith, e))
 last_saved (y ∷ xs) x zero e = absurd (omega (arith, e))
 last_saved (y ∷ xs) x (suc n) e = last_saved xs x n (omega (arith, e))
 
-front_saved : (xs : List (List Entry)) (x : List Entry) (n : ℕ) → n ≡ length xs → take n (xs ++ x ∷ []) ≡ xs
+front_saved : (xs : List (List Entry)) (x : List Entry) (n : ℕ) → n ≡ length xs →
+    take n (xs ++ x ∷ []) ≡ xs
 front_saved [] x zero e = refl
 front_saved [] x (suc n) e = absurd (omega (arith, e))
 front_saved (y ∷ xs) x zero e = absurd (omega (arith, e))
-front_saved (y ∷ xs) x (suc n) e = ap (λ (l : List (List Entry)). y ∷ l) (front_saved xs x n (omega (arith, e)))
+front_saved (y ∷ xs) x (suc n) e =
+    ap (λ (l : List (List Entry)). y ∷ l) (front_saved xs x n (omega (arith, e)))
 
-module _ {H : Type 0} (engine : Engine) (f f' : Activation) (s s1 s2 s' : Run H) (g : Function) (k next : ℕ) (entered : CallEntered engine g s s1) (outer : s2.stacks.outer ≡ s1.stacks.outer) (saved : s2.saved ≡ s1.saved) (level : s2.level ≡ s1.level) where
-  frames : s2.stacks.outer ≡ record (innermost s.stacks) { operands = under (length g.params) s.stacks.operands } ∷ s.stacks.outer
+module _ {H : Type 0} (engine : Engine) (f f' : Activation) (s s1 s2 s' : Run H) (g : Function)
+    (k next : ℕ) (entered : CallEntered engine g s s1) (outer : s2.stacks.outer ≡ s1.stacks.outer)
+    (saved : s2.saved ≡ s1.saved) (level : s2.level ≡ s1.level) where
+  frames : s2.stacks.outer ≡ record (innermost s.stacks)
+      { operands = under (length g.params) s.stacks.operands } ∷ s.stacks.outer
   frames = outer ∙ entered.caller
 
   waiting : s2.saved ≡ s.saved ++ s.scope ∷ []
   waiting = saved ∙ entered.saved
 
   -- the caller's frame is the innermost again
-  stacks_back : (caller_of s2).stacks ≡ record s2.stacks { operands = under (length g.params) s.stacks.operands; room = s.stacks.room; noted = s.stacks.noted; outer = s.stacks.outer }
+  stacks_back : (caller_of s2).stacks ≡
+      record s2.stacks {
+        operands = under (length g.params) s.stacks.operands;
+        room = s.stacks.room;
+        noted = s.stacks.noted;
+        outer = s.stacks.outer;
+      }
   stacks_back = ap (λ (fs : List StackFrame). without_frame fs s2.stacks) frames
 
   operands_back : (caller_of s2).stacks.operands ≡ under (length g.params) s.stacks.operands
   operands_back = ap (λ (v : StacksView). v.operands) stacks_back
 
   one_less : length s2.saved - 1 ≡ length s.saved
-  one_less = omega (arith, ap (λ (l : List (List Entry)). length l) waiting, length-append s.saved (s.scope ∷ []))
+  one_less =
+      omega (
+        arith,
+        ap (λ (l : List (List Entry)). length l) waiting,
+        length-append s.saved (s.scope ∷ []),
+      )
 
   scope_back : (caller_of s2).scope ≡ s.scope
-  scope_back = ap (λ (l : List (List Entry)). slice_index_or l (length s2.saved - 1) []) waiting ∙ last_saved s.saved s.scope (length s2.saved - 1) one_less
+  scope_back = ap (λ (l : List (List Entry)). slice_index_or l (length s2.saved - 1) []) waiting ∙
+      last_saved s.saved s.scope (length s2.saved - 1) one_less
 
   saved_back : (caller_of s2).saved ≡ s.saved
-  saved_back = ap (λ (l : List (List Entry)). take (length s2.saved - 1) l) waiting ∙ front_saved s.saved s.scope (length s2.saved - 1) one_less
+  saved_back = ap (λ (l : List (List Entry)). take (length s2.saved - 1) l) waiting ∙
+      front_saved s.saved s.scope (length s2.saved - 1) one_less
 
   level_back : (caller_of s2).level ≡ s.level
   level_back = omega (arith, level, entered.level)
 
   -- what the code has once the caller's scope and level are back
-  pub there_is : (n : Counts) (host : H) → abstraction (caller_of s2) n host ≡ record (abstraction s2 n host) { scope = s.scope; level = s.level }
+  pub there_is : (n : Counts) (host : H) → abstraction (caller_of s2) n host ≡
+      record (abstraction s2 n host) { scope = s.scope; level = s.level }
   there_is n host = rw (scope_back, level_back, ap (λ (v : StacksView). v.trace) stacks_back) refl
 
   -- the caller's frame is without the arguments
-  pub outer_is : length g.params ≡ k → (place : Option Place) → frame_in f (caller_of s2) place ≡ without k (frame_in f s place)
+  pub outer_is : length g.params ≡ k → (place : Option Place) → frame_in f (caller_of s2) place ≡
+      without k (frame_in f s place)
   outer_is all place = rw (operands_back, all) refl
 
   kept3 : f.base ≤ length s.scope → s1.count ≤ s2.count → KeepsFrame f s f (caller_of s2)
@@ -148,7 +250,8 @@ module _ {H : Type 0} (engine : Engine) (f f' : Activation) (s s1 s2 s' : Run H)
     later = omega (arith, later, entered.count);
   }
 
-  over_kept : f.base ≤ length s.scope → s1.count ≤ s2.count → f' ≡ f → s' ≡ record (caller_of s2) { fault = s'.fault } → KeepsFrame f s f' s'
+  over_kept : f.base ≤ length s.scope → s1.count ≤ s2.count → f' ≡ f →
+      s' ≡ record (caller_of s2) { fault = s'.fault } → KeepsFrame f s f' s'
   over_kept base later ef es =
       let k3 = kept3 base later in
       record {
@@ -164,7 +267,8 @@ module _ {H : Type 0} (engine : Engine) (f f' : Activation) (s s1 s2 s' : Run H)
       }
 
   -- the caller's frame is kept
-  pub call_kept : (r : Result Progress OutOfMemory) → f.base ≤ length s.scope → s1.count ≤ s2.count → CallReturned f (caller_of s2) f' s' next r → KeepsFrame f s f' s'
+  pub call_kept : (r : Result Progress OutOfMemory) → f.base ≤ length s.scope →
+      s1.count ≤ s2.count → CallReturned f (caller_of s2) f' s' next r → KeepsFrame f s f' s'
   call_kept (Ok progress.Continues) base later h =
       let k3 = kept3 base later in
       record {
@@ -183,10 +287,18 @@ module _ {H : Type 0} (engine : Engine) (f f' : Activation) (s s1 s2 s' : Run H)
   call_kept (Err e) base later h = over_kept base later h.0 h.1
 
   -- the caller goes on after the call, with one operand in the place of the arguments
-  pub call_lands : (r : Result Progress OutOfMemory) → length g.params ≡ k → s1.count ≤ s2.count → CallReturned f (caller_of s2) f' s' next r → ContinuesAt engine s f s' f' (next ∷ []) (length s.stacks.operands - k + 1) r
+  pub call_lands : (r : Result Progress OutOfMemory) → length g.params ≡ k → s1.count ≤ s2.count →
+      CallReturned f (caller_of s2) f' s' next r →
+      ContinuesAt engine s f s' f' (next ∷ []) (length s.stacks.operands - k + 1) r
   call_lands (Ok progress.Continues) all later h = (
     inl (ap (λ (a : Activation). a.address) h.0),
-    omega (arith, h.1, ap (λ (xs : List Held). length xs) operands_back, length-take (length s.stacks.operands - length g.params) s.stacks.operands, all),
+    omega (
+      arith,
+      h.1,
+      ap (λ (xs : List Held). length xs) operands_back,
+      length-take (length s.stacks.operands - length g.params) s.stacks.operands,
+      all,
+    ),
     inl (omega (arith, ap (λ (q : Run H). q.count) h.2, later, entered.count), entered.allowed),
   )
   call_lands (Ok progress.Returned) all later h = tt
@@ -198,13 +310,31 @@ module _ {H : Type 0} (engine : Engine) (f f' : Activation) (s s1 s2 s' : Run H)
   call_entered = omega (arith, ap (λ (fs : List StackFrame). length fs) frames)
 
   pub call_waits : 0 < length s2.saved
-  call_waits = omega (arith, ap (λ (l : List (List Entry)). length l) waiting, length-append s.saved (s.scope ∷ []))
+  call_waits =
+      omega (
+        arith,
+        ap (λ (l : List (List Entry)). length l) waiting,
+        length-append s.saved (s.scope ∷ []),
+      )
 
   pub call_level : 0 < s2.level
   call_level = omega (arith, level, entered.level)
 
-  pub call_room : k ≤ length s.stacks.operands → length s.stacks.operands - k + 1 ≤ s.stacks.room → length g.params ≡ k → (first : StackFrame) (others : List StackFrame) → s2.stacks.outer ≡ first ∷ others → length first.operands < first.room
+  pub call_room : k ≤ length s.stacks.operands → length s.stacks.operands - k + 1 ≤ s.stacks.room →
+      length g.params ≡ k → (first : StackFrame) (others : List StackFrame) → s2.stacks.outer ≡
+      first ∷ others → length first.operands < first.room
   call_room enough room all first others e =
-      let both : first ∷ others ≡ record (innermost s.stacks) { operands = under (length g.params) s.stacks.operands } ∷ s.stacks.outer = sym e ∙ frames in
-      let same : first ≡ record (innermost s.stacks) { operands = under (length g.params) s.stacks.operands } = cc in
-      omega (arith, enough, room, all, ap (λ (q : StackFrame). length q.operands) same, ap (λ (q : StackFrame). q.room) same, length-take (length s.stacks.operands - length g.params) s.stacks.operands)
+      let both : first ∷ others ≡ record (innermost s.stacks)
+      { operands = under (length g.params) s.stacks.operands } ∷ s.stacks.outer =
+      sym e ∙ frames in
+      let same : first ≡ record (innermost s.stacks)
+      { operands = under (length g.params) s.stacks.operands } = cc in
+      omega (
+        arith,
+        enough,
+        room,
+        all,
+        ap (λ (q : StackFrame). length q.operands) same,
+        ap (λ (q : StackFrame). q.room) same,
+        length-take (length s.stacks.operands - length g.params) s.stacks.operands,
+      )

@@ -9,6 +9,7 @@ use Rattle.grain_fault.specs.declared.traces.Fault.{Fault}
 use Rattle.grain_fault.specs.declared.faults.EvalAltResult.{EvalAltResult}
 use Rattle.grain_fault.specs.declared.faults.EvalAltResult.TheVariants as fault
 use Rattle.grain_program.specs.View.{View}
+use Rattle.grain_host.specs.Law.{Law}
 use Rattle.grain_global.specs.declared.engines.Engine.{Engine}
 use Rattle.grain_means.specs.Worlds.{Answer, Failed, Place, Setup, World}
 use Rattle.grain_means.specs.Rules.{called}
@@ -25,91 +26,178 @@ use Rattle.grain_frame.specs.Machines.{answered}
 -- what the law of counts says of a host's states
 abbrev Counted : (H : Type 0) → Type 0
 Counted H =
-    (m : Setup H) (this : Option Place) (w v : World H) (a : Answer) (run : Ends m (called m this w) a v) →
-    (v.ran ≡ w.ran + run_length run) × (v.tokens ≡ w.tokens) × (v.level ≡ w.level) × Keeps (length w.scope) (names w.scope) v.scope ×
-    Cuts m (called m this w) w.level (length w.scope) w.trace a v × Caused m (called m this w) w.level a v
+    (m : Setup H) (this : Option Place) (w v : World H) (a : Answer)
+    (run : Ends m (called m this w) a v) →
+    (v.ran ≡ w.ran + run_length run) × (v.tokens ≡ w.tokens) × (v.level ≡ w.level) ×
+    Keeps (length w.scope) (names w.scope) v.scope ×
+    Cuts m (called m this w) w.level (length w.scope) w.trace a v ×
+    Caused m (called m this w) w.level a v
 
-module _ {H : Type 0} (counted : Counted H) (p : View) (e : Engine) (b : Begin H) (trace : List Fault) (scope : List Entry) (cells : List Cell) (host : H) (count level ran passed : ℕ) where
+module _ {H : Type 0} (counted : Counted H) (law : Law H) (p : View) (e : Engine) (b : Begin H)
+    (trace : List Fault) (scope : List Entry) (cells : List Cell) (host : H)
+    (count level ran passed : ℕ) where
   abbrev m : Setup H
-  m = setup p e
+  m = setup law p e
 
   -- what the code has at a call's beginning, and at its end
   abbrev pub at_first : LocalState H
-  at_first = record { scope = b.scope; cells = b.cells; host = b.host; this = None; count = b.global.num_operations; level = b.global.level; trace = []; ran = 0; passed = 0 }
+  at_first =
+      record {
+        scope = b.scope;
+        cells = b.cells;
+        host = b.host;
+        this = None;
+        count =
+            b.global.num_operations;
+        level = b.global.level;
+        trace = [];
+        ran = 0;
+        passed = 0;
+      }
 
   abbrev pub at_last : LocalState H
-  at_last = record { scope = scope; cells = cells; host = host; this = None; count = count; level = level; trace = trace; ran = ran; passed = passed }
+  at_last =
+      record {
+        scope = scope;
+        cells = cells;
+        host = host;
+        this = None;
+        count = count;
+        level = level;
+        trace = trace;
+        ran = ran;
+        passed = passed;
+      }
 
   abbrev pub ending : Answer → Finish H
-  ending a = record { answer = a; trace = trace; scope = scope; cells = cells; host = host; global = record { num_operations = count; level = level } }
+  ending a =
+      record {
+        answer = a;
+        trace = trace;
+        scope = scope;
+        cells = cells;
+        host = host;
+        global =
+            record { num_operations = count; level = level };
+      }
 
   -- the whole call, as the code did it
   abbrev pub Whole : Result (Result Dynamic EvalAltResult) OutOfMemory → Type 0
-  Whole back = Simulates m at_first (λ n place w. called n place w) (is_out back) at_last (finished_with back)
+  Whole back = Simulates m at_first (λ n place w. called n place w) (is_out back) at_last
+      (finished_with back)
 
   abbrev stopped_at : Option ℕ → Setup H
-  stopped_at stop = record { program = p; engine = e; stop = stop }
+  stopped_at stop = record { law = law; program = p; engine = e; stop = stop }
 
   -- the run as it is stopped at a mark, or not
-  at_stop : (back : Result (Result Dynamic EvalAltResult) OutOfMemory) → Whole back → (stop : Option ℕ) → NoStopWithin stop 0 passed → StopsHere (is_out back) stop passed →
-      Ends (stopped_at stop) (called (stopped_at stop) None (world at_first no_environment)) (answer_of back) (world at_last no_environment)
+  at_stop : (back : Result (Result Dynamic EvalAltResult) OutOfMemory) → Whole back →
+      (stop : Option ℕ) → NoStopWithin stop 0 passed → StopsHere (is_out back) stop passed →
+      Ends (stopped_at stop) (called (stopped_at stop) None (world at_first no_environment))
+      (answer_of back) (world at_last no_environment)
   at_stop back h stop clear halts = whole h refl stop clear halts no_environment
 
-  counts : (stop : Option ℕ) (a : Answer) (run : Ends (stopped_at stop) (called (stopped_at stop) None (world at_first no_environment)) a (world at_last no_environment)) →
-      (ran ≡ 0 + run_length run) × ((world at_last no_environment).tokens ≡ (world at_first no_environment).tokens) × (level ≡ b.global.level) × Keeps (length b.scope) (names b.scope) scope ×
-      Cuts (stopped_at stop) (called (stopped_at stop) None (world at_first no_environment)) b.global.level (length b.scope) [] a (world at_last no_environment) × Caused (stopped_at stop) (called (stopped_at stop) None (world at_first no_environment)) b.global.level a (world at_last no_environment)
-  counts stop a run = counted (stopped_at stop) None (world at_first no_environment) (world at_last no_environment) a run
+  counts : (stop : Option ℕ) (a : Answer)
+      (run : Ends (stopped_at stop) (called (stopped_at stop) None (world at_first no_environment))
+      a (world at_last no_environment)) →
+      (ran ≡ 0 + run_length run) ×
+      ((world at_last no_environment).tokens ≡ (world at_first no_environment).tokens) ×
+      (level ≡ b.global.level) × Keeps (length b.scope) (names b.scope) scope ×
+      Cuts (stopped_at stop) (called (stopped_at stop) None (world at_first no_environment))
+      b.global.level (length b.scope) [] a (world at_last no_environment) ×
+      Caused (stopped_at stop) (called (stopped_at stop) None (world at_first no_environment))
+      b.global.level a (world at_last no_environment)
+  counts stop a run = counted (stopped_at stop) None (world at_first no_environment)
+      (world at_last no_environment) a run
 
-  runs : (back : Result (Result Dynamic EvalAltResult) OutOfMemory) → Whole back → (stop : Option ℕ) → NoStopWithin stop 0 passed → StopsHere (is_out back) stop passed → Runs (stopped_at stop) b (ending (answer_of back)) ran
+  runs : (back : Result (Result Dynamic EvalAltResult) OutOfMemory) → Whole back →
+      (stop : Option ℕ) → NoStopWithin stop 0 passed → StopsHere (is_out back) stop passed →
+      Runs (stopped_at stop) b (ending (answer_of back)) ran
   runs back h stop clear halts =
       let run = at_stop back h stop clear halts in
       (passed, (run, omega (arith, (counts stop (answer_of back) run).0)))
 
-  pub evaluated : (back : Result (Result Dynamic EvalAltResult) OutOfMemory) → Whole back → Evaluates p e b (answered back) ending ran
+  pub evaluated : (back : Result (Result Dynamic EvalAltResult) OutOfMemory) → Whole back →
+      Evaluates law p e b (answered back) ending ran
   evaluated (Ok (Ok v)) h = runs (Ok (Ok v)) h None (never_clear 0 passed) tt
-  evaluated (Ok (Err fault.Memory)) h = (passed, runs (Ok (Err fault.Memory)) h (Some passed) (clear_before 0 passed) tt)
-  evaluated (Ok (Err (fault.ErrorFunctionNotFound s q))) h = runs (Ok (Err (fault.ErrorFunctionNotFound s q))) h None (never_clear 0 passed) tt
-  evaluated (Ok (Err (fault.ErrorMismatchDataType s t q))) h = runs (Ok (Err (fault.ErrorMismatchDataType s t q))) h None (never_clear 0 passed) tt
-  evaluated (Ok (Err (fault.ErrorAssignmentToConstant s q))) h = runs (Ok (Err (fault.ErrorAssignmentToConstant s q))) h None (never_clear 0 passed) tt
-  evaluated (Ok (Err (fault.ErrorInFunctionCall' f s d x q))) h = runs (Ok (Err (fault.ErrorInFunctionCall' f s d x q))) h None (never_clear 0 passed) tt
-  evaluated (Ok (Err (fault.ErrorRuntime v q))) h = runs (Ok (Err (fault.ErrorRuntime v q))) h None (never_clear 0 passed) tt
-  evaluated (Ok (Err (fault.ErrorStackOverflow q))) h = runs (Ok (Err (fault.ErrorStackOverflow q))) h None (never_clear 0 passed) tt
-  evaluated (Ok (Err (fault.ErrorArithmetic s q))) h = runs (Ok (Err (fault.ErrorArithmetic s q))) h None (never_clear 0 passed) tt
-  evaluated (Ok (Err (fault.ErrorTooManyOperations q))) h = runs (Ok (Err (fault.ErrorTooManyOperations q))) h None (never_clear 0 passed) tt
-  evaluated (Ok (Err (fault.ErrorTooManyVariables q))) h = runs (Ok (Err (fault.ErrorTooManyVariables q))) h None (never_clear 0 passed) tt
-  evaluated (Ok (Err (fault.Malformed k q))) h = runs (Ok (Err (fault.Malformed k q))) h None (never_clear 0 passed) tt
-  evaluated (Err o) h = (passed, runs (Err o) h (Some passed) (clear_before 0 passed) (halts_there true passed))
+  evaluated (Ok (Err fault.Memory)) h =
+      (passed, runs (Ok (Err fault.Memory)) h (Some passed) (clear_before 0 passed) tt)
+  evaluated (Ok (Err (fault.ErrorFunctionNotFound s q))) h =
+      runs (Ok (Err (fault.ErrorFunctionNotFound s q))) h None (never_clear 0 passed) tt
+  evaluated (Ok (Err (fault.ErrorMismatchDataType s t q))) h =
+      runs (Ok (Err (fault.ErrorMismatchDataType s t q))) h None (never_clear 0 passed) tt
+  evaluated (Ok (Err (fault.ErrorAssignmentToConstant s q))) h =
+      runs (Ok (Err (fault.ErrorAssignmentToConstant s q))) h None (never_clear 0 passed) tt
+  evaluated (Ok (Err (fault.ErrorInFunctionCall' f s d x q))) h =
+      runs (Ok (Err (fault.ErrorInFunctionCall' f s d x q))) h None (never_clear 0 passed) tt
+  evaluated (Ok (Err (fault.ErrorRuntime v q))) h =
+      runs (Ok (Err (fault.ErrorRuntime v q))) h None (never_clear 0 passed) tt
+  evaluated (Ok (Err (fault.ErrorStackOverflow q))) h =
+      runs (Ok (Err (fault.ErrorStackOverflow q))) h None (never_clear 0 passed) tt
+  evaluated (Ok (Err (fault.ErrorDataTooLarge s q))) h =
+      runs (Ok (Err (fault.ErrorDataTooLarge s q))) h None (never_clear 0 passed) tt
+  evaluated (Ok (Err (fault.ErrorArithmetic s q))) h =
+      runs (Ok (Err (fault.ErrorArithmetic s q))) h None (never_clear 0 passed) tt
+  evaluated (Ok (Err (fault.ErrorTooManyOperations q))) h =
+      runs (Ok (Err (fault.ErrorTooManyOperations q))) h None (never_clear 0 passed) tt
+  evaluated (Ok (Err (fault.ErrorTooManyVariables q))) h =
+      runs (Ok (Err (fault.ErrorTooManyVariables q))) h None (never_clear 0 passed) tt
+  evaluated (Ok (Err (fault.ErrorIndexingType t q))) h =
+      runs (Ok (Err (fault.ErrorIndexingType t q))) h None (never_clear 0 passed) tt
+  evaluated (Ok (Err (fault.ErrorNonPureMethodCallOnConstant f q))) h =
+      runs (Ok (Err (fault.ErrorNonPureMethodCallOnConstant f q))) h None (never_clear 0 passed) tt
+  evaluated (Ok (Err (fault.ErrorDotExpr s q))) h =
+      runs (Ok (Err (fault.ErrorDotExpr s q))) h None (never_clear 0 passed) tt
+  evaluated (Ok (Err (fault.ErrorTerminated v q))) h =
+      runs (Ok (Err (fault.ErrorTerminated v q))) h None (never_clear 0 passed) tt
+  evaluated (Ok (Err (fault.Exit v q))) h =
+      runs (Ok (Err (fault.Exit v q))) h None (never_clear 0 passed) tt
+  evaluated (Ok (Err (fault.ErrorSystem s t))) h =
+      runs (Ok (Err (fault.ErrorSystem s t))) h None (never_clear 0 passed) tt
+  evaluated (Ok (Err (fault.Malformed k q))) h =
+      runs (Ok (Err (fault.Malformed k q))) h None (never_clear 0 passed) tt
+  evaluated (Err o) h =
+      (passed, runs (Err o) h (Some passed) (clear_before 0 passed) (halts_there true passed))
 
   -- the level is what it was, also where memory was out
-  pub same_level : (back : Result (Result Dynamic EvalAltResult) OutOfMemory) → Whole back → level ≡ b.global.level
+  pub same_level : (back : Result (Result Dynamic EvalAltResult) OutOfMemory) → Whole back →
+      level ≡ b.global.level
   same_level back h =
-      (counts (Some passed) (answer_of back) (at_stop back h (Some passed) (clear_before 0 passed) (halts_there (is_out back) passed))).2
+      (counts (Some passed) (answer_of back)
+      (at_stop back h (Some passed) (clear_before 0 passed)
+      (halts_there (is_out back) passed))).2
 
   -- after a fault the scope is cut
-  cut : (back : Result (Result Dynamic EvalAltResult) OutOfMemory) → Whole back → (x : EvalAltResult) → answered back ≡ Err x → IsCut p e b (problem_of x) scope trace
+  cut : (back : Result (Result Dynamic EvalAltResult) OutOfMemory) → Whole back →
+      (x : EvalAltResult) → answered back ≡ Err x → IsCut law p e b (problem_of x) scope trace
   cut (Ok (Ok v)) h x is = absurd cc
   cut (Ok (Err y)) h x is =
       let same : y ≡ x = cc in
       let run = at_stop (Ok (Err y)) h None (never_clear 0 passed) tt in
-      subst (λ (z : EvalAltResult). IsCut p e b (problem_of z) scope trace) same (None, inl refl, (counts None (answer_of (Ok (Err y))) run).4)
+      subst (λ (z : EvalAltResult). IsCut law p e b (problem_of z) scope trace) same
+      (None, inl refl, (counts None (answer_of (Ok (Err y))) run).4)
   cut (Err o) h x is =
       let same : fault.Memory ≡ x = cc in
       let run = at_stop (Err o) h (Some passed) (clear_before 0 passed) (halts_there true passed) in
-      subst (λ (z : EvalAltResult). IsCut p e b (problem_of z) scope trace) same (Some passed, inr refl, (counts (Some passed) (answer_of (Err o)) run).4)
+      subst (λ (z : EvalAltResult). IsCut law p e b (problem_of z) scope trace) same
+      (Some passed, inr refl, (counts (Some passed) (answer_of (Err o)) run).4)
 
   -- what is left of the scope
-  pub leaves : (back : Result (Result Dynamic EvalAltResult) OutOfMemory) → Whole back → Leaves p e b (answered back) scope trace
+  pub leaves : (back : Result (Result Dynamic EvalAltResult) OutOfMemory) → Whole back →
+      Leaves law p e b (answered back) scope trace
   leaves back h =
-      let run = at_stop back h (Some passed) (clear_before 0 passed) (halts_there (is_out back) passed) in
+      let run =
+      at_stop back h (Some passed) (clear_before 0 passed) (halts_there (is_out back) passed) in
       record { keeps = (counts (Some passed) (answer_of back) run).3; cuts = cut back h }
 
   -- each fault has its cause: the run that is not stopped never wants memory
-  pub has_cause : (back : Result (Result Dynamic EvalAltResult) OutOfMemory) → Whole back → HasCause p e b (answered back)
+  pub has_cause : (back : Result (Result Dynamic EvalAltResult) OutOfMemory) → Whole back →
+      HasCause law p e b (answered back)
   has_cause (Ok (Ok v)) h = tt
   has_cause (Ok (Err x)) h =
       let run = at_stop (Ok (Err x)) h None (never_clear 0 passed) tt in
       at (counts None (answer_of (Ok (Err x))) run).5 where
-        at : Caused m (called m None (world at_first no_environment)) b.global.level (Failed (problem_of x)) (world at_last no_environment) → HasCause p e b (Err x)
+        at : Caused m (called m None (world at_first no_environment)) b.global.level
+            (Failed (problem_of x)) (world at_last no_environment) → HasCause law p e b (Err x)
         at (inl s) = absurd cc
         at (inr c) = inr c
   has_cause (Err o) h = inl refl

@@ -2,6 +2,14 @@ pub mod Measure
 pub mod Turns
 pub mod Mains
 pub mod Arms
+pub mod Branching
 pub mod Evaluated
 pub mod Pairs
 pub mod Calling
+pub mod AssignedEntries
+pub mod Failing
+pub mod Charging
+pub mod Serving
+pub mod Signing
+pub mod Jumping
+pub mod Handing

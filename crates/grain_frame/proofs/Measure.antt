@@ -13,10 +13,14 @@ even : (a b x y : ℕ) → a ≤ b → x < y → a * 16777217 + x < b * 16777217
 even a b x y h k = grind arith
 
 -- an operation was taken
-pub taken : (engine : Engine) (c d a b : ℕ) → c < d → c < engine.limits.operations → left engine d b < left engine c a
-taken engine c d a b h k = less (engine.limits.operations - d) (engine.limits.operations - c) (16777216 - b) (16777216 - a) (omega arith) (omega arith)
+pub taken : (engine : Engine) (c d a b : ℕ) → c < d → c < engine.limits.operations →
+    left engine d b < left engine c a
+taken engine c d a b h k = less (engine.limits.operations - d) (engine.limits.operations - c)
+    (16777216 - b) (16777216 - a) (omega arith) (omega arith)
 
 -- an operation was taken, or the address lies further on
-pub falls : (engine : Engine) (c d a b : ℕ) → ((c < d) × (c < engine.limits.operations)) ⊎ ((c ≤ d) × (a < b)) → a < 16777216 → left engine d b < left engine c a
+pub falls : (engine : Engine) (c d a b : ℕ) → ((c < d) × (c < engine.limits.operations)) ⊎
+    ((c ≤ d) × (a < b)) → a < 16777216 → left engine d b < left engine c a
 falls engine c d a b (inl h) lt = taken engine c d a b h.0 h.1
-falls engine c d a b (inr h) lt = even (engine.limits.operations - d) (engine.limits.operations - c) (16777216 - b) (16777216 - a) (omega (arith, h.0)) (omega (arith, h.1, lt))
+falls engine c d a b (inr h) lt = even (engine.limits.operations - d) (engine.limits.operations - c)
+    (16777216 - b) (16777216 - a) (omega (arith, h.0)) (omega (arith, h.1, lt))

@@ -7,7 +7,8 @@ top_behind : (x y : Held) (ys zs : List Held) → zs ≡ y ∷ ys → top (x ∷
 top_behind x y ys zs e = rw e refl
 
 -- they are the last but one, and the last
-pub arguments_two : (xs : List Held) → 2 ≤ length xs → arguments 2 xs ≡ top (under 1 xs) ∷ top xs ∷ []
+pub arguments_two : (xs : List Held) → 2 ≤ length xs → arguments 2 xs ≡ top (under 1 xs) ∷
+    top xs ∷ []
 arguments_two [] le = absurd (omega (arith, le))
 arguments_two (x ∷ []) le = absurd (omega (arith, le))
 arguments_two (x ∷ y ∷ []) le = refl
@@ -17,4 +18,9 @@ arguments_two (x ∷ y ∷ z ∷ zs) le =
     let near : suc l - 1 ≡ suc (l - 1) = omega arith in
     let first : l - 1 ≡ suc (length zs) = omega arith in
     let rest = arguments_two (y ∷ z ∷ zs) (omega arith) in
-    rw (far, near, top_behind x y (take (length zs) (z ∷ zs)) (take (l - 1) (y ∷ z ∷ zs)) (rw first refl)) rest
+    rw (
+      far,
+      near,
+      top_behind x y (take (length zs) (z ∷ zs)) (take (l - 1) (y ∷ z ∷ zs))
+          (rw first refl),
+    ) rest

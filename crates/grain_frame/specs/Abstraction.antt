@@ -14,9 +14,10 @@ use Rattle.grain_program.specs.TypedAt.{IsTypedAt, Verified}
 use Rattle.grain_program.specs.Reading.{op_at}
 use Rattle.grain_program.specs.Typing.{In}
 use Rattle.grain_program.specs.View.{View}
+use Rattle.grain_host.specs.Law.{Law}
 use Rattle.grain_global.specs.declared.engines.Engine.{Engine}
 use Rattle.grain_stack.specs.Views.{innermost, without_frame}
-use Rattle.grain_means.specs.Worlds.{Go, End, Then, Answer, Came, Failed, Frame, InFrame, Place}
+use Rattle.grain_means.specs.Worlds.{Act, Go, End, Then, Answer, Came, Failed, Frame, InFrame, Place, Setup, World}
 use Rattle.grain_means.specs.Rules.{leave_by_fault, instr, or_return, frame_at, resume_caller}
 use Rattle.grain_means.specs.Simulation.{LocalState, Computation, Simulates, SimulatesExactly}
 use Rattle.grain_means.specs.Means.{setup}
@@ -27,6 +28,8 @@ use Rattle.grain_frame.specs.declared.runs.Progress.{Progress}
 use Rattle.grain_frame.specs.declared.runs.Progress.TheVariants as progress
 use Rattle.grain_frame.specs.declared.runs.FrameEnd.{FrameEnd}
 use Rattle.grain_frame.specs.declared.runs.FrameEnd.TheVariants as frame_end
+use Rattle.grain_frame.specs.declared.natives.NativeEnd.{NativeEnd}
+use Rattle.grain_frame.specs.declared.natives.NativeEnd.TheVariants as native_end
 use Rattle.grain_frame.specs.declared.loops.Attempt.{Attempt}
 use Rattle.grain_frame.specs.declared.loops.Attempt.TheVariants as attempt
 use Rattle.grain_frame.specs.declared.loops.Pending.{Pending}
@@ -49,7 +52,13 @@ abstraction s n host = record {
 -- the frame of the meaning, by the place of its `this`
 abbrev pub frame_in : {H : Type 0} → Activation → Run H → Option Place → Frame
 frame_in a s place =
-    record { address = a.address; operands = s.stacks.operands; base = a.base; floor = a.floor; this = place }
+    record {
+      address = a.address;
+      operands = s.stacks.operands;
+      base = a.base;
+      floor = a.floor;
+      this = place;
+    }
 
 -- memory is out
 abbrev pub is_out : {A : Type 0} → Result A OutOfMemory → Bool
@@ -85,18 +94,22 @@ answer_of (Ok (Ok v)) = Came v
 answer_of (Ok (Err x)) = Failed (problem_of x)
 answer_of (Err e) = Failed NoMemory
 
-abbrev pub finished_with : {H : Type 0} → Result (Result Dynamic EvalAltResult) OutOfMemory → Computation H
+abbrev pub finished_with : {H : Type 0} → Result (Result Dynamic EvalAltResult) OutOfMemory →
+    Computation H
 finished_with r m place w = End (answer_of r) w
 
 -- the instruction at which a frame stands
 abbrev pub instruction_here : {H : Type 0} → (Option Place → Frame) → Computation H
 instruction_here f m place w =
-    let r = or_return (op_at m.program.code (f place).address) in instr m r.0 ((f place).address + r.1) (f place) w
+    let r = or_return (op_at m.program.code (f place).address) in
+    instr m r.0 ((f place).address + r.1) (f place) w
 
 -- a fault is raised, unless memory is out
-abbrev pub Raises : {H : Type 0} → Run H → Counts → EvalAltResult → Result Progress OutOfMemory → Run H → Counts → Type 0
+abbrev pub Raises : {H : Type 0} → Run H → Counts → EvalAltResult → Result Progress OutOfMemory →
+    Run H → Counts → Type 0
 Raises s n x (Ok p) s' n' =
-    (p ≡ progress.Failed) × (s' ≡ record s { fault = x }) × (n' ≡ record n { passed = n.passed + 1 })
+    (p ≡ progress.Failed) × (s' ≡ record s { fault = x }) ×
+    (n' ≡ record n { passed = n.passed + 1 })
 Raises s n x (Err e) s' n' = (s' ≡ s) × (n' ≡ n)
 
 -- where a try did what it tried, and where it did not
@@ -111,10 +124,13 @@ OnFalse false T = T
 -- an operation was taken, or the frame stands further on in the code
 abbrev pub Progresses : {H : Type 0} → Engine → Run H → Activation → Run H → Activation → Type 0
 Progresses engine s f s' f' =
-    ((s.count < s'.count) × (s.count < engine.limits.operations)) ⊎ ((s.count ≤ s'.count) × (f.address < f'.address))
+    ((s.count < s'.count) × (s.count < engine.limits.operations)) ⊎
+    ((s.count ≤ s'.count) × (f.address < f'.address))
 
--- the frame goes on at one of these addresses with this number of operands; it takes an operation or lies further on
-abbrev pub ContinuesAt : {H : Type 0} → Engine → Run H → Activation → Run H → Activation → List ℕ → ℕ → Result Progress OutOfMemory → Type 0
+-- the frame goes on at one of these addresses with this number of operands; it takes an operation
+-- or lies further on
+abbrev pub ContinuesAt : {H : Type 0} → Engine → Run H → Activation → Run H → Activation →
+    List ℕ → ℕ → Result Progress OutOfMemory → Type 0
 ContinuesAt engine s f s' f' targets height (Ok progress.Continues) =
     In f'.address targets × (length s'.stacks.operands ≡ height) × Progresses engine s f s' f'
 ContinuesAt engine s f s' f' targets height (Ok progress.Returned) = Unit {0}
@@ -123,7 +139,8 @@ ContinuesAt engine s f s' f' targets height (Err e) = Unit {0}
 
 -- the frame is the same but for its address and its floor, the frames around it are as they were,
 -- with their scopes, and the level is the same
-pub record KeepsFrame {H : Type 0} (f : Activation) (s : Run H) (f' : Activation) (s' : Run H) : Type 0 where
+pub record KeepsFrame {H : Type 0} (f : Activation) (s : Run H) (f' : Activation) (s' : Run H) :
+    Type 0 where
   pub chunk : f'.chunk ≡ f.chunk
   pub base : f'.base ≡ f.base
   pub scope : f.base ≤ length s'.scope
@@ -141,17 +158,27 @@ pub record Ready {H : Type 0} (f : Activation) (s : Run H) (o : Op) (next : ℕ)
   pub room : length s.stacks.operands - takes_of o + gives_of o ≤ s.stacks.room
   pub ahead : f.address < next
 
--- the code did what a rule says: it goes on at one of the targets with this number of operands, or the frame is over
-pub record Implements {H : Type 0} (program : View) (engine : Engine) (f : Activation) (s : Run H) (n : Counts) (rule : Computation H) (targets : List ℕ) (height : ℕ) (result : Result Progress OutOfMemory) (f' : Activation) (s' : Run H) (n' : Counts) (host : H) : Type 0 where
-  pub same : SimulatesExactly (setup program engine) (abstraction s n host) rule (is_out result) (abstraction s' n' host) (continuation result s'.fault (frame_in f' s'))
+-- The code did what a rule says: it goes on at one of the targets with this number of operands, or
+-- the frame is over. The host may have been reached.
+pub record Implements {H : Type 0} (law : Law H) (program : View) (engine : Engine)
+    (f : Activation) (s : Run H) (n : Counts) (rule : Computation H) (targets : List ℕ) (height : ℕ)
+    (result : Result Progress OutOfMemory) (f' : Activation) (s' : Run H) (n' : Counts)
+    (host host' : H) : Type 0 where
+  pub same : SimulatesExactly (setup law program engine) (abstraction s n host) rule
+      (is_out result) (abstraction s' n' host') (continuation result s'.fault (frame_in f' s'))
   pub kept : KeepsFrame f s f' s'
   pub lands : ContinuesAt engine s f s' f' targets height result
   pub before : n'.before ≡ n.before
 
--- the code did the instruction, and goes on where its row says, with as many operands as its row leaves
-abbrev pub Performs : {H : Type 0} → View → Engine → Activation → Run H → Counts → Op → ℕ → Result Progress OutOfMemory → Activation → Run H → Counts → H → Type 0
-Performs program engine f s n o next result f' s' n' host =
-    Implements program engine f s n (λ m place w. instr m o next (frame_in f s place) w) (leads_of o next) (length s.stacks.operands - takes_of o + gives_of o) result f' s' n' host
+-- the code did the instruction, and goes on where its row says, with as many operands as its row
+-- leaves
+abbrev pub Performs : {H : Type 0} → Law H → View → Engine → Activation → Run H → Counts →
+    Op →
+    ℕ → Result Progress OutOfMemory → Activation → Run H → Counts → (host host' : H) → Type 0
+Performs law program engine f s n o next result f' s' n' host host' =
+    Implements law program engine f s n (λ m place w. instr m o next (frame_in f s place) w)
+    (leads_of o next) (length s.stacks.operands - takes_of o + gives_of o) result f' s' n'
+    host host'
 
 -- a frame runs: it stands where the typing of its chunk knows it, and has noted no fault
 pub record Runs {H : Type 0} (program : View) (f : Activation) (s : Run H) : Type 0 where
@@ -162,9 +189,11 @@ pub record Runs {H : Type 0} (program : View) (f : Activation) (s : Run H) : Typ
   pub entered : 0 < length s.stacks.outer
 
 -- if the frame goes on, it stands where the typing knows it
-abbrev pub StaysTyped : {H : Type 0} → View → Engine → Run H → Activation → Run H → Activation → Result Progress OutOfMemory → Type 0
+abbrev pub StaysTyped : {H : Type 0} → View → Engine → Run H → Activation → Run H → Activation →
+    Result Progress OutOfMemory → Type 0
 StaysTyped p engine s f s' f' (Ok progress.Continues) =
-    IsTypedAt p f'.chunk f'.address (length s'.stacks.operands) × Progresses engine s f s' f' × (f.address < 16777216)
+    IsTypedAt p f'.chunk f'.address (length s'.stacks.operands) × Progresses engine s f s' f' ×
+    (f.address < 16777216)
 StaysTyped p engine s f s' f' (Ok progress.Returned) = Unit {0}
 StaysTyped p engine s f s' f' (Ok progress.Failed) = Unit {0}
 StaysTyped p engine s f s' f' (Err e) = Unit {0}
@@ -193,6 +222,18 @@ pub record CallEntered {H : Type 0} (engine : Engine) (g : Function) (s s' : Run
   pub count : s'.count ≡ s.count + 1
   pub allowed : s.count < engine.limits.operations
 
+-- the frame of a function whose operation is taken is entered, or the run is as it was but for the
+-- arguments and a fault
+abbrev pub FrameEntered : {H : Type 0} → Function → Run H → Run H → Result Bool OutOfMemory → Type 0
+FrameEntered g s s' (Ok true) = (s'.saved ≡ s.saved ++ s.scope ∷ []) × (s'.level ≡ s.level + 1)
+    × (s'.stacks.outer
+    ≡ record (innermost s.stacks) { operands = under (length g.params) s.stacks.operands }
+    ∷ s.stacks.outer)
+    × (s'.stacks.operands ≡ []) × (s'.stacks.room ≡ g.chunk.max_stack)
+    × (s'.stacks.noted ≡ false) × (s'.count ≡ s.count)
+FrameEntered g s s' (Ok false) = CallNotEntered s s' × (s'.count ≡ s.count)
+FrameEntered g s s' (Err e) = CallNotEntered s s' × (s'.count ≡ s.count)
+
 abbrev pub EnterResult : {H : Type 0} → Engine → Function → Run H → Run H →
     Result Bool OutOfMemory → Type 0
 EnterResult engine g s s' (Ok true) = CallEntered engine g s s'
@@ -209,6 +250,33 @@ call_continuation (Ok true) s s' g f next m place w =
 call_continuation (Ok false) s s' g f next m place w =
     leave_by_fault m None (f place) (problem_of s'.fault) w
 call_continuation (Err e) s s' g f next m place w = leave_by_fault m None (f place) NoMemory w
+
+-- What is to be done once an operation was asked for: what follows it, or a fault left the frame.
+abbrev pub charge_continuation : {H : Type 0} → Result Bool OutOfMemory → EvalAltResult →
+    (Option Place → Frame) → (Setup H → Option Place → World H → Act H) → Computation H
+charge_continuation (Ok true) x f go m place w = go m place w
+charge_continuation (Ok false) x f go m place w =
+    leave_by_fault m None (f place) (problem_of x) w
+charge_continuation (Err e) x f go m place w = leave_by_fault m None (f place) NoMemory w
+
+-- an operation is taken if the frame goes on; else a fault lies in the run, and perhaps an
+-- operation is taken
+abbrev pub ChargeResult : {H : Type 0} → Engine → Run H → Run H → Result Bool OutOfMemory → Type 0
+ChargeResult engine s s' (Ok true) =
+    (s' ≡ record s { count = s.count + 1 }) × (s.count < engine.limits.operations)
+ChargeResult engine s s' (Ok false) =
+    (s' ≡ record s { count = s'.count; fault = s'.fault }) × (s.count ≤ s'.count)
+ChargeResult engine s s' (Err e) =
+    (s' ≡ record s { count = s'.count; fault = s'.fault }) × (s.count ≤ s'.count)
+
+-- what follows from a native's value, or a fault left the frame
+abbrev pub native_continuation : {H : Type 0} → Result NativeEnd OutOfMemory → EvalAltResult →
+    (Option Place → Frame) → (Setup H → Option Place → Dynamic → World H → Act H) →
+    Computation H
+native_continuation (Ok (native_end.Value v)) x f go m place w = go m place v w
+native_continuation (Ok native_end.Failed) x f go m place w =
+    leave_by_fault m None (f place) (problem_of x) w
+native_continuation (Err e) x f go m place w = leave_by_fault m None (f place) NoMemory w
 
 -- the run of the frame around the innermost one, which is left
 abbrev pub caller_of : {H : Type 0} → Run H → Run H
@@ -231,23 +299,29 @@ CallReturned f s f' s' next (Ok progress.Failed) = (f' ≡ f) × (s' ≡ record 
 CallReturned f s f' s' next (Err e) = (f' ≡ f) × (s' ≡ record s { fault = s'.fault })
 
 -- a try that did nothing changed nothing
-abbrev pub Unchanged : {H : Type 0} → Activation → Run H → Counts → Activation → Run H → Counts → Type 0
+abbrev pub Unchanged : {H : Type 0} → Activation → Run H → Counts → Activation → Run H →
+    Counts → Type 0
 Unchanged f s n f' s' n' = (s' ≡ s) × (f' ≡ f) × (n' ≡ n)
 
--- One instruction of a frame: the code did it, the frames around it are as they were, and if the frame goes on, it
--- stands where the typing knows it.
-pub record Stepped {H : Type 0} (program : View) (engine : Engine) (f : Activation) (s : Run H) (n : Counts) (result : Result Progress OutOfMemory) (f' : Activation) (s' : Run H) (n' : Counts) (host host' : H) : Type 0 where
-  pub goes : Simulates (setup program engine) (abstraction s n host) (instruction_here (frame_in f s)) (is_out result) (abstraction s' n' host') (continuation result s'.fault (frame_in f' s'))
+-- One instruction of a frame, or some in a row: the code did them, the frames around it are as they
+-- were, and if the frame goes on, it stands where the typing knows it.
+pub record Stepped {H : Type 0} (law : Law H) (program : View) (engine : Engine) (f : Activation)
+    (s : Run H) (n : Counts) (result : Result Progress OutOfMemory) (f' : Activation) (s' : Run H)
+    (n' : Counts) (host host' : H) : Type 0 where
+  pub goes : Simulates (setup law program engine) (abstraction s n host)
+      (instruction_here (frame_in f s)) (is_out result) (abstraction s' n' host')
+      (continuation result s'.fault (frame_in f' s'))
   pub kept : KeepsFrame f s f' s'
   pub stays : StaysTyped program engine s f s' f' result
   pub before : n'.before ≡ n.before
 
--- the frame stands at a call of the function with this name and this number of arguments
-pub record StandsAtCall {H : Type 0} (program : View) (f : Activation) (s : Run H) (name count next : ℕ) : Type 0 where
+-- the frame stands at this instruction, behind which is this address
+pub record StandsAt {H : Type 0} (program : View) (f : Activation) (s : Run H) (o : Op) (next : ℕ) :
+    Type 0 where
   pub width : ℕ
-  pub read : op_at program.code f.address ≡ Some (op.Call name count, width)
+  pub read : op_at program.code f.address ≡ Some (o, width)
   pub next_is : next ≡ f.address + width
-  pub seen : Verified program f.chunk f.address (length s.stacks.operands) (op.Call name count) width
+  pub seen : Verified program f.chunk f.address (length s.stacks.operands) o width
 
 -- the instruction at which the frame stands is no call
 abbrev pub CallsNothing : View → Activation → Type 0
@@ -256,19 +330,27 @@ CallsNothing program f =
 
 -- what is known of an instruction that is still to be done
 abbrev pub IsPending : {H : Type 0} → View → Activation → Run H → Pending → Type 0
-IsPending program f s (pending.Call name count next) = StandsAtCall program f s name count next
+IsPending program f s (pending.Call name count next) =
+    StandsAt program f s (op.Call name count) next
+IsPending program f s (pending.Jump target) =
+    (next : ℕ) × StandsAt program f s (op.Jump target) next
 IsPending program f s pending.Other = CallsNothing program f
 
 -- What came of an instruction that the loop tried first: it is done, or nothing was done.
-abbrev pub Attempted : {H : Type 0} → View → Engine → Activation → Run H → Counts → Activation →
+abbrev pub Attempted : {H : Type 0} → Law H → View → Engine → Activation → Run H → Counts →
+    Activation →
     Run H → Counts → Attempt → Type 0
-Attempted {H = H} program engine f s n f' s' n' attempt.Done =
-    (host : H) → Stepped program engine f s n (Ok progress.Continues) f' s' n' host host
-Attempted {H = H} program engine f s n f' s' n' attempt.Returned =
-    (host : H) → Stepped program engine f s n (Ok progress.Returned) f' s' n' host host
-Attempted program engine f s n f' s' n' (attempt.Pending p) =
+Attempted {H = H} law program engine f s n f' s' n' attempt.Done =
+    (host : H) → Stepped law program engine f s n (Ok progress.Continues) f' s' n' host host
+Attempted {H = H} law program engine f s n f' s' n' attempt.Returned =
+    (host : H) → Stepped law program engine f s n (Ok progress.Returned) f' s' n' host host
+Attempted law program engine f s n f' s' n' (attempt.Pending p) =
     Unchanged f s n f' s' n' × IsPending program f s p
 
+-- what came of it by whether it was done, and by what is to be done if not
+abbrev pub attempt_or : Bool → Pending → Attempt
+attempt_or true q = attempt.Done
+attempt_or false q = attempt.Pending q
+
 abbrev pub attempt_of : Bool → Attempt
-attempt_of true = attempt.Done
-attempt_of false = attempt.Pending pending.Other
+attempt_of b = attempt_or b pending.Other

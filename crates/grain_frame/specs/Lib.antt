@@ -1,10 +1,12 @@
--- How the machine's code is joined to the meaning. A reader of the public contracts reads Counts and Machines;
--- Abstraction has the words of the contracts inside.
+-- How the machine's code is joined to the meaning. A reader of the public contracts reads Counts
+-- and Machines; Abstraction has the words of the contracts inside.
 pub mod Counts
 pub mod MachineView
 pub mod Machines
 pub mod Abstraction
+pub mod Following
 pub mod Operated
+pub mod Natives
 pub use Rattle.grain_means.specs.Means
 pub use Rattle.grain_means.specs.Causes
 pub use Rattle.grain_means.specs.Comes

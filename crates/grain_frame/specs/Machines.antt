@@ -12,13 +12,24 @@ use Rattle.grain_means.specs.Worlds.{Answer}
 use Rattle.grain_means.specs.Means.{Begin, Finish}
 
 abbrev pub begin : {S : Type 0} → List Entry → List Cell → S → GlobalRuntimeState → Begin S
-begin scope cells host global = record { scope = scope; cells = cells; host = host; global = global }
+begin scope cells host global =
+    record { scope = scope; cells = cells; host = host; global = global }
 
-abbrev pub finish : {S : Type 0} → List Fault → List Entry → List Cell → S → GlobalRuntimeState → Answer → Finish S
+abbrev pub finish : {S : Type 0} → List Fault → List Entry → List Cell → S → GlobalRuntimeState →
+    Answer → Finish S
 finish trace scope cells host global answer =
-    record { answer = answer; trace = trace; scope = scope; cells = cells; host = host; global = global }
+    record {
+      answer = answer;
+      trace = trace;
+      scope = scope;
+      cells = cells;
+      host = host;
+      global =
+          global;
+    }
 
 -- want of memory as a fault
-abbrev pub answered : Result (Result Dynamic EvalAltResult) OutOfMemory → Result Dynamic EvalAltResult
+abbrev pub answered : Result (Result Dynamic EvalAltResult) OutOfMemory →
+    Result Dynamic EvalAltResult
 answered (Ok done) = done
 answered (Err e) = Err fault.Memory

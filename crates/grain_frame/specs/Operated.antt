@@ -2,11 +2,16 @@
 use Rattle.std.specs.Prelude.{◌≡◌, ℕ, List, Option, Some, None, Result, Ok, Err}
 use Rattle.grain_value.specs.declared.values.Dynamic.{Dynamic}
 use Rattle.grain_value.specs.declared.memory.OutOfMemory.{OutOfMemory}
+use Rattle.grain_value.specs.declared.values.Held.{Held}
+use Rattle.grain_value.specs.declared.scopes.Entry.{Entry}
+use Rattle.grain_value.specs.Scopes.{set_held}
 use Rattle.grain_fault.specs.declared.faults.EvalAltResult.{EvalAltResult}
 use Rattle.grain_fault.specs.declared.faults.EvalAltResult.TheVariants as fault
-use Rattle.grain_ops.specs.Outcomes.{Outcome, NotBuiltIn, Gave, ArithmeticFault}
+use Rattle.grain_ops.specs.Outcomes.{Outcome, NotBuiltIn, Gave, ArithmeticFault, TooLarge}
 use Rattle.grain_frame.specs.declared.operated.Operated.{Operated}
 use Rattle.grain_frame.specs.declared.operated.Operated.TheVariants as operated
+use Rattle.grain_frame.specs.declared.operated.Failure.{Failure}
+use Rattle.grain_frame.specs.declared.operated.Failure.TheVariants as failure
 use Rattle.grain_frame.specs.declared.operated.OpAssigned.{OpAssigned}
 use Rattle.grain_frame.specs.declared.operated.OpAssigned.TheVariants as assigned
 
@@ -14,24 +19,46 @@ abbrev pub outcome_of : Operated → Outcome
 outcome_of operated.NotBuiltIn = NotBuiltIn
 outcome_of (operated.Value v) = Gave v
 outcome_of (operated.Arithmetic text) = ArithmeticFault text
+outcome_of (operated.TooLarge what) = TooLarge what
 
 -- an op-assignment writes its target if it is done, and changes nothing else
 abbrev pub Assigned : Result OpAssigned OutOfMemory → Outcome → (old new : Dynamic) → Type 0
 Assigned (Ok assigned.NotBuiltIn) o old new = (o ≡ NotBuiltIn) × (new ≡ old)
 Assigned (Ok assigned.Done) o old new = o ≡ Gave new
 Assigned (Ok (assigned.Arithmetic text)) o old new = (o ≡ ArithmeticFault text) × (new ≡ old)
+Assigned (Ok (assigned.TooLarge what)) o old new = (o ≡ TooLarge what) × (new ≡ old)
 Assigned (Err e) o old new = new ≡ old
 
--- the text of an arithmetic fault, and none of any other
-abbrev pub ArithmeticText : EvalAltResult → Option (List ℕ) → Type 0
-ArithmeticText (fault.ErrorArithmetic s p) r = r ≡ Some s
-ArithmeticText (fault.ErrorFunctionNotFound s p) r = r ≡ None
-ArithmeticText (fault.ErrorMismatchDataType r' a p) r = r ≡ None
-ArithmeticText (fault.ErrorInFunctionCall' f s b x p) r = r ≡ None
-ArithmeticText (fault.ErrorAssignmentToConstant s p) r = r ≡ None
-ArithmeticText (fault.ErrorRuntime v p) r = r ≡ None
-ArithmeticText (fault.ErrorTooManyOperations p) r = r ≡ None
-ArithmeticText (fault.ErrorTooManyVariables p) r = r ≡ None
-ArithmeticText (fault.ErrorStackOverflow p) r = r ≡ None
-ArithmeticText (fault.Malformed k p) r = r ≡ None
-ArithmeticText fault.Memory r = r ≡ None
+-- the same of an entry at an index of a scope that holds this, and keeps its flag
+abbrev pub AssignedEntry : Result OpAssigned OutOfMemory → Outcome → (before after : List Entry) →
+    ℕ → Held → Type 0
+AssignedEntry (Ok assigned.NotBuiltIn) o before after i h = (o ≡ NotBuiltIn) × (after ≡ before)
+AssignedEntry (Ok assigned.Done) o before after i h =
+    (v : Dynamic) × (o ≡ Gave v) ×
+    (after ≡ set_held before i (record { value = v; read_only = h.read_only }))
+AssignedEntry (Ok (assigned.Arithmetic text)) o before after i h =
+    (o ≡ ArithmeticFault text) × (after ≡ before)
+AssignedEntry (Ok (assigned.TooLarge what)) o before after i h =
+    (o ≡ TooLarge what) × (after ≡ before)
+AssignedEntry (Err e) o before after i h = after ≡ before
+
+-- an operator's fault is of this outcome; none is named where memory was out
+abbrev pub IsFailure : EvalAltResult → Option Failure → Type 0
+IsFailure (fault.ErrorArithmetic s p) r = r ≡ Some (failure.Arithmetic s)
+IsFailure (fault.ErrorDataTooLarge s p) r = r ≡ Some (failure.TooLarge s)
+IsFailure (fault.ErrorFunctionNotFound s p) r = r ≡ None
+IsFailure (fault.ErrorMismatchDataType r' a p) r = r ≡ None
+IsFailure (fault.ErrorInFunctionCall' f s b x p) r = r ≡ None
+IsFailure (fault.ErrorAssignmentToConstant s p) r = r ≡ None
+IsFailure (fault.ErrorRuntime v p) r = r ≡ None
+IsFailure (fault.ErrorTooManyOperations p) r = r ≡ None
+IsFailure (fault.ErrorTooManyVariables p) r = r ≡ None
+IsFailure (fault.ErrorStackOverflow p) r = r ≡ None
+IsFailure (fault.ErrorIndexingType t p) r = r ≡ None
+IsFailure (fault.ErrorNonPureMethodCallOnConstant f p) r = r ≡ None
+IsFailure (fault.ErrorDotExpr s p) r = r ≡ None
+IsFailure (fault.ErrorTerminated v p) r = r ≡ None
+IsFailure (fault.Exit v p) r = r ≡ None
+IsFailure (fault.ErrorSystem s e) r = r ≡ None
+IsFailure (fault.Malformed k p) r = r ≡ None
+IsFailure fault.Memory r = r ≡ None

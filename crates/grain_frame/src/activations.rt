@@ -4,8 +4,8 @@ ghost use Rattle.std.specs.Prelude.{◌≡◌};
 
 use grain_program::Chunk;
 
-/// A frame: its chunk, the address of its instruction, the scope's length at its entry, from which its slots count,
-/// and the length to which a fault cuts the scope.
+/// A frame: its chunk, the address of its instruction, the scope's length at its entry, from which
+/// its slots count, and the length to which a fault cuts the scope.
 #[derive(Clone, Copy, Debug, PartialEq, Eq)]
 pub struct Activation {
     pub chunk: Chunk,
@@ -17,7 +17,8 @@ pub struct Activation {
 impl Activation {
     /// A frame at the entry of a chunk, on a scope of this length.
     pub fn new(chunk: Chunk, scope: usize) -> Activation
-        ensures { result ≡ record { chunk = chunk; address = chunk.entry; base = scope; floor = scope } }
+        ensures { result ≡
+            record { chunk = chunk; address = chunk.entry; base = scope; floor = scope } }
     {
         Activation {
             chunk,

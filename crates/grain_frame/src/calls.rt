@@ -5,26 +5,66 @@ ghost use Rattle.grain_program.specs.Indices.{IsNamed};
 ghost use Rattle.grain_fault.specs.Problems.{problem_of};
 ghost use Rattle.grain_value.specs.Operands.{arguments, under};
 ghost use Rattle.grain_stack.specs.Views.{StackFrame, innermost, with_frame, without_frame};
-ghost use Rattle.grain_means.specs.Rules.{without, bound, enter_function, resume_caller, propagate};
+ghost use Rattle.grain_means.specs.Rules.{without, bound, enter_function, function_entered, resume_caller, propagate};
 ghost use Rattle.grain_means.specs.Simulation.{SimulatesExactly, StopPersists};
 ghost use Rattle.grain_means.specs.Means.{setup};
-ghost use Rattle.grain_frame.specs.Abstraction.{abstraction, frame_in, is_out, continuation, frame_answer, call_continuation, caller_of, EnterResult, CallReturned};
+ghost use Rattle.grain_frame.specs.Abstraction.{abstraction, frame_in, is_out, continuation, frame_answer, call_continuation, caller_of, EnterResult, FrameEntered, CallReturned};
 
 use crate::activations::Activation;
 use crate::contexts::Context;
 use crate::runs::{FrameEnd, Progress, Run};
 use crate::steps::Steps;
 use grain_fault::EvalAltResult;
+use grain_host::Host;
 use grain_program::Function;
 use grain_value::{OutOfMemory, Text};
 use std::sync::ledger::Ledger;
 
-impl<H> Run<H> {
-    // Begins a call: it is charged, the level and the variables are tested, the arguments become
-    // the entries of a new scope, and the function's frame is entered. It says whether the frame is
-    // entered; if not, a fault leaves the caller's.
+impl<H: Host> Run<H> {
+    // Begins a call: an operation is taken, the level and the variables are tested, the arguments
+    // become the entries of a new scope, and the function's frame is entered. It says whether the
+    // frame is entered; if not, a fault leaves the caller's.
     #[inline(always)]
     pub(crate) fn begin<L: Ledger>(
+        &mut self,
+        context: Context<'_>,
+        host: &mut H,
+        steps: &mut Steps<L>,
+        frame: &Activation,
+        function: &Function,
+    ) -> Result<bool, OutOfMemory>
+        requires operands { length function.now.params ≤ length self.old.stacks.operands }
+        requires named { IsNamed context.program.now function.now }
+        ensures same { (next : ℕ) → SimulatesExactly
+            (setup H.law context.entry.program.now context.entry.engine.now)
+            (abstraction self.old steps.old host.old)
+            (λ m place w. enter_function m function.now
+            (arguments (length function.now.params) self.old.stacks.operands)
+            (without (length function.now.params) (frame_in frame.now self.old place)) next w)
+            (is_out result) (abstraction self.new steps.new host.new)
+            (call_continuation result self.old self.new function.now
+            (λ place. without (length function.now.params) (frame_in frame.now self.old place))
+            next) }
+        ensures enters { EnterResult context.entry.engine.now function.now self.old self.new
+            result }
+        ensures later { self.old.count ≤ self.new.count }
+        ensures before { steps.new.before ≡ steps.old.before }
+    {
+        match self.charge(context, host, steps, frame.address) {
+            Ok(taken) => {
+                if taken {
+                    self.enter(context, steps, frame, function)
+                } else {
+                    Ok(false)
+                }
+            }
+            Err(e) => Err(e),
+        }
+    }
+
+    // The same once the operation is taken.
+    #[inline(always)]
+    fn enter<L: Ledger>(
         &mut self,
         context: Context<'_>,
         steps: &mut Steps<L>,
@@ -33,18 +73,19 @@ impl<H> Run<H> {
     ) -> Result<bool, OutOfMemory>
         requires operands { length function.now.params ≤ length self.old.stacks.operands }
         requires named { IsNamed context.program.now function.now }
-        ensures same { (next : ℕ) (host : H) → SimulatesExactly (setup context.entry.program.now context.entry.engine.now) (abstraction self.old steps.old host)
-            (λ m place w. enter_function m function.now (arguments (length function.now.params) self.old.stacks.operands) (without (length function.now.params) (frame_in frame.now self.old place)) next w)
-            (is_out result) (abstraction self.new steps.new host) (call_continuation result self.old self.new function.now (λ place. without (length function.now.params) (frame_in frame.now self.old place)) next) }
-        ensures enters { EnterResult context.entry.engine.now function.now self.old self.new result }
-        ensures later { self.old.count ≤ self.new.count }
+        ensures same { (next : ℕ) (host : H) → SimulatesExactly
+            (setup H.law context.entry.program.now context.entry.engine.now)
+            (abstraction self.old steps.old host)
+            (λ m place w. function_entered m function.now
+            (arguments (length function.now.params) self.old.stacks.operands)
+            (without (length function.now.params) (frame_in frame.now self.old place)) next w)
+            (is_out result) (abstraction self.new steps.new host)
+            (call_continuation result self.old self.new function.now
+            (λ place. without (length function.now.params) (frame_in frame.now self.old place))
+            next) }
+        ensures enters { FrameEntered function.now self.old self.new result }
         ensures before { steps.new.before ≡ steps.old.before }
     {
-        if !self.charge(context.engine) {
-            self.too_many_operations(context, steps, frame.address);
-            return Ok(false);
-        }
-        steps.mark();
         let Some(level) = deeper(self.level, context.engine.limits.levels) else {
             self.stack_overflow(context, steps, frame.address);
             return Ok(false);
@@ -129,7 +170,7 @@ impl<H> Run<H> {
     ) -> Result<Progress, OutOfMemory>
         requires named { IsNamed context.program.now function.now }
         ensures same { (host : H) → SimulatesExactly
-            (setup context.entry.program.now context.entry.engine.now)
+            (setup H.law context.entry.program.now context.entry.engine.now)
             (abstraction self.old steps.old host)
             (λ m place w. propagate m function.now (frame_in frame self.old place)
             (problem_of self.old.fault) w)
@@ -141,7 +182,7 @@ impl<H> Run<H> {
     {
         let position = context.program.position(frame.address);
         let mut fault = self.take_fault();
-        if fault.is_system_exception() {
+        if !fault.is_catchable() {
             fault.set_position(position);
             return Ok(self.depart(fault));
         }
@@ -171,15 +212,17 @@ impl<H> Run<H> {
             → self.old.stacks.outer ≡ first ∷ others → length first.operands < first.room }
         requires named { IsNamed context.program.now function.now }
         ensures same { (host : H) → SimulatesExactly
-            (setup context.entry.program.now context.entry.engine.now)
+            (setup H.law context.entry.program.now context.entry.engine.now)
             (abstraction (caller_of self.old) steps.old host)
             (λ m place w. resume_caller m function.now
             (frame_in frame.old (caller_of self.old) place) next
             (frame_answer end self.old) w)
             (is_out result) (abstraction self.new steps.new host)
             (continuation result self.new.fault (frame_in frame.new self.new)) }
-        ensures persists { StopPersists (is_out end) steps.old.passed (is_out result) steps.new.passed }
-        ensures returned { CallReturned frame.old (caller_of self.old) frame.new self.new next result }
+        ensures persists { StopPersists (is_out end) steps.old.passed (is_out result)
+            steps.new.passed }
+        ensures returned { CallReturned frame.old (caller_of self.old) frame.new self.new next
+            result }
         ensures before { steps.new.before ≡ steps.old.before }
     {
         self.saved.restore(&mut self.scope);

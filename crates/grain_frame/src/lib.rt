@@ -1,13 +1,17 @@
-//! The loop: how a frame runs, instruction by instruction, how functions are called, and how main is run.
+//! The loop: how a frame runs, instruction by instruction, how functions are called, and how main
+//! is run.
 #![tactic(auto)]
 
 mod activations;
+mod branches;
 mod calls;
+mod charges;
 mod contexts;
 mod faults;
 mod locals;
 mod loops;
 mod machines;
+mod natives;
 mod operands;
 mod operated;
 mod quick;

@@ -1,23 +1,26 @@
 //! Instructions on the scope's entries.
 
-ghost use Rattle.std.specs.Prelude.{◌≡◌, ◌<◌, ◌≤◌, ◌+◌, ◌-◌, ◌∷◌, [], length, Ok};
+ghost use Rattle.std.specs.Prelude.{◌≡◌, ◌<◌, ◌≤◌, ◌+◌, ◌-◌, ◌∷◌, [], ℕ, length, Ok, Some};
+ghost use Rattle.grain_value.specs.declared.values.Held.{Held};
+ghost use Rattle.grain_value.specs.Operands.{top};
 ghost use Rattle.grain_program.specs.Indices.{InPools};
 ghost use Rattle.grain_program.specs.View.{View, name_of, assign_op_of};
 ghost use Rattle.grain_program.specs.declared.code.instructions.Op.TheVariants as op;
 ghost use Rattle.grain_global.specs.declared.engines.Engine.{Engine};
-ghost use Rattle.grain_means.specs.Rules.{store_local, declare};
+ghost use Rattle.grain_means.specs.Rules.{store_local, declare, held_at, native, write_entry};
 ghost use Rattle.grain_frame.specs.Abstraction.{frame_in, Implements, Performs, Ready};
 
 use crate::activations::Activation;
 use crate::contexts::Context;
-use crate::faults::pair_not_found;
-use crate::operated::{OpAssigned, op_assigned};
+use crate::natives::{Arguments, NativeEnd, seek};
+use crate::operated::{OpAssigned, assign_entry};
 use crate::runs::{Progress, Run};
 use crate::steps::Steps;
+use grain_host::Host;
 use grain_value::{Held, OutOfMemory};
 use std::sync::ledger::Ledger;
 
-impl<H> Run<H> {
+impl<H: Host> Run<H> {
     // `load_local`: a copy of what the entry holds.
     #[inline(always)]
     pub(crate) fn load_local<L: Ledger>(
@@ -29,7 +32,9 @@ impl<H> Run<H> {
         next: usize,
     ) -> Result<Progress, OutOfMemory>
         requires ready { Ready frame.old self.old (op.LoadLocal slot) next }
-        ensures performs { (host : H) → Performs context.entry.program.now context.entry.engine.now frame.old self.old steps.old (op.LoadLocal slot) next result frame.new self.new steps.new host }
+        ensures performs { (host : H) →
+            Performs H.law context.entry.program.now context.entry.engine.now frame.old self.old
+            steps.old (op.LoadLocal slot) next result frame.new self.new steps.new host host }
     {
         let index = self.slot_index(frame, slot);
         match self.scope.get(index) {
@@ -43,8 +48,8 @@ impl<H> Run<H> {
         }
     }
 
-    // `store_local` and `store_const`: the last operand into the entry, which can be written afterwards or can only be
-    // read.
+    // `store_local` and `store_const`: the last operand into the entry, which can be written
+    // afterwards or can only be read.
     #[tactic(auto, using(grain_means::specs::lemmas::Scopes::length_set_held))]
     pub(crate) fn store<L: Ledger>(
         &mut self,
@@ -56,9 +61,11 @@ impl<H> Run<H> {
         next: usize,
     ) -> Progress
         requires ready { Ready frame.old self.old (op.StoreLocal slot) next }
-        ensures implements { (host : H) → Implements context.entry.program.now context.entry.engine.now frame.old self.old steps.old
+        ensures implements { (host : H) → Implements H.law context.entry.program.now
+            context.entry.engine.now frame.old self.old steps.old
             (λ m place w. store_local m read_only slot next (frame_in frame.old self.old place) w)
-            (next ∷ []) (length self.old.stacks.operands - 1 + 0) (Ok result) frame.new self.new steps.new host }
+            (next ∷ []) (length self.old.stacks.operands - 1 + 0) (Ok result) frame.new self.new
+            steps.new host host }
     {
         let index = self.slot_index(frame, slot);
         let value = self.stacks.pop().value;
@@ -74,8 +81,8 @@ impl<H> Run<H> {
         }
     }
 
-    // `declare_local` and `declare_const`: one entry more, with the last operand, which can be written or can only be
-    // read.
+    // `declare_local` and `declare_const`: one entry more, with the last operand, which can be
+    // written or can only be read.
     pub(crate) fn declare<L: Ledger>(
         &mut self,
         context: Context<'_>,
@@ -87,9 +94,12 @@ impl<H> Run<H> {
     ) -> Result<Progress, OutOfMemory>
         requires ready { Ready frame.old self.old (op.DeclareLocal name) next }
         requires pools { InPools context.program.now (op.DeclareLocal name) }
-        ensures implements { (host : H) → Implements context.entry.program.now context.entry.engine.now frame.old self.old steps.old
-            (λ m place w. declare m read_only (name_of m.program name) next (frame_in frame.old self.old place) w)
-            (next ∷ []) (length self.old.stacks.operands - 1 + 0) result frame.new self.new steps.new host }
+        ensures implements { (host : H) → Implements H.law context.entry.program.now
+            context.entry.engine.now frame.old self.old steps.old
+            (λ m place w. declare m read_only (name_of m.program name) next
+            (frame_in frame.old self.old place) w)
+            (next ∷ []) (length self.old.stacks.operands - 1 + 0) result frame.new self.new
+            steps.new host host }
     {
         if self.scope.len() >= context.engine.limits.variables {
             return Ok(self.too_many_variables(context, steps, frame.address));
@@ -116,7 +126,10 @@ impl<H> Run<H> {
     ) -> Result<Progress, OutOfMemory>
         requires ready { Ready frame.old self.old (op.AssignLocal slot name) next }
         requires pools { InPools context.program.now (op.AssignLocal slot name) }
-        ensures performs { (host : H) → Performs context.entry.program.now context.entry.engine.now frame.old self.old steps.old (op.AssignLocal slot name) next result frame.new self.new steps.new host }
+        ensures performs { (host : H) →
+            Performs H.law context.entry.program.now context.entry.engine.now frame.old self.old
+            steps.old (op.AssignLocal slot name) next result frame.new self.new steps.new host
+            host }
     {
         let index = self.slot_index(frame, slot);
         match self.scope.get(index) {
@@ -142,6 +155,7 @@ impl<H> Run<H> {
     pub(crate) fn assign_local_op<L: Ledger>(
         &mut self,
         context: Context<'_>,
+        host: &mut H,
         steps: &mut Steps<L>,
         frame: &mut Activation,
         slot: u16,
@@ -151,7 +165,9 @@ impl<H> Run<H> {
     ) -> Result<Progress, OutOfMemory>
         requires ready { Ready frame.old self.old (op.AssignLocalOp slot name assign_op) next }
         requires pools { InPools context.program.now (op.AssignLocalOp slot name assign_op) }
-        ensures performs { (host : H) → Performs context.entry.program.now context.entry.engine.now frame.old self.old steps.old (op.AssignLocalOp slot name assign_op) next result frame.new self.new steps.new host }
+        ensures performs { Performs H.law context.entry.program.now context.entry.engine.now
+            frame.old self.old steps.old (op.AssignLocalOp slot name assign_op) next result
+            frame.new self.new steps.new host.old host.new }
     {
         let index = self.slot_index(frame, slot);
         let assign_op = context.program.assign_op(u32::from(assign_op));
@@ -161,23 +177,17 @@ impl<H> Run<H> {
         if held.read_only {
             return Ok(self.assignment_to_constant(context, steps, frame.address, name)?);
         }
-        let mut target = held.value.copy(self.alloc)?;
-        let value = &self.stacks.top().value;
-        let assigned = if context.engine.fast_operators {
-            op_assigned(
-                self.alloc,
-                context.engine,
-                assign_op.op_assign,
-                &mut target,
-                value,
-            )?
-        } else {
-            OpAssigned::NotBuiltIn
-        };
+        let assigned = assign_entry(
+            self.alloc,
+            context.engine,
+            assign_op.op_assign,
+            &mut self.scope,
+            index,
+            &self.stacks.top().value,
+        )?;
         match assigned {
             OpAssigned::Done => {
                 let _value = self.stacks.pop();
-                self.scope.set(index, Held::read_write(target));
                 steps.mark();
                 frame.address = next;
                 steps.mark();
@@ -189,18 +199,66 @@ impl<H> Run<H> {
                 frame.address,
                 text,
             )),
-            OpAssigned::NotBuiltIn => {
-                let name = assign_op.op_name;
-                let fault = pair_not_found(
-                    self.alloc,
-                    context,
-                    frame.address,
-                    name,
-                    &target,
-                    value,
-                )?;
-                Ok(self.raise(steps, fault))
+            OpAssigned::TooLarge(what) => {
+                Ok(self.data_too_large(context, steps, frame.address, what))
             }
+            OpAssigned::NotBuiltIn => {
+                self.native_assigned(context, host, steps, frame, index, assign_op.op_name, next)
+            }
+        }
+    }
+
+    // The host's native of a name on what an entry holds and the last operand, whose value the
+    // entry takes.
+    #[cold]
+    #[inline(never)]
+    #[tactic(auto, using(grain_means::specs::lemmas::Scopes::length_set_held))]
+    fn native_assigned<L: Ledger>(
+        &mut self,
+        context: Context<'_>,
+        host: &mut H,
+        steps: &mut Steps<L>,
+        frame: &mut Activation,
+        index: usize,
+        name: u32,
+        next: usize,
+    ) -> Result<Progress, OutOfMemory>
+        requires inside { frame.old.base ≤ length self.old.scope }
+        requires entry { index < length self.old.scope }
+        requires operand { 0 < length self.old.stacks.operands }
+        requires ahead { frame.old.address < next }
+        requires pool { name < length context.program.now.names }
+        ensures implements { (h : Held) → held_at self.old.scope index ≡ Some h →
+            (slot : ℕ) → frame.old.base + slot ≡ index → Implements H.law
+            context.entry.program.now context.entry.engine.now frame.old self.old steps.old
+            (λ m place w. native m (name_of m.program name)
+            (h ∷ top self.old.stacks.operands ∷ []) (frame_in frame.old self.old place) w
+            (λ v w1. write_entry m h.read_only slot h v next (frame_in frame.old self.old place)
+            w1))
+            (next ∷ []) (length self.old.stacks.operands - 1 + 0) result
+            frame.new self.new steps.new host.old host.new }
+    {
+        let held = match self.scope.get(index) {
+            Some(held) => held,
+            None => unreachable!(),
+        };
+        let read_only = held.read_only;
+        let mut arguments = Arguments::new(self.alloc);
+        arguments.push(self.alloc, &self.cells, held)?;
+        arguments.push(self.alloc, &self.cells, self.stacks.top())?;
+        let name = context.program.name(name);
+        let position = context.program.position(frame.address);
+        let sought = seek(self.alloc, &self.cells, host, name, arguments, position)?;
+        match self.call_native(host, steps, sought, position)? {
+            NativeEnd::Value(value) => {
+                let _value = self.stacks.pop();
+                self.scope.set(index, Held { value, read_only });
+                steps.mark();
+                frame.address = next;
+                steps.mark();
+                Ok(Progress::Continues)
+            }
+            NativeEnd::Failed => Ok(Progress::Failed),
         }
     }
 
@@ -214,7 +272,9 @@ impl<H> Run<H> {
         next: usize,
     ) -> Progress
         requires ready { Ready frame.old self.old (op.UnwindTo depth) next }
-        ensures performs { (host : H) → Performs context.entry.program.now context.entry.engine.now frame.old self.old steps.old (op.UnwindTo depth) next (Ok result) frame.new self.new steps.new host }
+        ensures performs { (host : H) →
+            Performs H.law context.entry.program.now context.entry.engine.now frame.old self.old
+            steps.old (op.UnwindTo depth) next (Ok result) frame.new self.new steps.new host host }
     {
         let length = self.scope.len();
         let target = frame.base + usize::from(depth);
@@ -235,7 +295,9 @@ impl<H> Run<H> {
         next: usize,
     ) -> Progress
         requires ready { Ready frame.old self.old op.Checkpoint next }
-        ensures performs { (program : View) (engine : Engine) (host : H) → Performs program engine frame.old self.old steps.old op.Checkpoint next (Ok result) frame.new self.new steps.new host }
+        ensures performs { (program : View) (engine : Engine) (host : H) →
+            Performs H.law program engine frame.old self.old steps.old op.Checkpoint next
+            (Ok result) frame.new self.new steps.new host host }
     {
         frame.floor = self.scope.len();
         frame.address = next;

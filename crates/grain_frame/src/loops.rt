@@ -8,17 +8,18 @@ ghost use Rattle.grain_program.specs.View.{View};
 ghost use Rattle.grain_global.specs.declared.engines.Engine.{Engine};
 ghost use Rattle.grain_stack.specs.Views.{IsLeft};
 ghost use Rattle.grain_program.specs.declared.code.instructions.Op.TheVariants as op;
-ghost use Rattle.grain_means.specs.Worlds.{Go, InFrame};
+ghost use Rattle.grain_means.specs.Worlds.{Go, InFrame, Setup};
 ghost use Rattle.grain_means.specs.Rules.{called, closed, instr};
 ghost use Rattle.grain_means.specs.Simulation.{Simulates, SimulatesExactly, StopPersists};
 ghost use Rattle.grain_means.specs.Means.{setup};
-ghost use Rattle.grain_frame.specs.Abstraction.{abstraction, frame_in, is_out, finished_with, frame_over, frame_answer, answer_of, continuation, entry_of, KeepsFrame, ContinuesAt, Ready, Runs, Stepped, Attempted, CallsNothing, IsPending, attempt_of};
+ghost use Rattle.grain_frame.specs.Abstraction.{abstraction, frame_in, is_out, finished_with, frame_over, frame_answer, answer_of, continuation, entry_of, KeepsFrame, ContinuesAt, Ready, Runs, Stepped, Attempted, CallsNothing, IsPending, attempt_of, attempt_or};
 
 use crate::activations::Activation;
 use crate::contexts::Context;
 use crate::runs::{FrameEnd, Progress, Run};
 use crate::steps::Steps;
-use grain_fault::{Fault, RhaiResult};
+use grain_fault::{EvalAltResult, Fault, RhaiResult};
+use grain_host::Host;
 use grain_program::{Chunk, Op};
 use grain_value::{Dynamic, OutOfMemory};
 use std::sync::ledger::Ledger;
@@ -40,6 +41,8 @@ pub enum Pending {
     /// A call of the function with the name of this index and this number of arguments, after which
     /// the frame goes on at this address.
     Call(u16, u8, usize),
+    /// A jump to this address, which costs an operation.
+    Jump(u32),
     /// One that calls nothing.
     Other,
 }
@@ -50,16 +53,25 @@ impl Attempt {
     fn of(done: bool) -> Attempt
         ensures { result ≡ attempt_of done }
     {
+        Attempt::or(done, Pending::Other)
+    }
+
+    // Whether an instruction was done, and if not, what is still to be done.
+    #[inline(always)]
+    fn or(done: bool, pending: Pending) -> Attempt
+        ensures { result ≡ attempt_or done pending }
+    {
         if done {
             Attempt::Done
         } else {
-            Attempt::Pending(Pending::Other)
+            Attempt::Pending(pending)
         }
     }
 }
 
-impl<H> Run<H> {
-    // The instruction at which the frame stands, if it is one that is soon done. Else all is as it was.
+impl<H: Host> Run<H> {
+    // The instruction at which the frame stands, if it is one that is soon done, and the branch
+    // after a comparison. Else all is as it was.
     #[inline(always)]
     fn quick<L: Ledger>(
         &mut self,
@@ -68,7 +80,7 @@ impl<H> Run<H> {
         frame: &mut Activation,
     ) -> Attempt
         requires runs { Runs context.program.now frame.old self.old }
-        ensures { Attempted context.entry.program.now context.entry.engine.now
+        ensures { Attempted H.law context.entry.program.now context.entry.engine.now
             frame.old self.old steps.old frame.new self.new steps.new result }
     {
         let address = frame.address;
@@ -85,7 +97,8 @@ impl<H> Run<H> {
                 Attempt::of(self.quick_assign(context, steps, frame, slot, name, op, next))
             }
             (Op::Jump(target), width) => {
-                Attempt::of(self.quick_jump(context, steps, frame, target, address + width))
+                let done = self.quick_jump(context, steps, frame, target, address + width);
+                Attempt::or(done, Pending::Jump(target))
             }
             (Op::JumpIfFalse(target), width) => {
                 let next = address + width;
@@ -96,8 +109,7 @@ impl<H> Run<H> {
                 Attempt::of(self.quick_jump_if(context, steps, frame, true, target, next))
             }
             (Op::CallOp(name, count, token), width) => {
-                let next = address + width;
-                Attempt::of(self.quick_op(context, steps, frame, name, count, token, next))
+                Attempt::of(self.quick_op(context, steps, frame, name, count, token, width))
             }
             (Op::Call(name, count), width) => {
                 Attempt::Pending(Pending::Call(name, count, address + width))
@@ -115,13 +127,14 @@ impl<H> Run<H> {
     fn step<L: Ledger>(
         &mut self,
         context: Context<'_>,
+        host: &mut H,
         steps: &mut Steps<L>,
         frame: &mut Activation,
     ) -> Result<Progress, OutOfMemory>
         requires runs { Runs context.program.now frame.old self.old }
         requires calls_nothing { CallsNothing context.program.now frame.old }
-        ensures stepped { (host : H) → Stepped context.entry.program.now context.entry.engine.now
-            frame.old self.old steps.old result frame.new self.new steps.new host host }
+        ensures stepped { Stepped H.law context.entry.program.now context.entry.engine.now
+            frame.old self.old steps.old result frame.new self.new steps.new host.old host.new }
     {
         let address = frame.address;
         let depth = self.stacks.height();
@@ -155,28 +168,37 @@ impl<H> Run<H> {
                 self.assign_local(context, steps, frame, slot, name, address + width)
             }
             (Op::AssignLocalOp(slot, name, op), width) => {
-                self.assign_local_op(context, steps, frame, slot, name, op, address + width)
+                self.assign_local_op(context, host, steps, frame, slot, name, op, address + width)
             }
             (Op::Pop, width) => Ok(self.pop_on(steps, frame, address + width)),
             (Op::Rotate(under), width) => Ok(self.rotate(steps, frame, under, address + width)),
-            (Op::Jump(target), _) => Ok(self.jump_to(context, steps, frame, target as usize)),
+            (Op::Jump(target), _) => self.jump_to(context, host, steps, frame, target as usize),
             (Op::JumpIfFalse(target), width) => {
-                self.jump_if(context, steps, frame, false, target, address + width)
+                self.jump_if(context, host, steps, frame, false, target, address + width)
             }
             (Op::JumpIfTrue(target), width) => {
-                self.jump_if(context, steps, frame, true, target, address + width)
+                self.jump_if(context, host, steps, frame, true, target, address + width)
             }
             (Op::SkipIfNotUnit(target), width) => {
-                Ok(self.skip_if_not_unit(context, steps, frame, target, address + width))
+                self.skip_if_not_unit(context, host, steps, frame, target, address + width)
             }
             (Op::Call(_, _), _) => unreachable!(),
             (Op::CallOp(name, count, token), width) => {
-                self.call_op(context, steps, frame, name, count, token, address + width)
+                self.call_op(
+                    context,
+                    host,
+                    steps,
+                    frame,
+                    name,
+                    count,
+                    token,
+                    address + width,
+                )
             }
             (Op::UnwindTo(depth), width) => {
                 Ok(self.unwind_to(context, steps, frame, depth, address + width))
             }
-            (Op::Tick, width) => Ok(self.tick(context, steps, frame, address + width)),
+            (Op::Tick, width) => self.tick(context, host, steps, frame, address + width),
             (Op::Checkpoint, width) => Ok(self.checkpoint(steps, frame, address + width)),
             (Op::Statement(_), width) => Ok(self.go_on(steps, frame, address + width)),
             (Op::Throw, width) => Ok(self.throw(context, steps, frame, address + width)),
@@ -199,7 +221,7 @@ impl<H> Run<H> {
     ) -> Result<Progress, OutOfMemory>
         requires ready { Ready frame.old self.old (op.Call name count) next }
         requires pools { InPools context.program.now (op.Call name count) }
-        ensures goes { Simulates (setup context.entry.program.now context.entry.engine.now)
+        ensures goes { Simulates (setup H.law context.entry.program.now context.entry.engine.now)
             (abstraction self.old steps.old host.old)
             (λ m place w. instr m (op.Call name count) next (frame_in frame.old self.old place) w)
             (is_out result) (abstraction self.new steps.new host.new)
@@ -211,10 +233,10 @@ impl<H> Run<H> {
     {
         let count = usize::from(count);
         let Some(number) = context.program.function(u32::from(name), count) else {
-            return Ok(self.function_not_found(context, steps, frame.address, name, count)?);
+            return self.native_on(context, host, steps, frame, name, count, next);
         };
         let function = context.program.function_at(number);
-        match self.begin(context, steps, frame, function) {
+        match self.begin(context, host, steps, frame, function) {
             Err(e) => Err(e),
             Ok(begun) => {
                 if begun {
@@ -228,7 +250,8 @@ impl<H> Run<H> {
     }
 
     // The instruction at which the frame stands, which is a call or was not soon done. The frame is
-    // copied for one that was not, so that the loop can hold its own in registers.
+    // copied for one that was not, so that the loop can hold its own in registers. Of the copy only
+    // what an instruction can change is taken back, so that the rest need not be held in them.
     #[cycle(run)]
     #[inline(always)]
     fn proceed<L: Ledger>(
@@ -241,17 +264,19 @@ impl<H> Run<H> {
     ) -> Result<Progress, OutOfMemory>
         requires runs { Runs context.program.now frame.old self.old }
         requires pending { IsPending context.program.now frame.old self.old pending }
-        ensures stepped { Stepped context.entry.program.now context.entry.engine.now
+        ensures stepped { Stepped H.law context.entry.program.now context.entry.engine.now
             frame.old self.old steps.old result frame.new self.new steps.new host.old host.new }
     {
         match pending {
             Pending::Call(name, count, next) => {
                 self.call(context, host, steps, frame, name, count, next)
             }
+            Pending::Jump(target) => self.jump_to(context, host, steps, frame, target as usize),
             Pending::Other => {
                 let mut copy = *frame;
-                let progress = self.step(context, steps, &mut copy);
-                *frame = copy;
+                let progress = self.step(context, host, steps, &mut copy);
+                frame.address = copy.address;
+                frame.floor = copy.floor;
                 progress
             }
         }
@@ -290,7 +315,7 @@ impl<H> Run<H> {
         base: usize,
     ) -> Result<FrameEnd, OutOfMemory>
         requires runs { Runs context.program.now (entry_of chunk.now base) self.old }
-        ensures goes { Simulates (setup context.entry.program.now context.entry.engine.now)
+        ensures goes { Simulates (setup H.law context.entry.program.now context.entry.engine.now)
             (abstraction self.old steps.old host.old)
             (λ m place w. Go (InFrame (frame_in (entry_of chunk.now base) self.old place)) w)
             (is_out result) (abstraction self.new steps.new host.new)
@@ -334,7 +359,8 @@ impl<H> Run<H> {
         host: &mut H,
         steps: &mut Steps<L>,
     ) -> Result<RhaiResult, OutOfMemory>
-        ensures goes { Simulates (setup context.entry.program.now context.entry.engine.now)
+        requires no_trace { self.old.stacks.trace ≡ [] }
+        ensures goes { Simulates (setup H.law context.entry.program.now context.entry.engine.now)
             (abstraction self.old steps.old host.old) (λ m place w. called m place w)
             (is_out result) (abstraction self.new steps.new host.new) (finished_with result) }
         ensures stacks { IsLeft self.old.stacks self.new.stacks }
@@ -387,20 +413,33 @@ impl<H> Run<H> {
         Dynamic::Unit
     }
 
-    // A call of the machine is over.
+    // A call of the machine is over. An exit ends it with its value, and leaves no trace.
     fn close<L: Ledger>(
-        &self,
+        &mut self,
         steps: &mut Steps<L>,
         back: Result<RhaiResult, OutOfMemory>,
     ) -> Result<RhaiResult, OutOfMemory>
-        ensures same { (program : View) (engine : Engine) (host : H) → SimulatesExactly (setup program engine) (abstraction self.now steps.old host) (λ m place w. closed m (answer_of back) w) (is_out result) (abstraction self.now steps.new host) (finished_with result) }
-        ensures persists { StopPersists (is_out back) steps.old.passed (is_out result) steps.new.passed }
+        ensures same { (m : Setup H) (host : H) →
+            SimulatesExactly m (abstraction self.old steps.old host)
+            (λ m place w. closed m [] (answer_of back) w) (is_out result)
+            (abstraction self.new steps.new host) (finished_with result) }
+        ensures others { self.new ≡ record self.old {
+          stacks = record self.old.stacks { trace = self.new.stacks.trace };
+        } }
+        ensures persists { StopPersists (is_out back) steps.old.passed (is_out result)
+            steps.new.passed }
         ensures before { steps.new.before ≡ steps.old.before }
     {
         match back {
             Ok(done) => {
                 steps.mark();
-                Ok(done)
+                match done {
+                    Err(EvalAltResult::Exit(value, _)) => {
+                        self.stacks.cut_trace(0);
+                        Ok(Ok(value))
+                    }
+                    done => Ok(done),
+                }
             }
             Err(e) => Err(e),
         }

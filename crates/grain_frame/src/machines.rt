@@ -15,6 +15,7 @@ use crate::saved::SavedScopes;
 use crate::steps::Steps;
 use grain_fault::{EvalAltResult, Fault, RhaiResult};
 use grain_global::{Engine, GlobalRuntimeState};
+use grain_host::Host;
 use grain_program::Program;
 use grain_stack::Stacks;
 use grain_value::{OutOfMemory, Scope, Store};
@@ -33,8 +34,12 @@ pub struct Machine<'e> {
 
 impl<'e> Model for Machine<'e> {
     ghost use Rattle.grain_frame.specs.MachineView.{MachineView};
+    ghost use Rattle.std.specs.Coded.{codes};
+    ghost use Rattle.grain_value.specs.TreeCode.{coded_tree};
 
     ghost Value = { MachineView };
+
+    ghost coded = { Prim.hlevel (codes, coded_tree) };
 
     ghost view = { λ m. record { engine = m.engine.now; stacks = m.stacks } };
 }
@@ -58,17 +63,19 @@ impl<'e> Machine<'e> {
         &self.stacks
     }
 
-    /// Where the frames stopped that the fault of the last run left, the innermost first. It is empty after a value.
+    /// Where the frames stopped that the fault of the last run left, the innermost first. It is
+    /// empty after a value.
     pub fn trace(&self) -> &[Fault]
         ensures { result.now ≡ self.now.stacks.trace }
     {
         self.stacks.trace()
     }
 
-    /// Runs a program's main on a scope. The operations that are charged count on from the state's, and the entries
-    /// that main declares stay after a value; a fault cuts the scope back to its length. After want of memory the run
-    /// is the one that is stopped at a mark. The scope's entries keep their names and order, whatever the end is.
-    pub fn run_main<H, L: Ledger>(
+    /// Runs a program's main on a scope. The operations that are charged count on from the state's,
+    /// and the entries that main declares stay after a value; a fault cuts the scope back to its
+    /// length. After want of memory the run is the one that is stopped at a mark. The scope's
+    /// entries keep their names and order, whatever the end is.
+    pub fn run_main<H: Host, L: Ledger>(
         &mut self,
         alloc: Global,
         host: &mut H,
@@ -79,10 +86,17 @@ impl<'e> Machine<'e> {
         steps: &mut Steps<L>,
     ) -> RhaiResult
         requires positive { 0 < self.old.engine.limits.operations }
-        ensures evaluates { (ran : ℕ) × (Evaluates program.now self.old.engine (begin scope.old cells.old host.old global.old) result (finish self.new.stacks.trace scope.new cells.new host.new global.new) ran × (instructions steps.new ≡ instructions steps.old + ran)) }
-        ensures causes { HasCause program.now self.old.engine (begin scope.old cells.old host.old global.old) result }
-        ensures provided { Provided program.now self.old.engine (begin scope.old cells.old host.old global.old) }
-        ensures leaves { Leaves program.now self.old.engine (begin scope.old cells.old host.old global.old) result scope.new self.new.stacks.trace }
+        ensures evaluates { (ran : ℕ) ×
+            (Evaluates H.law program.now self.old.engine
+            (begin scope.old cells.old host.old global.old) result
+            (finish self.new.stacks.trace scope.new cells.new host.new global.new) ran ×
+            (instructions steps.new ≡ instructions steps.old + ran)) }
+        ensures causes { HasCause H.law program.now self.old.engine
+            (begin scope.old cells.old host.old global.old) result }
+        ensures provided { Provided H.law program.now self.old.engine
+            (begin scope.old cells.old host.old global.old) }
+        ensures leaves { Leaves H.law program.now self.old.engine
+            (begin scope.old cells.old host.old global.old) result scope.new self.new.stacks.trace }
         ensures level { global.new.level ≡ global.old.level }
         ensures clean { IsLeft self.old.stacks self.new.stacks }
         ensures engine { self.new.engine ≡ self.old.engine }

@@ -1,26 +1,28 @@
 //! Instructions on operands alone.
 
 ghost use Rattle.std.specs.Prelude.{◌≡◌, ◌<◌, ◌≤◌, ◌+◌, ◌-◌, ◌∷◌, [], length, Ok, IfOk, IfSome};
-ghost use Rattle.grain_program.specs.View.{View};
+ghost use Rattle.grain_program.specs.View.{View, name_of};
 ghost use Rattle.grain_program.specs.declared.code.instructions.Op.TheVariants as op;
 ghost use Rattle.grain_value.specs.declared.values.Dynamic.TheVariants as dynamic;
-ghost use Rattle.grain_value.specs.Operands.{arguments};
+ghost use Rattle.grain_value.specs.Operands.{arguments, under};
 ghost use Rattle.grain_global.specs.declared.engines.Engine.{Engine};
 ghost use Rattle.grain_ops.specs.Outcomes.{Gave};
-ghost use Rattle.grain_means.specs.Rules.{pushed, operated};
+ghost use Rattle.grain_means.specs.Rules.{pushed, operated, native};
 ghost use Rattle.grain_frame.specs.Abstraction.{frame_in, Implements, Performs, Ready};
 ghost use Rattle.grain_frame.specs.Operated.{outcome_of};
 ghost use Rattle.grain_program.specs.Indices.{InPools};
 
 use crate::activations::Activation;
 use crate::contexts::Context;
+use crate::natives::{Arguments, NativeEnd, seek};
 use crate::operated::{Operated, operate};
 use crate::runs::{Progress, Run};
 use crate::steps::Steps;
+use grain_host::Host;
 use grain_value::{Dynamic, Held, OutOfMemory};
 use std::sync::ledger::Ledger;
 
-impl<H> Run<H> {
+impl<H: Host> Run<H> {
     // Gives a value, as the frame's last operand, and goes on at the next instruction.
     #[inline(always)]
     pub(crate) fn push_on<L: Ledger>(
@@ -33,9 +35,12 @@ impl<H> Run<H> {
         requires inside { frame.old.base ≤ length self.old.scope }
         requires room { length self.old.stacks.operands < self.old.stacks.room }
         requires ahead { frame.old.address < next }
-        ensures implements { (program : View) (engine : Engine) (host : H) → Implements program engine frame.old self.old steps.old
-            (λ m place w. pushed m (frame_in frame.old self.old place) next self.old.stacks.operands value w)
-            (next ∷ []) (length self.old.stacks.operands - 0 + 1) (Ok result) frame.new self.new steps.new host }
+        ensures implements { (program : View) (engine : Engine) (host : H) →
+            Implements H.law program engine frame.old self.old steps.old
+            (λ m place w. pushed m (frame_in frame.old self.old place) next self.old.stacks.operands
+            value w)
+            (next ∷ []) (length self.old.stacks.operands - 0 + 1) (Ok result) frame.new self.new
+            steps.new host host }
     {
         self.stacks.push(Held::read_write(value));
         frame.address = next;
@@ -55,7 +60,9 @@ impl<H> Run<H> {
     ) -> Result<Progress, OutOfMemory>
         requires ready { Ready frame.old self.old (op.LoadConst constant) next }
         requires pools { InPools context.program.now (op.LoadConst constant) }
-        ensures performs { (host : H) → Performs context.entry.program.now context.entry.engine.now frame.old self.old steps.old (op.LoadConst constant) next result frame.new self.new steps.new host }
+        ensures performs { (host : H) →
+            Performs H.law context.entry.program.now context.entry.engine.now frame.old self.old
+            steps.old (op.LoadConst constant) next result frame.new self.new steps.new host host }
     {
         self.stacks
             .push_copy(self.alloc, context.program.constant(u32::from(constant)))?;
@@ -72,7 +79,9 @@ impl<H> Run<H> {
         next: usize,
     ) -> Progress
         requires ready { Ready frame.old self.old op.Pop next }
-        ensures performs { (program : View) (engine : Engine) (host : H) → Performs program engine frame.old self.old steps.old op.Pop next (Ok result) frame.new self.new steps.new host }
+        ensures performs { (program : View) (engine : Engine) (host : H) →
+            Performs H.law program engine frame.old self.old steps.old op.Pop next (Ok result)
+            frame.new self.new steps.new host host }
     {
         let _value = self.stacks.pop();
         frame.address = next;
@@ -89,7 +98,9 @@ impl<H> Run<H> {
         next: usize,
     ) -> Progress
         requires ready { Ready frame.old self.old (op.Rotate under) next }
-        ensures performs { (program : View) (engine : Engine) (host : H) → Performs program engine frame.old self.old steps.old (op.Rotate under) next (Ok result) frame.new self.new steps.new host }
+        ensures performs { (program : View) (engine : Engine) (host : H) →
+            Performs H.law program engine frame.old self.old steps.old (op.Rotate under) next
+            (Ok result) frame.new self.new steps.new host host }
     {
         self.stacks.rotate(usize::from(under));
         frame.address = next;
@@ -102,6 +113,7 @@ impl<H> Run<H> {
     pub(crate) fn call_op<L: Ledger>(
         &mut self,
         context: Context<'_>,
+        host: &mut H,
         steps: &mut Steps<L>,
         frame: &mut Activation,
         name: u16,
@@ -111,7 +123,9 @@ impl<H> Run<H> {
     ) -> Result<Progress, OutOfMemory>
         requires ready { Ready frame.old self.old (op.CallOp name count token) next }
         requires pools { InPools context.program.now (op.CallOp name count token) }
-        ensures performs { (host : H) → Performs context.entry.program.now context.entry.engine.now frame.old self.old steps.old (op.CallOp name count token) next result frame.new self.new steps.new host }
+        ensures performs { Performs H.law context.entry.program.now context.entry.engine.now
+            frame.old self.old steps.old (op.CallOp name count token) next result frame.new self.new
+            steps.new host.old host.new }
     {
         let arguments = usize::from(count);
         match self.operate(context, token, arguments)? {
@@ -120,9 +134,54 @@ impl<H> Run<H> {
                 Ok(self.push_on(steps, frame, value, next))
             }
             Operated::Arithmetic(text) => Ok(self.arithmetic(context, steps, frame.address, text)),
-            Operated::NotBuiltIn => {
-                Ok(self.function_not_found(context, steps, frame.address, name, arguments)?)
+            Operated::TooLarge(what) => {
+                Ok(self.data_too_large(context, steps, frame.address, what))
             }
+            Operated::NotBuiltIn => {
+                self.native_on(context, host, steps, frame, name, arguments, next)
+            }
+        }
+    }
+
+    // The host's native of a name on the last `count` operands, in whose place its value stands.
+    #[cold]
+    #[inline(never)]
+    pub(crate) fn native_on<L: Ledger>(
+        &mut self,
+        context: Context<'_>,
+        host: &mut H,
+        steps: &mut Steps<L>,
+        frame: &mut Activation,
+        name: u16,
+        count: usize,
+        next: usize,
+    ) -> Result<Progress, OutOfMemory>
+        requires inside { frame.old.base ≤ length self.old.scope }
+        requires operands { count ≤ length self.old.stacks.operands }
+        requires room { length self.old.stacks.operands - count < self.old.stacks.room }
+        requires ahead { frame.old.address < next }
+        requires pool { name < length context.program.now.names }
+        ensures implements { Implements H.law context.entry.program.now context.entry.engine.now
+            frame.old self.old steps.old
+            (λ m place w. native m (name_of m.program name)
+            (arguments count self.old.stacks.operands) (frame_in frame.old self.old place) w
+            (λ v w1. pushed m (frame_in frame.old self.old place) next
+            (under count self.old.stacks.operands) v w1))
+            (next ∷ []) (length self.old.stacks.operands - count + 1) result
+            frame.new self.new steps.new host.old host.new }
+    {
+        let operands = self.stacks.frame_operands();
+        let given = &operands[operands.len() - count..];
+        let arguments = Arguments::of(self.alloc, &self.cells, given)?;
+        let name = context.program.name(u32::from(name));
+        let position = context.program.position(frame.address);
+        let sought = seek(self.alloc, &self.cells, host, name, arguments, position)?;
+        match self.call_native(host, steps, sought, position)? {
+            NativeEnd::Value(value) => {
+                self.stacks.cut(self.stacks.height() - count);
+                Ok(self.push_on(steps, frame, value, next))
+            }
+            NativeEnd::Failed => Ok(Progress::Failed),
         }
     }
 
@@ -136,7 +195,9 @@ impl<H> Run<H> {
     ) -> Result<Operated, OutOfMemory>
         requires operands { count ≤ length self.now.stacks.operands }
         requires pool { token < length context.program.now.tokens }
-        ensures { IfOk result (λ r. outcome_of r ≡ operated context.entry.program.now context.entry.engine.now token (arguments count self.now.stacks.operands)) }
+        ensures { IfOk result
+            (λ r. outcome_of r ≡ operated context.entry.program.now context.entry.engine.now token
+            (arguments count self.now.stacks.operands)) }
     {
         if !context.engine.fast_operators {
             return Ok(Operated::NotBuiltIn);

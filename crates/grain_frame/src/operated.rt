@@ -1,19 +1,20 @@
 //! What the built-in operators give, as the frame goes on with it.
 
-ghost use Rattle.std.specs.Prelude.{◌≡◌, ◌≤◌, length, IfOk, IfSome};
+ghost use Rattle.std.specs.Prelude.{◌≡◌, ◌<◌, ◌≤◌, length, IfOk, IfSome, Some};
 ghost use Rattle.grain_value.specs.Operands.{arguments, values_in};
 ghost use Rattle.grain_value.specs.declared.values.Dynamic.TheVariants as dynamic;
-ghost use Rattle.grain_means.specs.Rules.{if_fast};
+ghost use Rattle.grain_means.specs.Rules.{if_fast, held_at};
+ghost use Rattle.grain_value.specs.declared.values.Held.{Held};
 ghost use Rattle.grain_value.specs.declared.values.Dynamic.{Dynamic};
 ghost use Rattle.grain_ops.specs.Outcomes.{Outcome, Gave};
 ghost use Rattle.grain_ops.specs.Operators.{operation, assignment};
 ghost use Rattle.grain_ops.specs.Answers.{Answers, Assigns};
-ghost use Rattle.grain_frame.specs.Operated.{outcome_of, Assigned, ArithmeticText};
+ghost use Rattle.grain_frame.specs.Operated.{outcome_of, Assigned, AssignedEntry, IsFailure};
 
 use grain_fault::EvalAltResult;
 use grain_global::Engine;
 use grain_ops::{AssignAnswer, OpAnswer, assign, binary, unary};
-use grain_value::{Dynamic, Held, OutOfMemory, Text, Token};
+use grain_value::{Dynamic, Held, OutOfMemory, Scope, Text, Token};
 use std::alloc::Global;
 
 /// What an operator gives.
@@ -25,6 +26,8 @@ pub enum Operated {
     Value(Dynamic),
     /// The text of an arithmetic fault.
     Arithmetic(Text),
+    /// What of the value would be too large.
+    TooLarge(Text),
 }
 
 /// What an op-assignment gives.
@@ -36,6 +39,15 @@ pub enum OpAssigned {
     Done,
     /// The text of an arithmetic fault. The target is as it was.
     Arithmetic(Text),
+    /// What of the value would be too large. The target is as it was.
+    TooLarge(Text),
+}
+
+/// Why an operator fails, where memory is not out.
+#[derive(Drop)]
+enum Failure {
+    Arithmetic(Text),
+    TooLarge(Text),
 }
 
 /// What an operator gives for these arguments.
@@ -45,7 +57,8 @@ pub fn operate(
     token: Token,
     arguments: &[Held],
 ) -> Result<Operated, OutOfMemory>
-    ensures { IfOk result (λ r. outcome_of r ≡ operation engine.now.limits token (values_in arguments.now)) }
+    ensures { IfOk result
+        (λ r. outcome_of r ≡ operation engine.now.limits token (values_in arguments.now)) }
 {
     match arguments {
         [x] => operated_from(unary(alloc, token, &x.value)),
@@ -60,14 +73,16 @@ fn operated_from(answer: OpAnswer) -> Result<Operated, OutOfMemory>
     match answer {
         OpAnswer::NotBuiltIn => Ok(Operated::NotBuiltIn),
         OpAnswer::Done(value) => Ok(Operated::Value(value)),
-        OpAnswer::Failed(fault) => match arithmetic_text(fault) {
-            Some(text) => Ok(Operated::Arithmetic(text)),
+        OpAnswer::Failed(fault) => match failure_of(fault) {
+            Some(Failure::Arithmetic(text)) => Ok(Operated::Arithmetic(text)),
+            Some(Failure::TooLarge(what)) => Ok(Operated::TooLarge(what)),
             None => Err(OutOfMemory),
         },
     }
 }
 
-/// What an op-assignment of a value to a target gives. After want of memory the target is as it was.
+/// What an op-assignment of a value to a target gives. After want of memory the target is as it
+/// was.
 pub fn op_assigned(
     alloc: Global,
     engine: &Engine,
@@ -75,31 +90,58 @@ pub fn op_assigned(
     target: &mut Dynamic,
     value: &Dynamic,
 ) -> Result<OpAssigned, OutOfMemory>
-    ensures { Assigned result (assignment engine.now.limits token target.old value.now) target.old target.new }
+    ensures { Assigned result (assignment engine.now.limits token target.old value.now) target.old
+        target.new }
 {
     match assign(alloc, token, target, value, &engine.limits) {
         AssignAnswer::NotBuiltIn => Ok(OpAssigned::NotBuiltIn),
         AssignAnswer::Done => Ok(OpAssigned::Done),
-        AssignAnswer::Failed(fault) => match arithmetic_text(fault) {
-            Some(text) => Ok(OpAssigned::Arithmetic(text)),
+        AssignAnswer::Failed(fault) => match failure_of(fault) {
+            Some(Failure::Arithmetic(text)) => Ok(OpAssigned::Arithmetic(text)),
+            Some(Failure::TooLarge(what)) => Ok(OpAssigned::TooLarge(what)),
             None => Err(OutOfMemory),
         },
     }
 }
 
-// The text of an operator's fault, or none if memory was out.
+/// What an op-assignment of a value to the entry at the index gives, if operators are fast. The
+/// entry keeps its flag, and the scope is as it was unless the answer is `Done`.
+pub fn assign_entry(
+    alloc: Global,
+    engine: &Engine,
+    token: Token,
+    scope: &mut Scope,
+    index: usize,
+    value: &Dynamic,
+) -> Result<OpAssigned, OutOfMemory>
+    requires { index < length scope.old }
+    ensures { (h : Held) → held_at scope.old index ≡ Some h →
+        AssignedEntry result (if_fast engine.now.fast_operators
+        (assignment engine.now.limits token h.value value.now)) scope.old scope.new index h }
+{
+    if !engine.fast_operators {
+        return Ok(OpAssigned::NotBuiltIn);
+    }
+    match scope.get_mut(index) {
+        Some(held) => op_assigned(alloc, engine, token, &mut held.value, value),
+        None => unreachable!(),
+    }
+}
+
+// Why an operator failed, or none if memory was out.
 #[cold]
-fn arithmetic_text(fault: EvalAltResult) -> Option<Text>
-    ensures { ArithmeticText fault result }
+fn failure_of(fault: EvalAltResult) -> Option<Failure>
+    ensures { IsFailure fault result }
 {
     match fault {
-        EvalAltResult::ErrorArithmetic(text, _) => Some(text),
+        EvalAltResult::ErrorArithmetic(text, _) => Some(Failure::Arithmetic(text)),
+        EvalAltResult::ErrorDataTooLarge(what, _) => Some(Failure::TooLarge(what)),
         _ => None,
     }
 }
 
-/// The integer that an op-assignment makes of a target and a value that are integers, if operators are fast and it
-/// fits. It says nothing of all else, of which `op_assigned` tells.
+/// The integer that an op-assignment makes of a target and a value that are integers, if operators
+/// are fast and it fits. It says nothing of all else, of which `op_assigned` tells.
 #[inline(always)]
 pub fn quick_assigned(
     engine: &Engine,
@@ -107,7 +149,9 @@ pub fn quick_assigned(
     target: &Dynamic,
     value: &Dynamic,
 ) -> Option<i64>
-    ensures { IfSome result (λ z. if_fast engine.now.fast_operators (assignment engine.now.limits token target.now value.now) ≡ Gave (dynamic.Int z)) }
+    ensures { IfSome result
+        (λ z. if_fast engine.now.fast_operators
+        (assignment engine.now.limits token target.now value.now) ≡ Gave (dynamic.Int z)) }
 {
     if engine.fast_operators {
         grain_ops::quick_assigned(token, target, value)

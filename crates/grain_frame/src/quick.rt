@@ -1,14 +1,16 @@
-//! Instructions that are soon done, tried before all others: they take no memory, raise nothing and call nothing, so that
-//! the loop over them holds what it needs. Each says whether it did its instruction; where it did not, it changed nothing,
-//! and the instruction's own method does it.
+//! Instructions that are soon done, tried before all others: they take no memory, raise nothing and
+//! call nothing, so that the loop over them holds what it needs. Each says whether it did its
+//! instruction; where it did not, it changed nothing, and the instruction's own method does it.
 
 ghost use Rattle.std.specs.Prelude.{◌≡◌, ◌<◌, ◌≤◌, ◌+◌, ◌-◌, ◌∷◌, [], length, Ok, cond, nat_lt};
 ghost use Rattle.grain_program.specs.Indices.{InPools};
+ghost use Rattle.grain_program.specs.TypedAt.{IsTypedAt};
 ghost use Rattle.grain_program.specs.declared.code.instructions.Op.TheVariants as op;
 ghost use Rattle.grain_value.specs.Operands.{arguments};
-ghost use Rattle.grain_ops.specs.Told.{Tells, IsTold};
+ghost use Rattle.grain_ops.specs.Agreement.{Agrees, IsGiven};
 ghost use Rattle.grain_means.specs.Rules.{jumped, stepped, jump_if, operated};
-ghost use Rattle.grain_frame.specs.Abstraction.{frame_in, Implements, Performs, Ready, Unchanged, OnTrue, OnFalse};
+ghost use Rattle.grain_frame.specs.Abstraction.{frame_in, Implements, Performs, Ready, Runs, Unchanged, OnTrue, OnFalse};
+ghost use Rattle.grain_frame.specs.Following.{PerformsOn};
 
 use crate::activations::Activation;
 use crate::contexts::Context;
@@ -16,11 +18,12 @@ use crate::operated::quick_assigned;
 use crate::runs::{Progress, Run};
 use crate::steps::Steps;
 use crate::transfers::agrees;
+use grain_host::Host;
 use grain_ops::{Quick, quick_operated};
 use grain_value::Dynamic;
 use std::sync::ledger::Ledger;
 
-impl<H> Run<H> {
+impl<H: Host> Run<H> {
     // `load_const` of an integer.
     #[inline(always)]
     pub(crate) fn quick_const<L: Ledger>(
@@ -33,7 +36,10 @@ impl<H> Run<H> {
     ) -> bool
         requires ready { Ready frame.old self.old (op.LoadConst constant) next }
         requires pools { InPools context.program.now (op.LoadConst constant) }
-        ensures performs { OnTrue result ((host : H) → Performs context.entry.program.now context.entry.engine.now frame.old self.old steps.old (op.LoadConst constant) next (Ok Progress.Continues) frame.new self.new steps.new host) }
+        ensures performs { OnTrue result
+            ((host : H) → Performs H.law context.entry.program.now context.entry.engine.now
+            frame.old self.old steps.old (op.LoadConst constant) next (Ok Progress.Continues)
+            frame.new self.new steps.new host host) }
         ensures undone { OnFalse result (Unchanged frame.old self.old steps.old frame.new self.new steps.new) }
     {
         match context.program.constant(u32::from(constant)) {
@@ -60,7 +66,10 @@ impl<H> Run<H> {
         next: usize,
     ) -> bool
         requires ready { Ready frame.old self.old (op.LoadLocal slot) next }
-        ensures performs { OnTrue result ((host : H) → Performs context.entry.program.now context.entry.engine.now frame.old self.old steps.old (op.LoadLocal slot) next (Ok Progress.Continues) frame.new self.new steps.new host) }
+        ensures performs { OnTrue result
+            ((host : H) → Performs H.law context.entry.program.now context.entry.engine.now
+            frame.old self.old steps.old (op.LoadLocal slot) next (Ok Progress.Continues) frame.new
+            self.new steps.new host host) }
         ensures undone { OnFalse result (Unchanged frame.old self.old steps.old frame.new self.new steps.new) }
     {
         let _context = context;
@@ -96,7 +105,10 @@ impl<H> Run<H> {
     ) -> bool
         requires ready { Ready frame.old self.old (op.AssignLocalOp slot name assign_op) next }
         requires pools { InPools context.program.now (op.AssignLocalOp slot name assign_op) }
-        ensures performs { OnTrue result ((host : H) → Performs context.entry.program.now context.entry.engine.now frame.old self.old steps.old (op.AssignLocalOp slot name assign_op) next (Ok Progress.Continues) frame.new self.new steps.new host) }
+        ensures performs { OnTrue result
+            ((host : H) → Performs H.law context.entry.program.now context.entry.engine.now
+            frame.old self.old steps.old (op.AssignLocalOp slot name assign_op) next
+            (Ok Progress.Continues) frame.new self.new steps.new host host) }
         ensures undone { OnFalse result (Unchanged frame.old self.old steps.old frame.new self.new steps.new) }
     {
         let _name = name;
@@ -121,7 +133,7 @@ impl<H> Run<H> {
         }
     }
 
-    // `call_op` of two integers.
+    // `call_op` of two integers, and, where it gives a truth value, the branch after it.
     #[inline(always)]
     pub(crate) fn quick_op<L: Ledger>(
         &mut self,
@@ -131,25 +143,36 @@ impl<H> Run<H> {
         name: u16,
         count: u8,
         token: u16,
-        next: usize,
+        width: usize,
     ) -> bool
-        requires ready { Ready frame.old self.old (op.CallOp name count token) next }
+        requires ready { Ready frame.old self.old (op.CallOp name count token)
+            (frame.old.address + width) }
         requires pools { InPools context.program.now (op.CallOp name count token) }
-        ensures performs { OnTrue result ((host : H) → Performs context.entry.program.now context.entry.engine.now frame.old self.old steps.old (op.CallOp name count token) next (Ok Progress.Continues) frame.new self.new steps.new host) }
+        requires fits { frame.old.address + width ≤ 16777216 }
+        requires runs { Runs context.program.now frame.old self.old }
+        requires typed { IsTypedAt context.program.now frame.old.chunk (frame.old.address + width)
+            (length self.old.stacks.operands - count + 1) }
+        ensures performs { OnTrue result
+            ((host : H) → PerformsOn H.law context.entry.program.now context.entry.engine.now
+            frame.old self.old steps.old (op.CallOp name count token) (frame.old.address + width)
+            frame.new self.new steps.new host) }
         ensures undone { OnFalse result (Unchanged frame.old self.old steps.old frame.new self.new steps.new) }
     {
         let _name = name;
         match self.quick_operation(context, token, count) {
             Quick::Int(z) => {
                 self.stacks.answer_int(z);
-                frame.address = next;
+                frame.address += width;
                 steps.mark();
                 true
             }
             Quick::Bool(truth) => {
-                self.stacks.answer_bool(truth);
-                frame.address = next;
+                frame.address += width;
                 steps.mark();
+                if self.quick_branch(context, steps, frame, truth) {
+                    return true;
+                }
+                self.stacks.answer_bool(truth);
                 true
             }
             Quick::None => false,
@@ -162,9 +185,9 @@ impl<H> Run<H> {
     fn quick_operation(&self, context: Context<'_>, token: u16, count: u8) -> Quick
         requires operands { count ≤ length self.now.stacks.operands }
         requires pool { token < length context.program.now.tokens }
-        ensures tells { Tells result (operated context.entry.program.now context.entry.engine.now
+        ensures agrees { Agrees result (operated context.entry.program.now context.entry.engine.now
             token (arguments count self.now.stacks.operands)) }
-        ensures two { IsTold result → count ≡ 2 }
+        ensures two { IsGiven result → count ≡ 2 }
     {
         if count != 2 || !context.engine.fast_operators {
             return Quick::None;
@@ -173,7 +196,7 @@ impl<H> Run<H> {
         quick_operated(token, &self.stacks.peek(1).value, &self.stacks.top().value)
     }
 
-    // `jump`, where it costs nothing or an operation is left.
+    // `jump` to what lies ahead, which costs nothing.
     #[inline(always)]
     pub(crate) fn quick_jump<L: Ledger>(
         &mut self,
@@ -184,7 +207,10 @@ impl<H> Run<H> {
         next: usize,
     ) -> bool
         requires ready { Ready frame.old self.old (op.Jump target) next }
-        ensures performs { OnTrue result ((host : H) → Performs context.entry.program.now context.entry.engine.now frame.old self.old steps.old (op.Jump target) next (Ok Progress.Continues) frame.new self.new steps.new host) }
+        ensures performs { OnTrue result
+            ((host : H) → Performs H.law context.entry.program.now context.entry.engine.now
+            frame.old self.old steps.old (op.Jump target) next (Ok Progress.Continues) frame.new
+            self.new steps.new host host) }
         ensures undone { OnFalse result (Unchanged frame.old self.old steps.old frame.new self.new steps.new) }
     {
         let _next = next;
@@ -193,17 +219,12 @@ impl<H> Run<H> {
             frame.address = target;
             steps.mark();
             true
-        } else if self.charge(context.engine) {
-            steps.mark();
-            frame.address = target;
-            steps.mark();
-            true
         } else {
             false
         }
     }
 
-    // `jump_if_false` and `jump_if_true` at a truth value, where a jump costs nothing or an operation is left.
+    // `jump_if_false` and `jump_if_true` at a truth value, where a jump costs nothing.
     #[inline(always)]
     pub(crate) fn quick_jump_if<L: Ledger>(
         &mut self,
@@ -215,9 +236,13 @@ impl<H> Run<H> {
         next: usize,
     ) -> bool
         requires ready { Ready frame.old self.old (op.JumpIfFalse target) next }
-        ensures implements { OnTrue result ((host : H) → Implements context.entry.program.now context.entry.engine.now frame.old self.old steps.old
+        ensures implements { OnTrue result
+            ((host : H) → Implements H.law context.entry.program.now context.entry.engine.now
+            frame.old self.old steps.old
             (λ m place w. jump_if m wanted target next (frame_in frame.old self.old place) w)
-            (cond (nat_lt target next) (target ∷ next ∷ []) (next ∷ target ∷ [])) (length self.old.stacks.operands - 1 + 0) (Ok Progress.Continues) frame.new self.new steps.new host) }
+            (cond (nat_lt target next) (target ∷ next ∷ []) (next ∷ target ∷ []))
+            (length self.old.stacks.operands - 1 + 0) (Ok Progress.Continues) frame.new self.new
+            steps.new host host) }
         ensures undone { OnFalse result (Unchanged frame.old self.old steps.old frame.new self.new steps.new) }
     {
         let target = target as usize;
@@ -229,12 +254,6 @@ impl<H> Run<H> {
                     steps.mark();
                     true
                 } else if target > frame.address {
-                    self.stacks.drop_top();
-                    frame.address = target;
-                    steps.mark();
-                    true
-                } else if self.charge(context.engine) {
-                    steps.mark();
                     self.stacks.drop_top();
                     frame.address = target;
                     steps.mark();

@@ -7,6 +7,7 @@ use crate::saved::SavedScopes;
 use crate::steps::Steps;
 use grain_fault::EvalAltResult;
 use grain_global::Engine;
+use grain_host::Host;
 use grain_stack::Stacks;
 use grain_value::{Scope, Store};
 use std::alloc::Global;
@@ -52,12 +53,14 @@ pub enum FrameEnd {
     Fault,
 }
 
-impl<H> Run<H> {
+impl<H: Host> Run<H> {
     /// Takes an operation, if one is left.
-    pub fn charge(&mut self, engine: &Engine) -> bool
+    pub fn take_operation(&mut self, engine: &Engine) -> bool
         ensures answer { result ≡ nat_lt self.old.count engine.now.limits.operations }
-        ensures taken { result ≡ true → (self.new.count ≡ self.old.count + 1) × (self.old.count < engine.now.limits.operations) }
-        ensures after { self.new ≡ (if result then record self.old { count = self.old.count + 1 } else self.old) }
+        ensures taken { result ≡ true → (self.new.count ≡ self.old.count + 1) ×
+            (self.old.count < engine.now.limits.operations) }
+        ensures after { self.new ≡
+            (if result then record self.old { count = self.old.count + 1 } else self.old) }
     {
         if self.count < engine.limits.operations {
             self.count += 1;

@@ -19,8 +19,12 @@ pub struct SavedScopes {
 impl Model for SavedScopes {
     ghost use Rattle.std.specs.Prelude.{List, ◌≤◌, length, take};
     ghost use Rattle.grain_value.specs.declared.scopes.Entry.{Entry};
+    ghost use Rattle.std.specs.Coded.{codes};
+    ghost use Rattle.grain_value.specs.TreeCode.{coded_tree};
 
     ghost Value = { List (List Entry) };
+
+    ghost coded = { Prim.hlevel (codes, coded_tree) };
 
     ghost view = { λ s. take s.saved s.scopes.items };
 

@@ -1,49 +1,136 @@
-//! How a function that is not found is named.
+//! The fault that a native is not found.
 
-ghost use Rattle.std.specs.Prelude.{◌≡◌, ◌++◌, ◌∷◌, [], IfOk, map};
-ghost use Rattle.grain_value.specs.Operands.{values_in};
-ghost use Rattle.grain_means.specs.Signatures.{types_text, signature_text};
+ghost use Rattle.std.specs.Prelude.{◌≡◌, ◌++◌, [], IfOk, map};
+ghost use Rattle.grain_value.specs.Same.{value_of};
+ghost use Rattle.grain_fault.specs.Problems.{problem_of};
+ghost use Rattle.grain_means.specs.Signatures.{types_text, signature_text, type_at, unknown_property, unwritable_property, index_text, not_found};
 
-use grain_value::{Dynamic, Held, OutOfMemory, Text};
+use grain_fault::{EvalAltResult, Position};
+use grain_value::{Array, OutOfMemory, Store, Text};
 use std::alloc::Global;
 
-/// A function's name and the types of its arguments.
-pub fn signature(alloc: Global, name: &Text, arguments: &[Held]) -> Result<Text, OutOfMemory>
-    ensures { IfOk result (λ text. text ≡ signature_text name.now (values_in arguments.now)) }
+/// The fault that no native of this name takes these arguments. A getter, a setter or an indexer
+/// that is not found is a property or an index that is not there.
+#[cold]
+pub fn not_found(
+    alloc: Global,
+    cells: &Store,
+    name: &Text,
+    values: &Array,
+    position: Position,
+) -> Result<EvalAltResult, OutOfMemory>
+    ensures { IfOk result
+        (λ x. problem_of x ≡ not_found name.now (map value_of values.now) position) }
+{
+    let word = name.as_str();
+    if let Some(property) = word.strip_prefix("get$") {
+        let text = unknown_property(alloc, cells, property, values)?;
+        return Ok(EvalAltResult::ErrorDotExpr(text, position));
+    }
+    if let Some(property) = word.strip_prefix("set$") {
+        let text = unwritable_property(alloc, cells, property, values)?;
+        return Ok(EvalAltResult::ErrorDotExpr(text, position));
+    }
+    if word == "index$get$" {
+        let text = index_text(alloc, cells, values)?;
+        return Ok(EvalAltResult::ErrorIndexingType(text, position));
+    }
+    if word == "index$set$" {
+        let mut text = index_text(alloc, cells, values)?;
+        text.push_str(" = ")?;
+        push_type(alloc, cells, &mut text, values, 2)?;
+        return Ok(EvalAltResult::ErrorIndexingType(text, position));
+    }
+    let text = signature(alloc, cells, name, values)?;
+    Ok(EvalAltResult::ErrorFunctionNotFound(text, position))
+}
+
+// A function's name and the types of its arguments.
+fn signature(alloc: Global, cells: &Store, name: &Text, values: &Array) -> Result<Text, OutOfMemory>
+    ensures { IfOk result (λ text. text ≡ signature_text name.now (map value_of values.now)) }
 {
     let mut text = name.copy(alloc)?;
     text.push_str(" (")?;
-    push_types(alloc, &mut text, arguments)?;
+    push_types(alloc, cells, &mut text, values)?;
     text.push_str(")")?;
     Ok(text)
 }
 
-/// The same for an op-assignment of a value to a target.
-pub fn pair_signature(
+// The text that a property is unknown.
+fn unknown_property(
     alloc: Global,
-    name: &Text,
-    target: &Dynamic,
-    value: &Dynamic,
+    cells: &Store,
+    property: &str,
+    values: &Array,
 ) -> Result<Text, OutOfMemory>
-    ensures { IfOk result (λ text. text ≡ signature_text name.now (target.now ∷ value.now ∷ [])) }
+    ensures { IfOk result (λ text. text ≡ unknown_property property.now (map value_of values.now)) }
 {
-    let mut text = name.copy(alloc)?;
-    text.push_str(" (")?;
-    text.push_str(target.type_name(alloc)?.as_str())?;
-    text.push_str(", ")?;
-    text.push_str(value.type_name(alloc)?.as_str())?;
-    text.push_str(")")?;
+    let mut text = Text::copy_of(alloc, "Unknown property '")?;
+    text.push_str(property)?;
+    text.push_str("' for '")?;
+    push_type(alloc, cells, &mut text, values, 0)?;
+    text.push_str("'")?;
     Ok(text)
+}
+
+// The text that a property cannot be written.
+fn unwritable_property(
+    alloc: Global,
+    cells: &Store,
+    property: &str,
+    values: &Array,
+) -> Result<Text, OutOfMemory>
+    ensures { IfOk result (λ text. text ≡ unwritable_property property.now (map value_of values.now)) }
+{
+    let mut text = Text::copy_of(alloc, "No writable property '")?;
+    text.push_str(property)?;
+    text.push_str("' for '")?;
+    push_type(alloc, cells, &mut text, values, 0)?;
+    text.push_str("'")?;
+    Ok(text)
+}
+
+// The types of a value and of its index.
+fn index_text(alloc: Global, cells: &Store, values: &Array) -> Result<Text, OutOfMemory>
+    ensures { IfOk result (λ text. text ≡ index_text (map value_of values.now)) }
+{
+    let mut text = Text::new(alloc);
+    push_type(alloc, cells, &mut text, values, 0)?;
+    text.push_str(" [")?;
+    push_type(alloc, cells, &mut text, values, 1)?;
+    text.push_str("]")?;
+    Ok(text)
+}
+
+// The type of the value at a place, or nothing where there is none.
+fn push_type(
+    alloc: Global,
+    cells: &Store,
+    out: &mut Text,
+    values: &Array,
+    index: usize,
+) -> Result<(), OutOfMemory>
+    ensures { IfOk result (λ _. out.new ≡ out.old ++ type_at index (map value_of values.now)) }
+{
+    match values.get(index) {
+        Some(value) => out.push_str(value.type_name(alloc, cells)?.as_str()),
+        None => Ok(()),
+    }
 }
 
 // The types of values, with a comma between them.
-fn push_types(alloc: Global, out: &mut Text, values: &[Held]) -> Result<(), OutOfMemory>
-    ensures { IfOk result (λ _. out.new ≡ out.old ++ types_text [] (values_in values.now)) }
+fn push_types(
+    alloc: Global,
+    cells: &Store,
+    out: &mut Text,
+    values: &Array,
+) -> Result<(), OutOfMemory>
+    ensures { IfOk result (λ _. out.new ≡ out.old ++ types_text [] (map value_of values.now)) }
 {
     let mut lead = "";
-    for held in values {
+    for index in 0..values.len() {
         out.push_str(lead)?;
-        out.push_str(held.value.type_name(alloc)?.as_str())?;
+        out.push_str(values.at(index).type_name(alloc, cells)?.as_str())?;
         lead = ", ";
     }
     Ok(())

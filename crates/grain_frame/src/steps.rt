@@ -6,8 +6,9 @@ use std::marker::Model;
 use std::mem;
 use std::sync::ledger::{Blank, Book, Ledger, Share};
 
-/// How many instructions were begun, those of the run that is under way apart, and how many marks that run has
-/// passed: points at which memory may be out. It takes no bytes, and its calls do nothing at run time.
+/// How many instructions were begun, those of the run that is under way apart, and how many marks
+/// that run has passed: points at which memory may be out. It takes no bytes, and its calls do
+/// nothing at run time.
 #[derive(Drop)]
 pub struct Steps<L: Ledger> {
     book: Book<L>,
@@ -23,9 +24,15 @@ impl<L: Ledger> Model for Steps<L> {
 
     ghost Value = { Counts };
 
-    ghost view = { λ s. record { before = s.begun_before.amount; begun = s.begun.amount; passed = s.passed.amount } };
+    ghost view = { λ s. record {
+      before = s.begun_before.amount;
+      begun = s.begun.amount;
+      passed =
+          s.passed.amount;
+    } };
 
-    ghost invariant = { λ s. (1 < s.begun_before.parts) × (0 < s.begun.parts) × (1 < s.passed_before.parts) × (0 < s.passed.parts) };
+    ghost invariant = { λ s. (1 < s.begun_before.parts) × (0 < s.begun.parts) × (1 < s.passed_before.parts) ×
+        (0 < s.passed.parts) };
 }
 
 impl<L: Ledger> Steps<L> {
@@ -51,7 +58,8 @@ impl<L: Ledger> Steps<L> {
 
     /// A run begins: what the run before has begun counts as earlier.
     pub fn start(&mut self)
-        ensures { self.new ≡ record { before = self.old.before + self.old.begun; begun = 0; passed = 0 } }
+        ensures { self.new ≡
+            record { before = self.old.before + self.old.begun; begun = 0; passed = 0 } }
     {
         let begun = self.begun_before.split_off(1, 0);
         let earlier = mem::replace(&mut self.begun, begun);

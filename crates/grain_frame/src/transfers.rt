@@ -12,10 +12,11 @@ use crate::contexts::Context;
 use crate::runs::{Progress, Run};
 use crate::steps::Steps;
 use grain_fault::EvalAltResult;
+use grain_host::Host;
 use grain_value::OutOfMemory;
 use std::sync::ledger::Ledger;
 
-impl<H> Run<H> {
+impl<H: Host> Run<H> {
     // Goes on at the next instruction, with the operands that there are.
     #[inline(always)]
     pub(crate) fn go_on<L: Ledger>(
@@ -26,9 +27,12 @@ impl<H> Run<H> {
     ) -> Progress
         requires inside { frame.old.base ≤ length self.old.scope }
         requires ahead { frame.old.address < next }
-        ensures implements { (program : View) (engine : Engine) (host : H) → Implements program engine frame.old self.old steps.old
-            (λ m place w. onward m (frame_in frame.old self.old place) (stepped (frame_in frame.old self.old place) next self.old.stacks.operands) w)
-            (next ∷ []) (length self.old.stacks.operands - 0 + 0) (Ok result) frame.new self.new steps.new host }
+        ensures implements { (program : View) (engine : Engine) (host : H) →
+            Implements H.law program engine frame.old self.old steps.old
+            (λ m place w. onward m (frame_in frame.old self.old place)
+            (stepped (frame_in frame.old self.old place) next self.old.stacks.operands) w)
+            (next ∷ []) (length self.old.stacks.operands - 0 + 0) (Ok result) frame.new self.new
+            steps.new host host }
     {
         frame.address = next;
         steps.mark();
@@ -40,55 +44,61 @@ impl<H> Run<H> {
     pub(crate) fn jump_to<L: Ledger>(
         &mut self,
         context: Context<'_>,
+        host: &mut H,
         steps: &mut Steps<L>,
         frame: &mut Activation,
         target: usize,
-    ) -> Progress
+    ) -> Result<Progress, OutOfMemory>
         requires inside { frame.old.base ≤ length self.old.scope }
-        ensures implements { (host : H) → Implements context.entry.program.now context.entry.engine.now frame.old self.old steps.old
-            (λ m place w. jumped m (frame_in frame.old self.old place) (stepped (frame_in frame.old self.old place) target self.old.stacks.operands) w)
-            (target ∷ []) (length self.old.stacks.operands - 0 + 0) (Ok result) frame.new self.new steps.new host }
+        ensures implements { Implements H.law context.entry.program.now context.entry.engine.now
+            frame.old self.old steps.old
+            (λ m place w. jumped m (frame_in frame.old self.old place)
+            (stepped (frame_in frame.old self.old place) target self.old.stacks.operands) w)
+            (target ∷ []) (length self.old.stacks.operands - 0 + 0) result frame.new self.new
+            steps.new host.old host.new }
     {
         if target > frame.address {
             frame.address = target;
             steps.mark();
-            Progress::Continues
-        } else if self.charge(context.engine) {
-            steps.mark();
-            frame.address = target;
-            steps.mark();
-            Progress::Continues
-        } else {
-            self.too_many_operations(context, steps, frame.address)
+            return Ok(Progress::Continues);
         }
+        if !self.charge(context, host, steps, frame.address)? {
+            return Ok(Progress::Failed);
+        }
+        frame.address = target;
+        steps.mark();
+        Ok(Progress::Continues)
     }
 
     // `tick`: costs an operation.
     pub(crate) fn tick<L: Ledger>(
         &mut self,
         context: Context<'_>,
+        host: &mut H,
         steps: &mut Steps<L>,
         frame: &mut Activation,
         next: usize,
-    ) -> Progress
+    ) -> Result<Progress, OutOfMemory>
         requires ready { Ready frame.old self.old op.Tick next }
-        ensures performs { (host : H) → Performs context.entry.program.now context.entry.engine.now frame.old self.old steps.old op.Tick next (Ok result) frame.new self.new steps.new host }
+        ensures performs { Performs H.law context.entry.program.now context.entry.engine.now
+            frame.old self.old steps.old op.Tick next result frame.new self.new steps.new host.old
+            host.new }
     {
-        if self.charge(context.engine) {
-            steps.mark();
-            frame.address = next;
-            steps.mark();
-            Progress::Continues
-        } else {
-            self.too_many_operations(context, steps, frame.address)
+        if !self.charge(context, host, steps, frame.address)? {
+            return Ok(Progress::Failed);
         }
+        frame.address = next;
+        steps.mark();
+        Ok(Progress::Continues)
     }
 
-    // `jump_if_false` and `jump_if_true`: a transfer if the last operand is the truth value that is wanted.
+    // `jump_if_false` and `jump_if_true`: a transfer if the last operand is the truth value that is
+    // wanted.
     #[inline(always)]
     pub(crate) fn jump_if<L: Ledger>(
         &mut self,
         context: Context<'_>,
+        host: &mut H,
         steps: &mut Steps<L>,
         frame: &mut Activation,
         wanted: bool,
@@ -96,15 +106,18 @@ impl<H> Run<H> {
         next: usize,
     ) -> Result<Progress, OutOfMemory>
         requires ready { Ready frame.old self.old (op.JumpIfFalse target) next }
-        ensures implements { (host : H) → Implements context.entry.program.now context.entry.engine.now frame.old self.old steps.old
+        ensures implements { Implements H.law context.entry.program.now context.entry.engine.now
+            frame.old self.old steps.old
             (λ m place w. jump_if m wanted target next (frame_in frame.old self.old place) w)
-            (cond (nat_lt target next) (target ∷ next ∷ []) (next ∷ target ∷ [])) (length self.old.stacks.operands - 1 + 0) result frame.new self.new steps.new host }
+            (cond (nat_lt target next) (target ∷ next ∷ []) (next ∷ target ∷ []))
+            (length self.old.stacks.operands - 1 + 0) result frame.new self.new steps.new host.old
+            host.new }
     {
         match self.stacks.top().value.as_bool() {
             Some(truth) => {
                 let _value = self.stacks.pop();
                 if agrees(wanted, truth) {
-                    Ok(self.jump_to(context, steps, frame, target as usize))
+                    self.jump_to(context, host, steps, frame, target as usize)
                 } else {
                     Ok(self.go_on(steps, frame, next))
                 }
@@ -117,18 +130,21 @@ impl<H> Run<H> {
     pub(crate) fn skip_if_not_unit<L: Ledger>(
         &mut self,
         context: Context<'_>,
+        host: &mut H,
         steps: &mut Steps<L>,
         frame: &mut Activation,
         target: u32,
         next: usize,
-    ) -> Progress
+    ) -> Result<Progress, OutOfMemory>
         requires ready { Ready frame.old self.old (op.SkipIfNotUnit target) next }
-        ensures performs { (host : H) → Performs context.entry.program.now context.entry.engine.now frame.old self.old steps.old (op.SkipIfNotUnit target) next (Ok result) frame.new self.new steps.new host }
+        ensures performs { Performs H.law context.entry.program.now context.entry.engine.now
+            frame.old self.old steps.old (op.SkipIfNotUnit target) next result frame.new self.new
+            steps.new host.old host.new }
     {
         if self.stacks.top().value.is_unit() {
-            self.go_on(steps, frame, next)
+            Ok(self.go_on(steps, frame, next))
         } else {
-            self.jump_to(context, steps, frame, target as usize)
+            self.jump_to(context, host, steps, frame, target as usize)
         }
     }
 
@@ -141,7 +157,9 @@ impl<H> Run<H> {
         next: usize,
     ) -> Progress
         requires ready { Ready frame.old self.old op.Throw next }
-        ensures performs { (host : H) → Performs context.entry.program.now context.entry.engine.now frame.old self.old steps.old op.Throw next (Ok result) frame.new self.new steps.new host }
+        ensures performs { (host : H) →
+            Performs H.law context.entry.program.now context.entry.engine.now frame.old self.old
+            steps.old op.Throw next (Ok result) frame.new self.new steps.new host host }
     {
         let _next = next;
         let position = context.program.position(frame.address);
@@ -159,7 +177,9 @@ impl<H> Run<H> {
     ) -> Progress
         requires ready { Ready frame.now self.old op.Return next }
         ensures over { result ≡ Progress.Returned }
-        ensures performs { (program : View) (engine : Engine) (host : H) → Performs program engine frame.now self.old steps.old op.Return next (Ok result) frame.now self.new steps.new host }
+        ensures performs { (program : View) (engine : Engine) (host : H) →
+            Performs H.law program engine frame.now self.old steps.old op.Return next (Ok result)
+            frame.now self.new steps.new host host }
     {
         let _next = next;
         steps.mark();

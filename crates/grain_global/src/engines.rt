@@ -16,7 +16,8 @@ pub struct Engine {
 }
 
 impl Engine {
-    /// An engine with these limits, under which operators are fast. At least one operation is allowed.
+    /// An engine with these limits, under which operators are fast. At least one operation is
+    /// allowed.
     pub fn new(alloc: Global, limits: Limits) -> Engine
         requires { 0 < limits.operations }
         ensures limits { result.limits ≡ limits }

@@ -1,4 +1,5 @@
-//! What a run is given and what outlives it: the engine's limits and flags, and the state of the machine.
+//! What a run is given and what outlives it: the engine's limits and flags, and the state of the
+//! machine.
 #![tactic(auto)]
 
 mod engines;

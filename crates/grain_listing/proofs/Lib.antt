@@ -11,3 +11,15 @@ pub mod LinesRead
 pub mod AllowedLimits
 pub mod InstructionsRead
 pub mod Narrow
+pub mod ListsRead
+pub mod ValuesOf
+pub mod SpelledValues
+pub mod ValuesSpelled
+pub mod MapsRead
+pub mod ValuesRead
+pub mod LiteralsRead
+pub mod Shorter
+pub mod Rooms
+pub mod MapsListed
+pub mod ReadListed
+pub mod LiteralsListed

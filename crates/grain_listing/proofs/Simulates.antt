@@ -8,6 +8,7 @@ use Rattle.grain_words.specs.Labels.{address_of, with_label}
 use Rattle.grain_words.specs.Numerals.{number, begins_letter}
 use Rattle.grain_listing.specs.Steps.{and_then, present}
 use Rattle.grain_listing.specs.Operands.{word_operand, after_name, alone, position_after, byte_of}
+use Rattle.grain_value.specs.View.{tree}
 use Rattle.grain_listing.specs.Literals.{constant_of, text_of, token_of, entry_of}
 use Rattle.grain_listing.specs.Settings.{capability_bits, capabilities}
 use Rattle.grain_listing.specs.Headers.{stack_of, assign_of, header_of, is_crowded}
@@ -242,11 +243,11 @@ line_said lines.Limit n cs said =
 line_said lines.Constant n cs said =
     if_so n said (nat_lt (length (consts said)) 65536) TooMany
     (and_then (constant_of cs) (λ v.
-    Ok (record (assembled n said) { consts = consts said ++ v ∷ [] })))
+    Ok (record (assembled n said) { consts = consts said ++ tree v ∷ [] })))
     (and_then (constant_of cs) (λ v. Ok (const_line v)))
     (step n said (constant_of cs) (λ v. record (assembled n said) {
       consts =
-          consts said ++ v ∷ [];
+          consts said ++ tree v ∷ [];
     }) (λ v. const_line v) (λ v. refl))
 line_said lines.Name n cs said =
     if_so n said (nat_lt (length (names said)) 65536) TooMany

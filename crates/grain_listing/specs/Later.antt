@@ -1,14 +1,9 @@
 -- What the format has and this crate does not read yet.
-use Rattle.std.specs.Prelude.{ℕ, Bool, false, ◌||◌, List, [], ◌∷◌, codes, bytes_eq, is_some}
-use Rattle.grain_words.specs.Words.{after_text}
+use Rattle.std.specs.Prelude.{ℕ, Bool, false, ◌||◌, List, [], ◌∷◌, codes, bytes_eq}
 
 abbrev pub is_among : List (List ℕ) → List ℕ → Bool
 is_among [] w = false
 is_among (t ∷ ts) w = bytes_eq w t || is_among ts w
-
-abbrev pub begins_among : List (List ℕ) → List ℕ → Bool
-begins_among [] cs = false
-begins_among (t ∷ ts) cs = is_some (after_text t cs) || begins_among ts cs
 
 -- lines and blocks
 abbrev pub later_lines : List (List ℕ)
@@ -48,19 +43,6 @@ later_others =
     codes "export_local" ∷ codes "export_named" ∷
     codes "import" ∷ codes "custom_syntax" ∷ codes "eval_ast" ∷ codes "eval_ast_keep" ∷ []
 
--- the texts of `op`
-abbrev pub later_operators : List (List ℕ)
-later_operators =
-    codes "/" ∷ codes "%" ∷ codes "**" ∷ codes "<<" ∷ codes ">>" ∷ codes "&" ∷ codes "|" ∷
-    codes "^" ∷ codes ".." ∷ codes "..=" ∷
-    codes "!" ∷ codes "/=" ∷ codes "%=" ∷ codes "**=" ∷ codes "<<=" ∷ codes ">>=" ∷ codes "&=" ∷
-    codes "|=" ∷ codes "^=" ∷ []
-
--- how values begin
-abbrev pub later_values : List (List ℕ)
-later_values = codes "[" ∷ codes "#{" ∷ codes "blob(" ∷ codes "fn(" ∷ codes "range(" ∷
-    codes "range=(" ∷ codes "foreign(" ∷ []
-
 unfoldable pub is_later_line : List ℕ → Bool
 is_later_line w = is_among later_lines w
 
@@ -76,9 +58,3 @@ is_later_other w = is_among later_others w
 -- a line or an instruction
 unfoldable pub is_later : List ℕ → Bool
 is_later w = is_later_line w || (is_later_variable w || (is_later_call w || is_later_other w))
-
-unfoldable pub is_later_operator : List ℕ → Bool
-is_later_operator t = is_among later_operators t
-
-unfoldable pub is_later_value : List ℕ → Bool
-is_later_value cs = begins_among later_values cs

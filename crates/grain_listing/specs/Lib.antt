@@ -6,6 +6,8 @@ pub mod Instructions
 pub mod Later
 pub mod Table
 pub mod Operands
+pub mod Values
+pub mod Listed
 pub mod Literals
 pub mod Settings
 pub mod Headers

@@ -18,7 +18,7 @@ limit_table =
     (codes "levels", limit 64 0 true) ∷
     (codes "variables", limit 10000 0 true) ∷
     (codes "modules", limit 1000 0 false) ∷
-    (codes "text", limit 0 0 false) ∷
+    (codes "text", limit 0 0 true) ∷
     (codes "array", limit 0 0 false) ∷
     (codes "map", limit 0 0 false) ∷ []
 

@@ -2,6 +2,8 @@
 -- list with the last line first, so that what stands before a line is the rest of the list.
 use Rattle.std.specs.Prelude.{ℕ, ◌+◌, List, [], ◌∷◌, ◌++◌, Option, Some, None, Result, Ok, bytes_eq, if◌then◌else◌}
 use Rattle.std.specs.Int.{w32, to_le_bytes}
+use Rattle.grain_value.specs.Tree.{Tree}
+use Rattle.grain_value.specs.View.{tree}
 use Rattle.grain_value.specs.declared.values.Dynamic.{Dynamic}
 use Rattle.grain_value.specs.declared.operators.Token.{Token}
 use Rattle.grain_value.specs.declared.scopes.Entry.{Entry}
@@ -67,9 +69,9 @@ limits [] = []
 limits (limit_line l ∷ before) = limits before ++ l ∷ []
 limits (s ∷ before) = limits before
 
-abbrev pub consts : List Statement → List Dynamic
+abbrev pub consts : List Statement → List Tree
 consts [] = []
-consts (const_line v ∷ before) = consts before ++ v ∷ []
+consts (const_line v ∷ before) = consts before ++ tree v ∷ []
 consts (s ∷ before) = consts before
 
 abbrev pub names : List Statement → List (List ℕ)

@@ -1,9 +1,9 @@
 //! What the format has and this crate does not read yet.
 
 ghost use Rattle.std.specs.Prelude.{◌≡◌, map};
-ghost use Rattle.grain_listing.specs.Later.{is_among, begins_among, is_later_line, is_later_variable, is_later_call, is_later_other, is_later, is_later_operator, is_later_value};
+ghost use Rattle.grain_listing.specs.Later.{is_among, is_later_line, is_later_variable, is_later_call, is_later_other, is_later};
 
-use grain_words::{after_text, is_word};
+use grain_words::is_word;
 
 /// Lines and blocks.
 const LINES: [&str; 19] = [
@@ -70,42 +70,11 @@ const OTHERS: [&str; 20] = [
     "eval_ast_keep",
 ];
 
-/// The texts of `op`.
-const OPERATORS: [&str; 19] = [
-    "/", "%", "**", "<<", ">>", "&", "|", "^", "..", "..=", "!", "/=", "%=", "**=", "<<=", ">>=",
-    "&=", "|=", "^=",
-];
-
-/// How values begin.
-const VALUES: [&str; 7] = ["[", "#{", "blob(", "fn(", "range(", "range=(", "foreign("];
-
 fn is_among(words: &[&str], word: &[char]) -> bool
     ensures { result ≡ is_among (map (λ w. w.now) words.now) word.now }
 {
     for other in words {
         if is_word(word, *other) {
-            return true;
-        }
-    }
-    false
-}
-
-fn is_text_among(texts: &[&str], text: &str) -> bool
-    ensures { result ≡ is_among (map (λ w. w.now) texts.now) text.now }
-{
-    for other in texts {
-        if text == *other {
-            return true;
-        }
-    }
-    false
-}
-
-fn begins_among(fronts: &[&str], line: &[char]) -> bool
-    ensures { result ≡ begins_among (map (λ w. w.now) fronts.now) line.now }
-{
-    for front in fronts {
-        if after_text(*front, line).is_some() {
             return true;
         }
     }
@@ -146,20 +115,4 @@ pub fn is_later(word: &[char]) -> bool
     ensures { result ≡ is_later word.now }
 {
     is_later_line(word) || is_later_variable(word) || is_later_call(word) || is_later_other(word)
-}
-
-/// Whether the text is an operator's.
-#[tactic(auto, unfolding(crate::specs::Later::is_later_operator))]
-pub fn is_later_operator(text: &str) -> bool
-    ensures { result ≡ is_later_operator text.now }
-{
-    is_text_among(&OPERATORS, text)
-}
-
-/// Whether a value begins here that is not read yet.
-#[tactic(auto, unfolding(crate::specs::Later::is_later_value))]
-pub fn is_later_value(line: &[char]) -> bool
-    ensures { result ≡ is_later_value line.now }
-{
-    begins_among(&VALUES, line)
 }

@@ -24,9 +24,14 @@ mod table;
 #[cfg(test)]
 mod tests;
 #[cfg(test)]
+mod value_tests;
+mod values;
+#[cfg(test)]
 mod word_tests;
 
-pub use laws::instructions_are_read;
+pub use laws::{
+    instructions_are_read, lists_have_room, read_values_can_be_listed, values_are_read,
+};
 pub use reading::{MOST_BYTES, read};
 pub use reasons::{BadLine, Reason};
 pub use setups::Setup;

@@ -1,17 +1,20 @@
-//! Values, texts and operators as a listing spells them.
+//! Constants, texts, operators and entries of the starting scope.
 
-ghost use Rattle.std.specs.Prelude.{◌≡◌, ◌∷◌, true, IfOk};
-ghost use Rattle.grain_listing.specs.Literals.{plain_value, value, value_operand, constant_of, text_operand, text_of, token_named, token_of, entry_in, entry_of};
+ghost use Rattle.std.specs.Prelude.{◌≡◌, IfOk};
+ghost use Rattle.grain_listing.specs.Literals.{literal, value_operand, constant_of, text_operand, text_of, token_named, token_of, entry_in, entry_of};
 ghost use Rattle.grain_listing.specs.Operands.{alone};
 ghost use Rattle.grain_listing.specs.Steps.{and_then};
 ghost use Rattle.grain_listing.specs.views.Results.{operand_view, entry_view};
 
-use crate::later::{is_later_operator, is_later_value};
 use crate::operands::{after_name, alone};
 use crate::reasons::Reason;
+use crate::values::value;
 use grain_value::{Dynamic, Held, OutOfMemory, Text, Token};
-use grain_words::{after_text, integer_here, is_word_end, next_text, quoted, trim_start};
+use grain_words::{is_word_end, next_text, trim_start};
 use std::alloc::Global;
+
+/// How many arrays, maps and pointers may stand inside one another in a listing.
+const MOST_LEVELS: usize = 64;
 
 /// A value, and what is left of the line after it.
 type Valued<'a> = Result<(Dynamic, &'a [char]), Reason>;
@@ -23,52 +26,14 @@ pub struct ScopeEntry {
     pub held: Held,
 }
 
-fn plain_value(line: &[char]) -> Valued<'_>
-    ensures { operand_view result ≡ plain_value line.now }
-{
-    if let Some(rest) = after_text("()", line) {
-        return Ok((Dynamic::Unit, rest));
-    }
-    if let Some(rest) = after_text("true", line) {
-        return Ok((Dynamic::Bool(true), rest));
-    }
-    if let Some(rest) = after_text("false", line) {
-        return Ok((Dynamic::Bool(false), rest));
-    }
-    if is_later_value(line) {
-        return Err(Reason::NotBuilt);
-    }
-    match integer_here(line) {
-        None => Err(Reason::BadValue),
-        Some((integer, rest)) => Ok((Dynamic::Int(integer), rest)),
-    }
-}
-
-/// The text whose first quote stands before these characters.
-fn text_value(alloc: Global, chars: &[char]) -> Result<Valued<'_>, OutOfMemory>
-    ensures { IfOk result (λ r. operand_view r ≡ value (34 ∷ chars.now)) }
-{
-    match quoted(alloc, chars)? {
-        None => Ok(Err(Reason::BadValue)),
-        Some((text, rest)) => Ok(Ok((Dynamic::Text(text), rest))),
-    }
-}
-
 /// The value that begins here.
-fn value(alloc: Global, line: &[char]) -> Result<Valued<'_>, OutOfMemory>
-    ensures { IfOk result (λ r. operand_view r ≡ value line.now) }
+#[tactic(auto, using(crate::proofs::ValuesOf::literal_found, crate::proofs::ValuesOf::no_literal))]
+fn literal(alloc: Global, line: &[char]) -> Result<Valued<'_>, OutOfMemory>
+    ensures { IfOk result (λ r. operand_view r ≡ literal line.now) }
 {
-    match line.split_first() {
+    match value(alloc, MOST_LEVELS, line)? {
         None => Ok(Err(Reason::BadValue)),
-        Some((first, after)) => {
-            if *first == '"' {
-                text_value(alloc, after)
-            } else if *first == '\'' {
-                Ok(Err(Reason::NotBuilt))
-            } else {
-                Ok(plain_value(line))
-            }
-        }
+        Some((value, rest)) => Ok(Ok((value, rest))),
     }
 }
 
@@ -76,7 +41,7 @@ fn value(alloc: Global, line: &[char]) -> Result<Valued<'_>, OutOfMemory>
 fn value_operand(alloc: Global, line: &[char]) -> Result<Valued<'_>, OutOfMemory>
     ensures { IfOk result (λ r. operand_view r ≡ value_operand line.now) }
 {
-    match value(alloc, trim_start(line))? {
+    match literal(alloc, trim_start(line))? {
         Err(reason) => Ok(Err(reason)),
         Ok((value, rest)) => {
             if is_word_end(rest) {
@@ -129,9 +94,6 @@ pub fn text_of(alloc: Global, line: &[char]) -> Result<Result<Text, Reason>, Out
 fn token_named(text: &str) -> Result<Token, Reason>
     ensures { result ≡ token_named text.now }
 {
-    if is_later_operator(text) {
-        return Err(Reason::NotBuilt);
-    }
     match Token::lookup_from_syntax(text) {
         None => Err(Reason::BadOperand),
         Some(token) => Ok(token),

@@ -145,6 +145,8 @@ fn operands_of_blocks(rt: HostRuntime) -> Result<(), OutOfMemory> {
         ("grain 1\nmain 1\nreturn @1:1 @1:1\n", 3),
         ("grain 1\nmain 1\nbyte 256\n", 3),
         ("grain 1\nmain 1\ntop: return\n", 3),
+        ("grain 1\nop \"***\"\n", 2),
+        ("grain 1\nop \"!\" 1\n", 2),
         ("grain 1\nmain 1\nend 1\n", 3),
     ];
     for (listing, line) in rows {
@@ -160,12 +162,7 @@ fn what_comes_later(rt: HostRuntime) -> Result<(), OutOfMemory> {
         ("grain 1\nmain 1\nchunk 1\n", 3),
         ("grain 1\niter_next 0\n", 2),
         ("grain 1\nlimit modules 1\n", 2),
-        ("grain 1\nconst [1 x\n", 2),
-        ("grain 1\nscope \"x\" 'a'\n", 2),
-        ("grain 1\nop \"**=\"\n", 2),
-        ("grain 1\nop \"!\" 1\n", 2),
         ("grain 1\nmain 1\nreturn\nend\ncall_named_ref\n", 5),
-        ("grain 1\nconst range=(1 ,\n", 2),
     ];
     for (listing, line) in rows {
         check(&rt, rt.alloc(), listing, line, Reason::NotBuilt)?;

@@ -109,32 +109,8 @@ fn later_instructions(rt: HostRuntime) -> Result<(), OutOfMemory> {
 
 #[test]
 fn later_limits(rt: HostRuntime) -> Result<(), OutOfMemory> {
-    let words = ["modules", "text", "array", "map"];
+    let words = ["modules", "array", "map"];
     not_built(&rt, rt.alloc(), "limit ", words.as_slice(), " 1\n")
-}
-
-#[test]
-fn later_operators(rt: HostRuntime) -> Result<(), OutOfMemory> {
-    let words = [
-        "/", "%", "**", "<<", ">>", "&", "|", "^", "..", "..=", "!", "/=", "%=", "**=", "<<=",
-        ">>=", "&=", "|=", "^=",
-    ];
-    not_built(&rt, rt.alloc(), "op \"", words.as_slice(), "\"\n")
-}
-
-#[test]
-fn later_values(rt: HostRuntime) -> Result<(), OutOfMemory> {
-    let words = [
-        "'a'",
-        "[1]",
-        "#{}",
-        "blob(00)",
-        "fn(\"f\")",
-        "range(1",
-        "range=(1",
-        "foreign(16",
-    ];
-    not_built(&rt, rt.alloc(), "const ", words.as_slice(), "\n")
 }
 
 /// The code of one line in the main block.

@@ -18,19 +18,39 @@ take_take : (b n : ℕ) (xs : List Entry) → b ≤ n → take b (take n xs) ≡
 take_take zero n xs le = refl
 take_take (suc b) zero xs le = absurd (omega (arith, le))
 take_take (suc b) (suc n) [] le = refl
-take_take (suc b) (suc n) (x ∷ xs) le = ap (λ (l : List Entry). x ∷ l) (take_take b n xs (omega (arith, le)))
+take_take (suc b) (suc n) (x ∷ xs) le =
+    ap (λ (l : List Entry). x ∷ l) (take_take b n xs (omega (arith, le)))
 
-pub keeps_cut : (b n : ℕ) (ns : List (List ℕ)) (scope : List Entry) → b ≤ n → Keeps b ns scope → Keeps b ns (take n scope)
-keeps_cut b n ns scope le k = record { there = omega (arith, le, k.there, length-take n scope); named = ap names (take_take b n scope le) ∙ k.named }
+pub keeps_cut : (b n : ℕ) (ns : List (List ℕ)) (scope : List Entry) → b ≤ n → Keeps b ns scope →
+    Keeps b ns (take n scope)
+keeps_cut b n ns scope le k =
+    record {
+      there = omega (arith, le, k.there, length-take n scope);
+      named =
+          ap names (take_take b n scope le) ∙ k.named;
+    }
 
-pub keeps_push : (b : ℕ) (ns : List (List ℕ)) (scope : List Entry) (e : Entry) → Keeps b ns scope → Keeps b ns (scope ++ e ∷ [])
-keeps_push b ns scope e k = record { there = omega (arith, k.there, length-append scope (e ∷ [])); named = ap names (take-append-le b scope (e ∷ []) k.there) ∙ k.named }
+pub keeps_push : (b : ℕ) (ns : List (List ℕ)) (scope : List Entry) (e : Entry) → Keeps b ns scope →
+    Keeps b ns (scope ++ e ∷ [])
+keeps_push b ns scope e k =
+    record {
+      there = omega (arith, k.there, length-append scope (e ∷ []));
+      named =
+          ap names (take-append-le b scope (e ∷ []) k.there) ∙ k.named;
+    }
 
-names_set : (b : ℕ) (scope : List Entry) (i : ℕ) (h : Held) → names (take b (set_held scope i h)) ≡ names (take b scope)
+names_set : (b : ℕ) (scope : List Entry) (i : ℕ) (h : Held) → names (take b (set_held scope i h)) ≡
+    names (take b scope)
 names_set zero scope i h = refl
 names_set (suc b) [] i h = refl
 names_set (suc b) (e ∷ es) zero h = refl
 names_set (suc b) (e ∷ es) (suc i) h = ap (λ (l : List (List ℕ)). e.name ∷ l) (names_set b es i h)
 
-pub keeps_set : (b : ℕ) (ns : List (List ℕ)) (scope : List Entry) (i : ℕ) (h : Held) → Keeps b ns scope → Keeps b ns (set_held scope i h)
-keeps_set b ns scope i h k = record { there = omega (arith, k.there, length_set_held scope i h); named = names_set b scope i h ∙ k.named }
+pub keeps_set : (b : ℕ) (ns : List (List ℕ)) (scope : List Entry) (i : ℕ) (h : Held) →
+    Keeps b ns scope → Keeps b ns (set_held scope i h)
+keeps_set b ns scope i h k =
+    record {
+      there = omega (arith, k.there, length_set_held scope i h);
+      named =
+          names_set b scope i h ∙ k.named;
+    }

@@ -23,11 +23,20 @@ cut_short n scope = omega (arith, length-take n scope)
 pub length_under : (n : ℕ) (xs : List Held) → length (under n xs) ≡ length xs - n
 length_under n xs = omega (arith, length-take (length xs - n) xs)
 
-pub length_pushed : (xs : List Held) (v : Dynamic) → length (xs ++ read_write v ∷ []) ≡ length xs + 1
+pub length_pushed : (xs : List Held) (v : Dynamic) → length (xs ++ read_write v ∷ []) ≡ length xs +
+    1
 length_pushed xs v = omega (arith, length-append xs (read_write v ∷ []))
 
 pub length_rotated : (n : ℕ) (xs : List Held) → length (rotated n xs) ≡ length xs
 length_rotated n xs =
     let others : List Held = drop (length xs - (n + 1)) xs in
     let low : List Held = take (length xs - (n + 1)) xs in
-    omega (arith, length-append (low ++ drop n others) (take n others), length-append low (drop n others), length-take (length xs - (n + 1)) xs, length-drop n others, length-take n others, length-drop (length xs - (n + 1)) xs)
+    omega (
+      arith,
+      length-append (low ++ drop n others) (take n others),
+      length-append low (drop n others),
+      length-take (length xs - (n + 1)) xs,
+      length-drop n others,
+      length-take n others,
+      length-drop (length xs - (n + 1)) xs,
+    )

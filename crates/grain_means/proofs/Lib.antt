@@ -3,3 +3,5 @@ pub mod Kept
 pub mod Lengths
 pub mod Standing
 pub mod Tally
+pub mod Moving
+pub mod Missing

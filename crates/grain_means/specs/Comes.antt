@@ -5,6 +5,7 @@ use Rattle.grain_program.specs.Effects.{takes_of}
 use Rattle.grain_program.specs.Indices.{InPools}
 use Rattle.grain_program.specs.Reading.{op_at}
 use Rattle.grain_program.specs.View.{View}
+use Rattle.grain_host.specs.Law.{Law}
 use Rattle.grain_global.specs.declared.engines.Engine.{Engine}
 use Rattle.grain_means.specs.Worlds.{Act, Go, Then, Answer, World, Setup, Frame, Todo, InFrame}
 use Rattle.grain_means.specs.Rules.{next, main}
@@ -21,8 +22,10 @@ pub record Spot (S : Type 0) : Type 0 where
 pub data Comes {S : Type 0} (m : Setup S) (t : Todo) (w : World S) : Act S → Type 0 where
   here : Comes m t w (Go t w)
   further : {u : Todo} {v : World S} → Comes m t w (next m u v) → Comes m t w (Go u v)
-  within : {first : Act S} {rest : Answer → World S → Act S} → Comes m t w first → Comes m t w (Then first rest)
-  behind : {first : Act S} {rest : Answer → World S → Act S} {a : Answer} {v : World S} → Ends m first a v → Comes m t w (rest a v) → Comes m t w (Then first rest)
+  within : {first : Act S} {rest : Answer → World S → Act S} → Comes m t w first →
+      Comes m t w (Then first rest)
+  behind : {first : Act S} {rest : Answer → World S → Act S} {a : Answer} {v : World S} →
+      Ends m first a v → Comes m t w (rest a v) → Comes m t w (Then first rest)
 
 -- the run of an act comes to the spot, where the instruction stands
 pub record Meets {S : Type 0} (m : Setup S) (s : Spot S) (act : Act S) : Type 0 where
@@ -30,7 +33,8 @@ pub record Meets {S : Type 0} (m : Setup S) (s : Spot S) (act : Act S) : Type 0 
   pub width : ℕ
   pub stands : op_at m.program.code s.frame.address ≡ Some (s.instruction, width)
 
--- an instruction stands where the frame does, and its operands and its entries of the pools are there
+-- an instruction stands where the frame does, and its operands and its entries of the pools are
+-- there
 pub record Stands (program : View) (f : Frame) : Type 0 where
   pub instruction : Op
   pub width : ℕ
@@ -39,7 +43,7 @@ pub record Stands (program : View) (f : Frame) : Type 0 where
   pub pools : InPools program instruction
 
 -- an instruction stands at each frame to which the program's run comes
-abbrev pub Provided : {S : Type 0} → View → Engine → Begin S → Type 0
-Provided {S = S} program engine b =
-    let m : Setup S = setup program engine in
+abbrev pub Provided : {S : Type 0} → Law S → View → Engine → Begin S → Type 0
+Provided {S = S} law program engine b =
+    let m : Setup S = setup law program engine in
     (f : Frame) (w : World S) → Comes m (InFrame f) w (main m (first_world b)) → Stands program f

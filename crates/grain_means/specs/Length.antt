@@ -6,7 +6,8 @@ use Rattle.grain_means.specs.Ends.{Ends, ended, went, joined}
 abbrev pub cost : Todo → ℕ
 cost (InFrame f) = 1
 
-abbrev pub run_length : {S : Type 0} {m : Setup S} {act : Act S} {a : Answer} {w : World S} → Ends m act a w → ℕ
+abbrev pub run_length : {S : Type 0} {m : Setup S} {act : Act S} {a : Answer} {w : World S} →
+    Ends m act a w → ℕ
 run_length ended = 0
 run_length (went {t = t} d) = cost t + run_length d
 run_length (joined d e) = run_length d + run_length e

@@ -1,5 +1,6 @@
--- What a program means. A reader of the contracts reads Worlds, Rules, Ends, Means, Comes, Causes and Leavings, in
--- this order. Length and Simulation say how runs are counted and how code is joined to them.
+-- What a program means. A reader of the contracts reads Worlds, Rules, Ends, Means, Comes, Causes
+-- and Leavings, in this order. Length and Simulation say how runs are counted and how code is
+-- joined to them.
 pub mod Worlds
 pub mod Signatures
 pub mod Rules

@@ -1,4 +1,5 @@
--- What a program means: the end of its main run, the run that is stopped at a mark, and a slow evaluator.
+-- What a program means: the end of its main run, the run that is stopped at a mark, and a slow
+-- evaluator.
 use Rattle.std.specs.Prelude.{◌≡◌, ℕ, zero, suc, List, [], Option, Some, None, Result, Ok, Err}
 use Rattle.grain_value.specs.declared.values.Dynamic.{Dynamic}
 use Rattle.grain_value.specs.declared.scopes.Entry.{Entry}
@@ -8,6 +9,7 @@ use Rattle.grain_fault.specs.declared.faults.EvalAltResult.{EvalAltResult}
 use Rattle.grain_fault.specs.declared.faults.EvalAltResult.TheVariants as fault
 use Rattle.grain_fault.specs.Problems.{NoMemory, problem_of}
 use Rattle.grain_program.specs.View.{View}
+use Rattle.grain_host.specs.Law.{Law}
 use Rattle.grain_global.specs.declared.engines.Engine.{Engine}
 use Rattle.grain_global.specs.declared.states.GlobalRuntimeState.{GlobalRuntimeState}
 use Rattle.grain_means.specs.Worlds.{Act, Go, End, Then, Answer, Came, Failed, World, Setup}
@@ -31,8 +33,8 @@ pub record Finish (S : Type 0) : Type 0 where
   pub host : S
   pub global : GlobalRuntimeState
 
-abbrev pub setup : {S : Type 0} → View → Engine → Setup S
-setup program engine = record { program = program; engine = engine; stop = None }
+abbrev pub setup : {S : Type 0} → Law S → View → Engine → Setup S
+setup law program engine = record { law = law; program = program; engine = engine; stop = None }
 
 -- the world of a beginning: no trace, no instruction begun, no mark passed, no token open
 abbrev pub first_world : {S : Type 0} → Begin S → World S
@@ -67,31 +69,37 @@ last_world e ran passed = record {
 -- main's run ends so, and begins this number of instructions
 abbrev pub Runs : {S : Type 0} → Setup S → Begin S → Finish S → ℕ → Type 0
 Runs m b e ran =
-    (passed : ℕ) × ((run : Ends m (main m (first_world b)) e.answer (last_world e ran passed)) × (run_length run ≡ ran))
+    (passed : ℕ) ×
+    ((run : Ends m (main m (first_world b)) e.answer (last_world e ran passed)) ×
+    (run_length run ≡ ran))
 
 -- the program's run under the engine ends so
-abbrev pub Means : {S : Type 0} → View → Engine → Begin S → Finish S → ℕ → Type 0
-Means program engine b e ran = Runs (setup program engine) b e ran
+abbrev pub Means : {S : Type 0} → Law S → View → Engine → Begin S → Finish S → ℕ → Type 0
+Means law program engine b e ran = Runs (setup law program engine) b e ran
 
 -- the run at whose mark k memory is out ends so
-abbrev pub Stopped : {S : Type 0} → ℕ → View → Engine → Begin S → Finish S → ℕ → Type 0
-Stopped {S = S} k program engine b e ran =
-    let m : Setup S = setup program engine in Runs (record m { stop = Some k }) b e ran
+abbrev pub Stopped : {S : Type 0} → ℕ → Law S → View → Engine → Begin S → Finish S → ℕ →
+    Type 0
+Stopped {S = S} k law program engine b e ran =
+    let m : Setup S = setup law program engine in Runs (record m { stop = Some k }) b e ran
 
--- What a call answered: with a value or a fault the end that the program means, and where memory is out the end of the
--- run that is stopped at some mark.
-abbrev pub Evaluates : {S : Type 0} → View → Engine → Begin S → Result Dynamic EvalAltResult → (Answer → Finish S) → ℕ → Type 0
-Evaluates program engine b (Ok v) finish ran = Means program engine b (finish (Came v)) ran
-Evaluates program engine b (Err fault.Memory) finish ran =
-    (k : ℕ) × Stopped k program engine b (finish (Failed NoMemory)) ran
-Evaluates program engine b (Err x) finish ran = Means program engine b (finish (Failed (problem_of x))) ran
+-- What a call answered: with a value or a fault the end that the program means, and where memory is
+-- out the end of the run that is stopped at some mark.
+abbrev pub Evaluates : {S : Type 0} → Law S → View → Engine → Begin S →
+    Result Dynamic EvalAltResult → (Answer → Finish S) → ℕ → Type 0
+Evaluates law program engine b (Ok v) finish ran = Means law program engine b (finish (Came v)) ran
+Evaluates law program engine b (Err fault.Memory) finish ran =
+    (k : ℕ) × Stopped k law program engine b (finish (Failed NoMemory)) ran
+Evaluates law program engine b (Err x) finish ran =
+    Means law program engine b (finish (Failed (problem_of x))) ran
 
 -- a slow evaluator: at most as many nested steps as the number says
 pub record Over (S : Type 0) : Type 0 where
   pub answer : Answer
   pub world : World S
 
-abbrev pub and_then : {S : Type 0} → Option (Over S) → (Answer → World S → Option (Over S)) → Option (Over S)
+abbrev pub and_then : {S : Type 0} → Option (Over S) → (Answer → World S → Option (Over S)) →
+    Option (Over S)
 and_then None k = None
 and_then (Some e) k = k e.answer e.world
 

@@ -1,5 +1,5 @@
 -- The meaning of the machine: what one instruction does. Every rule is a definition by cases.
-use Rattle.std.specs.Prelude.{ℕ, ◌+◌, ◌-◌, not, List, [], ◌∷◌, ◌++◌, Option, Some, None, Bool, true, false, if◌then◌else◌, nat_lt, nat_le, nat_eq, length, take, drop, map, option_map, slice_get, codes}
+use Rattle.std.specs.Prelude.{ℕ, ◌+◌, ◌-◌, not, List, [], ◌∷◌, ◌++◌, Option, Some, None, Bool, true, false, if◌then◌else◌, nat_lt, nat_le, nat_eq, ◌&&◌, length, take, drop, map, option_map, slice_get, codes}
 use Rattle.grain_value.specs.declared.values.Dynamic.{Dynamic}
 use Rattle.grain_value.specs.declared.values.Dynamic.TheVariants as dynamic
 use Rattle.grain_value.specs.declared.values.Held.{Held}
@@ -7,13 +7,17 @@ use Rattle.grain_value.specs.declared.scopes.Entry.{Entry}
 use Rattle.grain_value.specs.Scopes.{held_of, set_held}
 use Rattle.grain_value.specs.Looking.{truth_of, is_unit}
 use Rattle.grain_value.specs.Operands.{top, below, under, arguments, rotated, read_write, value_in, values_in, bound_entries}
-use Rattle.grain_value.specs.Writing.{type_name_of}
+use Rattle.grain_value.specs.Tree.{Tree}
+use Rattle.grain_value.specs.View.{tree}
+use Rattle.grain_value.specs.declared.natives.Native.{Native}
+use Rattle.grain_value.specs.Writing.{kind_of, type_name_of}
 use Rattle.grain_fault.specs.declared.places.Position.{Position}
 use Rattle.grain_fault.specs.declared.traces.Fault.{Fault}
 use Rattle.grain_fault.specs.declared.faults.MalformedKind.TheVariants as kind
-use Rattle.grain_fault.specs.Classes.{system_exception}
-use Rattle.grain_fault.specs.Positions.{at_position}
-use Rattle.grain_fault.specs.Problems.{Problem, FunctionNotFound, MismatchDataType, InFunctionCall, AssignmentToConstant, Arithmetic, Runtime, TooManyOperations, TooManyVariables, StackOverflow, Malformed, NoMemory}
+use Rattle.grain_fault.specs.Classes.{catchable}
+use Rattle.grain_fault.specs.Exits.{exit_value}
+use Rattle.grain_fault.specs.Positions.{at_position, at_position_if_none}
+use Rattle.grain_fault.specs.Problems.{Problem, MismatchDataType, InFunctionCall, AssignmentToConstant, NonPureCall, Terminated, Arithmetic, Runtime, TooManyOperations, TooManyVariables, StackOverflow, DataTooLarge, Malformed, NoMemory}
 use Rattle.grain_program.specs.declared.code.parts.AssignOp.{AssignOp}
 use Rattle.grain_program.specs.declared.code.parts.Chunk.{Chunk}
 use Rattle.grain_program.specs.declared.code.functions.Function.{Function}
@@ -23,10 +27,12 @@ use Rattle.grain_program.specs.declared.code.instructions.Op.TheVariants as op
 use Rattle.grain_program.specs.View.{View, const_of, name_of, token_of, assign_op_of, position_of}
 use Rattle.grain_program.specs.Reading.{op_at}
 use Rattle.grain_global.specs.declared.engines.Engine.{Engine}
-use Rattle.grain_ops.specs.Outcomes.{Outcome, NotBuiltIn, Gave, ArithmeticFault}
+use Rattle.grain_ops.specs.Outcomes.{Outcome, NotBuiltIn, Gave, ArithmeticFault, TooLarge}
 use Rattle.grain_ops.specs.Operators.{operation, assignment}
 use Rattle.grain_means.specs.Worlds.{Answer, Came, Failed, Place, Frame, World, Todo, InFrame, Act, Go, End, Then, Setup}
-use Rattle.grain_means.specs.Signatures.{signature_text}
+use Rattle.grain_means.specs.Signatures.{not_found}
+use Rattle.grain_host.specs.Law.{Law, Reply, Verdict, GoOn, Stop, native_of}
+use Rattle.grain_host.specs.Law as reply
 
 abbrev pub is_stop : Option ℕ → ℕ → Bool
 is_stop None p = false
@@ -56,7 +62,8 @@ without n f = record f { operands = under n f.operands }
 
 -- a frame at a chunk's entry, on a scope of this length, under a `this`
 abbrev pub frame_at : Chunk → ℕ → Option Place → Frame
-frame_at c size this = record { address = c.entry; operands = []; base = size; floor = size; this = this }
+frame_at c size this =
+    record { address = c.entry; operands = []; base = size; floor = size; this = this }
 
 -- what the entry at an index of a scope holds, if any
 abbrev pub held_at : List Entry → ℕ → Option Held
@@ -81,11 +88,30 @@ is_full limit scope = nat_le limit (length scope)
 -- what an operator on these operands gives, if operators are fast
 abbrev pub operated : View → Engine → ℕ → List Held → Outcome
 operated program engine token args =
-    if_fast engine.fast_operators (operation engine.limits (token_of program token) (values_in args))
+    if_fast engine.fast_operators
+    (operation engine.limits (token_of program token) (values_in args))
 
 -- what an op-assignment of a value to an entry gives, if operators are fast
 abbrev pub op_assigned : Engine → AssignOp → Held → Dynamic → Outcome
-op_assigned engine a h v = if_fast engine.fast_operators (assignment engine.limits a.op_assign h.value v)
+op_assigned engine a h v =
+    if_fast engine.fast_operators (assignment engine.limits a.op_assign h.value v)
+
+-- the kinds and the trees of what is held
+abbrev pub kinds_in : List Held → List ℕ
+kinds_in hs = map (λ h. kind_of h.value) hs
+
+abbrev pub trees_in : List Held → List Tree
+trees_in hs = map (λ h. tree h.value) hs
+
+-- whether there is a first one, which can only be read
+abbrev pub first_is_read_only : List Held → Bool
+first_is_read_only [] = false
+first_is_read_only (h ∷ hs) = h.read_only
+
+-- the value with which an exit ends a run
+abbrev pub exit_of : Answer → Option Dynamic
+exit_of (Came v) = None
+exit_of (Failed x) = exit_value x
 
 module _ {S : Type 0} (m : Setup S) where
   -- the position of a frame's instruction
@@ -103,26 +129,41 @@ module _ {S : Type 0} (m : Setup S) where
   -- a mark in a frame: memory is out here, or the run goes on
   abbrev pub marked : Frame → World S → (World S → Act S) → Act S
   marked f w go =
-      if is_stop m.stop w.passed then leave_by_fault None f NoMemory w else go (record w { passed = w.passed + 1 })
+      if is_stop m.stop w.passed then leave_by_fault None f NoMemory w
+      else go (record w { passed = w.passed + 1 })
 
   -- a fault is raised
   abbrev pub raised : Frame → Problem → World S → Act S
   raised f x w = marked f w (leave_by_fault None f x)
 
-  -- one operation more, or the fault at this position that there are too many
+  -- what the host says of the operations so far: the run goes on, or it is terminated
+  abbrev pub on_verdict : Verdict → Position → Frame → World S → (World S → Act S) → Act S
+  on_verdict GoOn p f w go = go w
+  on_verdict (Stop v) p f w go = raised f (Terminated v p) w
+
+  -- the host hears how many operations there were, with a mark before and one after
+  abbrev pub progressed : Position → Frame → World S → (World S → Act S) → Act S
+  progressed p f w go =
+      marked f w (λ w1. marked f (record w1 { host = m.law.progress_after w1.host w1.count }) (λ w2.
+      on_verdict (m.law.progress_reply w1.host w1.count) p f w2 go))
+
+  -- one operation more, of which the host hears, or the fault at this position that there are too
+  -- many
   abbrev pub charged : Position → Frame → World S → (World S → Act S) → Act S
   charged p f w go =
-      if nat_lt w.count m.engine.limits.operations then marked f w (λ w1. go (record w1 { count = w1.count + 1 })) else
+      if nat_lt w.count m.engine.limits.operations then
+      marked f w (λ w1. progressed p f (record w1 { count = w1.count + 1 }) go) else
       raised f (TooManyOperations p) w
 
-  -- The instruction is over, and the frame goes on as the second one. Where memory is out at this mark, all of the
-  -- instruction is done, and the frame stops at the instruction's address.
+  -- The instruction is over, and the frame goes on as the second one. Where memory is out at this
+  -- mark, all of the instruction is done, and the frame stops at the instruction's address.
   abbrev pub onward : Frame → Frame → World S → Act S
   onward f g w = marked (record g { address = f.address }) w (Go (InFrame g))
 
   -- a transfer: to a target that does not lie ahead it costs an operation
   abbrev pub jumped : Frame → Frame → World S → Act S
-  jumped f g w = if nat_le g.address f.address then charged (position f) f w (onward f g) else onward f g w
+  jumped f g w =
+      if nat_le g.address f.address then charged (position f) f w (onward f g) else onward f g w
 
   -- the instruction gives a value
   abbrev pub pushed : Frame → ℕ → List Held → Dynamic → World S → Act S
@@ -138,11 +179,13 @@ module _ {S : Type 0} (m : Setup S) where
 
   -- a value is written in the place of what the entry at the index holds
   abbrev pub written : Bool → ℕ → Held → Dynamic → World S → World S
-  written read_only i h v w = record w { scope = set_held w.scope i (record { value = v; read_only = read_only }) }
+  written read_only i h v w =
+      record w { scope = set_held w.scope i (record { value = v; read_only = read_only }) }
 
   -- a slot past the scope
   abbrev pub slot_past_scope : Frame → ℕ → World S → Act S
-  slot_past_scope f i w = raised f (Malformed (kind.SlotPastScope i (length w.scope)) (position f)) w
+  slot_past_scope f i w =
+      raised f (Malformed (kind.SlotPastScope i (length w.scope)) (position f)) w
 
   abbrev pub at_entry : Option Held → Frame → ℕ → World S → (Held → Act S) → Act S
   at_entry None f i w go = slot_past_scope f i w
@@ -152,57 +195,103 @@ module _ {S : Type 0} (m : Setup S) where
   abbrev pub at_slot : Frame → ℕ → World S → (Held → Act S) → Act S
   at_slot f slot w go = at_entry (held_at w.scope (f.base + slot)) f (f.base + slot) w go
 
-  -- the host's function of this name on these arguments, and then what follows from its value: there is none
-  abbrev pub native : List ℕ → List Held → Frame → World S → (Dynamic → World S → Act S) → Act S
-  native name args f w go = raised f (FunctionNotFound (signature_text name (values_in args)) (position f)) w
+  -- what the host answered, and then what follows from its value; a fault without a position has
+  -- the instruction's
+  abbrev pub answered : Reply → Frame → World S → (Dynamic → World S → Act S) → Act S
+  answered (reply.Done v) f w go = go v w
+  answered (reply.Failed x) f w go = raised f (at_position_if_none (position f) x) w
+
+  -- the host is called, with a mark before and one after
+  abbrev pub host_called : ℕ → List Held → Frame → World S → (Dynamic → World S → Act S) →
+      Act S
+  host_called key args f w go =
+      marked f w (λ w1.
+      marked f (record w1 { host = m.law.call_after w1.host key None (trees_in args) }) (λ w2.
+      answered (m.law.call_reply w1.host key None (trees_in args)) f w2 go))
+
+  -- a native that writes its first argument is not called where that can only be read
+  abbrev pub native_called : Native → List ℕ → List Held → Frame → World S →
+      (Dynamic → World S → Act S) → Act S
+  native_called n name args f w go =
+      if n.writes && first_is_read_only args then raised f (NonPureCall name (position f)) w else
+      host_called n.key args f w go
+
+  abbrev pub native_found : Option Native → List ℕ → List Held → Frame → World S →
+      (Dynamic → World S → Act S) → Act S
+  native_found None name args f w go = raised f (not_found name (values_in args) (position f)) w
+  native_found (Some n) name args f w go = native_called n name args f w go
+
+  -- the host's native of this name on these arguments, and then what follows from its value
+  abbrev pub native : List ℕ → List Held → Frame → World S → (Dynamic → World S → Act S) →
+      Act S
+  native name args f w go =
+      native_found (native_of m.law w.host name (kinds_in args)) name args f w go
 
   abbrev pub load_local : ℕ → ℕ → Frame → World S → Act S
-  load_local slot next f w = at_slot f slot w (λ h. flattened h [] f w (λ v. pushed f next f.operands v w))
+  load_local slot next f w =
+      at_slot f slot w (λ h. flattened h [] f w (λ v. pushed f next f.operands v w))
 
   -- one entry more, which can only be read where the flag says so
   abbrev pub declare : Bool → List ℕ → ℕ → Frame → World S → Act S
   declare read_only name next f w =
-      if is_full m.engine.limits.variables w.scope then raised f (TooManyVariables (position f)) w else
-      flattened (top f.operands) name f w (λ v. marked f w (λ w1. onward f (stepped f next (below f.operands)) (record w1 {
-        scope = w1.scope ++ record { name = name; held = record { value = v; read_only = read_only } } ∷ [];
+      if is_full m.engine.limits.variables w.scope then raised f (TooManyVariables (position f)) w
+      else
+      flattened (top f.operands) name f w
+      (λ v. marked f w (λ w1. onward f (stepped f next (below f.operands)) (record w1 {
+        scope = w1.scope ++
+            record { name = name; held = record { value = v; read_only = read_only } } ∷ [];
       })))
 
   -- an assignment to an entry that can only be read
   abbrev pub assignment_to_constant : ℕ → Frame → World S → Act S
-  assignment_to_constant n f w = raised f (AssignmentToConstant (name_of m.program n) (position f)) w
+  assignment_to_constant n f w =
+      raised f (AssignmentToConstant (name_of m.program n) (position f)) w
 
   -- a value into the entry of a slot, with which the last operand is used up
   abbrev pub write_entry : Bool → ℕ → Held → Dynamic → ℕ → Frame → World S → Act S
   write_entry read_only slot h v next f w =
-      marked f w (λ w1. onward f (stepped f next (below f.operands)) (written read_only (f.base + slot) h v w1))
+      marked f w
+      (λ w1. onward f (stepped f next (below f.operands))
+      (written read_only (f.base + slot) h v w1))
 
   -- the last operand into the entry, whatever stands there
   abbrev pub store_local : Bool → ℕ → ℕ → Frame → World S → Act S
   store_local read_only slot next f w =
-      at_slot f slot w (λ h. flattened (top f.operands) [] f w (λ v. write_entry read_only slot h v next f w))
+      at_slot f slot w
+      (λ h. flattened (top f.operands) [] f w (λ v. write_entry read_only slot h v next f w))
 
   abbrev pub assign : ℕ → ℕ → ℕ → Frame → World S → Act S
   assign slot n next f w =
       at_slot f slot w (λ h. if is_read_only w h then assignment_to_constant n f w else
-      flattened (top f.operands) (name_of m.program n) f w (λ v. write_entry h.read_only slot h v next f w))
+      flattened (top f.operands) (name_of m.program n) f w
+      (λ v. write_entry h.read_only slot h v next f w))
 
   -- what an op-assignment gives, in the entry
   abbrev pub store_outcome : Outcome → List ℕ → Held → ℕ → ℕ → Frame → World S → Act S
   store_outcome NotBuiltIn name h slot next f w =
       native name (h ∷ top f.operands ∷ []) f w (λ v w1. write_entry h.read_only slot h v next f w1)
   store_outcome (Gave v) name h slot next f w = write_entry h.read_only slot h v next f w
-  store_outcome (ArithmeticFault text) name h slot next f w = raised f (Arithmetic text (position f)) w
+  store_outcome (ArithmeticFault text) name h slot next f w =
+      raised f (Arithmetic text (position f)) w
+  store_outcome (TooLarge what) name h slot next f w = raised f (DataTooLarge what (position f)) w
 
   abbrev pub assign_op : AssignOp → ℕ → ℕ → ℕ → Frame → World S → Act S
   assign_op a slot n next f w =
       at_slot f slot w (λ h. if is_read_only w h then assignment_to_constant n f w else
-      flattened (top f.operands) (name_of m.program n) f w (λ v. store_outcome (op_assigned m.engine a h v) (name_of m.program a.op_name) h slot next f w))
+      flattened (top f.operands) (name_of m.program n) f w
+      (λ v. store_outcome (op_assigned m.engine a h v) (name_of m.program a.op_name) h slot next
+      f w))
 
   -- what an operator gives, as the last operand
-  abbrev pub push_outcome : Outcome → List ℕ → List Held → ℕ → List Held → Frame → World S → Act S
-  push_outcome NotBuiltIn name args next operands f w = native name args f w (λ v w1. pushed f next operands v w1)
+  abbrev pub push_outcome : Outcome → List ℕ → List Held → ℕ → List Held → Frame → World S →
+      Act S
+  push_outcome NotBuiltIn name args next operands f w =
+      native name args f w (λ v w1. pushed f next operands v w1)
   push_outcome (Gave v) name args next operands f w = pushed f next operands v w
-  push_outcome (ArithmeticFault text) name args next operands f w = raised f (Arithmetic text (position f)) w
+  push_outcome (ArithmeticFault text) name args next operands f w =
+      raised f (Arithmetic text (position f)) w
+  push_outcome (TooLarge what) name args next operands f w =
+      raised f (DataTooLarge what (position f)) w
 
   -- a transfer, or on to the next instruction, without the last operand
   abbrev pub branched : Bool → ℕ → ℕ → Frame → World S → Act S
@@ -226,40 +315,51 @@ module _ {S : Type 0} (m : Setup S) where
   -- a transfer unless the last operand, which stays, is unit
   abbrev pub skip : Bool → ℕ → ℕ → Frame → World S → Act S
   skip unit target next f w =
-      if unit then onward f (stepped f next f.operands) w else jumped f (stepped f target f.operands) w
+      if unit then onward f (stepped f next f.operands) w
+      else jumped f (stepped f target f.operands) w
 
   -- the scope is cut to n entries
   abbrev pub unwind : ℕ → ℕ → Frame → World S → Act S
   unwind n next f w =
-      if nat_lt (length w.scope) n then raised f (Malformed (kind.UnwindPastScope n (length w.scope)) (position f)) w else
+      if nat_lt (length w.scope) n
+      then raised f (Malformed (kind.UnwindPastScope n (length w.scope)) (position f)) w else
       onward f (stepped f next f.operands) (record w { scope = take n w.scope })
 
-  -- A fault that left the body of a function: a system exception goes on at the call's position, and any other says
-  -- which function it left.
+  -- A fault that left the body of a function: one that a script may catch says which function it
+  -- left, and any other goes on at the call's position.
   abbrev pub propagate : Function → Frame → Problem → World S → Act S
   propagate g f x w =
-      if system_exception x then leave_by_fault None f (at_position (position f) x) w else
-      marked f w (leave_by_fault None f (InFunctionCall (name_of m.program g.name) [] x (position f)))
+      if catchable x then
+      marked f w
+      (leave_by_fault None f (InFunctionCall (name_of m.program g.name) [] x (position f)))
+      else leave_by_fault None f (at_position (position f) x) w
 
-  -- a called function is over, and the caller, whose frame is without the arguments, goes on with its answer
+  -- a called function is over, and the caller, whose frame is without the arguments, goes on with
+  -- its answer
   abbrev pub resume_caller : Function → Frame → ℕ → Answer → World S → Act S
   resume_caller g f next (Came v) w = pushed f next f.operands v w
   resume_caller g f next (Failed x) w = propagate g f x w
 
-  -- A function on these arguments: an operation, the level, the variables, and then its body on a scope of its own,
-  -- one level up; afterwards the caller's scope and level are back.
-  abbrev pub enter_function : Function → List Held → Frame → ℕ → World S → Act S
-  enter_function g args f next w =
-      charged (position f) f w (λ w1.
-      if nat_le m.engine.limits.levels w1.level then raised f (StackOverflow (position f)) w1 else
-      if nat_lt m.engine.limits.variables (length g.params) then raised f (TooManyVariables (position f)) w1 else
-      marked f w1 (λ w2. Then (Go (InFrame (frame_at g.chunk 0 None)) (record w2 {
+  -- A function on these arguments, once its operation is taken: the level, the variables, and then
+  -- its body on a scope of its own, one level up; afterwards the caller's scope and level are back.
+  abbrev pub function_entered : Function → List Held → Frame → ℕ → World S → Act S
+  function_entered g args f next w =
+      if nat_le m.engine.limits.levels w.level then raised f (StackOverflow (position f)) w else
+      if nat_lt m.engine.limits.variables (length g.params)
+      then raised f (TooManyVariables (position f)) w else
+      marked f w (λ w1. Then (Go (InFrame (frame_at g.chunk 0 None)) (record w1 {
         scope = bound m.program g.params args;
-        level = w2.level + 1;
-      })) (λ a w3. resume_caller g f next a (record w3 { scope = w.scope; level = w.level }))))
+        level = w1.level + 1;
+      })) (λ a w2. resume_caller g f next a (record w2 { scope = w.scope; level = w.level })))
 
-  abbrev pub call_function : Option Function → List ℕ → List Held → Frame → ℕ → World S → Act S
-  call_function None name args f next w = native name args f w (λ v w1. pushed f next f.operands v w1)
+  -- a function on these arguments costs an operation
+  abbrev pub enter_function : Function → List Held → Frame → ℕ → World S → Act S
+  enter_function g args f next w = charged (position f) f w (function_entered g args f next)
+
+  abbrev pub call_function : Option Function → List ℕ → List Held → Frame → ℕ → World S →
+      Act S
+  call_function None name args f next w =
+      native name args f w (λ v w1. pushed f next f.operands v w1)
   call_function (Some g) name args f next w = enter_function g args f next w
 
   -- an instruction, and the address after it
@@ -282,14 +382,17 @@ module _ {S : Type 0} (m : Setup S) where
   instr (op.JumpIfTrue target) next f w = jump_if true target next f w
   instr (op.SkipIfNotUnit target) next f w = skip (is_unit (top f.operands).value) target next f w
   instr (op.Call n count) next f w =
-      call_function (function_found m.program n count) (name_of m.program n) (arguments count f.operands) (without count f) next w
+      call_function (function_found m.program n count) (name_of m.program n)
+      (arguments count f.operands) (without count f) next w
   instr (op.CallOp n count o) next f w =
-      push_outcome (operated m.program m.engine o (arguments count f.operands)) (name_of m.program n) (arguments count f.operands) next (under count f.operands) f w
+      push_outcome (operated m.program m.engine o (arguments count f.operands))
+      (name_of m.program n) (arguments count f.operands) next (under count f.operands) f w
   instr (op.UnwindTo depth) next f w = unwind (f.base + depth) next f w
   instr op.Tick next f w = charged (position f) f w (onward f (stepped f next f.operands))
   instr op.Checkpoint next f w = onward f (record f { address = next; floor = length w.scope }) w
   instr (op.Statement depth) next f w = onward f (stepped f next f.operands) w
-  instr op.Throw next f w = flattened (top f.operands) [] f w (λ v. raised f (Runtime v (position f)) w)
+  instr op.Throw next f w =
+      flattened (top f.operands) [] f w (λ v. raised f (Runtime v (position f)) w)
   instr op.Return next f w = marked f w (End (Came (top f.operands).value))
 
   -- an instruction begins
@@ -298,15 +401,22 @@ module _ {S : Type 0} (m : Setup S) where
 
   -- the next thing that is done
   abbrev pub next : Todo → World S → Act S
-  next (InFrame f) w = start_instruction (or_return (op_at m.program.code f.address)) f (record w { ran = w.ran + 1 })
+  next (InFrame f) w = start_instruction (or_return (op_at m.program.code f.address)) f
+      (record w { ran = w.ran + 1 })
 
   -- a mark outside of all frames
   abbrev pub passing : World S → (World S → Act S) → Act S
-  passing w go = if is_stop m.stop w.passed then End (Failed NoMemory) w else go (record w { passed = w.passed + 1 })
+  passing w go = if is_stop m.stop w.passed then End (Failed NoMemory) w
+      else go (record w { passed = w.passed + 1 })
 
-  -- a call of the machine is over
-  abbrev pub closed : Answer → World S → Act S
-  closed a w = passing w (End a)
+  -- an exit ends main with its value, and leaves no trace
+  abbrev pub exited : Option Dynamic → List Fault → Answer → World S → Act S
+  exited None trace a w = End a w
+  exited (Some v) trace a w = End (Came v) (record w { trace = trace })
+
+  -- a call of the machine, which began with this trace, is over
+  abbrev pub closed : List Fault → Answer → World S → Act S
+  closed trace a w = passing w (exited (exit_of a) trace a)
 
   -- main's frame on a scope
   abbrev pub main_frame : List Entry → Option Place → Frame
@@ -314,7 +424,9 @@ module _ {S : Type 0} (m : Setup S) where
 
   -- a call begins, main's frame is entered under a `this`, and then the call is over
   abbrev pub called : Option Place → World S → Act S
-  called this w = passing w (λ w1. passing w1 (λ w2. Then (Go (InFrame (main_frame w2.scope this)) w2) closed))
+  called this w =
+      passing w
+      (λ w1. passing w1 (λ w2. Then (Go (InFrame (main_frame w2.scope this)) w2) (closed w2.trace)))
 
   -- main is run without a `this`
   abbrev pub main : World S → Act S

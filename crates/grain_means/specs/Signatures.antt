@@ -1,5 +1,9 @@
--- How a function that is not found is named: by its name and the types of its arguments.
-use Rattle.std.specs.Prelude.{ℕ, List, [], ◌∷◌, ◌++◌, codes}
+-- How a function that is not found is named, and the fault that it is not: by its name and the
+-- types of its arguments.
+use Rattle.std.specs.Prelude.{ℕ, zero, suc, List, [], ◌∷◌, ◌++◌, codes, drop, eqb, bytes_eq, if◌then◌else◌}
+use Rattle.std.specs.List.{starts_with}
+use Rattle.grain_fault.specs.Problems.{Problem, FunctionNotFound, DotExpr, IndexingType}
+use Rattle.grain_fault.specs.declared.places.Position.{Position}
 use Rattle.grain_value.specs.declared.values.Dynamic.{Dynamic}
 use Rattle.grain_value.specs.Writing.{type_name_of}
 
@@ -10,3 +14,32 @@ types_text lead (v ∷ vs) = lead ++ type_name_of v ++ types_text (codes ", ") v
 
 abbrev pub signature_text : List ℕ → List Dynamic → List ℕ
 signature_text name args = name ++ codes " (" ++ types_text [] args ++ codes ")"
+
+-- the type of the argument at this place; none is named where there is none
+abbrev pub type_at : ℕ → List Dynamic → List ℕ
+type_at i [] = []
+type_at zero (v ∷ vs) = type_name_of v
+type_at (suc i) (v ∷ vs) = type_at i vs
+
+-- a getter, a setter or an indexer that is not found is a property or an index that is not there
+abbrev pub unknown_property : List ℕ → List Dynamic → List ℕ
+unknown_property property args =
+    codes "Unknown property '" ++ property ++ codes "' for '" ++ type_at 0 args ++ codes "'"
+
+abbrev pub unwritable_property : List ℕ → List Dynamic → List ℕ
+unwritable_property property args =
+    codes "No writable property '" ++ property ++ codes "' for '" ++ type_at 0 args ++ codes "'"
+
+abbrev pub index_text : List Dynamic → List ℕ
+index_text args = type_at 0 args ++ codes " [" ++ type_at 1 args ++ codes "]"
+
+-- the fault that no native of this name takes these arguments
+abbrev pub not_found : List ℕ → List Dynamic → Position → Problem
+not_found name args p =
+    if starts_with eqb name (codes "get$") then DotExpr (unknown_property (drop 4 name) args) p else
+    (if starts_with eqb name (codes "set$") then DotExpr (unwritable_property (drop 4 name) args) p
+    else
+    (if bytes_eq name (codes "index$get$") then IndexingType (index_text args) p else
+    (if bytes_eq name (codes "index$set$")
+    then IndexingType (index_text args ++ codes " = " ++ type_at 2 args) p
+    else FunctionNotFound (signature_text name args) p)))

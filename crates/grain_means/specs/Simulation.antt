@@ -1,5 +1,6 @@
--- How code is joined to the meaning: each stretch of code simulates what the run does. Whatever the rest of the run
--- yields, the specified run from before the stretch yields too, wherever memory may still run out.
+-- How code is joined to the meaning: each stretch of code simulates what the run does. Whatever the
+-- rest of the run yields, the specified run from before the stretch yields too, wherever memory may
+-- still run out.
 use Rattle.std.specs.Prelude.{◌≡◌, ◌<◌, ◌≤◌, ℕ, List, [], Option, Some, None, Bool, true, false, slice_get, slice_set}
 use Rattle.grain_value.specs.declared.values.Held.{Held}
 use Rattle.grain_value.specs.declared.scopes.Entry.{Entry}
@@ -70,12 +71,15 @@ Computation S = Setup S → Option Place → World S → Act S
 abbrev pub stopped : {S : Type 0} → Setup S → Option ℕ → Setup S
 stopped m stop = record m { stop = stop }
 
--- in any environment, with `this` somewhere among its roots: what the second ends as, the first ends as
-abbrev pub Refines : {S : Type 0} → Setup S → LocalState S → Computation S → LocalState S → Computation S → Type 0
+-- in any environment, with `this` somewhere among its roots: what the second ends as, the first
+-- ends as
+abbrev pub Refines : {S : Type 0} → Setup S → LocalState S → Computation S → LocalState S →
+    Computation S → Type 0
 Refines {S = S} m old start new now =
     (u : Environment) (place : Option Place) → Binds u.roots place old.this →
     Binds (puts u.roots place new.this) place new.this ×
-    ((a : Answer) (w : World S) → Ends m (now m place (world new (after u place new.this))) a w → Ends m (start m place (world old u)) a w)
+    ((a : Answer) (w : World S) → Ends m (now m place (world new (after u place new.this))) a w →
+    Ends m (start m place (world old u)) a w)
 
 -- no stop among the marks from a to below b
 abbrev pub NoStopWithin : Option ℕ → ℕ → ℕ → Type 0
@@ -86,18 +90,23 @@ abbrev pub StopsHere : Bool → Option ℕ → ℕ → Type 0
 StopsHere false stop passed = Unit {0}
 StopsHere true stop passed = is_stop stop passed ≡ true
 
--- From the first state to the second the code did what the first computation does, and the second one is left. `out`
--- says that memory is out there.
-pub record Simulates {S : Type 0} (m : Setup S) (old : LocalState S) (start : Computation S) (out : Bool) (new : LocalState S) (now : Computation S) : Type 0 where
+-- From the first state to the second the code did what the first computation does, and the second
+-- one is left. `out` says that memory is out there.
+pub record Simulates {S : Type 0} (m : Setup S) (old : LocalState S) (start : Computation S)
+    (out : Bool) (new : LocalState S) (now : Computation S) : Type 0 where
   pub order : old.passed ≤ new.passed
-  pub leads : (stop : Option ℕ) → NoStopWithin stop old.passed new.passed → StopsHere out stop new.passed → Refines (stopped m stop) old start new now
+  pub leads : (stop : Option ℕ) → NoStopWithin stop old.passed new.passed →
+      StopsHere out stop new.passed → Refines (stopped m stop) old start new now
 
 -- a stretch that does not touch `this` and calls nothing: the two computations are one
-pub record SimulatesExactly {S : Type 0} (m : Setup S) (old : LocalState S) (start : Computation S) (out : Bool) (new : LocalState S) (now : Computation S) : Type 0 where
+pub record SimulatesExactly {S : Type 0} (m : Setup S) (old : LocalState S) (start : Computation S)
+    (out : Bool) (new : LocalState S) (now : Computation S) : Type 0 where
   pub this : new.this ≡ old.this
   pub order : old.passed ≤ new.passed
-  pub equal : (stop : Option ℕ) → NoStopWithin stop old.passed new.passed → StopsHere out stop new.passed →
-      (u : Environment) (place : Option Place) → start (stopped m stop) place (world old u) ≡ now (stopped m stop) place (world new u)
+  pub equal : (stop : Option ℕ) → NoStopWithin stop old.passed new.passed →
+      StopsHere out stop new.passed →
+      (u : Environment) (place : Option Place) → start (stopped m stop) place (world old u) ≡
+      now (stopped m stop) place (world new u)
 
 -- once memory is out, no mark is passed
 abbrev pub StopPersists : Bool → ℕ → Bool → ℕ → Type 0

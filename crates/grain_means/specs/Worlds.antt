@@ -7,6 +7,7 @@ use Rattle.grain_value.specs.declared.stores.Cell.{Cell}
 use Rattle.grain_fault.specs.declared.traces.Fault.{Fault}
 use Rattle.grain_fault.specs.Problems.{Problem}
 use Rattle.grain_program.specs.View.{View}
+use Rattle.grain_host.specs.Law.{Law}
 use Rattle.grain_global.specs.declared.engines.Engine.{Engine}
 
 -- how a run ends
@@ -18,8 +19,9 @@ pub data Answer : Type 0 where
 pub record Place : Type 0 where
   pub root : ℕ
 
--- A frame: the address of its instruction, its own operands, the scope's length at its entry, from which its slots
--- count, the length to which a fault cuts the scope, and the place of its `this`, if any.
+-- A frame: the address of its instruction, its own operands, the scope's length at its entry, from
+-- which its slots count, the length to which a fault cuts the scope, and the place of its `this`,
+-- if any.
 pub record Frame : Type 0 where
   pub address : ℕ
   pub operands : List Held
@@ -42,7 +44,8 @@ pub record World (S : Type 0) : Type 0 where
   pub ran : ℕ
   -- how many marks were passed: at each of them memory may be out
   pub passed : ℕ
-  -- the tokens that the host gave and that were not taken back; none, once one was taken that it had not given
+  -- the tokens that the host gave and that were not taken back; none, once one was taken that it
+  -- had not given
   pub tokens : Option (List ℕ)
 
 -- what a run can stand at: an instruction of a frame
@@ -57,6 +60,7 @@ pub data Act (S : Type 0) : Type 0 where
 
 -- what stays the same in a run on a host whose states are S
 pub record Setup (S : Type 0) : Type 0 where
+  pub law : Law S
   pub program : View
   pub engine : Engine
   -- the mark at which memory is out, if any

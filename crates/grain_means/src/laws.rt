@@ -11,29 +11,34 @@ ghost use Rattle.grain_means.specs.Length.{run_length};
 ghost use Rattle.grain_means.specs.Means.{Begin, Finish, Means, Over, slowly};
 ghost use Rattle.grain_global.specs.declared.engines.Engine.{Engine};
 ghost use Rattle.grain_program.specs.View.{View};
+ghost use Rattle.grain_host.specs.Law.{Law};
 ghost use Rattle.grain_program.specs.Typing.{IsProgram};
 
 /// A run has at most one end.
 pub fn one_end<S>()
-    ensures { (m : Setup S) (act : Act S) (a b : Answer) (w v : World S) → Ends m act a w → Ends m act b v → (a ≡ b) × (w ≡ v) }
+    ensures { (m : Setup S) (act : Act S) (a b : Answer) (w v : World S) → Ends m act a w →
+        Ends m act b v → (a ≡ b) × (w ≡ v) }
 {}
 
 /// What the slow evaluator computes is the end.
 pub fn slow_end<S>()
-    ensures { (m : Setup S) (n : ℕ) (act : Act S) (e : Over S) → slowly m n act ≡ Some e → Ends m act e.answer e.world }
+    ensures { (m : Setup S) (n : ℕ) (act : Act S) (e : Over S) → slowly m n act ≡ Some e →
+        Ends m act e.answer e.world }
 {}
 
-/// A call counts exactly the instructions that it begins, leaves the tokens that were out, the level and the entries of
-/// its scope, which a fault cuts to their number, and ends with a cause.
+/// A call counts exactly the instructions that it begins, leaves the tokens that were out, the
+/// level and the entries of its scope, which a fault cuts to their number, and ends with a cause.
 pub fn counted<S>()
-    ensures { (m : Setup S) (this : Option Place) (w v : World S) (a : Answer) (run : Ends m (called m this w) a v) →
+    ensures { (m : Setup S) (this : Option Place) (w v : World S) (a : Answer)
+        (run : Ends m (called m this w) a v) →
         (v.ran ≡ w.ran + run_length run) × (v.tokens ≡ w.tokens) × (v.level ≡ w.level) ×
         Keeps (length w.scope) (names w.scope) v.scope ×
-        Cuts m (called m this w) w.level (length w.scope) w.trace a v × Caused m (called m this w) w.level a v }
+        Cuts m (called m this w) w.level (length w.scope) w.trace a v ×
+        Caused m (called m this w) w.level a v }
 {}
 
-/// Where the run of a valid program comes to a frame, an instruction stands there, and its operands and its entries of
-/// the pools are there.
+/// Where the run of a valid program comes to a frame, an instruction stands there, and its operands
+/// and its entries of the pools are there.
 pub fn provided<S>()
     ensures { (m : Setup S) (this : Option Place) (w v : World S) (f : Frame) →
         IsProgram m.program → Comes m (InFrame f) v (called m this w) → Stands m.program f }
@@ -41,6 +46,7 @@ pub fn provided<S>()
 
 /// A program has at most one meaning at a beginning: one end, after one number of instructions.
 pub fn one_meaning<S>()
-    ensures { (program : View) (engine : Engine) (b : Begin S) (e f : Finish S) (n k : ℕ) →
-        Means program engine b e n → Means program engine b f k → (e ≡ f) × (n ≡ k) }
+    ensures { (law : Law S) (program : View) (engine : Engine) (b : Begin S) (e f : Finish S)
+        (n k : ℕ) →
+        Means law program engine b e n → Means law program engine b f k → (e ≡ f) × (n ≡ k) }
 {}

@@ -8,20 +8,27 @@ use Rattle.grain_ops.specs.declared.answers.OpAnswer.{OpAnswer}
 use Rattle.grain_ops.specs.declared.answers.OpAnswer.TheVariants as answer
 use Rattle.grain_ops.specs.declared.answers.AssignAnswer.{AssignAnswer}
 use Rattle.grain_ops.specs.declared.answers.AssignAnswer.TheVariants as assigned
-use Rattle.grain_ops.specs.Outcomes.{Outcome, NotBuiltIn, Gave, ArithmeticFault}
+use Rattle.grain_ops.specs.Outcomes.{Outcome, NotBuiltIn, Gave, ArithmeticFault, TooLarge}
 
 -- the fault is this outcome's, without a position, or memory is out
 abbrev pub FailsSo : EvalAltResult → Outcome → Type 0
 FailsSo (fault.ErrorArithmetic s p) o = (p ≡ nowhere) × (o ≡ ArithmeticFault s)
+FailsSo (fault.ErrorDataTooLarge s p) o = (p ≡ nowhere) × (o ≡ TooLarge s)
 FailsSo fault.Memory o = Unit {0}
 FailsSo (fault.ErrorFunctionNotFound s p) o = ⊥
 FailsSo (fault.ErrorMismatchDataType r a p) o = ⊥
 FailsSo (fault.ErrorInFunctionCall' f s b x p) o = ⊥
 FailsSo (fault.ErrorAssignmentToConstant s p) o = ⊥
+FailsSo (fault.ErrorIndexingType t p) o = ⊥
+FailsSo (fault.ErrorNonPureMethodCallOnConstant f p) o = ⊥
+FailsSo (fault.ErrorDotExpr s p) o = ⊥
 FailsSo (fault.ErrorRuntime v p) o = ⊥
 FailsSo (fault.ErrorTooManyOperations p) o = ⊥
 FailsSo (fault.ErrorTooManyVariables p) o = ⊥
 FailsSo (fault.ErrorStackOverflow p) o = ⊥
+FailsSo (fault.ErrorTerminated v p) o = ⊥
+FailsSo (fault.Exit v p) o = ⊥
+FailsSo (fault.ErrorSystem s e) o = ⊥
 FailsSo (fault.Malformed k p) o = ⊥
 
 abbrev pub Answers : OpAnswer → Outcome → Type 0

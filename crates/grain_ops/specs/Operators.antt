@@ -1,48 +1,19 @@
 -- The operators that are built in.
-use Rattle.std.specs.Prelude.{ℤ, pos, negsuc, ◌^◌, ◌+ℤ◌, ◌-ℤ◌, ◌*ℤ◌, neg_ℤ, int_lt, ℕ, Bool, not, Option, Some, None, List, [], ◌∷◌, ◌++◌, codes, ◌&&◌, if◌then◌else◌}
-use Rattle.std.specs.Ordering.{int_eq}
-use Rattle.std.specs.Fmt.{signed_decimal}
+use Rattle.std.specs.Prelude.{ℤ, int_lt, ℕ, Bool, true, false, not, ◌&&◌, ◌||◌, Option, Some, None, List, [], ◌∷◌}
+use Rattle.std.specs.Char.{encode_utf8}
+use Rattle.std.specs.Int.{w64, int_bit_and, int_bit_or, int_bit_xor}
+use Rattle.std.specs.Cmp.Lexicographic.{slice_cmp}
+use Rattle.std.specs.Ordering.{int_eq, nat_cmp}
 use Rattle.grain_value.specs.declared.values.Dynamic.{Dynamic}
 use Rattle.grain_value.specs.declared.values.Dynamic.TheVariants as dynamic
 use Rattle.grain_value.specs.declared.values.Limits.{Limits}
 use Rattle.grain_value.specs.declared.operators.Token.{Token}
 use Rattle.grain_value.specs.declared.operators.Token.TheVariants as token
-use Rattle.grain_value.specs.Looking.{integer_of}
-use Rattle.grain_ops.specs.declared.calculations.Calculation.{Calculation}
 use Rattle.grain_ops.specs.declared.calculations.Calculation.TheVariants as calculation
-use Rattle.grain_ops.specs.Outcomes.{Outcome, NotBuiltIn, Gave, ArithmeticFault}
-
--- whether an integer fits 64 bits with a sign
-abbrev pub fits64 : ℤ → Bool
-fits64 n = int_lt n (pos (2 ^ 63)) && int_lt (negsuc (2 ^ 63)) n
-
--- what is calculated exactly
-abbrev pub exact : Calculation → ℤ → ℤ → ℤ
-exact calculation.Addition x y = x +ℤ y
-exact calculation.Subtraction x y = x -ℤ y
-exact calculation.Multiplication x y = x *ℤ y
-
--- the text of the fault that a result does not fit, up to the first number
-abbrev pub overflow_lead : Calculation → List ℕ
-overflow_lead calculation.Addition = codes "Addition overflow: "
-overflow_lead calculation.Subtraction = codes "Subtraction overflow: "
-overflow_lead calculation.Multiplication = codes "Multiplication overflow: "
-
--- what stands between its numbers
-abbrev pub sign_between : Calculation → List ℕ
-sign_between calculation.Addition = codes " + "
-sign_between calculation.Subtraction = codes " - "
-sign_between calculation.Multiplication = codes " * "
-
-abbrev pub overflow_text : Calculation → ℤ → ℤ → List ℕ
-overflow_text c x y = overflow_lead c ++ signed_decimal x ++ sign_between c ++ signed_decimal y
-
-abbrev pub calculated : Calculation → ℤ → ℤ → Outcome
-calculated c x y = if fits64 (exact c x y) then Gave (dynamic.Int (exact c x y)) else ArithmeticFault (overflow_text c x y)
-
--- the negation
-abbrev pub negated : ℤ → Outcome
-negated x = if fits64 (neg_ℤ x) then Gave (dynamic.Int (neg_ℤ x)) else ArithmeticFault (codes "integer overflow")
+use Rattle.grain_ops.specs.Outcomes.{Outcome, NotBuiltIn, Gave}
+use Rattle.grain_ops.specs.Calculations.{calculated, negated}
+use Rattle.grain_ops.specs.Shifts.{shifted_left, shifted_right}
+use Rattle.grain_ops.specs.Texts.{joined, compared}
 
 -- an operator on an integer
 abbrev pub integer : Token → ℤ → Outcome
@@ -50,11 +21,32 @@ integer token.Minus x = negated x
 integer token.UnaryMinus x = negated x
 integer t x = NotBuiltIn
 
+-- an operator on a truth value
+abbrev pub truth : Token → Bool → Outcome
+truth token.Bang a = Gave (dynamic.Bool (not a))
+truth t a = NotBuiltIn
+
+-- an operator on a value
+abbrev pub unary : Token → Dynamic → Outcome
+unary t (dynamic.Int x) = integer t x
+unary t (dynamic.Bool a) = truth t a
+unary t v = NotBuiltIn
+
 -- an operator on two integers
 abbrev pub integers : Token → ℤ → ℤ → Outcome
 integers token.Plus x y = calculated calculation.Addition x y
 integers token.Minus x y = calculated calculation.Subtraction x y
 integers token.Multiply x y = calculated calculation.Multiplication x y
+integers token.Divide x y = calculated calculation.Division x y
+integers token.Modulo x y = calculated calculation.Remainder x y
+integers token.PowerOf x y = calculated calculation.Power x y
+integers token.LeftShift x y = Gave (dynamic.Int (shifted_left x y))
+integers token.RightShift x y = Gave (dynamic.Int (shifted_right x y))
+integers token.Ampersand x y = Gave (dynamic.Int (int_bit_and w64 x y))
+integers token.Pipe x y = Gave (dynamic.Int (int_bit_or w64 x y))
+integers token.XOr x y = Gave (dynamic.Int (int_bit_xor w64 x y))
+integers token.ExclusiveRange x y = Gave (dynamic.Range x y false)
+integers token.InclusiveRange x y = Gave (dynamic.Range x y true)
 integers token.EqualsTo x y = Gave (dynamic.Bool (int_eq x y))
 integers token.NotEqualsTo x y = Gave (dynamic.Bool (not (int_eq x y)))
 integers token.LessThan x y = Gave (dynamic.Bool (int_lt x y))
@@ -63,38 +55,77 @@ integers token.GreaterThan x y = Gave (dynamic.Bool (int_lt y x))
 integers token.GreaterThanEqualsTo x y = Gave (dynamic.Bool (not (int_lt x y)))
 integers t x y = NotBuiltIn
 
--- an operator on a value
-abbrev pub on_one : Token → Option ℤ → Outcome
-on_one t (Some x) = integer t x
-on_one t None = NotBuiltIn
+-- whether two truth values are the same
+abbrev pub same : Bool → Bool → Bool
+same true b = b
+same false b = not b
 
-abbrev pub unary : Token → Dynamic → Outcome
-unary t v = on_one t (integer_of v)
+-- an operator on two truth values
+abbrev pub truths : Token → Bool → Bool → Outcome
+truths token.Ampersand a b = Gave (dynamic.Bool (a && b))
+truths token.Pipe a b = Gave (dynamic.Bool (a || b))
+truths token.XOr a b = Gave (dynamic.Bool (not (same a b)))
+truths token.EqualsTo a b = Gave (dynamic.Bool (same a b))
+truths token.NotEqualsTo a b = Gave (dynamic.Bool (not (same a b)))
+truths t a b = NotBuiltIn
+
+-- an operator on two units
+abbrev pub units : Token → Outcome
+units token.EqualsTo = Gave (dynamic.Bool true)
+units token.NotEqualsTo = Gave (dynamic.Bool false)
+units t = NotBuiltIn
+
+-- an operator on two texts: they are ordered by their bytes
+abbrev pub texts : Limits → Token → List ℕ → List ℕ → Outcome
+texts limits token.Plus s t = joined limits.text s t
+texts limits operator s t = compared operator (slice_cmp nat_cmp s t)
+
+-- an operator on two characters: they are ordered by their code points, and joined they are a text
+abbrev pub characters : Limits → Token → ℕ → ℕ → Outcome
+characters limits token.Plus c d = joined limits.text (encode_utf8 c) (encode_utf8 d)
+characters limits operator c d = compared operator (nat_cmp c d)
+
+-- an operator on a text and a character, or on a character and a text, by their bytes
+abbrev pub mixed : Limits → Token → List ℕ → List ℕ → Outcome
+mixed limits token.Plus s t = joined limits.text s t
+mixed limits operator s t = NotBuiltIn
 
 -- an operator on two values
-abbrev pub on_two : Token → Option ℤ → Option ℤ → Outcome
-on_two t (Some x) (Some y) = integers t x y
-on_two t (Some x) None = NotBuiltIn
-on_two t None y = NotBuiltIn
-
 abbrev pub binary : Limits → Token → Dynamic → Dynamic → Outcome
-binary limits t x y = on_two t (integer_of x) (integer_of y)
+binary limits t (dynamic.Int x) (dynamic.Int y) = integers t x y
+binary limits t (dynamic.Bool a) (dynamic.Bool b) = truths t a b
+binary limits t dynamic.Unit dynamic.Unit = units t
+binary limits t (dynamic.Char c) (dynamic.Char d) = characters limits t c d
+binary limits t (dynamic.Text a) (dynamic.Text b) = texts limits t a b
+binary limits t (dynamic.Text a) (dynamic.Char d) = mixed limits t a (encode_utf8 d)
+binary limits t (dynamic.Char c) (dynamic.Text b) = mixed limits t (encode_utf8 c) b
+binary limits t v w = NotBuiltIn
 
--- an op-assignment to two integers
-abbrev pub assigned_integers : Token → ℤ → ℤ → Outcome
-assigned_integers token.PlusAssign x y = calculated calculation.Addition x y
-assigned_integers token.MinusAssign x y = calculated calculation.Subtraction x y
-assigned_integers token.MultiplyAssign x y = calculated calculation.Multiplication x y
-assigned_integers t x y = NotBuiltIn
+-- the operator that an op-assignment does
+abbrev pub operator_of : Token → Option Token
+operator_of token.PlusAssign = Some token.Plus
+operator_of token.MinusAssign = Some token.Minus
+operator_of token.MultiplyAssign = Some token.Multiply
+operator_of token.DivideAssign = Some token.Divide
+operator_of token.ModuloAssign = Some token.Modulo
+operator_of token.PowerOfAssign = Some token.PowerOf
+operator_of token.LeftShiftAssign = Some token.LeftShift
+operator_of token.RightShiftAssign = Some token.RightShift
+operator_of token.AndAssign = Some token.Ampersand
+operator_of token.OrAssign = Some token.Pipe
+operator_of token.XOrAssign = Some token.XOr
+operator_of t = None
+
+-- an op-assignment by this operator, if any: each of the eleven gives the target's own kind, but
+-- with a character `+` gives a text
+abbrev pub assigned_by : Limits → Option Token → Dynamic → Dynamic → Outcome
+assigned_by limits None target value = NotBuiltIn
+assigned_by limits (Some operator) (dynamic.Char c) value = NotBuiltIn
+assigned_by limits (Some operator) target value = binary limits operator target value
 
 -- an op-assignment of a value to a target
-abbrev pub assigned_to : Token → Option ℤ → Option ℤ → Outcome
-assigned_to t (Some x) (Some y) = assigned_integers t x y
-assigned_to t (Some x) None = NotBuiltIn
-assigned_to t None y = NotBuiltIn
-
 abbrev pub assignment : Limits → Token → Dynamic → Dynamic → Outcome
-assignment limits t target value = assigned_to t (integer_of target) (integer_of value)
+assignment limits t target value = assigned_by limits (operator_of t) target value
 
 -- an operator on its arguments
 abbrev pub operation : Limits → Token → List Dynamic → Outcome

@@ -9,3 +9,5 @@ pub data Outcome : Type 0 where
   Gave : Dynamic → Outcome
   -- an arithmetic fault with this text
   ArithmeticFault : List ℕ → Outcome
+  -- the fault that data is too large, with what of it is
+  TooLarge : List ℕ → Outcome

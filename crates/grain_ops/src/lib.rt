@@ -3,10 +3,13 @@
 
 mod answers;
 mod calculations;
+mod integers;
 mod operators;
 mod quick;
+mod shifts;
 #[cfg(test)]
 mod tests;
+mod texts;
 
 pub use answers::{AssignAnswer, OpAnswer};
 pub use operators::{assign, binary, unary};

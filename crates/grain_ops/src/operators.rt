@@ -1,25 +1,27 @@
 //! The operators on any values.
 
-ghost use Rattle.std.specs.Prelude.{◌≡◌, codes, IfOk};
+ghost use Rattle.std.specs.Prelude.{◌≡◌, Some};
 ghost use Rattle.grain_value.specs.declared.values.Dynamic.TheVariants as dynamic;
-ghost use Rattle.grain_value.specs.Looking.{integer_of};
-ghost use Rattle.grain_ops.specs.Outcomes.{Gave, ArithmeticFault};
-ghost use Rattle.grain_ops.specs.Operators.{calculated, integers, integer, negated, unary, binary, assigned_integers, assignment, overflow_text};
+ghost use Rattle.grain_value.specs.declared.operators.Token.{Token};
+ghost use Rattle.grain_ops.specs.Operators.{unary, binary, assignment, truth, truths, units, operator_of, texts};
 ghost use Rattle.grain_ops.specs.Answers.{Answers, Assigns, Stores};
 
 use crate::answers::{AssignAnswer, OpAnswer};
-use crate::calculations::Calculation;
-use grain_fault::{EvalAltResult, Position};
-use grain_value::{Dynamic, Limits, OutOfMemory, Text, Token};
+use crate::integers::{integer, integers};
+use crate::texts::{
+    append, append_character, character_and_text, characters, text_and_character, texts,
+};
+use grain_value::{Dynamic, Limits, Text, Token};
 use std::alloc::Global;
 
 /// An operator on a value: `NotBuiltIn` where no built-in takes it.
 pub fn unary(alloc: Global, token: Token, value: &Dynamic) -> OpAnswer
     ensures { Answers result (unary token value.now) }
 {
-    match value.as_int() {
-        Some(x) => integer(alloc, token, x),
-        None => OpAnswer::NotBuiltIn,
+    match value {
+        Dynamic::Int(x) => integer(alloc, token, *x),
+        Dynamic::Bool(a) => truth(token, *a),
+        _ => OpAnswer::NotBuiltIn,
     }
 }
 
@@ -33,17 +35,26 @@ pub fn binary(
 ) -> OpAnswer
     ensures { Answers result (binary limits.now token lhs.now rhs.now) }
 {
-    let _limits = limits;
-    match lhs.as_int() {
-        Some(x) => match rhs.as_int() {
-            Some(y) => integers(alloc, token, x, y),
-            None => OpAnswer::NotBuiltIn,
-        },
-        None => OpAnswer::NotBuiltIn,
+    match (lhs, rhs) {
+        (Dynamic::Int(x), Dynamic::Int(y)) => integers(alloc, token, *x, *y),
+        (Dynamic::Bool(a), Dynamic::Bool(b)) => truths(token, *a, *b),
+        (Dynamic::Unit, Dynamic::Unit) => units(token),
+        (Dynamic::Char(c), Dynamic::Char(d)) => characters(alloc, token, *c, *d, limits),
+        (Dynamic::Text(s), Dynamic::Text(t)) => {
+            texts(alloc, token, s.as_str(), t.as_str(), limits)
+        }
+        (Dynamic::Text(s), Dynamic::Char(d)) => {
+            text_and_character(alloc, token, s.as_str(), *d, limits)
+        }
+        (Dynamic::Char(c), Dynamic::Text(t)) => {
+            character_and_text(alloc, token, *c, t.as_str(), limits)
+        }
+        _ => OpAnswer::NotBuiltIn,
     }
 }
 
-/// An op-assignment of a value to a target under these limits. The target changes only where the answer is `Done`.
+/// An op-assignment of a value to a target under these limits. The target changes only where the
+/// answer is `Done`. A text is put at the end of the target's own.
 pub fn assign(
     alloc: Global,
     token: Token,
@@ -51,15 +62,59 @@ pub fn assign(
     rhs: &Dynamic,
     limits: &Limits,
 ) -> AssignAnswer
-    ensures { Assigns result (assignment limits.now token target.old rhs.now) target.old target.new }
+    ensures { Assigns result (assignment limits.now token target.old rhs.now)
+        target.old target.new }
 {
-    let _limits = limits;
-    match target.as_int() {
-        Some(x) => match rhs.as_int() {
-            Some(y) => store(target, assigned_integers(alloc, token, x, y)),
-            None => AssignAnswer::NotBuiltIn,
-        },
-        None => AssignAnswer::NotBuiltIn,
+    let Some(operator) = operator_of(token) else {
+        return AssignAnswer::NotBuiltIn;
+    };
+    match target {
+        Dynamic::Text(text) => assign_text(alloc, operator, text, rhs, limits),
+        Dynamic::Char(_) => AssignAnswer::NotBuiltIn,
+        _ => {
+            let answer = binary(alloc, operator, target, rhs, limits);
+            store(target, answer)
+        }
+    }
+}
+
+// An op-assignment to a text: `+` puts a text or a character at its end, and no other operator gives
+// a text.
+fn assign_text(
+    alloc: Global,
+    operator: Token,
+    text: &mut Text,
+    rhs: &Dynamic,
+    limits: &Limits,
+) -> AssignAnswer
+    ensures { (t : Token) → operator_of t ≡ Some operator →
+        Assigns result (binary limits.now operator (dynamic.Text text.old) rhs.now)
+        (dynamic.Text text.old) (dynamic.Text text.new) }
+{
+    match (operator, rhs) {
+        (Token::Plus, Dynamic::Text(more)) => append(alloc, text, more.as_str(), limits.text),
+        (Token::Plus, Dynamic::Char(more)) => append_character(alloc, text, *more, limits.text),
+        _ => AssignAnswer::NotBuiltIn,
+    }
+}
+
+// The operator that an op-assignment does, if it is one.
+fn operator_of(token: Token) -> Option<Token>
+    ensures { result ≡ operator_of token }
+{
+    match token {
+        Token::PlusAssign => Some(Token::Plus),
+        Token::MinusAssign => Some(Token::Minus),
+        Token::MultiplyAssign => Some(Token::Multiply),
+        Token::DivideAssign => Some(Token::Divide),
+        Token::ModuloAssign => Some(Token::Modulo),
+        Token::PowerOfAssign => Some(Token::PowerOf),
+        Token::LeftShiftAssign => Some(Token::LeftShift),
+        Token::RightShiftAssign => Some(Token::RightShift),
+        Token::AndAssign => Some(Token::Ampersand),
+        Token::OrAssign => Some(Token::Pipe),
+        Token::XOrAssign => Some(Token::XOr),
+        _ => None,
     }
 }
 
@@ -77,91 +132,36 @@ fn store(target: &mut Dynamic, answer: OpAnswer) -> AssignAnswer
     }
 }
 
-// An operator on an integer.
-fn integer(alloc: Global, token: Token, x: i64) -> OpAnswer
-    ensures { Answers result (integer token x) }
+// An operator on a truth value.
+fn truth(token: Token, a: bool) -> OpAnswer
+    ensures { Answers result (truth token a) }
 {
     match token {
-        Token::Minus => negate(alloc, x),
-        Token::UnaryMinus => negate(alloc, x),
+        Token::Bang => OpAnswer::truth(!a),
         _ => OpAnswer::NotBuiltIn,
     }
 }
 
-// The negation, or that it does not fit.
-fn negate(alloc: Global, x: i64) -> OpAnswer
-    ensures { Answers result (negated x) }
-{
-    match x.checked_neg() {
-        Some(z) => OpAnswer::Done(Dynamic::Int(z)),
-        None => negation_overflow(alloc),
-    }
-}
-
-// An operator on two integers.
-fn integers(alloc: Global, token: Token, x: i64, y: i64) -> OpAnswer
-    ensures { Answers result (integers token x y) }
+// An operator on two truth values.
+fn truths(token: Token, a: bool, b: bool) -> OpAnswer
+    ensures { Answers result (truths token a b) }
 {
     match token {
-        Token::Plus => calculate(alloc, Calculation::Addition, x, y),
-        Token::Minus => calculate(alloc, Calculation::Subtraction, x, y),
-        Token::Multiply => calculate(alloc, Calculation::Multiplication, x, y),
-        Token::EqualsTo => truth(x == y),
-        Token::NotEqualsTo => truth(x != y),
-        Token::LessThan => truth(x < y),
-        Token::LessThanEqualsTo => truth(x <= y),
-        Token::GreaterThan => truth(x > y),
-        Token::GreaterThanEqualsTo => truth(x >= y),
+        Token::Ampersand => OpAnswer::truth(a && b),
+        Token::Pipe => OpAnswer::truth(a || b),
+        Token::XOr | Token::NotEqualsTo => OpAnswer::truth(a != b),
+        Token::EqualsTo => OpAnswer::truth(a == b),
         _ => OpAnswer::NotBuiltIn,
     }
 }
 
-// An op-assignment to two integers.
-fn assigned_integers(alloc: Global, token: Token, x: i64, y: i64) -> OpAnswer
-    ensures { Answers result (assigned_integers token x y) }
+// An operator on two units.
+fn units(token: Token) -> OpAnswer
+    ensures { Answers result (units token) }
 {
     match token {
-        Token::PlusAssign => calculate(alloc, Calculation::Addition, x, y),
-        Token::MinusAssign => calculate(alloc, Calculation::Subtraction, x, y),
-        Token::MultiplyAssign => calculate(alloc, Calculation::Multiplication, x, y),
+        Token::EqualsTo => OpAnswer::truth(true),
+        Token::NotEqualsTo => OpAnswer::truth(false),
         _ => OpAnswer::NotBuiltIn,
-    }
-}
-
-fn truth(holds: bool) -> OpAnswer
-    ensures { Answers result (Gave (dynamic.Bool holds)) }
-{
-    OpAnswer::Done(Dynamic::Bool(holds))
-}
-
-// The exact result, or that it does not fit.
-fn calculate(alloc: Global, calculation: Calculation, x: i64, y: i64) -> OpAnswer
-    ensures { Answers result (calculated calculation x y) }
-{
-    match calculation.of(x, y) {
-        Some(z) => OpAnswer::Done(Dynamic::Int(z)),
-        None => overflow(alloc, calculation, x, y),
-    }
-}
-
-// The fault that a result does not fit.
-#[cold]
-fn overflow(alloc: Global, calculation: Calculation, x: i64, y: i64) -> OpAnswer
-    ensures { Answers result (ArithmeticFault (overflow_text calculation x y)) }
-{
-    match calculation.overflow_text(alloc, x, y) {
-        Ok(text) => OpAnswer::Failed(EvalAltResult::ErrorArithmetic(text, Position::NONE)),
-        Err(OutOfMemory) => OpAnswer::Failed(EvalAltResult::Memory),
-    }
-}
-
-// The fault that a negation does not fit.
-#[cold]
-fn negation_overflow(alloc: Global) -> OpAnswer
-    ensures { Answers result (ArithmeticFault (codes "integer overflow")) }
-{
-    match Text::copy_of(alloc, "integer overflow") {
-        Ok(text) => OpAnswer::Failed(EvalAltResult::ErrorArithmetic(text, Position::NONE)),
-        Err(OutOfMemory) => OpAnswer::Failed(EvalAltResult::Memory),
     }
 }

@@ -1,44 +1,44 @@
-//! The operators on two integers where no fault comes of them: they take no memory, and their answers are numbers.
-//! Each says nothing of all else, of which the operators on any values tell.
+//! The operators on two integers that are done quickly: they take no memory, and their answers are
+//! numbers. Each gives nothing for all else, which the operators on any values do.
 
 ghost use Rattle.std.specs.Prelude.{◌≡◌, IfSome};
 ghost use Rattle.grain_value.specs.declared.values.Dynamic.TheVariants as dynamic;
-ghost use Rattle.grain_value.specs.Looking.{integer_of};
+ghost use Rattle.grain_value.specs.declared.values.Limits.{Limits};
 ghost use Rattle.grain_ops.specs.Outcomes.{Outcome, Gave};
-ghost use Rattle.grain_ops.specs.Told.{Tells};
-ghost use Rattle.grain_ops.specs.Operators.{integers, on_two, assigned_integers, assigned_to};
+ghost use Rattle.grain_ops.specs.Agreement.{Agrees};
+ghost use Rattle.grain_ops.specs.Operators.{integers, binary, assignment, assigned_by, operator_of};
 
 use crate::calculations::Calculation;
 use grain_value::{Dynamic, Token};
 
-/// What an operator makes of two integers, where that is soon seen.
+/// What an operator makes of two integers, where that is quickly done.
 #[derive(Clone, Copy, Debug, PartialEq, Eq)]
 pub enum Quick {
     /// This integer.
     Int(i64),
     /// This truth value.
     Bool(bool),
-    /// Nothing is said.
+    /// Nothing is given.
     None,
 }
 
 /// What an operator makes of two values, if they are integers and the result fits.
 #[inline(always)]
 pub fn quick_operated(token: Token, lhs: &Dynamic, rhs: &Dynamic) -> Quick
-    ensures { Tells result (on_two token (integer_of lhs.now) (integer_of rhs.now)) }
+    ensures { (limits : Limits) → Agrees result (binary limits token lhs.now rhs.now) }
 {
-    match lhs.as_int() {
-        Some(x) => match rhs.as_int() {
-            Some(y) => quick_integers(token, x, y),
-            None => Quick::None,
+    match lhs {
+        Dynamic::Int(x) => match rhs {
+            Dynamic::Int(y) => quick_integers(token, *x, *y),
+            _ => Quick::None,
         },
-        None => Quick::None,
+        _ => Quick::None,
     }
 }
 
 #[inline(always)]
 fn quick_integers(token: Token, x: i64, y: i64) -> Quick
-    ensures { Tells result (integers token x y) }
+    ensures { Agrees result (integers token x y) }
 {
     match token {
         Token::Plus => quick_sum(Calculation::Addition.of(x, y)),
@@ -57,7 +57,7 @@ fn quick_integers(token: Token, x: i64, y: i64) -> Quick
 // An integer that fits, or nothing.
 #[inline(always)]
 fn quick_sum(number: Option<i64>) -> Quick
-    ensures { (o : Outcome) → IfSome number (λ z. o ≡ Gave (dynamic.Int z)) → Tells result o }
+    ensures { (o : Outcome) → IfSome number (λ z. o ≡ Gave (dynamic.Int z)) → Agrees result o }
 {
     match number {
         Some(z) => Quick::Int(z),
@@ -68,20 +68,22 @@ fn quick_sum(number: Option<i64>) -> Quick
 /// The integer that an op-assignment makes of a target and a value that are integers, if it fits.
 #[inline(always)]
 pub fn quick_assigned(token: Token, target: &Dynamic, value: &Dynamic) -> Option<i64>
-    ensures { IfSome result (λ z. assigned_to token (integer_of target.now) (integer_of value.now) ≡ Gave (dynamic.Int z)) }
+    ensures { (limits : Limits) →
+        IfSome result (λ z. assignment limits token target.now value.now ≡ Gave (dynamic.Int z)) }
 {
-    match target.as_int() {
-        Some(x) => match value.as_int() {
-            Some(y) => assigned_number(token, x, y),
-            None => None,
+    match target {
+        Dynamic::Int(x) => match value {
+            Dynamic::Int(y) => assigned_number(token, *x, *y),
+            _ => None,
         },
-        None => None,
+        _ => None,
     }
 }
 
 #[inline(always)]
 fn assigned_number(token: Token, x: i64, y: i64) -> Option<i64>
-    ensures { IfSome result (λ z. assigned_integers token x y ≡ Gave (dynamic.Int z)) }
+    ensures { (limits : Limits) → IfSome result (λ z.
+        assignment limits token (dynamic.Int x) (dynamic.Int y) ≡ Gave (dynamic.Int z)) }
 {
     match token {
         Token::PlusAssign => Calculation::Addition.of(x, y),

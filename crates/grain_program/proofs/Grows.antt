@@ -136,7 +136,8 @@ module _ (s : Shape) where
           subst (λ x. shape_at (set f.shapes b (Some s)) x ≡ Some s) (sym same) here
       there a (inr i) = absurd i
 
-      new : (a : ℕ) (t : Shape) → shape_at (set f.shapes b (Some s)) a ≡ Some t → (a ≡ b) ⊎ (a ≡ b
+      new : (a : ℕ) (t : Shape) → shape_at (set f.shapes b (Some s)) a ≡ Some t → (a ≡ b) ⊎
+          (a ≡ b
           → ⊥) → (shape_at f.shapes a ≡ Some t)
           ⊎ (In a (b ∷ []) × In a (insert_key nat_cmp f.waiting b))
       new a t k (inl same) = inr (
@@ -283,7 +284,8 @@ module _ (code : List ℕ) (chunks : List Chunk) where
 
   -- arrivals at starts keep what is true
   pub spread_sound : (left_out : ℕ → Type 0) (s : Shape) (f g : AnalysisState) (bs : List ℕ)
-      → ((b : ℕ) → In b bs → InstructionStart code chunks b) → SoundBut left_out f → Spread s f g bs
+      → ((b : ℕ) → In b bs → InstructionStart code chunks b) → SoundBut left_out f →
+      Spread s f g bs
       → SoundBut left_out g
   spread_sound left_out s f g bs starts sound spread = record {
     long = spread.long ∙ sound.long;
@@ -320,7 +322,8 @@ pub arrive_fits : (typing : ℕ → Option Shape) (s : Shape) (f : AnalysisState
     → typing b ≡ Some s → Below typing f → (g : AnalysisState) × (arrive s f b ≡ Ok g)
     × Below typing g
 arrive_fits typing s f b y below = at (shape_at f.shapes b) refl where
-  new : (a : ℕ) (t : Shape) → shape_at (set f.shapes b (Some s)) a ≡ Some t → (a ≡ b) ⊎ (a ≡ b → ⊥)
+  new : (a : ℕ) (t : Shape) → shape_at (set f.shapes b (Some s)) a ≡ Some t → (a ≡ b) ⊎
+      (a ≡ b → ⊥)
       → (b < length f.shapes) ⊎ (length f.shapes ≤ b) → typing a ≡ Some t
   new a t k (inl same) (inl lt) = ap typing same ∙ y ∙ sym (get_or-set_same f.shapes b (Some s) None
       lt) ∙ ap (shape_at (set f.shapes b (Some s))) (sym same) ∙ k

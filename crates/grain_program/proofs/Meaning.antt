@@ -66,7 +66,8 @@ module _ (p : View) (chunks : List Chunk) (t : Tiled (length p.code) chunks) whe
     not_unread u = u.1 r (subst (λ (x : Chunk). Whole p.code x a r) (same_chunk i u.0.number c
         u.0.chunk a g u.0.is s u.0.start) w)
 
-    not_disobeys : (rule : Chunk → ℕ → Op × ℕ → Type 0) → rule c a r → Disobeys p.code chunks rule a
+    not_disobeys : (rule : Chunk → ℕ → Op × ℕ → Type 0) → rule c a r →
+        Disobeys p.code chunks rule a
         → ⊥
     not_disobeys rule ok d =
         let one = same_chunk i d.0.number c d.0.chunk a g d.0.is s d.0.start in
@@ -99,7 +100,8 @@ module _ (p : View) (chunks : List Chunk) (t : Tiled (length p.code) chunks) whe
   capability_not a o u = let x = o u.0.number u.0.chunk u.0.is u.0.start in not_disobeys u.0.number
       u.0.chunk a u.0.is u.0.start x.read x.whole (CapabilityRule p) x.capability u
 
-  pub none_by_op : (a : ℕ) → ObeysAt a → (q : Refusal) → ByOp p chunks q → address_of q ≡ a → ⊥
+  pub none_by_op : (a : ℕ) → ObeysAt a → (q : Refusal) → ByOp p chunks q → address_of q ≡ a →
+      ⊥
   none_by_op a o (refusal.Undecodable b) h e = unread_not a o (subst (Unread p.code chunks) e h)
   none_by_op a o (refusal.PoolIndex b) h e =
       index_not a o (subst (Disobeys p.code chunks (IndexRule p)) e h)

@@ -57,7 +57,8 @@ present low end (x ∷ es) s (suc k) e a g h =
       at true q r = let is = eqb-true x.address a q in let lt = behind in absurd (omega arith)
       at false q r = r
 
-pub absent : (es : List PositionEntry) (a : ℕ) → ((k : ℕ) → k < length es → address_at es k ≡ a → ⊥)
+pub absent : (es : List PositionEntry) (a : ℕ) →
+    ((k : ℕ) → k < length es → address_at es k ≡ a → ⊥)
     → position_in es a ≡ nowhere
 absent [] a none = refl
 absent (x ∷ es) a none =

@@ -64,7 +64,8 @@ behind len at (d ∷ cs) e (suc i) c g =
     let r = behind len d.end cs t.rest i c g in
     (omega (arith, t.ends, r.0), r.1, r.2)
 
-apart : (len at : ℕ) (cs : List Chunk) → gap_from len at cs ≡ None → (i j : ℕ) (c d : Chunk) → i < j
+apart : (len at : ℕ) (cs : List Chunk) → gap_from len at cs ≡ None → (i j : ℕ) (c d : Chunk) →
+    i < j
     → slice_get cs i ≡ Some c → slice_get cs j ≡ Some d → c.end ≤ d.entry
 apart len at [] e i j c d lt g h = absurd cc
 apart len at (b ∷ cs) e i zero c d lt g h = absurd (omega arith)
@@ -107,7 +108,8 @@ none_empty [] e i c g f = absurd cc
 none_empty (d ∷ cs) e i c g f =
     case (d.entry == d.end) refl e (λ h k x. none_empty cs h k c x f) where
       case : (t : Bool) → (d.entry == d.end) ≡ t → cond t (Some (refusal.FallsOff d.entry))
-          (first_empty cs) ≡ None → (first_empty cs ≡ None → (k : ℕ) → slice_get cs k ≡ Some c → ⊥)
+          (first_empty cs) ≡ None →
+          (first_empty cs ≡ None → (k : ℕ) → slice_get cs k ≡ Some c → ⊥)
           → ⊥
       case true h e more = absurd cc
       case false h e more = at i g where
@@ -174,7 +176,8 @@ first_of_empty len chunks l = empty_first len 0 chunks (laid len chunks l).gaple
 -- a function of the list that is entered at the address has a name that is no entry of the pool
 abbrev MisnamedIn : View → List Function → ℕ → Type 0
 MisnamedIn p fs a =
-    (i : ℕ) × ((f : Function) × (slice_get fs i ≡ Some f) × (f.chunk.entry ≡ a) × (IsNamed p f → ⊥))
+    (i : ℕ) ×
+    ((f : Function) × (slice_get fs i ≡ Some f) × (f.chunk.entry ≡ a) × (IsNamed p f → ⊥))
 
 abbrev ByNameIn : View → List Function → Refusal → Type 0
 ByNameIn p fs (refusal.PoolIndex a) = MisnamedIn p fs a

@@ -365,7 +365,8 @@ module _ (p : View) (chunks : List Chunk) (laid : layout_fault (length p.code) c
 
   -- these are some of the chunks
   abbrev Among : List Chunk → Type 0
-  Among cs = (j : ℕ) (c : Chunk) → slice_get cs j ≡ Some c → (i : ℕ) × (slice_get chunks i ≡ Some c)
+  Among cs =
+      (j : ℕ) (c : Chunk) → slice_get cs j ≡ Some c → (i : ℕ) × (slice_get chunks i ≡ Some c)
 
   -- the chunks are done, and their entries are known
   record Over (cs : List Chunk) (f f' : AnalysisState) : Type 0 where
@@ -405,7 +406,8 @@ module _ (p : View) (chunks : List Chunk) (laid : layout_fault (length p.code) c
         entry first later (suc j) d k = later j d k
 
   from_fits : (typing : ℕ → Option Shape) → Typing p.code chunks typing
-      → (cs : List Chunk) (f : AnalysisState) → Among cs → Sound f → f.waiting ≡ [] → Below typing f
+      → (cs : List Chunk) (f : AnalysisState) → Among cs → Sound f → f.waiting ≡ [] →
+      Below typing f
       → (f' : AnalysisState) × (analyse_from p.code cs f ≡ Ok f')
   from_fits typing y [] f among sound e below = (f, refl)
   from_fits typing y (c ∷ cs) f among sound e below =

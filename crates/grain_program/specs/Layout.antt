@@ -23,6 +23,7 @@ layout_fault len chunks = if nat_lt 16777216 len then Some 16777216 else gap_fro
 -- what a layout without a fault is
 pub record Tiled (len : ℕ) (chunks : List Chunk) : Type 0 where
   pub small : len ≤ 16777216
-  pub inside : (i : ℕ) (c : Chunk) → slice_get chunks i ≡ Some c → (c.entry ≤ c.end) × (c.end ≤ len)
+  pub inside : (i : ℕ) (c : Chunk) → slice_get chunks i ≡ Some c → (c.entry ≤ c.end) ×
+      (c.end ≤ len)
   pub apart : (i j : ℕ) (c d : Chunk) → i < j → slice_get chunks i ≡ Some c
       → slice_get chunks j ≡ Some d → c.end ≤ d.entry

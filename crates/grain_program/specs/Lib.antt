@@ -1,6 +1,7 @@
 -- The contracts of public functions are read with these files: a program as lists, the instruction
 -- set and what follows from an instruction's row, the rules that a program obeys, and what is
 -- verified of it.
+pub mod Bits
 pub mod View
 pub mod InstructionSet
 pub mod Fields

@@ -94,7 +94,8 @@ rule_at p owners a =
 -- what the search finds at the lowest number below n where it finds something
 abbrev pub IsFirstFound : (ℕ → Option Refusal) → ℕ → Option Refusal → Type 0
 IsFirstFound f n None = (a : ℕ) → a < n → f a ≡ None
-IsFirstFound f n (Some r) = (a : ℕ) × ((a < n) × (f a ≡ Some r) × ((b : ℕ) → b < a → f b ≡ None))
+IsFirstFound f n (Some r) =
+    (a : ℕ) × ((a < n) × (f a ≡ Some r) × ((b : ℕ) → b < a → f b ≡ None))
 
 -- the refusal of the first empty chunk
 abbrev pub first_empty : List Chunk → Option Refusal

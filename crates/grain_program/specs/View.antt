@@ -1,11 +1,13 @@
 -- A program, without where it lies in memory.
 use Rattle.std.specs.Prelude.{ℕ, List, [], ◌∷◌, slice_index_or, ◌==◌, if◌then◌else◌}
 use Rattle.grain_value.specs.declared.values.Dynamic.{Dynamic}
-use Rattle.grain_value.specs.declared.values.Dynamic.TheVariants as dynamic
+use Rattle.grain_value.specs.Tree.{Tree, unit}
+use Rattle.grain_value.specs.Same.{value_of}
 use Rattle.grain_value.specs.declared.operators.Token.{Token}
 use Rattle.grain_value.specs.declared.operators.Token.TheVariants as token
 use Rattle.grain_fault.specs.declared.places.Position.{Position}
 use Rattle.grain_fault.specs.Places.{nowhere}
+use Rattle.grain_program.specs.Bits.{bits_of}
 use Rattle.grain_program.specs.declared.code.parts.Chunk.{Chunk}
 use Rattle.grain_program.specs.declared.code.functions.Function.{Function}
 use Rattle.grain_program.specs.declared.code.parts.AssignOp.{AssignOp}
@@ -18,7 +20,7 @@ pub record View : Type 0 where
   pub code : List ℕ
   pub main : Chunk
   pub functions : List Function
-  pub consts : List Dynamic
+  pub consts : List Tree
   pub names : List (List ℕ)
   pub tokens : List Token
   pub assign_ops : List AssignOp
@@ -26,7 +28,7 @@ pub record View : Type 0 where
 
 abbrev pub view_of : Parts → View
 view_of p = record {
-  caps = p.caps.0;
+  caps = bits_of p.caps;
   code = p.code;
   main = p.main;
   functions = p.functions;
@@ -39,7 +41,7 @@ view_of p = record {
 
 -- the entries of the pools; past a pool's end, where no valid program looks, there is a neutral one
 abbrev pub const_of : View → ℕ → Dynamic
-const_of v i = slice_index_or v.consts i dynamic.Unit
+const_of v i = value_of (slice_index_or v.consts i unit)
 
 abbrev pub name_of : View → ℕ → List ℕ
 name_of v i = slice_index_or v.names i []

@@ -39,8 +39,12 @@ impl Model for Program {
     ghost use Rattle.grain_program.specs.Typing.{IsProgram};
     ghost use Rattle.grain_program.specs.Recorded.{HasOrder};
     ghost use Rattle.grain_program.specs.Lookups.{IsIndex, AreFirst};
+    ghost use Rattle.std.specs.Coded.{codes};
+    ghost use Rattle.grain_value.specs.TreeCode.{coded_tree};
 
     ghost Value = { View };
+
+    ghost coded = { Prim.hlevel (codes, coded_tree) };
 
     ghost view = { λ p. view_of p.parts };
 

@@ -25,7 +25,10 @@ unnoted_all true (f ∷ fs) = omega (arith, unnoted_all f.noted fs)
 unnoted_all false (f ∷ fs) = omega (arith, unnoted_all f.noted fs)
 
 -- nothing but the room has changed, which is no less
-pub same_sound : (s t : Inside) → IsSound s → t.slots.operands ≡ s.slots.operands → s.slots.slots ≤ t.slots.slots → t.bottom ≡ s.bottom → t.room ≡ s.room → t.noted ≡ s.noted → t.outer.items ≡ s.outer.items → t.trace.items ≡ s.trace.items → vec_capacity s.trace ≤ vec_capacity t.trace → IsSound t
+pub same_sound : (s t : Inside) → IsSound s → t.slots.operands ≡ s.slots.operands →
+    s.slots.slots ≤ t.slots.slots → t.bottom ≡ s.bottom → t.room ≡ s.room →
+    t.noted ≡ s.noted → t.outer.items ≡ s.outer.items → t.trace.items ≡ s.trace.items →
+    vec_capacity s.trace ≤ vec_capacity t.trace → IsSound t
 same_sound s t i eo co eb er en ef et ct = record {
   bottom = rw (eb, eo) i.bottom;
   room = omega (arith, i.room, co, eb, er);
@@ -37,7 +40,12 @@ same_sound s t i eo co eb er en ef et ct = record {
 }
 
 -- a frame more, around which the others keep their room
-pub entered_sound : (s t : Inside) (f : Floor) → IsSound s → t.slots.operands ≡ s.slots.operands → s.slots.slots ≤ t.slots.slots → t.bottom ≡ length s.slots.operands → t.bottom + t.room ≤ t.slots.slots → t.noted ≡ false → t.outer.items ≡ s.outer.items ++ f ∷ [] → f.bottom ≡ s.bottom → f.room ≡ s.room → f.noted ≡ s.noted → t.trace.items ≡ s.trace.items → length s.trace.items + (length s.outer.items + 1) ≤ vec_capacity t.trace → IsSound t
+pub entered_sound : (s t : Inside) (f : Floor) → IsSound s → t.slots.operands ≡ s.slots.operands →
+    s.slots.slots ≤ t.slots.slots → t.bottom ≡ length s.slots.operands → t.bottom + t.room ≤
+    t.slots.slots → t.noted ≡ false → t.outer.items ≡ s.outer.items ++ f ∷ [] →
+    f.bottom ≡ s.bottom → f.room ≡ s.room → f.noted ≡ s.noted →
+    t.trace.items ≡ s.trace.items → length s.trace.items + (length s.outer.items + 1) ≤
+    vec_capacity t.trace → IsSound t
 entered_sound s t f i eo co eb room en ef fb fr fn et ct =
     let on : floors t ≡ f ∷ floors s = ap reverse ef ∙ reverse-append s.outer.items (f ∷ []) in
     record {
@@ -50,12 +58,22 @@ entered_sound s t f i eo co eb room en ef fb fr fn et ct =
       );
       notes =
           let long : length t.trace.items ≡ length s.trace.items = ap length et in
-          let free : unnoted t.noted (floors t) ≡ 1 + unnoted f.noted (floors s) = rw (en, on) refl in
-          omega (arith, ct, long, free, unnoted_all f.noted (floors s), length-reverse s.outer.items);
+          let free : unnoted t.noted (floors t) ≡ 1 + unnoted f.noted (floors s) =
+          rw (en, on) refl in
+          omega (
+            arith,
+            ct,
+            long,
+            free,
+            unnoted_all f.noted (floors s),
+            length-reverse s.outer.items,
+          );
     }
 
 -- one operand more
-pub pushed_sound : (s t : Inside) (h : Held) → IsSound s → t.slots.operands ≡ s.slots.operands ++ h ∷ [] → s.slots.slots ≤ t.slots.slots → t.bottom ≡ s.bottom → t.room ≡ s.room → t.noted ≡ s.noted → t.outer ≡ s.outer → t.trace ≡ s.trace → IsSound t
+pub pushed_sound : (s t : Inside) (h : Held) → IsSound s → t.slots.operands ≡ s.slots.operands ++
+    h ∷ [] → s.slots.slots ≤ t.slots.slots → t.bottom ≡ s.bottom → t.room ≡ s.room →
+    t.noted ≡ s.noted → t.outer ≡ s.outer → t.trace ≡ s.trace → IsSound t
 pushed_sound s t h i eo co eb er en ef et = record {
   bottom = rw (eb, eo) (omega (arith, i.bottom, length-append s.slots.operands (h ∷ [])));
   room = omega (arith, i.room, co, eb, er);
@@ -76,19 +94,26 @@ one_less : (fs : List Floor) → 0 < length fs → unnoted true fs + 1 ≡ unnot
 one_less [] lt = absurd (omega (arith, lt))
 one_less (f ∷ fs) lt = omega arith
 
-some_floor : (s : Inside) (xs : List Held) → 0 < length (frames_on xs (floors s)) → 0 < length (floors s)
+some_floor : (s : Inside) (xs : List Held) → 0 < length (frames_on xs (floors s)) →
+    0 < length (floors s)
 some_floor s xs lt = omega (arith, lt, frames_length xs (floors s))
 
 -- the trace has room for an entry of a frame that has noted none
-pub note_room : (s : Inside) (xs : List Held) → IsSound s → s.noted ≡ false → 0 < length (frames_on xs (floors s)) → length s.trace.items < vec_capacity s.trace
+pub note_room : (s : Inside) (xs : List Held) → IsSound s → s.noted ≡ false →
+    0 < length (frames_on xs (floors s)) → length s.trace.items < vec_capacity s.trace
 note_room s xs i en lt =
-    let one : 1 ≤ unnoted s.noted (floors s) = rw en (one_unnoted (floors s) (some_floor s xs lt)) in
+    let one : 1 ≤ unnoted s.noted (floors s) =
+    rw en (one_unnoted (floors s) (some_floor s xs lt)) in
     omega (arith, i.notes, one)
 
 -- one entry more, of a frame that had noted none
-pub noted_sound : (s t : Inside) (fault : Fault) (xs : List Held) → IsSound s → s.noted ≡ false → 0 < length (frames_on xs (floors s)) → t.slots ≡ s.slots → t.bottom ≡ s.bottom → t.room ≡ s.room → t.noted ≡ true → t.outer ≡ s.outer → t.trace.items ≡ s.trace.items ++ fault ∷ [] → vec_capacity s.trace ≤ vec_capacity t.trace → IsSound t
+pub noted_sound : (s t : Inside) (fault : Fault) (xs : List Held) → IsSound s → s.noted ≡ false →
+    0 < length (frames_on xs (floors s)) → t.slots ≡ s.slots → t.bottom ≡ s.bottom →
+    t.room ≡ s.room → t.noted ≡ true → t.outer ≡ s.outer → t.trace.items ≡ s.trace.items ++
+    fault ∷ [] → vec_capacity s.trace ≤ vec_capacity t.trace → IsSound t
 noted_sound s t fault xs i sn lt eo eb er en ef et ct =
-    let was : length s.trace.items + unnoted false (floors s) ≤ vec_capacity s.trace = rw (← sn) i.notes in
+    let was : length s.trace.items + unnoted false (floors s) ≤ vec_capacity s.trace =
+    rw (← sn) i.notes in
     record {
       bottom = rw (eb, eo) i.bottom;
       room = rw (eb, er, eo) i.room;
@@ -96,34 +121,63 @@ noted_sound s t fault xs i sn lt eo eb er en ef et ct =
       notes =
           let long : length t.trace.items ≡ length (s.trace.items ++ fault ∷ []) = ap length et in
           let free : unnoted t.noted (floors t) ≡ unnoted true (floors s) = rw (en, ef) refl in
-          omega (arith, was, ct, long, free, one_less (floors s) (some_floor s xs lt), length-append s.trace.items (fault ∷ []));
+          omega (
+            arith,
+            was,
+            ct,
+            long,
+            free,
+            one_less (floors s) (some_floor s xs lt),
+            length-append s.trace.items (fault ∷ []),
+          );
     }
 
-below_slots : (slots b : ℕ) (xs : List Held) (fs : List Floor) → b ≤ length xs → Nested slots b fs → 0 < length (frames_on (take b xs) fs) → ((first : StackFrame) (others : List StackFrame) → frames_on (take b xs) fs ≡ first ∷ others → length first.operands < first.room) → b < slots
+below_slots : (slots b : ℕ) (xs : List Held) (fs : List Floor) → b ≤ length xs → Nested slots b fs →
+    0 < length (frames_on (take b xs) fs) →
+    ((first : StackFrame) (others : List StackFrame) → frames_on (take b xs) fs ≡ first ∷ others →
+    length first.operands < first.room) → b < slots
 below_slots slots b xs [] le n some room = absurd (omega (arith, some))
 below_slots slots b xs (f ∷ fs) le n some room =
-    let free : length (drop f.bottom (take b xs)) < f.room = room (record { operands = drop f.bottom (take b xs); room = f.room; noted = f.noted }) (frames_on (take f.bottom (take b xs)) fs) refl in
+    let free : length (drop f.bottom (take b xs)) < f.room =
+    room (record { operands = drop f.bottom (take b xs); room = f.room; noted = f.noted })
+    (frames_on (take f.bottom (take b xs)) fs) refl in
     omega (arith, free, n.0, n.1, length-drop f.bottom (take b xs), length_front b xs le)
 
 -- where the frame around the innermost one has room, a slot is there behind its operands
-pub room_below : (s : Inside) → IsSound s → 0 < length (frames_on (take s.bottom s.slots.operands) (floors s)) → ((first : StackFrame) (others : List StackFrame) → frames_on (take s.bottom s.slots.operands) (floors s) ≡ first ∷ others → length first.operands < first.room) → s.bottom < s.slots.slots
-room_below s i some room = below_slots s.slots.slots s.bottom s.slots.operands (floors s) i.bottom i.nested some room
+pub room_below : (s : Inside) → IsSound s →
+    0 < length (frames_on (take s.bottom s.slots.operands) (floors s)) →
+    ((first : StackFrame) (others : List StackFrame) → frames_on (take s.bottom s.slots.operands)
+    (floors s) ≡ first ∷ others → length first.operands < first.room) → s.bottom < s.slots.slots
+room_below s i some room =
+    below_slots s.slots.slots s.bottom s.slots.operands (floors s) i.bottom i.nested some room
 
 emptied : (b : ℕ) (xs : List Held) → drop b (take b xs) ≡ []
 emptied zero xs = refl
 emptied (suc b) [] = refl
 emptied (suc b) (x ∷ xs) = emptied b xs
 
-joined_empty : (fs : List StackFrame) (s : StacksView) → 0 < length fs → joined_frame fs (record s { operands = [] }) ≡ without_frame fs s
+joined_empty : (fs : List StackFrame) (s : StacksView) → 0 < length fs →
+    joined_frame fs (record s { operands = [] }) ≡ without_frame fs s
 joined_empty [] s some = absurd (omega (arith, some))
 joined_empty (f ∷ fs) s some = rw append-nil refl
 
 -- a frame that has lost its operands, and is left
-pub left_view : (s : Inside) (v : Filled) → v.operands ≡ take s.bottom s.slots.operands → 0 < length (frames_on (take s.bottom s.slots.operands) (floors s)) → joined_frame (frames_on (take s.bottom v.operands) (floors s)) (stacks_view (record s { slots = v })) ≡ without_frame (frames_on (take s.bottom s.slots.operands) (floors s)) (stacks_view s)
+pub left_view : (s : Inside) (v : Filled) → v.operands ≡ take s.bottom s.slots.operands →
+    0 < length (frames_on (take s.bottom s.slots.operands) (floors s)) →
+    joined_frame (frames_on (take s.bottom v.operands) (floors s))
+    (stacks_view (record s { slots = v })) ≡
+    without_frame (frames_on (take s.bottom s.slots.operands) (floors s)) (stacks_view s)
 left_view s v e some =
-    rw (e, emptied s.bottom s.slots.operands, take_shorter s.bottom s.bottom s.slots.operands (omega arith)) (joined_empty (frames_on (take s.bottom s.slots.operands) (floors s)) (stacks_view s) some)
+    rw (
+      e,
+      emptied s.bottom s.slots.operands,
+      take_shorter s.bottom s.bottom s.slots.operands
+          (omega arith),
+    )
+    (joined_empty (frames_on (take s.bottom s.slots.operands) (floors s)) (stacks_view s) some)
 
 -- a frame that has one operand, and is left
-pub joined_value : (fs : List StackFrame) (s : StacksView) (v : Dynamic) → 0 < length fs → joined_frame fs (record s { operands = read_write v ∷ [] }) ≡ with_value v (without_frame fs s)
+pub joined_value : (fs : List StackFrame) (s : StacksView) (v : Dynamic) → 0 < length fs →
+    joined_frame fs (record s { operands = read_write v ∷ [] }) ≡ with_value v (without_frame fs s)
 joined_value [] s v some = absurd (omega (arith, some))
 joined_value (f ∷ fs) s v some = refl

@@ -1,4 +1,5 @@
--- How the operands of all frames lie in one list: each frame's begin where those of the frame around it end.
+-- How the operands of all frames lie in one list: each frame's begin where those of the frame
+-- around it end.
 use Rattle.std.specs.Prelude.{ℕ, ◌+◌, ◌≤◌, Bool, if◌then◌else◌, List, [], ◌∷◌, length, take, drop, reverse}
 use Rattle.std.specs.Vec.{vec_capacity}
 use Rattle.grain_value.specs.declared.values.Held.{Held}

@@ -1,4 +1,5 @@
--- What a caller sees of the stacks: the operands of each frame, the trace, and how often a frame was entered.
+-- What a caller sees of the stacks: the operands of each frame, the trace, and how often a frame
+-- was entered.
 use Rattle.std.specs.Prelude.{◌≡◌, ℕ, ◌+◌, ◌-◌, ◌^◌, nat_lt, if◌then◌else◌, Bool, false, List, [], ◌∷◌, ◌++◌}
 use Rattle.grain_value.specs.declared.values.Dynamic.{Dynamic}
 use Rattle.grain_value.specs.declared.values.Held.{Held}
@@ -11,8 +12,8 @@ pub record StackFrame : Type 0 where
   pub room : ℕ
   pub noted : Bool
 
--- The innermost frame, and the frames around it, the inner ones first. Around the outermost frame stands one
--- more, in which there is no room: it is the innermost one while no frame is entered.
+-- The innermost frame, and the frames around it, the inner ones first. Around the outermost frame
+-- stands one more, in which there is no room: it is the innermost one while no frame is entered.
 pub record StacksView : Type 0 where
   pub operands : List Held
   pub room : ℕ

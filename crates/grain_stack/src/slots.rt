@@ -22,8 +22,12 @@ pub struct Slots {
 impl Model for Slots {
     ghost use Rattle.std.specs.Prelude.{◌≤◌, length};
     ghost use Rattle.grain_stack.specs.Filled.{Filled, filled};
+    ghost use Rattle.std.specs.Coded.{codes};
+    ghost use Rattle.grain_value.specs.TreeCode.{coded_tree};
 
     ghost Value = { Filled };
+
+    ghost coded = { Prim.hlevel (codes, coded_tree) };
 
     ghost view = { λ s. filled s.height s.slots.items };
 
@@ -110,10 +114,15 @@ impl Slots {
     {
         let place = self.height;
         let slot = &mut self.slots[place];
-        if !slot.value.owns_no_memory() {
-            return false;
+        match &mut slot.value {
+            Dynamic::Int(number) => *number = integer,
+            other => {
+                if !other.owns_no_memory() {
+                    return false;
+                }
+                *other = Dynamic::Int(integer);
+            }
         }
-        slot.value.set_int(integer);
         slot.read_only = false;
         self.height = place + 1;
         true

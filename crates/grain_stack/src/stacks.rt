@@ -34,8 +34,12 @@ pub struct Stacks {
 
 impl Model for Stacks {
     ghost use Rattle.grain_stack.specs.Views.{StacksView};
+    ghost use Rattle.std.specs.Coded.{codes};
+    ghost use Rattle.grain_value.specs.TreeCode.{coded_tree};
 
     ghost Value = { StacksView };
+
+    ghost coded = { Prim.hlevel (codes, coded_tree) };
 
     ghost use Rattle.grain_stack.specs.Floors.{stacks_view, IsSound};
 
@@ -331,7 +335,8 @@ impl Stacks {
     pub fn note(&mut self, fault: Fault)
         requires entered { 0 < length self.old.outer }
         requires first { self.old.noted ≡ false }
-        ensures { self.new ≡ record self.old { noted = true; trace = self.old.trace ++ fault ∷ [] } }
+        ensures { self.new ≡
+            record self.old { noted = true; trace = self.old.trace ++ fault ∷ [] } }
     {
         match self.trace.push(fault) {
             Ok(()) => {}

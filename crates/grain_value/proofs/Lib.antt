@@ -1,3 +1,6 @@
 pub mod Entries
 pub mod Newest
+pub mod Pairs
+pub mod PartWritten
 pub mod Prefixes
+pub mod Spares

@@ -37,14 +37,22 @@ arguments n xs = drop (length xs - n) xs
 -- the last operand moved below n others
 abbrev pub rotated : ℕ → List Held → List Held
 rotated n xs =
-    let others = drop (length xs - (n + 1)) xs in take (length xs - (n + 1)) xs ++ drop n others ++ take n others
+    let others = drop (length xs - (n + 1)) xs in take (length xs - (n + 1)) xs ++ drop n others ++
+    take n others
 
 -- what stays where a value was taken: one that owns no memory
 abbrev pub left_behind : Dynamic → Dynamic
 left_behind dynamic.Unit = dynamic.Unit
 left_behind (dynamic.Bool b) = dynamic.Bool b
-left_behind (dynamic.Int z) = dynamic.Int z
+left_behind (dynamic.Int n) = dynamic.Int n
+left_behind (dynamic.Char c) = dynamic.Char c
 left_behind (dynamic.Text t) = dynamic.Unit
+left_behind (dynamic.Array ts) = dynamic.Unit
+left_behind (dynamic.Blob s) = dynamic.Unit
+left_behind (dynamic.Map es) = dynamic.Unit
+left_behind (dynamic.Pointer p) = dynamic.Unit
+left_behind (dynamic.Range from to inclusive) = dynamic.Range from to inclusive
+left_behind (dynamic.Foreign kind number) = dynamic.Foreign kind number
 
 -- an operand as an entry of a scope, which can be written, under the name of an index
 abbrev pub bound_entry : List (List ℕ) → ℕ → Held → Entry

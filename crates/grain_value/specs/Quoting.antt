@@ -1,4 +1,4 @@
--- Texts between quotes.
+-- Texts and characters between quotes.
 use Rattle.std.specs.Prelude.{ℕ, List, ◌++◌, codes, ◌==◌, if◌then◌else◌}
 use Rattle.std.specs.List.{flat_map}
 use Rattle.std.specs.Str.{chars}
@@ -16,3 +16,8 @@ escaped c =
 
 abbrev pub quoted_text : List ℕ → List ℕ
 quoted_text s = codes "\"" ++ flat_map escaped (chars s) ++ codes "\""
+
+-- a character between its own quotes, of which one is escaped too
+abbrev pub quoted_character : ℕ → List ℕ
+quoted_character c =
+    codes "'" ++ (if c == 39 then codes "\\'" else escaped c) ++ codes "'"

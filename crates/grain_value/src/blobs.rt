@@ -1,6 +1,6 @@
 //! Byte strings.
 
-ghost use Rattle.std.specs.Prelude.{◌≡◌, ◌==◌, ◌++◌, ◌∷◌, [], length, is_ok, if◌then◌else◌, slice_get};
+ghost use Rattle.std.specs.Prelude.{◌≡◌, ◌==◌, ◌<◌, ◌^◌, ◌++◌, ◌∷◌, [], length, is_ok, IfOk, if◌then◌else◌, slice_get};
 
 use crate::memory::OutOfMemory;
 use std::alloc::Global;
@@ -37,9 +37,18 @@ impl Blob {
         Blob { bytes }
     }
 
+    /// An equal byte string.
+    pub fn copy(&self, alloc: Global) -> Result<Blob, OutOfMemory>
+        ensures { IfOk result (λ blob. blob ≡ self.now) }
+    {
+        let bytes = self.bytes.as_slice().to_vec(alloc)?;
+        Ok(Blob { bytes })
+    }
+
     /// How many bytes there are.
     pub fn len(&self) -> usize
-        ensures { result ≡ length self.now }
+        ensures value { result ≡ length self.now }
+        ensures small { result < 2 ^ 63 }
     {
         self.bytes.len()
     }

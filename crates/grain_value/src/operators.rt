@@ -12,6 +12,22 @@ pub enum Token {
     Minus,
     /// `*`
     Multiply,
+    /// `/`
+    Divide,
+    /// `%`
+    Modulo,
+    /// `**`
+    PowerOf,
+    /// `<<`
+    LeftShift,
+    /// `>>`
+    RightShift,
+    /// `&`
+    Ampersand,
+    /// `|`
+    Pipe,
+    /// `^`
+    XOr,
     /// `==`
     EqualsTo,
     /// `!=`
@@ -24,12 +40,34 @@ pub enum Token {
     GreaterThan,
     /// `>=`
     GreaterThanEqualsTo,
+    /// `..`
+    ExclusiveRange,
+    /// `..=`
+    InclusiveRange,
+    /// `!`
+    Bang,
     /// `+=`
     PlusAssign,
     /// `-=`
     MinusAssign,
     /// `*=`
     MultiplyAssign,
+    /// `/=`
+    DivideAssign,
+    /// `%=`
+    ModuloAssign,
+    /// `**=`
+    PowerOfAssign,
+    /// `<<=`
+    LeftShiftAssign,
+    /// `>>=`
+    RightShiftAssign,
+    /// `&=`
+    AndAssign,
+    /// `|=`
+    OrAssign,
+    /// `^=`
+    XOrAssign,
     /// `neg`, which is `-` on one value.
     UnaryMinus,
     /// `other`, which has no built-in.
@@ -41,36 +79,41 @@ impl Token {
     pub fn lookup_from_syntax(syntax: &str) -> Option<Token>
         ensures { result ≡ token_in syntax.now }
     {
-        if syntax == "+" {
-            Some(Token::Plus)
-        } else if syntax == "-" {
-            Some(Token::Minus)
-        } else if syntax == "*" {
-            Some(Token::Multiply)
-        } else if syntax == "==" {
-            Some(Token::EqualsTo)
-        } else if syntax == "!=" {
-            Some(Token::NotEqualsTo)
-        } else if syntax == "<" {
-            Some(Token::LessThan)
-        } else if syntax == "<=" {
-            Some(Token::LessThanEqualsTo)
-        } else if syntax == ">" {
-            Some(Token::GreaterThan)
-        } else if syntax == ">=" {
-            Some(Token::GreaterThanEqualsTo)
-        } else if syntax == "+=" {
-            Some(Token::PlusAssign)
-        } else if syntax == "-=" {
-            Some(Token::MinusAssign)
-        } else if syntax == "*=" {
-            Some(Token::MultiplyAssign)
-        } else if syntax == "neg" {
-            Some(Token::UnaryMinus)
-        } else if syntax == "other" {
-            Some(Token::Other)
-        } else {
-            None
+        match syntax {
+            "+" => Some(Token::Plus),
+            "-" => Some(Token::Minus),
+            "*" => Some(Token::Multiply),
+            "/" => Some(Token::Divide),
+            "%" => Some(Token::Modulo),
+            "**" => Some(Token::PowerOf),
+            "<<" => Some(Token::LeftShift),
+            ">>" => Some(Token::RightShift),
+            "&" => Some(Token::Ampersand),
+            "|" => Some(Token::Pipe),
+            "^" => Some(Token::XOr),
+            "==" => Some(Token::EqualsTo),
+            "!=" => Some(Token::NotEqualsTo),
+            "<" => Some(Token::LessThan),
+            "<=" => Some(Token::LessThanEqualsTo),
+            ">" => Some(Token::GreaterThan),
+            ">=" => Some(Token::GreaterThanEqualsTo),
+            ".." => Some(Token::ExclusiveRange),
+            "..=" => Some(Token::InclusiveRange),
+            "!" => Some(Token::Bang),
+            "+=" => Some(Token::PlusAssign),
+            "-=" => Some(Token::MinusAssign),
+            "*=" => Some(Token::MultiplyAssign),
+            "/=" => Some(Token::DivideAssign),
+            "%=" => Some(Token::ModuloAssign),
+            "**=" => Some(Token::PowerOfAssign),
+            "<<=" => Some(Token::LeftShiftAssign),
+            ">>=" => Some(Token::RightShiftAssign),
+            "&=" => Some(Token::AndAssign),
+            "|=" => Some(Token::OrAssign),
+            "^=" => Some(Token::XOrAssign),
+            "neg" => Some(Token::UnaryMinus),
+            "other" => Some(Token::Other),
+            _ => None,
         }
     }
 }

@@ -1,10 +1,10 @@
-//! Texts between quotes.
+//! Texts and characters between quotes.
 
-ghost use Rattle.std.specs.Prelude.{Some};
+ghost use Rattle.std.specs.Prelude.{◌==◌, Some, codes, if◌then◌else◌};
 ghost use Rattle.std.specs.Fmt.{WritesOnOk};
 ghost use Rattle.std.specs.List.{flat_map};
 ghost use Rattle.std.specs.Str.{chars};
-ghost use Rattle.grain_value.specs.Quoting.{escaped, quoted_text};
+ghost use Rattle.grain_value.specs.Quoting.{escaped, quoted_text, quoted_character};
 
 use std::fmt;
 
@@ -19,6 +19,32 @@ impl fmt::Display for Quoted<'_> {
         f.write_str("\"")?;
         write_all_escaped(self.0, f)?;
         f.write_str("\"")
+    }
+}
+
+/// Prints a character between its own quotes, with the same escapes and `\'`.
+#[derive(Drop)]
+pub struct QuotedCharacter(pub char);
+
+impl fmt::Display for QuotedCharacter {
+    ghost output = { λ q. Some (quoted_character q.0) };
+
+    fn fmt<W: fmt::Write>(&self, f: &mut fmt::Formatter<W>) -> fmt::Result {
+        f.write_str("'")?;
+        write_inner(self.0, f)?;
+        f.write_str("'")
+    }
+}
+
+/// Writes a character as it stands between its own quotes.
+fn write_inner<W: fmt::Write>(character: char, f: &mut fmt::Formatter<W>) -> fmt::Result
+    ensures { WritesOnOk W.write_str_gives f.old result
+        (if character == 39 then codes "\\'" else escaped character) f.new }
+{
+    if character == '\'' {
+        f.write_str("\\'")
+    } else {
+        write_escaped(character, f)
     }
 }
 

@@ -22,19 +22,29 @@ pub struct Entry {
     pub held: Held,
 }
 
-/// The variables of a run. Clauses see the list of its entries.
+/// The variables of a run. Clauses see the list of its entries, which are the slots below `height`.
+/// A slot at or above it is spare: until it is used again it keeps the name of the entry that it
+/// had, which others mostly share, and a value that owns no memory.
 #[derive(Drop)]
 pub struct Scope {
-    entries: Vec<Entry>,
+    slots: Vec<Entry>,
+    height: usize,
 }
 
 impl Model for Scope {
-    ghost use Rattle.std.specs.Prelude.{List};
+    ghost use Rattle.std.specs.Prelude.{List, take};
     ghost use Rattle.grain_value.specs.declared.scopes.Entry.{Entry};
+    ghost use Rattle.grain_value.specs.Spare.{IsSpareFrom};
+    ghost use Rattle.std.specs.Coded.{codes};
+    ghost use Rattle.grain_value.specs.TreeCode.{coded_tree};
 
     ghost Value = { List Entry };
 
-    ghost view = { λ s. s.entries.items };
+    ghost coded = { Prim.hlevel (codes, coded_tree) };
+
+    ghost view = { λ s. take s.height s.slots.items };
+
+    ghost invariant = { λ s. IsSpareFrom s.height s.slots.items };
 }
 
 impl Scope {
@@ -43,7 +53,8 @@ impl Scope {
         ensures { result ≡ [] }
     {
         Scope {
-            entries: Vec::new(alloc),
+            slots: Vec::new(alloc),
+            height: 0,
         }
     }
 
@@ -52,23 +63,24 @@ impl Scope {
         ensures value { result ≡ length self.now }
         ensures small { result < 2 ^ 63 }
     {
-        self.entries.len()
+        self.height
     }
 
     /// Whether there are no entries.
     pub fn is_empty(&self) -> bool
         ensures { result ≡ (length self.now == 0) }
     {
-        self.entries.is_empty()
+        self.height == 0
     }
 
     /// What the entry at the index holds, if there is one.
     pub fn get(&self, index: usize) -> Option<&Held>
         ensures { option_copied result ≡ option_map held_of (slice_get self.now index) }
     {
-        match self.entries.get(index) {
-            Some(entry) => Some(&entry.held),
-            None => None,
+        if index < self.height {
+            Some(&self.slots[index].held)
+        } else {
+            None
         }
     }
 
@@ -76,9 +88,10 @@ impl Scope {
     pub fn name(&self, index: usize) -> Option<&Text>
         ensures { option_copied result ≡ option_map (λ e. e.name) (slice_get self.now index) }
     {
-        match self.entries.get(index) {
-            Some(entry) => Some(entry.name.as_text()),
-            None => None,
+        if index < self.height {
+            Some(self.slots[index].name.as_text())
+        } else {
+            None
         }
     }
 
@@ -86,8 +99,8 @@ impl Scope {
     pub fn search(&self, name: &str) -> Option<usize>
         ensures { result ≡ last_of name.now self.now }
     {
-        for index in (0..self.entries.len()).rev() {
-            if self.entries[index].name.as_str() == name {
+        for index in (0..self.height).rev() {
+            if self.slots[index].name.as_str() == name {
                 return Some(index);
             }
         }
@@ -107,22 +120,35 @@ impl Scope {
             then self.old ++ record { name = name; held = held } ∷ []
             else self.old) }
     {
-        let alloc = *self.entries.allocator();
+        let alloc = *self.slots.allocator();
         let name = Name::new(alloc, name)?;
-        self.entries.push(Entry { name, held })?;
+        self.put(Entry { name, held })
+    }
+
+    // Puts an entry at the end. After want of memory the scope is as it was.
+    fn put(&mut self, entry: Entry) -> Result<(), OutOfMemory>
+        ensures { self.new ≡ (if is_ok result then self.old ++ entry ∷ [] else self.old) }
+    {
+        let place = self.height;
+        if place < self.slots.len() {
+            self.slots[place] = entry;
+            self.height = place + 1;
+            return Ok(());
+        }
+        self.slots.push(entry)?;
+        self.height = place + 1;
         Ok(())
     }
 
     /// Puts an entry at the end, whose name is shared. After want of memory the scope is as it was.
-    #[inline(always)]
+    #[inline(never)]
     pub fn push_shared(&mut self, name: &Name, held: Held) -> Result<(), OutOfMemory>
         ensures { self.new ≡ (if is_ok result
             then self.old ++ record { name = name.now; held = held } ∷ []
             else self.old) }
     {
         let name = name.share()?;
-        self.entries.push(Entry { name, held })?;
-        Ok(())
+        self.put(Entry { name, held })
     }
 
     /// Puts an entry at the end, which can be written, with the value of `held` and a shared name.
@@ -136,11 +162,31 @@ impl Scope {
         ensures left { left_behind held.new.value ≡ held.new.value }
     {
         match &held.value {
-            Dynamic::Int(integer) => {
-                self.push_shared(name, Held::read_write(Dynamic::Int(*integer)))
-            }
+            Dynamic::Int(integer) => self.push_int(name, *integer),
             _ => self.push_taken(name, held),
         }
+    }
+
+    // The same of an integer. A spare slot is written in place.
+    #[inline(always)]
+    fn push_int(&mut self, name: &Name, integer: i64) -> Result<(), OutOfMemory>
+        ensures { self.new ≡ (if is_ok result
+            then self.old ++ record {
+              name = name.now;
+              held = read_write (dynamic.Int integer);
+            } ∷ []
+            else self.old) }
+    {
+        let place = self.height;
+        if place >= self.slots.len() {
+            return self.push_shared(name, Held::read_write(Dynamic::Int(integer)));
+        }
+        let slot = &mut self.slots[place];
+        slot.name = name.share()?;
+        slot.held.value.set_int(integer);
+        slot.held.read_only = false;
+        self.height = place + 1;
+        Ok(())
     }
 
     // The same of a value that may own memory.
@@ -156,21 +202,26 @@ impl Scope {
         self.push_shared(name, Held::read_write(value))
     }
 
-    /// Keeps the first `n` entries.
+    /// Keeps the first `n` entries. The values of the others own no memory from then on.
+    #[inline(always)]
     pub fn rewind(&mut self, n: usize)
         ensures { self.new ≡ take n self.old }
     {
-        self.entries.truncate(n);
+        'forget: while self.height > n {
+            let last = self.height - 1;
+            self.slots[last].held.value.forget();
+            self.height = last;
+        }
     }
 
     /// Takes `count` entries away from `start` on, as far as they are there.
     pub fn remove_range(&mut self, start: usize, count: usize)
         ensures { self.new ≡ take start self.old ++ drop (start + count) self.old }
     {
-        let length = self.entries.len();
-        let start = start.min(length);
-        let end = start + count.min(length - start);
-        self.entries.drain(start..end);
+        let start = start.min(self.height);
+        let count = count.min(self.height - start);
+        self.slots.drain(start..start + count);
+        self.height -= count;
     }
 
     /// Writes what the entry at the index holds.
@@ -178,7 +229,7 @@ impl Scope {
         requires { index < length self.old }
         ensures { self.new ≡ set_held self.old index held }
     {
-        self.entries[index].held = held;
+        self.slots[index].held = held;
     }
 
     /// Writes an integer into the entry at the index, which is not read-only afterwards.
@@ -188,9 +239,11 @@ impl Scope {
         ensures { self.new
             ≡ set_held self.old index (record { value = dynamic.Int integer; read_only = false }) }
     {
-        let held = &mut self.entries[index].held;
+        let held = &mut self.slots[index].held;
+        if held.read_only {
+            held.read_only = false;
+        }
         held.value.set_int(integer);
-        held.read_only = false;
     }
 
     ghost use Rattle.grain_value.specs.Lending.{LendsHeld};
@@ -201,8 +254,11 @@ impl Scope {
         ensures value { option_map (λ h. h.now) result
             ≡ option_map held_of (slice_get self.old index) }
     {
-        match self.entries.get_mut(index) {
-            Some(entry) => Some(&mut entry.held),
+        if index >= self.height {
+            return None;
+        }
+        match self.slots.get_mut(index) {
+            Some(slot) => Some(&mut slot.held),
             None => None,
         }
     }

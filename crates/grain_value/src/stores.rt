@@ -23,8 +23,12 @@ pub struct Store {
 impl Model for Store {
     ghost use Rattle.std.specs.Prelude.{List};
     ghost use Rattle.grain_value.specs.declared.stores.Cell.{Cell};
+    ghost use Rattle.std.specs.Coded.{codes};
+    ghost use Rattle.grain_value.specs.TreeCode.{coded_tree};
 
     ghost Value = { List Cell };
+
+    ghost coded = { Prim.hlevel (codes, coded_tree) };
 
     ghost view = { λ s. s.cells };
 }

@@ -1,6 +1,6 @@
 //! Each call that takes memory, once with enough of it, and the texts and numbers that are fixed.
 
-use crate::{Array, Blob, Dynamic, Held, List, OutOfMemory, Scope, Store, Text, Token};
+use crate::{Array, Blob, Dynamic, Held, List, Name, OutOfMemory, Scope, Store, Text, Token};
 
 #[test]
 fn texts_grow(rt: HostRuntime) -> Result<(), OutOfMemory> {
@@ -34,8 +34,9 @@ fn values_are_written(rt: HostRuntime) -> Result<(), OutOfMemory> {
             "-9223372036854775808",
         ),
     ];
+    let cells = Store::new(rt.alloc());
     for (value, name, plain, quoted) in &values {
-        assert_eq!(rt; value.type_name(rt.alloc())?.as_str(), *name);
+        assert_eq!(rt; value.type_name(rt.alloc(), &cells)?.as_str(), *name);
         let mut text = Text::new(rt.alloc());
         value.copy(rt.alloc())?.write_plain(&mut text)?;
         assert_eq!(rt; text.as_str(), *plain);
@@ -49,8 +50,9 @@ fn values_are_written(rt: HostRuntime) -> Result<(), OutOfMemory> {
 #[test]
 fn texts_are_written(rt: HostRuntime) -> Result<(), OutOfMemory> {
     let value = Dynamic::Text(Text::copy_of(rt.alloc(), "é \"\\\n\r\t'\u{7}")?);
-    assert_eq!(rt; value.kind(), 4);
-    assert_eq!(rt; value.type_name(rt.alloc())?.as_str(), "string");
+    let cells = Store::new(rt.alloc());
+    assert_eq!(rt; value.kind(&cells), 4);
+    assert_eq!(rt; value.type_name(rt.alloc(), &cells)?.as_str(), "string");
     let mut text = Text::new(rt.alloc());
     value.copy(rt.alloc())?.write_plain(&mut text)?;
     assert_eq!(rt; text.as_str(), "é \"\\\n\r\t'\u{7}");
@@ -94,34 +96,76 @@ fn kinds_have_numbers(rt: HostRuntime) -> Result<(), OutOfMemory> {
         (Dynamic::Int(7), 2),
         (text, 4),
     ];
+    let cells = Store::new(rt.alloc());
     for (value, kind) in &values {
-        assert_eq!(rt; value.kind(), *kind);
+        assert_eq!(rt; value.kind(&cells), *kind);
     }
     Ok(())
 }
 
 #[test]
-fn tokens_have_texts(rt: HostRuntime) {
+fn calculating_tokens_have_texts(rt: HostRuntime) {
     let tokens = [
         ("+", Token::Plus),
         ("-", Token::Minus),
         ("*", Token::Multiply),
+        ("/", Token::Divide),
+        ("%", Token::Modulo),
+        ("**", Token::PowerOf),
+        ("<<", Token::LeftShift),
+        (">>", Token::RightShift),
+        ("&", Token::Ampersand),
+        ("|", Token::Pipe),
+        ("^", Token::XOr),
+    ];
+    for (syntax, token) in tokens {
+        assert_eq!(rt; Token::lookup_from_syntax(syntax), Some(token));
+    }
+}
+
+#[test]
+fn other_tokens_have_texts(rt: HostRuntime) {
+    let tokens = [
         ("==", Token::EqualsTo),
         ("!=", Token::NotEqualsTo),
         ("<", Token::LessThan),
         ("<=", Token::LessThanEqualsTo),
         (">", Token::GreaterThan),
         (">=", Token::GreaterThanEqualsTo),
-        ("+=", Token::PlusAssign),
-        ("-=", Token::MinusAssign),
-        ("*=", Token::MultiplyAssign),
+        ("..", Token::ExclusiveRange),
+        ("..=", Token::InclusiveRange),
+        ("!", Token::Bang),
         ("neg", Token::UnaryMinus),
         ("other", Token::Other),
     ];
     for (syntax, token) in tokens {
         assert_eq!(rt; Token::lookup_from_syntax(syntax), Some(token));
     }
-    for syntax in ["", "=", "plus", "/", "Other"] {
+}
+
+#[test]
+fn assigning_tokens_have_texts(rt: HostRuntime) {
+    let tokens = [
+        ("+=", Token::PlusAssign),
+        ("-=", Token::MinusAssign),
+        ("*=", Token::MultiplyAssign),
+        ("/=", Token::DivideAssign),
+        ("%=", Token::ModuloAssign),
+        ("**=", Token::PowerOfAssign),
+        ("<<=", Token::LeftShiftAssign),
+        (">>=", Token::RightShiftAssign),
+        ("&=", Token::AndAssign),
+        ("|=", Token::OrAssign),
+        ("^=", Token::XOrAssign),
+    ];
+    for (syntax, token) in tokens {
+        assert_eq!(rt; Token::lookup_from_syntax(syntax), Some(token));
+    }
+}
+
+#[test]
+fn other_texts_are_no_tokens(rt: HostRuntime) {
+    for syntax in ["", "=", "plus", "<>", "...", "!!", "===", "Other"] {
         assert_eq!(rt; Token::lookup_from_syntax(syntax), None);
     }
 }
@@ -149,6 +193,25 @@ fn scopes_hold_variables(rt: HostRuntime) -> Result<(), OutOfMemory> {
     assert_eq!(rt; scope.len(), 1);
     scope.rewind(0);
     assert!(rt; scope.is_empty());
+    Ok(())
+}
+
+#[test]
+fn spare_slots_are_not_seen(rt: HostRuntime) -> Result<(), OutOfMemory> {
+    let mut scope = Scope::new(rt.alloc());
+    for name in ["a", "b"] {
+        let name = Text::copy_of(rt.alloc(), name)?;
+        scope.push(name, Held::read_write(Dynamic::Int(1)))?;
+    }
+    scope.rewind(0);
+    assert_eq!(rt; scope.search("b"), None);
+    assert!(rt; scope.get(0).is_none());
+    let name = Name::new(rt.alloc(), Text::copy_of(rt.alloc(), "c")?)?;
+    let mut held = Held::read_write(Dynamic::Int(2));
+    scope.push_moved(&name, &mut held)?;
+    assert_eq!(rt; scope.search("a"), None);
+    assert_eq!(rt; scope.search("c"), Some(0));
+    assert!(rt; matches!(value_at(&scope, 0), Some(Dynamic::Int(2))));
     Ok(())
 }
 

@@ -1,6 +1,6 @@
 //! Texts: names, the fields of faults, and what is written.
 
-ghost use Rattle.std.specs.Prelude.{◌≡◌, ◌==◌, ◌++◌, [], length, Some, IfOk, IfErr, IfSome, is_ok, if◌then◌else◌, slice_get};
+ghost use Rattle.std.specs.Prelude.{◌≡◌, ◌==◌, ◌<◌, ◌^◌, ◌++◌, [], length, Some, IfOk, IfErr, IfSome, is_ok, if◌then◌else◌, slice_get, string_bytes};
 ghost use Rattle.std.specs.Char.{encode_utf8};
 ghost use Rattle.std.specs.Str.{chars};
 ghost use Rattle.std.specs.Fmt.{decimal, signed_decimal};
@@ -61,7 +61,8 @@ impl Text {
 
     /// How many characters the text has.
     pub fn char_count(&self) -> usize
-        ensures { result ≡ length (chars self.now) }
+        ensures value { result ≡ length (chars self.now) }
+        ensures small { result < 2 ^ 63 }
     {
         self.as_str().chars().count()
     }
@@ -85,6 +86,13 @@ impl Text {
         ensures { result.now ≡ self.now }
     {
         self.text.as_str()
+    }
+
+    // The text as a `String`, which it gives up.
+    pub(crate) fn into_string(self) -> String
+        ensures { string_bytes result ≡ self }
+    {
+        self.text
     }
 
     /// Puts these characters at the end. After want of memory the text is as it was.

@@ -1,4 +1,5 @@
--- What a machine is seen as. The words of its contracts are passed on: what a program means, and why it ends so.
+-- What a machine is seen as. The words of its contracts are passed on: what a program means, and
+-- why it ends so.
 pub mod VmView
 pub use Rattle.grain_frame.specs.Counts
 pub use Rattle.grain_frame.specs.Machines

@@ -8,6 +8,7 @@ use crate::vms::Vm;
 use grain_fault::{EvalAltResult, Fault, Position, RhaiResult};
 use grain_frame::Steps;
 use grain_global::{Engine, GlobalRuntimeState};
+use grain_host::TableHost;
 use grain_program::{
     AssignOps, Caps, Chunk, Function, Functions, Indices, Names, Op, Parts, Positions, Program,
     Tokens, assemble, verify,
@@ -29,8 +30,8 @@ const LIMITS: Limits = Limits {
     map: 0,
 };
 
-// Parts of these instructions, with the constant 7 and the name `f`. What lies behind main's end is a function of that
-// name.
+// Parts of these instructions, with the constant 7 and the name `f`. What lies behind main's end is
+// a function of that name.
 fn parts_of(alloc: Global, ops: &[Op], end: u32) -> Result<Parts, OutOfMemory>
     ensures { IfOk result (λ parts. HasOrder (view_of parts)) }
 {
@@ -102,14 +103,10 @@ fn end_of<L: Ledger>(
     let mut vm = Vm::with_global_state(alloc, &engine, global);
     let mut scope = Scope::new(alloc);
     let mut cells = Store::new(alloc);
+    let mut host = TableHost::new(alloc);
     let mut steps = Steps::<L>::new(blank);
     let answer = vm.eval_with_callbacks(
-        alloc,
-        &mut (),
-        &mut cells,
-        &mut scope,
-        program,
-        &mut steps,
+        alloc, &mut host, &mut cells, &mut scope, program, &mut steps,
     );
     let trace = Vec::from_slice(alloc, vm.fault_trace())?;
     let address = vm.fault_pc();

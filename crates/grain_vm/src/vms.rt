@@ -11,14 +11,15 @@ ghost use Rattle.grain_frame.specs.Machines.{begin, finish};
 use grain_fault::{Fault, RhaiResult};
 use grain_frame::{Machine, Steps};
 use grain_global::{Engine, GlobalRuntimeState};
+use grain_host::Host;
 use grain_program::Program;
 use grain_value::{OutOfMemory, Scope, Store};
 use std::alloc::Global;
 use std::marker::Model;
 use std::sync::ledger::Ledger;
 
-/// A machine: its engine, the state that outlives a run, and the trace of the last run. Between two runs no frame is
-/// entered.
+/// A machine: its engine, the state that outlives a run, and the trace of the last run. Between two
+/// runs no frame is entered.
 #[derive(Drop)]
 pub struct Vm<'e> {
     machine: Machine<'e>,
@@ -27,16 +28,32 @@ pub struct Vm<'e> {
 
 impl<'e> Model for Vm<'e> {
     ghost use Rattle.grain_vm.specs.VmView.{VmView};
+    ghost use Rattle.std.specs.Coded.{codes};
+    ghost use Rattle.grain_value.specs.TreeCode.{coded_tree};
 
     ghost Value = { VmView };
 
-    ghost view = { λ v. record { engine = v.machine.engine; global = v.global; trace = v.machine.stacks.trace } };
+    ghost coded = { Prim.hlevel (codes, coded_tree) };
+
+    ghost view = { λ v. record {
+      engine = v.machine.engine;
+      global = v.global;
+      trace =
+          v.machine.stacks.trace;
+    } };
 }
 
 impl<'e> Vm<'e> {
     /// A machine over a state in which nothing was run.
     pub fn new(alloc: Global, engine: &'e Engine) -> Result<Vm<'e>, OutOfMemory>
-        ensures { IfOk result (λ v. v ≡ record { engine = engine.now; global = record { num_operations = 0; level = 0 }; trace = [] }) }
+        ensures { IfOk result
+            (λ v. v ≡
+            record {
+              engine = engine.now;
+              global = record { num_operations = 0; level = 0 };
+              trace =
+                  [];
+            }) }
     {
         let global = engine.new_global_runtime_state(alloc)?;
         Ok(Vm::with_global_state(alloc, engine, global))
@@ -63,7 +80,8 @@ impl<'e> Vm<'e> {
         self.global
     }
 
-    /// Where the frames stopped that the fault of the last run left, the innermost first. It is empty after a value.
+    /// Where the frames stopped that the fault of the last run left, the innermost first. It is
+    /// empty after a value.
     pub fn fault_trace(&self) -> &[Fault]
         ensures { result.now ≡ self.now.trace }
     {
@@ -80,11 +98,12 @@ impl<'e> Vm<'e> {
         }
     }
 
-    /// Runs a program's main on a scope, with a host and cells, which no instruction reaches yet. The operations that
-    /// are charged count on from the state's, and the entries that main declares stay after a value; a fault cuts the
-    /// scope back to its length. After want of memory the run is the one that is stopped at a mark. The scope's entries
-    /// keep their names and order, whatever the end is.
-    pub fn eval_with_callbacks<H, L: Ledger>(
+    /// Runs a program's main on a scope, with a host, and with cells, which no instruction reaches
+    /// yet. The operations that are charged count on from the state's, and the host hears of each.
+    /// The entries that main declares stay after a value; a fault cuts the scope back to its
+    /// length. After want of memory the run is the one that is stopped at a mark. The scope's
+    /// entries keep their names and order, whatever the end is.
+    pub fn eval_with_callbacks<H: Host, L: Ledger>(
         &mut self,
         alloc: Global,
         host: &mut H,
@@ -94,10 +113,17 @@ impl<'e> Vm<'e> {
         steps: &mut Steps<L>,
     ) -> RhaiResult
         requires positive { 0 < self.old.engine.limits.operations }
-        ensures evaluates { (ran : ℕ) × (Evaluates program.now self.old.engine (begin scope.old cells.old host.old self.old.global) result (finish self.new.trace scope.new cells.new host.new self.new.global) ran × (instructions steps.new ≡ instructions steps.old + ran)) }
-        ensures causes { HasCause program.now self.old.engine (begin scope.old cells.old host.old self.old.global) result }
-        ensures provided { Provided program.now self.old.engine (begin scope.old cells.old host.old self.old.global) }
-        ensures leaves { Leaves program.now self.old.engine (begin scope.old cells.old host.old self.old.global) result scope.new self.new.trace }
+        ensures evaluates { (ran : ℕ) ×
+            (Evaluates H.law program.now self.old.engine
+            (begin scope.old cells.old host.old self.old.global) result
+            (finish self.new.trace scope.new cells.new host.new self.new.global) ran ×
+            (instructions steps.new ≡ instructions steps.old + ran)) }
+        ensures causes { HasCause H.law program.now self.old.engine
+            (begin scope.old cells.old host.old self.old.global) result }
+        ensures provided { Provided H.law program.now self.old.engine
+            (begin scope.old cells.old host.old self.old.global) }
+        ensures leaves { Leaves H.law program.now self.old.engine
+            (begin scope.old cells.old host.old self.old.global) result scope.new self.new.trace }
         ensures level { self.new.global.level ≡ self.old.global.level }
         ensures engine { self.new.engine ≡ self.old.engine }
     {

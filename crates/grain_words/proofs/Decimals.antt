@@ -7,8 +7,9 @@ use Rattle.std.specs.List.{list_all}
 use Rattle.std.proofs.lemmas.Fmt.{decimal_by_steps}
 use Rattle.std.specs.Fmt.{decimal, signed_decimal}
 use Rattle.grain_words.specs.Numerals.{is_digit, are_digits, number_from, is_empty, is_numeral, number, integer, minus, begins_letter}
-use Rattle.grain_words.specs.Spelled.{IsLong, is_plain, is_plain_word}
-use Rattle.grain_words.specs.Words.{up_to, onward_from, ends_integer, integer_here}
+use Rattle.grain_words.specs.Spelled.{IsLong, Spells, is_plain, is_plain_word, begins_integer}
+use Rattle.grain_words.specs.lemmas.Spelling.{spells_none, one_ascii}
+use Rattle.grain_words.specs.Words.{up_to, onward_from, ends_integer, integer_here, number_here}
 
 -- the first digit is no zero
 abbrev BeginsAboveZero : List ℕ → Type 0
@@ -184,3 +185,50 @@ integer_read (negsuc n) rest h e =
     signed (negsuc n) (signed_decimal (negsuc n)) rest (integer_of_decimal (negsuc n) h)
     (ap (λ l. 45 ∷ l) (taken (decimal (suc n)) rest s.digits e))
     (left (decimal (suc n)) rest s.digits e)
+
+-- a number is read up to there too
+counted : (most n : ℕ) (ds rest : List ℕ) → number most ds ≡ Some n →
+    up_to ends_integer (ds ++ rest) ≡ ds → onward_from ends_integer (ds ++ rest) ≡ rest →
+    number_here most (ds ++ rest) ≡ Some (n, rest)
+counted most n ds rest is front others =
+    ap (λ (l : List ℕ). option_map (λ y. (y, l))
+    (number most (up_to ends_integer (ds ++ rest)))) others ∙
+    ap (λ l. option_map (λ y. (y, rest)) (number most l)) front ∙
+    ap (option_map (λ y. (y, rest))) is
+
+pub number_read : (most n : ℕ) (rest : List ℕ) → n ≤ most → n < 2 ^ 64 →
+    up_to ends_integer rest ≡ [] → number_here most (decimal n ++ rest) ≡ Some (n, rest)
+number_read most n rest fits h e =
+    let s = said n h in
+    counted most n (decimal n) rest (number_of_decimal most n fits h)
+    (taken (decimal n) rest s.digits e) (left (decimal n) rest s.digits e)
+
+digits_begin : (ds : List ℕ) → is_numeral ds ≡ true → begins_integer ds ≡ true
+digits_begin [] h = absurd cc
+digits_begin (c ∷ cs) h =
+    let all = first_true (are_digits (c ∷ cs)) (not (c == 48) || is_empty cs) h in
+    rw (goes_on c (first_true (is_digit c) (are_digits cs) all)) refl
+
+pub number_begins : (n : ℕ) → n < 2 ^ 64 → begins_integer (decimal n) ≡ true
+number_begins n h = digits_begin (decimal n) (said n h).numeral
+
+pub integer_begins : (z : ℤ) → IsLong z → begins_integer (signed_decimal z) ≡ true
+integer_begins (pos n) h = digits_begin (decimal n) (said n (omega arith)).numeral
+integer_begins (negsuc n) h = refl
+
+digits_spelled : (ds : List ℕ) → are_digits ds ≡ true → Spells ds ds
+digits_spelled [] h = spells_none
+digits_spelled (c ∷ cs) h =
+    let digit = first_true (is_digit c) (are_digits cs) h in
+    let high : c < 58 = (Decides-ltb c 58).0 (second_true (nat_lt 47 c) (nat_lt c 58) digit) in
+    one_ascii c cs cs (omega arith)
+    (digits_spelled cs (second_true (is_digit c) (are_digits cs) h))
+
+pub number_spelled : (n : ℕ) → n < 2 ^ 64 → Spells (decimal n) (decimal n)
+number_spelled n h = digits_spelled (decimal n) (said n h).digits
+
+pub integer_spelled : (z : ℤ) → IsLong z → Spells (signed_decimal z) (signed_decimal z)
+integer_spelled (pos n) h = number_spelled n (omega arith)
+integer_spelled (negsuc n) h =
+    one_ascii 45 (decimal (suc n)) (decimal (suc n)) (omega arith)
+    (number_spelled (suc n) (omega arith))

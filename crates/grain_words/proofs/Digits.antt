@@ -1,10 +1,11 @@
 -- A number only grows by more digits.
-use Rattle.std.proofs.Common.{◌≡◌, ℕ, ◌≢◌, ◌<◌, ◌≤◌, ◌+◌, ◌-◌, ◌*◌, List, [], ◌∷◌, None, Bool, true, false, cond, lt-ltb, arith, refl, sym, ap, ◌∙◌, ◌==◌}
+use Rattle.std.proofs.Common.{◌≡◌, ℕ, ◌≢◌, ◌<◌, ◌≤◌, ◌+◌, ◌-◌, ◌*◌, List, [], ◌∷◌, Some, None, Bool, true, false, cond, lt-ltb, arith, refl, sym, ap, ◌∙◌, ◌==◌}
 use Rattle.std.proofs.lemmas.Bool.Decides.{nat_tests}
 use Rattle.std.proofs.lemmas.Bool.{ne_eqb}
-use Rattle.std.specs.Char.{digit_value, encode_utf8}
+use Rattle.std.specs.Char.{digit_value}
 use Rattle.grain_words.specs.Numerals.{number, number_from}
-use Rattle.grain_words.specs.Words.{digits, is_character, is_hexadecimal, in_front, quoted}
+use Rattle.grain_words.specs.Words.{is_character, is_hexadecimal}
+use Rattle.grain_words.specs.Characters.{more_digits}
 
 grows : (n : ℕ) (cs : List ℕ) → n ≤ number_from n cs
 grows n [] = omega arith
@@ -23,22 +24,22 @@ no_character : (n : ℕ) → 0x10ffff < n → is_character n ≡ false
 no_character n h = grind (arith, nat_tests)
 
 -- past 10ffff no digits say a character
-pub too_large : (n : ℕ) (cs : List ℕ) → 0x10ffff < n → digits n cs ≡ None
+pub too_large : (n : ℕ) (cs : List ℕ) → 0x10ffff < n → more_digits n cs ≡ None
 too_large n [] h = refl
 too_large n (c ∷ cs) h = at (c == 125) (is_hexadecimal c)
     (too_large (n * 16 + digit_value c) cs (omega arith)) where
-      at : (b d : Bool) → digits (n * 16 + digit_value c) cs ≡ None →
-          cond b (cond (is_character n) (in_front (encode_utf8 n) (quoted cs)) None)
-          (cond d (digits (n * 16 + digit_value c) cs) None) ≡ None
+      at : (b d : Bool) → more_digits (n * 16 + digit_value c) cs ≡ None →
+          cond b (cond (is_character n) (Some (n, cs)) None)
+          (cond d (more_digits (n * 16 + digit_value c) cs) None) ≡ None
       at true d more = rw (no_character n h) refl
       at false true more = more
       at false false more = refl
 
 pub digits_over : (n c first : ℕ) (rest after chars : List ℕ) → rest ≡ c ∷ after → c ≢ 125 →
     digit_value c < 16 → 0x10ffff < n * 16 + digit_value c →
-    digits n rest ≡ digits first chars → digits first chars ≡ None
+    more_digits n rest ≡ more_digits first chars → None ≡ more_digits first chars
 digits_over n c first rest after chars r other hex over e =
     let d : is_hexadecimal c ≡ true = lt-ltb _ _ hex in
-    let s : digits n (c ∷ after) ≡ digits (n * 16 + digit_value c) after =
+    let s : more_digits n (c ∷ after) ≡ more_digits (n * 16 + digit_value c) after =
     rw (ne_eqb c 125 other, d) refl in
-    sym e ∙ ap (digits n) r ∙ s ∙ too_large (n * 16 + digit_value c) after over
+    sym (too_large (n * 16 + digit_value c) after over) ∙ sym s ∙ ap (more_digits n) (sym r) ∙ e

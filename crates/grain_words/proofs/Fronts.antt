@@ -1,6 +1,7 @@
 -- A text grows by one character at its end.
 use Rattle.std.proofs.Common.{◌≡◌, ℕ, Bool, false, true, cond, List, [], ◌∷◌, ◌++◌, Option, Some, None, option_map, refl, sym, ap, ◌∙◌, append_assoc}
 use Rattle.grain_words.specs.Words.{quoted, in_front, whole, behind, is_word_end}
+use Rattle.grain_words.specs.Bytes.{hex_bytes}
 
 abbrev Found : Type 0
 Found = Option (List ℕ × List ℕ)
@@ -15,6 +16,13 @@ pub quoted_more : (t u : List ℕ) (c : ℕ) (rest after others : List ℕ) (all
     in_front (t ++ u) (quoted others) ≡ all
 quoted_more t u c rest after others all r h e =
     sym (twice t u (quoted others)) ∙ ap (in_front t) (sym h ∙ ap quoted (sym r)) ∙ e
+
+-- bytes grow by one at their end
+pub bytes_more : (t : List ℕ) (b : ℕ) (c : ℕ) (rest after others : List ℕ) (all : Found) →
+    rest ≡ c ∷ after → hex_bytes (c ∷ after) ≡ in_front (b ∷ []) (hex_bytes others) →
+    in_front t (hex_bytes rest) ≡ all → in_front (t ++ b ∷ []) (hex_bytes others) ≡ all
+bytes_more t b c rest after others all r h e =
+    sym (twice t (b ∷ []) (hex_bytes others)) ∙ ap (in_front t) (sym h ∙ ap hex_bytes (sym r)) ∙ e
 
 -- a text in front of what was found changes nothing of what follows
 rests : (t : List ℕ) (o : Found) → option_map (λ x. x.1) (in_front t o) ≡ option_map (λ x. x.1) o

@@ -1,9 +1,12 @@
 pub mod LineEnds
 pub mod Stretches
 pub mod Fronts
+pub mod Escapes
 pub mod Digits
 pub mod LabelMaps
 pub mod FirstColons
 pub mod QuotedTexts
+pub mod QuotedCharacters
+pub mod BytesRead
 pub mod Decimals
 pub mod PlainTexts

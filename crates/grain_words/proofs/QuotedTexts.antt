@@ -8,7 +8,7 @@ use Rattle.std.proofs.lemmas.Str.{chars-encodes, encodes-chars, scalars-chars}
 use Rattle.grain_value.specs.Quoting.{quoted_text}
 use Rattle.grain_value.specs.Quoting.{escaped as escaped_bytes}
 use Rattle.grain_words.specs.Words.{quoted, in_front, whole, next_text, is_word_end}
-use Rattle.grain_words.specs.Spelled.{between_quotes, quoted_characters}
+use Rattle.grain_words.specs.Spelled.{between_quotes, quoted_characters, Spells}
 
 -- what a spelled character gives, by the answers of the tests for the characters that are spelled
 -- with a backslash
@@ -105,6 +105,14 @@ written : (cs : List ℕ) → encode_utf8_all (quoted_characters cs) ≡
     34 ∷ (flat_map escaped_bytes cs ++ 34 ∷ [])
 unfolding encode_utf8
 written cs = ap (λ l. 34 ∷ l) (all_spelled cs)
+
+-- the characters are those of the text as it is written
+pub written_spelled : (s : List ℕ) → IsUtf8 s → Spells (quoted_characters (chars s)) (quoted_text s)
+written_spelled s valid =
+    let all = all_scalar (chars s) (scalars-chars s valid) in (
+      (quoted_characters (chars s), (all, written (chars s))),
+      ap chars (sym (written (chars s))) ∙ chars-encodes (quoted_characters (chars s)) all,
+    )
 
 pub written_read : (s rest : List ℕ) → IsUtf8 s → is_word_end rest ≡ true →
     next_text (chars (quoted_text s) ++ rest) ≡ Some (s, rest)

@@ -1,6 +1,8 @@
 -- How texts are spelled in a listing.
-use Rattle.std.specs.Prelude.{ℕ, ◌<◌, ◌^◌, ℤ, pos, negsuc, Bool, false, ◌&&◌, not, nat_lt, List, [], ◌∷◌, ◌++◌, ◌==◌, if◌then◌else◌}
+use Rattle.std.specs.Prelude.{◌≡◌, ℕ, ◌<◌, ◌^◌, ℤ, pos, negsuc, Bool, false, ◌&&◌, not, nat_lt, List, [], ◌∷◌, ◌++◌, ◌==◌, if◌then◌else◌}
 use Rattle.std.specs.List.{flat_map, list_all}
+use Rattle.std.specs.Str.{chars, IsUtf8}
+use Rattle.grain_words.specs.Words.{ends_integer}
 
 -- a character as it is spelled between quotes: a quote, a backslash, LF, CR and a tab have a
 -- backslash before a sign of theirs
@@ -12,6 +14,19 @@ between_quotes c =
     else (if c == 13 then 92 ∷ 114 ∷ []
     else (if c == 9 then 92 ∷ 116 ∷ []
     else c ∷ []))))
+
+-- a character as it is spelled between apostrophes: an apostrophe has a backslash before it too
+abbrev pub between_apostrophes : ℕ → List ℕ
+between_apostrophes c = if c == 39 then 92 ∷ 39 ∷ [] else between_quotes c
+
+-- the bytes are UTF-8, and the characters are theirs
+abbrev pub Spells : List ℕ → List ℕ → Type 0
+Spells cs bytes = IsUtf8 bytes × (chars bytes ≡ cs)
+
+-- the word begins with a digit or a minus
+abbrev pub begins_integer : List ℕ → Bool
+begins_integer [] = false
+begins_integer (c ∷ cs) = not (ends_integer c)
 
 -- a text between quotes, as characters
 abbrev pub quoted_characters : List ℕ → List ℕ

@@ -1,8 +1,8 @@
 -- The words of a line, as characters, each with what follows it. What is left of a line is what
 -- follows the last word that was read.
-use Rattle.std.specs.Prelude.{ℕ, ℤ, ◌*◌, ◌+◌, Bool, true, ◌&&◌, ◌||◌, not, List, [], ◌∷◌, ◌++◌, Option, Some, None, option_map, ◌==◌, nat_lt, if◌then◌else◌}
+use Rattle.std.specs.Prelude.{ℕ, ℤ, ◌*◌, ◌+◌, Bool, true, ◌&&◌, ◌||◌, not, List, [], ◌∷◌, ◌++◌, Option, Some, None, option_map, option_and_then, ◌==◌, nat_lt, if◌then◌else◌}
 use Rattle.std.specs.Char.{encode_utf8, digit_value}
-use Rattle.grain_words.specs.Numerals.{is_empty, is_digit, integer}
+use Rattle.grain_words.specs.Numerals.{is_empty, is_digit, integer, number}
 
 -- words are separated by spaces and tabs
 abbrev pub is_gap : ℕ → Bool
@@ -59,6 +59,25 @@ ends_integer c = not (is_digit c) && not (c == 45)
 abbrev pub integer_here : List ℕ → Option (ℤ × List ℕ)
 integer_here cs = option_map (λ z. (z, onward_from ends_integer cs))
     (integer (up_to ends_integer cs))
+
+-- the number of at most `most` that begins here, and what follows its digits
+abbrev pub number_here : ℕ → List ℕ → Option (ℕ × List ℕ)
+number_here most cs = option_map (λ n. (n, onward_from ends_integer cs))
+    (number most (up_to ends_integer cs))
+
+-- what follows the spaces and tabs that stand here
+abbrev pub skip_gaps : List ℕ → List ℕ
+skip_gaps [] = []
+skip_gaps (c ∷ cs) = if is_gap c then skip_gaps cs else c ∷ cs
+
+-- what follows a space or a tab, and those behind it
+abbrev pub after_gap : List ℕ → Option (List ℕ)
+after_gap [] = None
+after_gap (c ∷ cs) = if is_gap c then Some (skip_gaps cs) else None
+
+-- what follows the sign and the spaces or tabs behind it, of which there is at least one
+abbrev pub after_sign : List ℕ → List ℕ → Option (List ℕ)
+after_sign sign cs = option_and_then after_gap (after_text sign cs)
 
 -- the bytes in front of a text
 abbrev pub in_front : List ℕ → Option (List ℕ × List ℕ) → Option (List ℕ × List ℕ)

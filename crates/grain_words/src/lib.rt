@@ -2,6 +2,8 @@
 //! and labels.
 #![tactic(auto)]
 
+mod bytes;
+mod characters;
 mod labels;
 mod laws;
 mod lines;
@@ -10,12 +12,18 @@ mod position_words;
 mod texts;
 mod words;
 
+pub use bytes::hex_bytes;
+pub use characters::character;
 pub use labels::Labels;
-pub use laws::{decimals_are_read, plain_texts_are_read, quoted_texts_are_read};
+pub use laws::{
+    bytes_are_read, characters_are_read, decimals_are_read, numbers_are_read, plain_texts_are_read,
+    quoted_texts_are_read,
+};
 pub use lines::next_line;
 pub use numerals::{begins_letter, integer, number};
 pub use position_words::position_word;
 pub use texts::{next_text, quoted, word_text};
 pub use words::{
-    after_text, after_word, integer_here, is_over, is_word, is_word_end, next_word, trim_start,
+    after_sign, after_text, after_word, integer_here, is_over, is_word, is_word_end, next_word,
+    number_here, trim_start,
 };

@@ -1,75 +1,17 @@
 //! Texts between quotes.
 
-ghost use Rattle.std.specs.Prelude.{◌≡◌, ◌∷◌, ◌≢◌, ◌<◌, ◌≤◌, ◌*◌, ◌+◌, length, None, IfOk, MatchOption, option_map};
+ghost use Rattle.std.specs.Prelude.{◌≡◌, ◌∷◌, ◌≢◌, ◌≤◌, length, None, IfOk, MatchOption, option_map};
 ghost use Rattle.std.specs.Char.{encode_utf8};
 ghost use Rattle.std.specs.Str.{encode_utf8_all};
-ghost use Rattle.grain_words.specs.Words.{quoted, escaped, first_digit, digits, in_front, whole, behind, text, next_text};
+ghost use Rattle.grain_words.specs.Words.{quoted, in_front, whole, behind, text, next_text};
 
+use crate::characters::escape;
 use crate::words::{is_word_end, trim_start};
 use grain_value::{OutOfMemory, Text};
 use std::alloc::Global;
 
-/// The number with one more hexadecimal digit, where it is still at most 10ffff.
-fn grown(number: u32, digit: u32) -> Option<u32>
-    requires number { number ≤ 0x10ffff }
-    requires digit { digit < 16 }
-    ensures { MatchOption result (0x10ffff < number * 16 + digit) (λ n. (n ≡ number * 16 + digit) ×
-        (n ≤ 0x10ffff)) }
-{
-    let more = number * 16 + digit;
-    if more > 0x10ffff { None } else { Some(more) }
-}
-
-/// The character whose hexadecimal digits begin with `first`, and what follows its brace.
-fn digits(first: u32, chars: &[char]) -> Option<(char, &[char])>
-    requires { first < 16 }
-    ensures { MatchOption result (digits first chars.now ≡ None)
-        (λ r. (digits first chars.now ≡ in_front (encode_utf8 r.0) (quoted r.1.now)) ×
-        (length r.1.now ≤ length chars.now)) }
-{
-    let mut number = first;
-    let mut rest = chars;
-    'scan: while let Some((c, after)) = rest.split_first() {
-        if *c == '}' {
-            let character = char::from_u32(number)?;
-            return Some((character, after));
-        }
-        let digit = c.to_digit(16)?;
-        number = grown(number, digit)?;
-        rest = after;
-    }
-    None
-}
-
-/// What stands after `\u{`: a character's digits, and what follows its brace.
-fn first_digit(chars: &[char]) -> Option<(char, &[char])>
-    ensures { MatchOption result (first_digit chars.now ≡ None)
-        (λ r. (first_digit chars.now ≡ in_front (encode_utf8 r.0) (quoted r.1.now)) ×
-        (length r.1.now ≤ length chars.now)) }
-{
-    let (c, after) = chars.split_first()?;
-    let digit = c.to_digit(16)?;
-    digits(digit, after)
-}
-
-/// What stands after a backslash: a character, and what follows it.
-fn escaped(chars: &[char]) -> Option<(char, &[char])>
-    ensures { MatchOption result (escaped chars.now ≡ None)
-        (λ r. (escaped chars.now ≡ in_front (encode_utf8 r.0) (quoted r.1.now)) ×
-        (length r.1.now ≤ length chars.now)) }
-{
-    match chars {
-        ['"', after @ ..] => Some(('"', after)),
-        ['\\', after @ ..] => Some(('\\', after)),
-        ['n', after @ ..] => Some(('\n', after)),
-        ['r', after @ ..] => Some(('\r', after)),
-        ['t', after @ ..] => Some(('\t', after)),
-        ['u', '{', after @ ..] => first_digit(after),
-        _ => None,
-    }
-}
-
 /// The next character between quotes, which begins with `c`, and what follows it.
+#[tactic(auto, using(crate::proofs::Escapes::no_escape, crate::proofs::Escapes::one_escape))]
 fn inner(c: char, after: &[char]) -> Option<(char, &[char])>
     requires { c ≢ 34 }
     ensures { MatchOption result (quoted (c ∷ after.now) ≡ None)
@@ -77,7 +19,7 @@ fn inner(c: char, after: &[char]) -> Option<(char, &[char])>
         (length r.1.now ≤ length after.now)) }
 {
     if c == '\\' {
-        escaped(after)
+        escape(after)
     } else {
         Some((c, after))
     }

@@ -1,9 +1,9 @@
 //! The words of a line, read from its characters one after the other.
 
 ghost use Rattle.std.specs.Prelude.{◌≡◌, ◌∷◌, ◌≢◌, ◌<◌, ◌≤◌, ◌*◌, ◌+◌, length, position, None, MatchOption, option_map, bytes_eq};
-ghost use Rattle.grain_words.specs.Words.{ends_word, trim_start, is_over, is_word_end, up_to, onward_from, is_quote, bare, next_word, skipped, after_word, is_gap, after_text, ends_integer, integer_here};
+ghost use Rattle.grain_words.specs.Words.{ends_word, trim_start, is_over, is_word_end, up_to, onward_from, is_quote, bare, next_word, skipped, after_word, is_gap, after_text, ends_integer, integer_here, number_here, skip_gaps, after_gap, after_sign};
 
-use crate::numerals::integer;
+use crate::numerals::{integer, number};
 use crate::texts::skip_text;
 
 fn is_gap(c: char) -> bool
@@ -184,4 +184,45 @@ pub fn integer_here(line: &[char]) -> Option<(i64, &[char])>
     let (digits, rest) = split_integer(line);
     let integer = integer(digits)?;
     Some((integer, rest))
+}
+
+/// The number of at most `most` that begins here, and what follows its digits.
+pub fn number_here(most: u64, line: &[char]) -> Option<(u64, &[char])>
+    ensures { option_map (λ r. (r.0, r.1.now)) result ≡ number_here most line.now }
+{
+    let (digits, rest) = split_integer(line);
+    let number = number(most, digits)?;
+    Some((number, rest))
+}
+
+fn skip_gaps(line: &[char]) -> &[char]
+    ensures { result.now ≡ skip_gaps line.now }
+{
+    let mut rest = line;
+    'scan: while let Some((c, after)) = rest.split_first() {
+        if !is_gap(*c) {
+            return rest;
+        }
+        rest = after;
+    }
+    &[]
+}
+
+fn after_gap(line: &[char]) -> Option<&[char]>
+    ensures { option_map (λ r. r.now) result ≡ after_gap line.now }
+{
+    let (c, after) = line.split_first()?;
+    if is_gap(*c) {
+        Some(skip_gaps(after))
+    } else {
+        None
+    }
+}
+
+/// What follows the sign and the spaces or tabs behind it, of which there is at least one.
+pub fn after_sign<'a>(sign: &str, line: &'a [char]) -> Option<&'a [char]>
+    ensures { option_map (λ r. r.now) result ≡ after_sign sign.now line.now }
+{
+    let rest = after_text(sign, line)?;
+    after_gap(rest)
 }

@@ -22,18 +22,23 @@ addresses [] = []
 addresses (entry ∷ entries) = (codes " " ++ decimal entry.address) ++ addresses entries
 
 -- a value as a listing has it; or the fault's name, its text and its trace
-abbrev pub report : Result Dynamic EvalAltResult → List Fault → List ℕ
-report (Ok value) trace = codes "value " ++ quoted value ++ line_end
-report (Err fault) trace =
+abbrev pub end_text : Result Dynamic EvalAltResult → List Fault → List ℕ
+end_text (Ok value) trace = codes "value " ++ quoted value ++ line_end
+end_text (Err fault) trace =
     codes "fault " ++ fault_name (problem_of fault) ++ line_end ++ fault_text
     (problem_of fault) ++ line_end ++
     codes "trace" ++ addresses trace ++ line_end
+
+-- what was printed, and then the end
+abbrev pub report : List ℕ → Result Dynamic EvalAltResult → List Fault → List ℕ
+report printed result trace = printed ++ end_text result trace
 
 -- the text is the report of how the program's run ends
 pub record Reported (program : View) (limits : Limits) (scope : List Entry)
     (text : List ℕ) : Type 0 where
   pub after : List Entry
   pub result : Result Dynamic EvalAltResult
+  pub printed : List ℕ
   pub trace : List Fault
-  pub ran : Ran program limits scope after result trace
-  pub written : text ≡ report result trace
+  pub ran : Ran program limits scope after printed result trace
+  pub written : text ≡ report printed result trace

@@ -5,6 +5,8 @@ use Rattle.grain_value.specs.declared.values.Limits.{Limits}
 use Rattle.grain_value.specs.declared.scopes.Entry.{Entry}
 use Rattle.grain_fault.specs.declared.faults.EvalAltResult.{EvalAltResult}
 use Rattle.grain_fault.specs.declared.traces.Fault.{Fault}
+use Rattle.grain_host.specs.Tables.{blank, table_law}
+use Rattle.grain_host.specs.declared.tables.TableHost.{TableHost}
 use Rattle.grain_program.specs.Typing.{IsProgram, IsRefusal}
 use Rattle.grain_program.specs.View.{View}
 use Rattle.grain_global.specs.declared.engines.Engine.{Engine}
@@ -49,16 +51,19 @@ IsReason said OutOfMemory = ⊤
 abbrev pub engine_of : Limits → Engine
 engine_of limits = record { limits = limits; fast_operators = true }
 
--- The scope, without cells and without a host. Nothing was run before.
-abbrev pub start : List Entry → Begin ⊤
-start scope = begin scope [] tt (record { num_operations = 0; level = 0 })
+-- The scope, without cells, with a host in memory whose tables are empty. Nothing was run before.
+abbrev pub start : List Entry → Begin TableHost
+start scope = begin scope [] blank (record { num_operations = 0; level = 0 })
 
--- The program's run within the limits, from the scope before, ends with this result and this trace
--- and leaves the scope after. Where memory was out, it is the run stopped at some point.
+-- The program's run within the limits, from the scope before, prints this, ends with this result
+-- and this trace, and leaves the scope after. Where memory was out, it is the run stopped at some
+-- point.
 pub record Ran (program : View) (limits : Limits) (before after : List Entry)
-    (result : Result Dynamic EvalAltResult) (trace : List Fault) : Type 0 where
+    (printed : List ℕ) (result : Result Dynamic EvalAltResult) (trace : List Fault) : Type 0 where
   pub instructions : ℕ
   pub cells : List Cell
   pub global : GlobalRuntimeState
-  pub evaluates : Evaluates program (engine_of limits) (start before) result
-      (finish trace after cells tt global) instructions
+  pub host : TableHost
+  pub prints : printed ≡ host.printed
+  pub evaluates : Evaluates table_law program (engine_of limits) (start before) result
+      (finish trace after cells host global) instructions

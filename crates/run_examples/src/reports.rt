@@ -34,11 +34,12 @@ fn push_fault(out: &mut Text, fault: &EvalAltResult) -> Result<(), OutOfMemory>
     out.push_str("\n")
 }
 
-/// The report of a run.
+/// The report of a run: what was printed, and its end.
 pub fn report(alloc: Global, outcome: &Outcome) -> Result<Text, OutOfMemory>
-    ensures { IfOk result (λ t. t ≡ report outcome.now.result outcome.now.trace.items) }
+    ensures { IfOk result (λ t.
+        t ≡ report outcome.now.printed outcome.now.result outcome.now.trace.items) }
 {
-    let mut out = Text::new(alloc);
+    let mut out = outcome.printed.copy(alloc)?;
     match &outcome.result {
         Ok(value) => {
             out.push_str("value ")?;

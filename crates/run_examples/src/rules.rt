@@ -6,9 +6,10 @@ ghost use Rattle.grain_listing.specs.SetUpView.{set_up_of, IsReady};
 ghost use Rattle.run_examples.specs.Rules.{capped, IsRule, IsReason, Ran};
 
 use grain_fault::{Fault, RhaiResult};
+use grain_host::TableHost;
 use grain_listing::{BadLine, Setup, read};
 use grain_program::{Program, Refusal, verify};
-use grain_value::{Limits, OutOfMemory, Scope, Store};
+use grain_value::{Limits, OutOfMemory, Scope, Store, Text};
 use grain_vm::{Engine, Steps, Vm};
 use std::alloc::Global;
 use std::fmt;
@@ -68,6 +69,8 @@ impl From<OutOfMemory> for RuleError {
 /// How a run ended.
 #[derive(Drop)]
 pub struct Outcome {
+    /// What the host has printed.
+    pub printed: Text,
     /// The value, or the fault.
     pub result: RhaiResult,
     /// After a fault, the instruction at which each frame stopped, the innermost first.
@@ -129,12 +132,19 @@ pub fn run<L: Ledger>(
     steps: &mut Steps<L>,
 ) -> Result<Outcome, OutOfMemory>
     requires { 0 < limits.operations }
-    ensures { IfOk result (λ o. Ran program.now limits scope.old scope.new o.result o.trace.items) }
+    ensures { IfOk result (λ o.
+        Ran program.now limits scope.old scope.new o.printed o.result o.trace.items) }
 {
     let engine = Engine::new(alloc, limits);
     let mut vm = Vm::new(alloc, &engine)?;
     let mut cells = Store::new(alloc);
-    let result = vm.eval_with_callbacks(alloc, &mut (), &mut cells, scope, program, steps);
+    let mut host = TableHost::new(alloc);
+    let result = vm.eval_with_callbacks(alloc, &mut host, &mut cells, scope, program, steps);
     let trace = Vec::from_slice(alloc, vm.fault_trace())?;
-    Ok(Outcome { result, trace })
+    let printed = host.printed().copy(alloc)?;
+    Ok(Outcome {
+        printed,
+        result,
+        trace,
+    })
 }

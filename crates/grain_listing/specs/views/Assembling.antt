@@ -2,7 +2,8 @@
 use Rattle.std.specs.Prelude.{ℕ, ◌<◌, ◌-◌, ◌^◌, Bool, true, false, List, [], ◌∷◌, ◌++◌, length, Option, Some, None, is_some, Result, Ok, Err, if◌then◌else◌}
 use Rattle.std.specs.Str.{encode_utf8_all}
 use Rattle.std.specs.Int.{w16, w32, to_le_bytes}
-use Rattle.grain_value.specs.declared.values.Dynamic.{Dynamic}
+use Rattle.grain_value.specs.Tree.{Tree}
+use Rattle.grain_value.specs.View.{tree}
 use Rattle.grain_value.specs.declared.operators.Token.{Token}
 use Rattle.grain_value.specs.declared.scopes.Entry.{Entry}
 use Rattle.grain_fault.specs.declared.places.Position.{Position}
@@ -43,7 +44,7 @@ pub record AssemblerView : Type 0 where
   pub caps : Option ℕ
   pub limits : List (List ℕ × ℕ)
   pub scope : List Entry
-  pub consts : List Dynamic
+  pub consts : List Tree
   pub names : List (List ℕ)
   pub tokens : List Token
   pub assigns : List AssignLine
@@ -159,7 +160,7 @@ put_line lines.Capabilities cs v =
 put_line lines.Limit cs v = and_then (limit_line cs v)
     (λ l. Ok (record v { limits = v.limits ++ l ∷ [] }))
 put_line lines.Constant cs v = in_pool v.consts
-    (and_then (constant_of cs) (λ c. Ok (record v { consts = v.consts ++ c ∷ [] })))
+    (and_then (constant_of cs) (λ c. Ok (record v { consts = v.consts ++ tree c ∷ [] })))
 put_line lines.Name cs v = in_pool v.names
     (and_then (text_of cs) (λ t. Ok (record v { names = v.names ++ t ∷ [] })))
 put_line lines.Operator cs v = in_pool v.tokens

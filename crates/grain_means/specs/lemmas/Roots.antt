@@ -1,4 +1,5 @@
--- Values in their places: what is put is there, putting twice is putting once, and putting what is there changes nothing.
+-- Values in their places: what is put is there, putting twice is putting once, and putting what is
+-- there changes nothing.
 use Rattle.std.proofs.Common.{◌≡◌, ℕ, zero, suc, List, [], ◌∷◌, Option, Some, None, refl, ap, sym}
 use Rattle.std.specs.Prelude.{slice_get, slice_set}
 use Rattle.grain_value.specs.declared.values.Held.{Held}
@@ -11,7 +12,8 @@ same-some e = cc
 no-some : {A B : Type 0} {a : A} → None ≡ Some a → B
 no-some e = cc
 
-get-set : (xs : List Held) (i : ℕ) (a b : Held) → slice_get xs i ≡ Some a → slice_get (slice_set xs i b) i ≡ Some b
+get-set : (xs : List Held) (i : ℕ) (a b : Held) → slice_get xs i ≡ Some a →
+    slice_get (slice_set xs i b) i ≡ Some b
 get-set [] i a b e = no-some e
 get-set (x ∷ xs) zero a b e = refl
 get-set (x ∷ xs) (suc i) a b e = get-set xs i a b e
@@ -21,20 +23,24 @@ set-get [] i a e = refl
 set-get (x ∷ xs) zero a e = ap (λ (y : Held). y ∷ xs) (sym (same-some e))
 set-get (x ∷ xs) (suc i) a e = ap (λ (l : List Held). x ∷ l) (set-get xs i a e)
 
-set-twice : (xs : List Held) (i : ℕ) (a b : Held) → slice_set (slice_set xs i a) i b ≡ slice_set xs i b
+set-twice : (xs : List Held) (i : ℕ) (a b : Held) → slice_set (slice_set xs i a) i b ≡
+    slice_set xs i b
 set-twice [] i a b = refl
 set-twice (x ∷ xs) zero a b = refl
 set-twice (x ∷ xs) (suc i) a b = ap (λ (l : List Held). x ∷ l) (set-twice xs i a b)
 
 -- what is bound, put in its place, is there already
-pub puts-bound : (roots : List Held) (place : Option Place) (this : Option Held) → Binds roots place this → puts roots place this ≡ roots
+pub puts-bound : (roots : List Held) (place : Option Place) (this : Option Held) →
+    Binds roots place this → puts roots place this ≡ roots
 puts-bound roots None None b = refl
 puts-bound roots (Some p) (Some t) b = set-get roots p.root t b
 puts-bound roots None (Some t) b = absurd b
 puts-bound roots (Some p) None b = absurd b
 
 -- only the last put counts
-pub puts-twice : (roots : List Held) (place : Option Place) (one two three : Option Held) → Binds roots place one → Binds (puts roots place two) place two → Binds (puts (puts roots place two) place three) place three →
+pub puts-twice : (roots : List Held) (place : Option Place) (one two three : Option Held) →
+    Binds roots place one → Binds (puts roots place two) place two →
+    Binds (puts (puts roots place two) place three) place three →
     puts (puts roots place two) place three ≡ puts roots place three
 puts-twice roots None None None None a b c = refl
 puts-twice roots (Some p) (Some x) (Some y) (Some z) a b c = set-twice roots p.root y z

@@ -1,6 +1,7 @@
 //! What a program may do.
 
 ghost use Rattle.std.specs.Prelude.{⊤, ◌≡◌, [], ◌∷◌, codes};
+ghost use Rattle.grain_program.specs.Bits.{bits_of};
 
 use bitflags::{Flag, Flags, bitflag_items};
 
@@ -27,7 +28,7 @@ impl Flags for Caps {
     ghost table = { (codes "FUNCTION", 1) ∷ (codes "MODULE", 2) ∷ (codes "CLOSURE", 4)
         ∷ (codes "CUSTOM", 8) ∷ (codes "FRAGMENT", 16) ∷ [] };
 
-    ghost set_of = { λ caps. caps.0 };
+    ghost set_of = { bits_of };
 
     fn flags<'a>() -> &'a [Flag<Caps>] {
         Caps::FLAGS
@@ -45,7 +46,7 @@ impl Flags for Caps {
 impl Caps {
     /// Every capability.
     pub fn all() -> Caps
-        ensures { result.0 ≡ 31 }
+        ensures { bits_of result ≡ 31 }
     {
         <Caps as Flags>::all()
     }

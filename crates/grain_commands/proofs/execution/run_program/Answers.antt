@@ -10,17 +10,20 @@ returns-in-Ok g c =
     ap (λ m. m.engine) c.in_ok-vm.ensures ∙
     engine_is c.new-engine.result c.args.limits c.new-engine.ensures.limits
     c.new-engine.ensures.flags in
-    let begun : begin c.args.scope c.new-cells.result tt c.in_ok-vm.vm.global ≡ start c.args.scope =
-    begin_is c.args.scope c.new-cells.result c.in_ok-vm.vm c.new-engine.result c.new-cells.ensures
-    c.in_ok-vm.ensures in
+    let begun : begin c.args.scope c.new-cells.result c.new-host.result c.in_ok-vm.vm.global ≡
+    start c.args.scope =
+    begin_is c.args.scope c.new-cells.result c.new-host.result c.in_ok-vm.vm c.new-engine.result
+    c.new-cells.ensures c.new-host.ensures c.in_ok-vm.ensures in
     let run = c.in-Ok.ensures.evaluates in
+    let text = rw c.printed.ensures at c.value_reply.ensures.text in
     value_told c.args.program.now c.args.limits c.args.scope c.in-Ok.value c.in_ok-vm.vm.engine
-    (begin c.args.scope c.new-cells.result tt c.in_ok-vm.vm.global)
+    (begin c.args.scope c.new-cells.result c.new-host.result c.in_ok-vm.vm.global)
     (finish c.eval_with_callbacks.new.self.trace c.eval_with_callbacks.new.scope
-    c.eval_with_callbacks.new.cells tt c.eval_with_callbacks.new.self.global)
+    c.eval_with_callbacks.new.cells c.eval_with_callbacks.new.host
+    c.eval_with_callbacks.new.self.global) c.eval_with_callbacks.new.host.printed
     c.eval_with_callbacks.new.self.trace run.0 c.value_reply.result engine begun
-    (λ a. (refl, refl))
-    run.1.0 c.value_reply.ensures.status c.value_reply.ensures.text
+    (λ a. (refl, refl, refl))
+    run.1.0 c.value_reply.ensures.status text
 
 pub returns : goal.returns
 returns g c =
@@ -28,15 +31,17 @@ returns g c =
     ap (λ m. m.engine) c.in_ok-vm.ensures ∙
     engine_is c.new-engine.result c.args.limits c.new-engine.ensures.limits
     c.new-engine.ensures.flags in
-    let begun : begin c.args.scope c.new-cells.result tt c.in_ok-vm.vm.global ≡ start c.args.scope =
-    begin_is c.args.scope c.new-cells.result c.in_ok-vm.vm c.new-engine.result c.new-cells.ensures
-    c.in_ok-vm.ensures in
+    let begun : begin c.args.scope c.new-cells.result c.new-host.result c.in_ok-vm.vm.global ≡
+    start c.args.scope =
+    begin_is c.args.scope c.new-cells.result c.new-host.result c.in_ok-vm.vm c.new-engine.result
+    c.new-cells.ensures c.new-host.ensures c.in_ok-vm.ensures in
     let run = c.in-Err.ensures.evaluates in
-    let text = rw c.fault_trace.ensures at c.fault_reply.ensures.text in
+    let text = rw (c.fault_trace.ensures, c.printed-in-Err.ensures) at c.fault_reply.ensures.text in
     fault_told c.args.program.now c.args.limits c.args.scope c.in-Err.fault c.in_ok-vm.vm.engine
-    (begin c.args.scope c.new-cells.result tt c.in_ok-vm.vm.global)
+    (begin c.args.scope c.new-cells.result c.new-host.result c.in_ok-vm.vm.global)
     (finish c.eval_with_callbacks.new.self.trace c.eval_with_callbacks.new.scope
-    c.eval_with_callbacks.new.cells tt c.eval_with_callbacks.new.self.global)
+    c.eval_with_callbacks.new.cells c.eval_with_callbacks.new.host
+    c.eval_with_callbacks.new.self.global) c.eval_with_callbacks.new.host.printed
     c.eval_with_callbacks.new.self.trace run.0 c.fault_reply.result engine begun
-    (λ a. (refl, refl))
+    (λ a. (refl, refl, refl))
     run.1.0 c.fault_reply.ensures.status text c.fault_reply.ensures.memory

@@ -1,3 +1,4 @@
+use Rattle.grain_host.specs.Tables.{table_law}
 use Rattle.grain_commands.proofs.Completed.{completed}
 use Rattle.grain_commands.proofs.Says.{beside}
 use Rattle.grain_commands.proofs.laws.statuses_are_due.Goals as goal
@@ -8,4 +9,5 @@ returns-clause-beside c words input before now counts status ended =
 
 pub returns-clause-complete : goal.returns-clause-complete
 returns-clause-complete c words input before now counts status ended =
-    completed c.one_meaning.ensures c.one_refusal.ensures words input before now counts status ended
+    completed (c.one_meaning.ensures table_law) c.one_refusal.ensures words input before now counts
+    status ended

@@ -17,13 +17,31 @@ returns-clause-evaluates g c =
     let after = c.run_main-back.new.self in
     let steps = c.run_main-back.new.steps in
     let back = c.run_main-back.result in
-    let b : Begin g.row.H.Denot = begin c.args.scope.now c.args.cells.now c.args.host.now c.args.global.now in
+    let b : Begin g.row.H.Denot =
+    begin c.args.scope.now c.args.cells.now c.args.host.now c.args.global.now in
     let trace = ap (λ (v : StacksView). v.trace) (c.replace.ensures.value ∙ c.cut_trace.ensures) in
-    let first = first_state c.replace.result.trace c.args.scope.now c.replace-2.result c.args.cells.now c.replace-3.result c.args.host.now c.args.global.now.num_operations c.args.global.now.level (instructions c.args.steps.now) c.start.new.self trace c.replace-2.ensures.value c.replace-3.ensures.value c.start.ensures in
-    let goes = subst (λ (q : LocalState g.row.H.Denot). Simulates (setup c.args.program.now engine) q (λ m place w. called m place w) (is_out back) (abstraction after steps c.run_main-back.new.host) (finished_with back)) first c.run_main-back.ensures.goes in
-    let counted : steps.before + steps.begun ≡ c.args.steps.now.before + c.args.steps.now.begun + steps.begun =
-    ap (λ n. n + steps.begun) (c.run_main-back.ensures.before ∙ ap (λ (k : Counts). k.before) c.start.ensures) in
-    (steps.begun, (rw (← c.self.view_is, c.answered.ensures) (evaluated c.counted.ensures c.args.program.now engine b after.stacks.trace after.scope after.cells c.run_main-back.new.host after.count after.level steps.begun steps.passed back goes), counted))
+    let first = first_state c.replace.result.trace c.args.scope.now c.replace-2.result
+    c.args.cells.now c.replace-3.result c.args.host.now c.args.global.now.num_operations
+    c.args.global.now.level (instructions c.args.steps.now) c.start.new.self trace
+    c.replace-2.ensures.value c.replace-3.ensures.value c.start.ensures in
+    let goes =
+    subst (λ (q : LocalState g.row.H.Denot).
+    Simulates (setup g.H.Host.law c.args.program.now engine) q (λ m place w. called m place w)
+    (is_out back) (abstraction after steps c.run_main-back.new.host) (finished_with back)) first
+    c.run_main-back.ensures.goes in
+    let counted : steps.before + steps.begun ≡ c.args.steps.now.before + c.args.steps.now.begun +
+    steps.begun =
+    ap (λ n. n + steps.begun)
+    (c.run_main-back.ensures.before ∙ ap (λ (k : Counts). k.before) c.start.ensures) in (
+      steps.begun,
+      (
+        rw (← c.self.view_is, c.answered.ensures)
+            (evaluated c.counted.ensures g.H.Host.law c.args.program.now engine b after.stacks.trace
+            after.scope after.cells c.run_main-back.new.host after.count after.level steps.begun
+            steps.passed back goes),
+        counted,
+      ),
+    )
 
 pub returns-clause-causes : goal.returns-clause-causes
 returns-clause-causes g c =
@@ -31,11 +49,22 @@ returns-clause-causes g c =
     let after = c.run_main-back.new.self in
     let steps = c.run_main-back.new.steps in
     let back = c.run_main-back.result in
-    let b : Begin g.row.H.Denot = begin c.args.scope.now c.args.cells.now c.args.host.now c.args.global.now in
+    let b : Begin g.row.H.Denot =
+    begin c.args.scope.now c.args.cells.now c.args.host.now c.args.global.now in
     let trace = ap (λ (v : StacksView). v.trace) (c.replace.ensures.value ∙ c.cut_trace.ensures) in
-    let first = first_state c.replace.result.trace c.args.scope.now c.replace-2.result c.args.cells.now c.replace-3.result c.args.host.now c.args.global.now.num_operations c.args.global.now.level (instructions c.args.steps.now) c.start.new.self trace c.replace-2.ensures.value c.replace-3.ensures.value c.start.ensures in
-    let goes = subst (λ (q : LocalState g.row.H.Denot). Simulates (setup c.args.program.now engine) q (λ m place w. called m place w) (is_out back) (abstraction after steps c.run_main-back.new.host) (finished_with back)) first c.run_main-back.ensures.goes in
-    rw (← c.self.view_is, c.answered.ensures) (has_cause c.counted.ensures c.args.program.now engine b after.stacks.trace after.scope after.cells c.run_main-back.new.host after.count after.level steps.begun steps.passed back goes)
+    let first = first_state c.replace.result.trace c.args.scope.now c.replace-2.result
+    c.args.cells.now c.replace-3.result c.args.host.now c.args.global.now.num_operations
+    c.args.global.now.level (instructions c.args.steps.now) c.start.new.self trace
+    c.replace-2.ensures.value c.replace-3.ensures.value c.start.ensures in
+    let goes =
+    subst (λ (q : LocalState g.row.H.Denot).
+    Simulates (setup g.H.Host.law c.args.program.now engine) q (λ m place w. called m place w)
+    (is_out back) (abstraction after steps c.run_main-back.new.host) (finished_with back)) first
+    c.run_main-back.ensures.goes in
+    rw (← c.self.view_is, c.answered.ensures)
+    (has_cause c.counted.ensures g.H.Host.law c.args.program.now engine b after.stacks.trace
+    after.scope after.cells c.run_main-back.new.host after.count after.level steps.begun
+    steps.passed back goes)
 
 pub returns-clause-leaves : goal.returns-clause-leaves
 returns-clause-leaves g c =
@@ -43,11 +72,22 @@ returns-clause-leaves g c =
     let after = c.run_main-back.new.self in
     let steps = c.run_main-back.new.steps in
     let back = c.run_main-back.result in
-    let b : Begin g.row.H.Denot = begin c.args.scope.now c.args.cells.now c.args.host.now c.args.global.now in
+    let b : Begin g.row.H.Denot =
+    begin c.args.scope.now c.args.cells.now c.args.host.now c.args.global.now in
     let trace = ap (λ (v : StacksView). v.trace) (c.replace.ensures.value ∙ c.cut_trace.ensures) in
-    let first = first_state c.replace.result.trace c.args.scope.now c.replace-2.result c.args.cells.now c.replace-3.result c.args.host.now c.args.global.now.num_operations c.args.global.now.level (instructions c.args.steps.now) c.start.new.self trace c.replace-2.ensures.value c.replace-3.ensures.value c.start.ensures in
-    let goes = subst (λ (q : LocalState g.row.H.Denot). Simulates (setup c.args.program.now engine) q (λ m place w. called m place w) (is_out back) (abstraction after steps c.run_main-back.new.host) (finished_with back)) first c.run_main-back.ensures.goes in
-    rw (← c.self.view_is, c.answered.ensures) (leaves c.counted.ensures c.args.program.now engine b after.stacks.trace after.scope after.cells c.run_main-back.new.host after.count after.level steps.begun steps.passed back goes)
+    let first = first_state c.replace.result.trace c.args.scope.now c.replace-2.result
+    c.args.cells.now c.replace-3.result c.args.host.now c.args.global.now.num_operations
+    c.args.global.now.level (instructions c.args.steps.now) c.start.new.self trace
+    c.replace-2.ensures.value c.replace-3.ensures.value c.start.ensures in
+    let goes =
+    subst (λ (q : LocalState g.row.H.Denot).
+    Simulates (setup g.H.Host.law c.args.program.now engine) q (λ m place w. called m place w)
+    (is_out back) (abstraction after steps c.run_main-back.new.host) (finished_with back)) first
+    c.run_main-back.ensures.goes in
+    rw (← c.self.view_is, c.answered.ensures)
+    (leaves c.counted.ensures g.H.Host.law c.args.program.now engine b after.stacks.trace
+    after.scope after.cells c.run_main-back.new.host after.count after.level steps.begun
+    steps.passed back goes)
 
 pub returns-clause-level : goal.returns-clause-level
 returns-clause-level g c =
@@ -55,14 +95,27 @@ returns-clause-level g c =
     let after = c.run_main-back.new.self in
     let steps = c.run_main-back.new.steps in
     let back = c.run_main-back.result in
-    let b : Begin g.row.H.Denot = begin c.args.scope.now c.args.cells.now c.args.host.now c.args.global.now in
+    let b : Begin g.row.H.Denot =
+    begin c.args.scope.now c.args.cells.now c.args.host.now c.args.global.now in
     let trace = ap (λ (v : StacksView). v.trace) (c.replace.ensures.value ∙ c.cut_trace.ensures) in
-    let first = first_state c.replace.result.trace c.args.scope.now c.replace-2.result c.args.cells.now c.replace-3.result c.args.host.now c.args.global.now.num_operations c.args.global.now.level (instructions c.args.steps.now) c.start.new.self trace c.replace-2.ensures.value c.replace-3.ensures.value c.start.ensures in
-    let goes = subst (λ (q : LocalState g.row.H.Denot). Simulates (setup c.args.program.now engine) q (λ m place w. called m place w) (is_out back) (abstraction after steps c.run_main-back.new.host) (finished_with back)) first c.run_main-back.ensures.goes in
-    same_level c.counted.ensures c.args.program.now engine b after.stacks.trace after.scope after.cells c.run_main-back.new.host after.count after.level steps.begun steps.passed back goes
+    let first = first_state c.replace.result.trace c.args.scope.now c.replace-2.result
+    c.args.cells.now c.replace-3.result c.args.host.now c.args.global.now.num_operations
+    c.args.global.now.level (instructions c.args.steps.now) c.start.new.self trace
+    c.replace-2.ensures.value c.replace-3.ensures.value c.start.ensures in
+    let goes =
+    subst (λ (q : LocalState g.row.H.Denot).
+    Simulates (setup g.H.Host.law c.args.program.now engine) q (λ m place w. called m place w)
+    (is_out back) (abstraction after steps c.run_main-back.new.host) (finished_with back)) first
+    c.run_main-back.ensures.goes in
+    same_level c.counted.ensures g.H.Host.law c.args.program.now engine b after.stacks.trace
+    after.scope after.cells c.run_main-back.new.host after.count after.level steps.begun
+    steps.passed back goes
 
 pub returns-clause-provided : goal.returns-clause-provided
 returns-clause-provided g c =
-    let b : Begin g.row.H.Denot = begin c.args.scope.now c.args.cells.now c.args.host.now c.args.global.now in
-    let m : Setup g.row.H.Denot = setup c.args.program.now c.self.inside.engine.now in
-    rw (← c.self.view_is) (λ f w comes. c.provided.ensures m None (first_world b) w f c.run_main-back.ensures.valid comes)
+    let b : Begin g.row.H.Denot =
+    begin c.args.scope.now c.args.cells.now c.args.host.now c.args.global.now in
+    let m : Setup g.row.H.Denot = setup g.H.Host.law c.args.program.now c.self.inside.engine.now in
+    rw (← c.self.view_is)
+    (λ f w comes. c.provided.ensures m None (first_world b) w f c.run_main-back.ensures.valid
+    comes)

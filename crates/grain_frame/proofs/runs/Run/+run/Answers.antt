@@ -7,10 +7,11 @@ use Rattle.grain_frame.specs.declared.activations.Activation.{Activation}
 use Rattle.grain_frame.specs.declared.runs.Progress.{Progress}
 use Rattle.grain_frame.specs.declared.runs.Run.{Run}
 use Rattle.grain_frame.specs.declared.loops.Pending.{Pending}
-use Rattle.grain_frame.proofs.Arms.{call_stepped}
+use Rattle.grain_program.specs.declared.code.instructions.Op.TheVariants as op
+use Rattle.grain_frame.proofs.Arms.{call_stepped, stood}
 use Rattle.grain_frame.proofs.Calling.{call_over, call_ran, has_begun, not_begun, entered_with, found_is, params_are, there_is, outer_is}
 use Rattle.grain_frame.proofs.Measure.{falls}
-use Rattle.grain_frame.proofs.Turns.{moved_back, turn, flowed, left_out, next_runs}
+use Rattle.grain_frame.proofs.Turns.{moved_back, turn, flowed, left_out, next_runs, taken_back}
 use Rattle.grain_frame.proofs.runs.Run.+run.Goals as goal
 
 pub call-returns-in-Err-clause-goes : goal.call-returns-in-Err-clause-goes
@@ -18,73 +19,127 @@ call-returns-in-Err-clause-goes g t c =
     let p = c.args.context.program.now in
     let function = c.function_at-function.result.now in
     let f = frame_in c.args.frame.now c.args.self.now in
-    let found = found_is p c.args.name c.args.count c.from.result c.from-count.result c.in-Some.number function c.from.ensures c.from-count.ensures c.in-Some.ensures.exact c.function_at-function.ensures.value in
-    let all = params_are p c.from.result c.args.count c.from-count.result c.in-Some.number function c.from-count.ensures c.in-Some.ensures.called c.function_at-function.ensures.value in
+    let found = found_is p c.args.name c.args.count c.from.result c.from-count.result
+    c.in-Some.number function c.from.ensures c.from-count.ensures c.in-Some.ensures.exact
+    c.function_at-function.ensures.value in
+    let all = params_are p c.from.result c.args.count c.from-count.result c.in-Some.number function
+    c.from-count.ensures c.in-Some.ensures.called c.function_at-function.ensures.value in
     let cut : Option Place → Frame = λ place. without (length function.params) (f place) in
-    call_over f c.args.name c.args.count c.args.next function found all (c.in-Err.ensures.same c.args.next c.args.host.now)
+    call_over f c.args.name c.args.count c.args.next function found all
+    (c.in-Err.ensures.same c.args.next)
 
 pub call-returns-else-begun-clause-goes : goal.call-returns-else-begun-clause-goes
 call-returns-else-begun-clause-goes g t c =
     let p = c.args.context.program.now in
     let function = c.function_at-function.result.now in
     let f = frame_in c.args.frame.now c.args.self.now in
-    let found = found_is p c.args.name c.args.count c.from.result c.from-count.result c.in-Some.number function c.from.ensures c.from-count.ensures c.in-Some.ensures.exact c.function_at-function.ensures.value in
-    let all = params_are p c.from.result c.args.count c.from-count.result c.in-Some.number function c.from-count.ensures c.in-Some.ensures.called c.function_at-function.ensures.value in
+    let found = found_is p c.args.name c.args.count c.from.result c.from-count.result
+    c.in-Some.number function c.from.ensures c.from-count.ensures c.in-Some.ensures.exact
+    c.function_at-function.ensures.value in
+    let all = params_are p c.from.result c.args.count c.from-count.result c.in-Some.number function
+    c.from-count.ensures c.in-Some.ensures.called c.function_at-function.ensures.value in
     let cut : Option Place → Frame = λ place. without (length function.params) (f place) in
-    call_over f c.args.name c.args.count c.args.next function found all (not_begun c.in-Ok.begun c.args.self.now c.begin.new.self function cut c.args.next c.if-begun.false (c.in-Ok.ensures.same c.args.next c.args.host.now))
+    call_over f c.args.name c.args.count c.args.next function found all
+    (not_begun c.in-Ok.begun c.args.self.now c.begin.new.self function cut c.args.next
+    c.if-begun.false (c.in-Ok.ensures.same c.args.next))
 
 pub call-returns-then-begun-clause-goes : goal.call-returns-then-begun-clause-goes
 call-returns-then-begun-clause-goes g t c =
     let p = c.args.context.program.now in
     let function = c.function_at-function.result.now in
     let f = frame_in c.args.frame.now c.args.self.now in
-    let found = found_is p c.args.name c.args.count c.from.result c.from-count.result c.in-Some.number function c.from.ensures c.from-count.ensures c.in-Some.ensures.exact c.function_at-function.ensures.value in
-    let all = params_are p c.from.result c.args.count c.from-count.result c.in-Some.number function c.from-count.ensures c.in-Some.ensures.called c.function_at-function.ensures.value in
+    let found = found_is p c.args.name c.args.count c.from.result c.from-count.result
+    c.in-Some.number function c.from.ensures c.from-count.ensures c.in-Some.ensures.exact
+    c.function_at-function.ensures.value in
+    let all = params_are p c.from.result c.args.count c.from-count.result c.in-Some.number function
+    c.from-count.ensures c.in-Some.ensures.called c.function_at-function.ensures.value in
     let cut : Option Place → Frame = λ place. without (length function.params) (f place) in
-    let entered = entered_with c.args.context.engine.now function c.args.self.now c.begin.new.self c.in-Ok.begun c.if-begun.true c.in-Ok.ensures.enters in
+    let entered = entered_with c.args.context.engine.now function c.args.self.now c.begin.new.self
+    c.in-Ok.begun c.if-begun.true c.in-Ok.ensures.enters in
     let ran = c.run_frame-end in
-    call_ran f c.args.name c.args.count c.args.next function found c.args.self.now.scope c.args.self.now.level all
-    (has_begun c.in-Ok.begun c.args.self.now c.begin.new.self function cut c.args.next c.if-begun.true (c.in-Ok.ensures.same c.args.next c.args.host.now))
+    call_ran f c.args.name c.args.count c.args.next function found c.args.self.now.scope
+    c.args.self.now.level all
+    (has_begun c.in-Ok.begun c.args.self.now c.begin.new.self function cut c.args.next
+    c.if-begun.true (c.in-Ok.ensures.same c.args.next))
     (λ place. rw entered.operands refl) refl ran.ensures.goes
-    (there_is c.args.context.engine.now c.args.frame.now c.resume_caller.new.frame c.args.self.now c.begin.new.self ran.new.self c.resume_caller.new.self function c.args.count c.args.next entered ran.ensures.outer ran.ensures.saved ran.ensures.level ran.new.steps ran.new.host)
-    (outer_is c.args.context.engine.now c.args.frame.now c.resume_caller.new.frame c.args.self.now c.begin.new.self ran.new.self c.resume_caller.new.self function c.args.count c.args.next entered ran.ensures.outer ran.ensures.saved ran.ensures.level all)
+    (there_is c.args.context.engine.now c.args.frame.now c.resume_caller.new.frame c.args.self.now
+    c.begin.new.self ran.new.self c.resume_caller.new.self function c.args.count c.args.next
+    entered ran.ensures.outer ran.ensures.saved ran.ensures.level ran.new.steps ran.new.host)
+    (outer_is c.args.context.engine.now c.args.frame.now c.resume_caller.new.frame c.args.self.now
+    c.begin.new.self ran.new.self c.resume_caller.new.self function c.args.count c.args.next
+    entered ran.ensures.outer ran.ensures.saved ran.ensures.level all)
     (c.resume_caller.ensures.same ran.new.host) c.resume_caller.ensures.persists
 
 pub proceed-returns-in-Call : goal.proceed-returns-in-Call
 proceed-returns-in-Call g t c =
     let p = c.args.context.program.now in
-    let at = subst (λ (q : Pending). IsPending p c.args.frame.now c.args.self.now q) c.in-Call.is c.requires.pending in
-    record { stepped = call_stepped p c.args.context.engine.now c.args.frame.now c.args.self.now c.in-Call.name c.in-Call.count c.in-Call.next at c.requires.runs c.args.steps.now c.call.new.frame c.call.new.self c.call.new.steps c.args.host.now c.call.new.host c.call.ensures.goes c.call.ensures.kept c.call.ensures.lands c.call.ensures.before }
+    let at = subst (λ (q : Pending). IsPending p c.args.frame.now c.args.self.now q) c.in-Call.is
+    c.requires.pending in
+    record {
+      stepped = call_stepped g.H.Host.law p c.args.context.engine.now c.args.frame.now
+          c.args.self.now c.in-Call.name c.in-Call.count c.in-Call.next at c.requires.runs
+          c.args.steps.now c.call.new.frame c.call.new.self c.call.new.steps c.args.host.now
+          c.call.new.host c.call.ensures.goes c.call.ensures.kept c.call.ensures.lands
+          c.call.ensures.before;
+    }
+
+pub proceed-returns-in-Jump : goal.proceed-returns-in-Jump
+proceed-returns-in-Jump g t c =
+    let p = c.args.context.program.now in
+    let at = subst (λ (q : Pending). IsPending p c.args.frame.now c.args.self.now q) c.in-Jump.is
+    c.requires.pending in
+    record {
+      stepped = stood g.H.Host.law p c.args.context.engine.now c.args.frame.now
+          c.args.self.now (op.Jump c.in-Jump.target) at.0 at.1 c.requires.runs
+          c.args.steps.now c.jump_to.new.frame c.jump_to.new.self c.jump_to.new.steps
+          c.args.host.now c.jump_to.new.host c.jump_to.ensures.implements;
+    }
 
 pub proceed-returns-in-Other : goal.proceed-returns-in-Other
 proceed-returns-in-Other g t c =
-    record { stepped = c.step-progress.ensures.stepped c.args.host.now }
+    let did = c.step-progress.ensures.stepped in
+    let same = taken_back c.args.frame.now c.step-progress.new.frame did.kept.chunk did.kept.base in
+    record {
+      stepped =
+          subst (λ (f : Activation). Stepped g.H.Host.law c.args.context.program.now
+          c.args.context.engine.now c.args.frame.now c.args.self.now c.args.steps.now
+          c.step-progress.result f c.step-progress.new.self c.step-progress.new.steps
+          c.args.host.now
+          c.step-progress.new.host) same did;
+    }
 
 pub run_frame-turn-smaller-in-Done : goal.run_frame-turn-smaller-in-Done
 run_frame-turn-smaller-in-Done g t c =
     let did = c.in-Done.ensures c.turn.host in
-    falls c.args.context.engine.now c.turn.self.count c.quick.new.self.count c.turn.frame.address c.quick.new.frame.address did.stays.1 did.stays.2
+    falls c.args.context.engine.now c.turn.self.count c.quick.new.self.count c.turn.frame.address
+    c.quick.new.frame.address did.stays.1 did.stays.2
 
 pub run_frame-turn-preserved-in-Done : goal.run_frame-turn-preserved-in-Done
 run_frame-turn-preserved-in-Done g t c =
     let did = c.in-Done.ensures c.turn.host in
     let now = c.turn.invariant in
-    let fewer = falls c.args.context.engine.now c.turn.self.count c.quick.new.self.count c.turn.frame.address c.quick.new.frame.address did.stays.1 did.stays.2 in
+    let fewer = falls c.args.context.engine.now c.turn.self.count c.quick.new.self.count
+    c.turn.frame.address c.quick.new.frame.address did.stays.1 did.stays.2 in
     record {
-      goes = turn (abstraction c.turn.self c.turn.steps c.turn.host) (rw (c.mark.ensures, c.tick.ensures) refl) now.goes did.goes;
-      runs = next_runs c.args.context.program.now c.turn.frame c.quick.new.frame c.turn.self c.quick.new.self now.runs did.kept did.stays.0;
+      goes = turn (abstraction c.turn.self c.turn.steps c.turn.host)
+          (rw (c.mark.ensures, c.tick.ensures) refl) now.goes did.goes;
+      runs = next_runs c.args.context.program.now c.turn.frame c.quick.new.frame c.turn.self
+          c.quick.new.self now.runs did.kept did.stays.0;
       outer = did.kept.outer ∙ now.outer;
       saved = did.kept.saved ∙ now.saved;
       level = did.kept.level ∙ now.level;
       later = omega (arith, did.kept.later, now.later);
       fewer = omega (arith, fewer, now.fewer);
-      before = did.before ∙ (ap (λ (k : Counts). k.before) c.mark.ensures ∙ (ap (λ (k : Counts). k.before) c.tick.ensures ∙ now.before));
+      before = did.before ∙
+          (ap (λ (k : Counts). k.before) c.mark.ensures ∙
+          (ap (λ (k : Counts). k.before) c.tick.ensures ∙ now.before));
     }
 
 pub run_frame-returns-in-Returned-clause-goes : goal.run_frame-returns-in-Returned-clause-goes
 run_frame-returns-in-Returned-clause-goes g t c =
     let did = c.in-Returned.ensures c.turn.host in
-    turn (abstraction c.turn.self c.turn.steps c.turn.host) (rw (c.mark.ensures, c.tick.ensures) refl) c.turn.invariant.goes did.goes
+    turn (abstraction c.turn.self c.turn.steps c.turn.host)
+    (rw (c.mark.ensures, c.tick.ensures) refl) c.turn.invariant.goes did.goes
 
 pub run_frame-returns-in-Returned-clause-outer : goal.run_frame-returns-in-Returned-clause-outer
 run_frame-returns-in-Returned-clause-outer g t c =
@@ -100,49 +155,94 @@ run_frame-returns-in-Returned-clause-level g t c =
 
 pub run_frame-returns-in-Returned-clause-later : goal.run_frame-returns-in-Returned-clause-later
 run_frame-returns-in-Returned-clause-later g t c =
-    let did = c.in-Returned.ensures c.turn.host in omega (arith, did.kept.later, c.turn.invariant.later)
+    let did =
+    c.in-Returned.ensures c.turn.host in omega (arith, did.kept.later, c.turn.invariant.later)
 
 pub run_frame-returns-in-Returned-clause-before : goal.run_frame-returns-in-Returned-clause-before
 run_frame-returns-in-Returned-clause-before g t c =
     let did = c.in-Returned.ensures c.turn.host in
-    did.before ∙ (ap (λ (k : Counts). k.before) c.mark.ensures ∙ (ap (λ (k : Counts). k.before) c.tick.ensures ∙ c.turn.invariant.before))
+    did.before ∙
+    (ap (λ (k : Counts). k.before) c.mark.ensures ∙
+    (ap (λ (k : Counts). k.before) c.tick.ensures ∙ c.turn.invariant.before))
 
 pub run_frame-returns-in-Err-clause-goes : goal.run_frame-returns-in-Err-clause-goes
 run_frame-returns-in-Err-clause-goes g t c =
     let at = frame_in c.proceed.new.frame c.proceed.new.self in
-    let did = moved_back (λ (s : Run g.row.H.Denot) (f : Activation) (n : Counts). Stepped c.args.context.program.now c.args.context.engine.now f s n (Err c.in-Err.e) c.proceed.new.frame c.proceed.new.self c.proceed.new.steps c.turn.host c.proceed.new.host) c.in-Pending.ensures.0 c.in-Err.ensures.stepped in
-    left_out (abstraction c.proceed.new.self c.proceed.new.steps c.proceed.new.host) (abstraction c.leave_by_fault.new.self c.proceed.new.steps c.proceed.new.host) at c.proceed.new.frame.floor c.proceed.new.frame.address (λ place. refl) (λ place. refl)
-    (rw c.leave_by_fault.ensures refl) (turn (abstraction c.turn.self c.turn.steps c.turn.host) (rw (c.mark.ensures, c.tick.ensures) refl) c.turn.invariant.goes did.goes)
+    let did =
+    moved_back
+    (λ (s : Run g.row.H.Denot) (f : Activation) (n : Counts).
+    Stepped g.H.Host.law c.args.context.program.now c.args.context.engine.now f s n
+    (Err c.in-Err.e) c.proceed.new.frame c.proceed.new.self c.proceed.new.steps c.turn.host
+    c.proceed.new.host) c.in-Pending.ensures.0 c.in-Err.ensures.stepped in
+    left_out (abstraction c.proceed.new.self c.proceed.new.steps c.proceed.new.host)
+    (abstraction c.leave_by_fault.new.self c.proceed.new.steps c.proceed.new.host) at
+    c.proceed.new.frame.floor c.proceed.new.frame.address (λ place. refl) (λ place. refl)
+    (rw c.leave_by_fault.ensures refl)
+    (turn (abstraction c.turn.self c.turn.steps c.turn.host)
+    (rw (c.mark.ensures, c.tick.ensures) refl) c.turn.invariant.goes did.goes)
 
 pub run_frame-turn-preserved : goal.run_frame-turn-preserved
 run_frame-turn-preserved g t c =
     let at = frame_in c.proceed.new.frame c.proceed.new.self in
-    let did = moved_back (λ (s : Run g.row.H.Denot) (f : Activation) (n : Counts). Stepped c.args.context.program.now c.args.context.engine.now f s n (Ok c.in-Ok.progress) c.proceed.new.frame c.proceed.new.self c.proceed.new.steps c.turn.host c.proceed.new.host) c.in-Pending.ensures.0 c.in-Ok.ensures.stepped in
-    let stays = subst (λ (q : Progress). StaysTyped c.args.context.program.now c.args.context.engine.now c.turn.self c.turn.frame c.proceed.new.self c.proceed.new.frame (Ok q)) c.in-Continues.is did.stays in
+    let did =
+    moved_back
+    (λ (s : Run g.row.H.Denot) (f : Activation) (n : Counts).
+    Stepped g.H.Host.law c.args.context.program.now c.args.context.engine.now f s n
+    (Ok c.in-Ok.progress) c.proceed.new.frame c.proceed.new.self c.proceed.new.steps c.turn.host
+    c.proceed.new.host) c.in-Pending.ensures.0 c.in-Ok.ensures.stepped in
+    let stays =
+    subst (λ (q : Progress). StaysTyped c.args.context.program.now c.args.context.engine.now
+    c.turn.self c.turn.frame c.proceed.new.self c.proceed.new.frame (Ok q)) c.in-Continues.is
+    did.stays in
     let now = c.turn.invariant in
-    let fewer = falls c.args.context.engine.now c.turn.self.count c.proceed.new.self.count c.turn.frame.address c.proceed.new.frame.address stays.1 stays.2 in
+    let fewer = falls c.args.context.engine.now c.turn.self.count c.proceed.new.self.count
+    c.turn.frame.address c.proceed.new.frame.address stays.1 stays.2 in
     record {
-      goes = flowed at c.proceed.new.self.fault c.in-Continues.is (turn (abstraction c.turn.self c.turn.steps c.turn.host) (rw (c.mark.ensures, c.tick.ensures) refl) now.goes did.goes);
-      runs = next_runs c.args.context.program.now c.turn.frame c.proceed.new.frame c.turn.self c.proceed.new.self now.runs did.kept stays.0;
+      goes = flowed at c.proceed.new.self.fault c.in-Continues.is
+          (turn (abstraction c.turn.self c.turn.steps c.turn.host)
+          (rw (c.mark.ensures, c.tick.ensures) refl) now.goes did.goes);
+      runs = next_runs c.args.context.program.now c.turn.frame c.proceed.new.frame c.turn.self
+          c.proceed.new.self now.runs did.kept stays.0;
       outer = did.kept.outer ∙ now.outer;
       saved = did.kept.saved ∙ now.saved;
       level = did.kept.level ∙ now.level;
       later = omega (arith, did.kept.later, now.later);
       fewer = omega (arith, fewer, now.fewer);
-      before = did.before ∙ (ap (λ (k : Counts). k.before) c.mark.ensures ∙ (ap (λ (k : Counts). k.before) c.tick.ensures ∙ now.before));
+      before = did.before ∙
+          (ap (λ (k : Counts). k.before) c.mark.ensures ∙
+          (ap (λ (k : Counts). k.before) c.tick.ensures ∙ now.before));
     }
 
-pub run_frame-returns-in-Returned-progress-clause-goes : goal.run_frame-returns-in-Returned-progress-clause-goes
+pub run_frame-returns-in-Returned-progress-clause-goes :
+    goal.run_frame-returns-in-Returned-progress-clause-goes
 run_frame-returns-in-Returned-progress-clause-goes g t c =
     let at = frame_in c.proceed.new.frame c.proceed.new.self in
-    let did = moved_back (λ (s : Run g.row.H.Denot) (f : Activation) (n : Counts). Stepped c.args.context.program.now c.args.context.engine.now f s n (Ok c.in-Ok.progress) c.proceed.new.frame c.proceed.new.self c.proceed.new.steps c.turn.host c.proceed.new.host) c.in-Pending.ensures.0 c.in-Ok.ensures.stepped in
-    flowed at c.proceed.new.self.fault c.in-Returned-progress.is (turn (abstraction c.turn.self c.turn.steps c.turn.host) (rw (c.mark.ensures, c.tick.ensures) refl) c.turn.invariant.goes did.goes)
+    let did =
+    moved_back
+    (λ (s : Run g.row.H.Denot) (f : Activation) (n : Counts).
+    Stepped g.H.Host.law c.args.context.program.now c.args.context.engine.now f s n
+    (Ok c.in-Ok.progress) c.proceed.new.frame c.proceed.new.self c.proceed.new.steps c.turn.host
+    c.proceed.new.host) c.in-Pending.ensures.0 c.in-Ok.ensures.stepped in
+    flowed at c.proceed.new.self.fault c.in-Returned-progress.is
+    (turn (abstraction c.turn.self c.turn.steps c.turn.host)
+    (rw (c.mark.ensures, c.tick.ensures) refl) c.turn.invariant.goes did.goes)
 
 pub run_frame-returns-in-Failed-clause-goes : goal.run_frame-returns-in-Failed-clause-goes
 run_frame-returns-in-Failed-clause-goes g t c =
     let at = frame_in c.proceed.new.frame c.proceed.new.self in
-    let did = moved_back (λ (s : Run g.row.H.Denot) (f : Activation) (n : Counts). Stepped c.args.context.program.now c.args.context.engine.now f s n (Ok c.in-Ok.progress) c.proceed.new.frame c.proceed.new.self c.proceed.new.steps c.turn.host c.proceed.new.host) c.in-Pending.ensures.0 c.in-Ok.ensures.stepped in
+    let did =
+    moved_back
+    (λ (s : Run g.row.H.Denot) (f : Activation) (n : Counts).
+    Stepped g.H.Host.law c.args.context.program.now c.args.context.engine.now f s n
+    (Ok c.in-Ok.progress) c.proceed.new.frame c.proceed.new.self c.proceed.new.steps c.turn.host
+    c.proceed.new.host) c.in-Pending.ensures.0 c.in-Ok.ensures.stepped in
     let left = c.leave_by_fault-in-Failed in
-    let fault : left.new.self.fault ≡ c.proceed.new.self.fault = ap (λ (s : Run g.row.H.Denot). s.fault) left.ensures in
-    rw fault (left_out (abstraction c.proceed.new.self c.proceed.new.steps c.proceed.new.host) (abstraction left.new.self c.proceed.new.steps c.proceed.new.host) at c.proceed.new.frame.floor c.proceed.new.frame.address (λ place. refl) (λ place. refl)
-    (rw left.ensures refl) (flowed at c.proceed.new.self.fault c.in-Failed.is (turn (abstraction c.turn.self c.turn.steps c.turn.host) (rw (c.mark.ensures, c.tick.ensures) refl) c.turn.invariant.goes did.goes)))
+    let fault : left.new.self.fault ≡ c.proceed.new.self.fault =
+    ap (λ (s : Run g.row.H.Denot). s.fault) left.ensures in
+    rw fault (left_out (abstraction c.proceed.new.self c.proceed.new.steps c.proceed.new.host)
+    (abstraction left.new.self c.proceed.new.steps c.proceed.new.host) at
+    c.proceed.new.frame.floor c.proceed.new.frame.address (λ place. refl) (λ place. refl)
+    (rw left.ensures refl)
+    (flowed at c.proceed.new.self.fault c.in-Failed.is
+    (turn (abstraction c.turn.self c.turn.steps c.turn.host)
+    (rw (c.mark.ensures, c.tick.ensures) refl) c.turn.invariant.goes did.goes)))

@@ -18,13 +18,18 @@ decreases-proceed g l = 3 * left l.context.engine.now l.self.now.count l.frame.n
 
 abbrev pub invariant-run_frame-turn : goal.invariant-run_frame-turn
 invariant-run_frame-turn g l = record {
-  goes : Simulates (setup l.context.program.now l.context.engine.now) (abstraction l.fn.self l.fn.steps l.fn.host) (λ m place w. Go (InFrame (frame_in (entry_of l.fn.chunk l.fn.base) l.fn.self place)) w) false (abstraction l.self l.steps l.host) (λ m place w. Go (InFrame (frame_in l.frame l.self place)) w);
+  goes : Simulates (setup g.H.Host.law l.context.program.now l.context.engine.now)
+      (abstraction l.fn.self l.fn.steps l.fn.host)
+      (λ m place w. Go (InFrame (frame_in (entry_of l.fn.chunk l.fn.base) l.fn.self place)) w) false
+      (abstraction l.self l.steps l.host)
+      (λ m place w. Go (InFrame (frame_in l.frame l.self place)) w);
   runs : Runs l.context.program.now l.frame l.self;
   outer : l.self.stacks.outer ≡ l.fn.self.stacks.outer;
   saved : l.self.saved ≡ l.fn.self.saved;
   level : l.self.level ≡ l.fn.self.level;
   later : l.fn.self.count ≤ l.self.count;
-  fewer : left l.context.engine.now l.self.count l.frame.address ≤ left l.context.engine.now l.fn.self.count l.fn.chunk.entry;
+  fewer : left l.context.engine.now l.self.count l.frame.address ≤ left l.context.engine.now
+      l.fn.self.count l.fn.chunk.entry;
   before : l.steps.before ≡ l.fn.steps.before;
 }
 

@@ -3,4 +3,16 @@ use Rattle.grain_frame.proofs.Arms.{kept_write}
 use Rattle.grain_frame.proofs.runs.Run.store.Goals as goal
 
 pub returns-in-Some : goal.returns-in-Some
-returns-in-Some g c = record { implements = λ host. record { same = search rules; kept = kept_write c.args.frame.now _ c.args.self.now c.pop-value.new.self _ c.set.new.self _ _ refl refl c.pop-value.ensures.rest c.set.ensures c.requires.ready.inside; lands = search rules; before = search rules } }
+returns-in-Some g c =
+    record {
+      implements =
+          λ host. record {
+            same = search rules;
+            kept = kept_write c.args.frame.now _ c.args.self.now
+                c.pop-value.new.self _ c.set.new.self _ _ refl refl c.pop-value.ensures.rest
+                c.set.ensures
+                c.requires.ready.inside;
+            lands = search rules;
+            before = search rules;
+          };
+    }

@@ -14,8 +14,11 @@ returns c =
     let ws = put_mid a (h - a) c.deref_mut.result.now c.rotate_right.new.self in
     let operands = ap (λ (v : Filled). v.operands) c.self.view_is in
     let low : c.args.under < h = below_height c.args.under h xs (rw operands c.requires.there) in
-    let done : filled h ws ≡ record { operands = rotated c.args.under (take h xs); slots = length xs } =
-    rotated_filled h c.args.under a xs c.deref_mut.result.now c.rotate_right.new.self c.deref_mut.ensures.value refl low c.self.invariant c.rotate_right.ensures.after in
+    let done : filled h ws ≡
+    record { operands = rotated c.args.under (take h xs); slots = length xs } =
+    rotated_filled h c.args.under a xs c.deref_mut.result.now c.rotate_right.new.self
+    c.deref_mut.ensures.value refl low c.self.invariant c.rotate_right.ensures.after in
     let long : length ws ≡ c.self.inside.slots.len =
-    ap (λ (v : Filled). v.slots) done ∙ (sym (ap length c.deref_mut.ensures.value) ∙ c.deref_mut.ensures.len) in
+    ap (λ (v : Filled). v.slots) done ∙
+    (sym (ap length c.deref_mut.ensures.value) ∙ c.deref_mut.ensures.len) in
     rw (← c.self.view_is, with_items_is c.self.inside.slots ws long) done

@@ -7,6 +7,21 @@ use Rattle.grain_stack.proofs.stacks.Stacks.answer_bool.Goals as goal
 
 pub returns : goal.returns
 returns c =
-    let own : length (drop c.self.inside.bottom c.self.inside.slots.operands) ≡ length c.args.self.now.operands = ap (λ (v : StacksView). length v.operands) c.self.view_is in
-    let there : c.self.inside.bottom + 2 ≤ length c.self.inside.slots.operands = omega (arith, own, c.requires.there, length-drop c.self.inside.bottom c.self.inside.slots.operands) in
-    rw (← c.self.view_is, c.answer_bool.ensures, answer_own c.self.inside.bottom c.self.inside.slots.operands (read_write (dynamic.Bool c.args.truth)) there, answer_rest c.self.inside.bottom c.self.inside.slots.operands (read_write (dynamic.Bool c.args.truth)) there) refl
+    let own : length (drop c.self.inside.bottom c.self.inside.slots.operands) ≡
+    length c.args.self.now.operands = ap (λ (v : StacksView). length v.operands) c.self.view_is
+    in
+    let there : c.self.inside.bottom + 2 ≤ length c.self.inside.slots.operands =
+    omega (
+      arith,
+      own,
+      c.requires.there,
+      length-drop c.self.inside.bottom c.self.inside.slots.operands,
+    ) in
+    rw (
+      ← c.self.view_is,
+      c.answer_bool.ensures,
+      answer_own c.self.inside.bottom c.self.inside.slots.operands
+          (read_write (dynamic.Bool c.args.truth)) there,
+      answer_rest c.self.inside.bottom c.self.inside.slots.operands
+          (read_write (dynamic.Bool c.args.truth)) there,
+    ) refl

@@ -7,8 +7,23 @@ use Rattle.grain_stack.proofs.stacks.Stacks.answer_int.Goals as goal
 
 pub returns : goal.returns
 returns c =
-    let own : length (drop c.self.inside.bottom c.self.inside.slots.operands) ≡ length c.args.self.now.operands = ap (λ (v : StacksView). length v.operands) c.self.view_is in
-    let there : c.self.inside.bottom + 2 ≤ length c.self.inside.slots.operands = omega (arith, own, c.requires.there, length-drop c.self.inside.bottom c.self.inside.slots.operands) in
+    let own : length (drop c.self.inside.bottom c.self.inside.slots.operands) ≡
+    length c.args.self.now.operands = ap (λ (v : StacksView). length v.operands) c.self.view_is
+    in
+    let there : c.self.inside.bottom + 2 ≤ length c.self.inside.slots.operands =
+    omega (
+      arith,
+      own,
+      c.requires.there,
+      length-drop c.self.inside.bottom c.self.inside.slots.operands,
+    ) in
     let h = read_write (dynamic.Int c.args.integer) in
-    let gave : c.answer_int.new.self.operands ≡ under 2 c.self.inside.slots.operands ++ h ∷ [] = search rules in
-    rw (← c.self.view_is, gave, answer_own c.self.inside.bottom c.self.inside.slots.operands h there, answer_rest c.self.inside.bottom c.self.inside.slots.operands h there) refl
+    let gave : c.answer_int.new.self.operands ≡ under 2 c.self.inside.slots.operands ++ h ∷ [] =
+    search rules in
+    rw (
+      ← c.self.view_is,
+      gave,
+      answer_own c.self.inside.bottom c.self.inside.slots.operands h
+          there,
+      answer_rest c.self.inside.bottom c.self.inside.slots.operands h there,
+    ) refl

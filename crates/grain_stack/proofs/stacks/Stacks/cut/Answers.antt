@@ -4,4 +4,11 @@ use Rattle.grain_stack.proofs.stacks.Stacks.cut.Goals as goal
 
 pub returns : goal.returns
 returns c =
-    rw (← c.self.view_is, c.truncate.ensures, cut_frame c.self.inside.bottom c.args.height c.self.inside.slots.operands, cut_others c.self.inside.bottom c.args.height c.self.inside.slots.operands) refl
+    rw (
+      ← c.self.view_is,
+      c.truncate.ensures,
+      cut_frame c.self.inside.bottom c.args.height
+          c.self.inside.slots.operands,
+      cut_others c.self.inside.bottom c.args.height
+          c.self.inside.slots.operands,
+    ) refl

@@ -7,5 +7,11 @@ use Rattle.grain_stack.proofs.stacks.Stacks.leave.Goals as goal
 
 pub returns : goal.returns
 returns c =
-    let some : 0 < length (frames_on (take c.self.inside.bottom c.self.inside.slots.operands) (floors c.self.inside)) = rw (ap (λ (v : StacksView). v.outer) c.self.view_is) c.requires.entered in
-    rw (← c.self.view_is) (c.join_frame.ensures ∙ left_view c.self.inside c.truncate.new.self (ap (λ (v : Filled). v.operands) c.truncate.ensures) some)
+    let some :
+    0 < length
+    (frames_on (take c.self.inside.bottom c.self.inside.slots.operands)
+    (floors c.self.inside)) = rw (ap (λ (v : StacksView). v.outer) c.self.view_is)
+    c.requires.entered in
+    rw (← c.self.view_is)
+    (c.join_frame.ensures ∙ left_view c.self.inside c.truncate.new.self
+    (ap (λ (v : Filled). v.operands) c.truncate.ensures) some)

@@ -5,6 +5,16 @@ use Rattle.grain_stack.proofs.stacks.Stacks.peek.Goals as goal
 
 pub returns : goal.returns
 returns c =
-    let own : length (drop c.self.inside.bottom c.self.inside.slots.operands) ≡ length c.args.self.now.operands = ap (λ (v : StacksView). length v.operands) c.self.view_is in
-    let there : c.self.inside.bottom + c.args.depth < length c.self.inside.slots.operands = omega (arith, own, c.requires.there, length-drop c.self.inside.bottom c.self.inside.slots.operands) in
-    rw (← c.self.view_is) (c.at.ensures ∙ peek_of c.self.inside.bottom c.args.depth (c.len.result - 1 - c.args.depth) c.self.inside.slots.operands there (omega (arith, there, c.len.ensures.value)))
+    let own : length (drop c.self.inside.bottom c.self.inside.slots.operands) ≡
+    length c.args.self.now.operands = ap (λ (v : StacksView). length v.operands) c.self.view_is
+    in
+    let there : c.self.inside.bottom + c.args.depth < length c.self.inside.slots.operands =
+    omega (
+      arith,
+      own,
+      c.requires.there,
+      length-drop c.self.inside.bottom c.self.inside.slots.operands,
+    ) in
+    rw (← c.self.view_is)
+    (c.at.ensures ∙ peek_of c.self.inside.bottom c.args.depth (c.len.result - 1 - c.args.depth)
+    c.self.inside.slots.operands there (omega (arith, there, c.len.ensures.value)))

@@ -1,31 +1,24 @@
--- The entry that is same_loan keeps its name.
-use Rattle.std.proofs.Common.{arith, ◌<◌, ◌≤◌, length, refl, ap, inr}
-use Rattle.grain_value.proofs.Entries.{gives_back, same_loan, holds, holds_none}
+-- The entry that is lent keeps its name.
+use Rattle.std.proofs.Common.{◌<◌, length, take, arith}
+use Rattle.std.proofs.lemmas.List.{length-take-le}
+use Rattle.grain_value.proofs.Entries.{same_loan, holds}
+use Rattle.grain_value.proofs.Spares.{lent_back, entry_at}
 use Rattle.grain_value.proofs.scopes.Scope.get_mut.Goals as goal
 
 pub returns-in-Some : goal.returns-in-Some
 returns-in-Some c =
-    let es = c.self.inside.entries.items in
-    let entry = c.in-Some.entry.now in
-    let there : c.args.index < length es = omega (arith, c.in-Some.ensures.variant.0 refl) in (
-      same_loan _ _ _ (gives_back es c.args.self.now c.args.index entry c.self.view_is there
-          c.in-Some.ensures.value),
+    let h = c.self.inside.height in
+    let xs = c.self.inside.slots.items in
+    let slot = c.in-Some.slot.now in
+    let low : c.args.index < h = omega arith in
+    let there : c.args.index < length (take h xs) =
+    omega (arith, low, length-take-le h xs c.self.invariant.within) in (
+      same_loan _ _ _ (lent_back h c.args.index xs c.args.self.now slot c.self.view_is low
+          c.self.invariant.within c.in-Some.ensures.value),
       record {
         writes_back = tt;
         value =
-            holds es c.args.self.now c.args.index entry c.self.view_is there
-            c.in-Some.ensures.value;
-      },
-    )
-
-pub returns-in-None : goal.returns-in-None
-returns-in-None c =
-    let past : length c.self.inside.entries.items ≤ c.args.index =
-    grind (arith, c.in-None.ensures.variant) in (
-      ap inr c.self.view_is,
-      record {
-        writes_back = tt;
-        value =
-            holds_none c.self.inside.entries.items c.args.self.now c.args.index c.self.view_is past;
+            holds (take h xs) c.args.self.now c.args.index slot c.self.view_is there
+            (entry_at c.args.index h xs slot low c.in-Some.ensures.value);
       },
     )

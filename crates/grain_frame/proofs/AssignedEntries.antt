@@ -1,0 +1,55 @@
+-- An op-assignment to the value of an entry is one to the entry.
+use Rattle.std.proofs.Common.{◌≡◌, ◌∙◌, ◌<◌, ℕ, zero, suc, List, [], ◌∷◌, Some, None, Result, Ok, Err, length, refl, ap, subst, arith}
+use Rattle.grain_value.specs.declared.memory.OutOfMemory.{OutOfMemory}
+use Rattle.grain_value.specs.declared.values.Dynamic.{Dynamic}
+use Rattle.grain_value.specs.declared.values.Held.{Held}
+use Rattle.grain_value.specs.declared.scopes.Entry.{Entry}
+use Rattle.grain_value.specs.Scopes.{set_held}
+use Rattle.grain_ops.specs.Outcomes.{Outcome}
+use Rattle.grain_means.specs.Rules.{held_at}
+use Rattle.grain_frame.specs.Operated.{Assigned, AssignedEntry}
+use Rattle.grain_frame.specs.declared.operated.OpAssigned.{OpAssigned}
+use Rattle.grain_frame.specs.declared.operated.OpAssigned.TheVariants as assigned
+
+-- an entry that is written with what it holds is as it was
+same_entry : (es : List Entry) (i : ℕ) (h : Held) → held_at es i ≡ Some h → set_held es i h ≡ es
+same_entry [] i h is = refl
+same_entry (e ∷ es) zero h is =
+    let same : e.held ≡ h = cc in
+    subst (λ (x : Held). (record e { held = x } ∷ es) ≡ e ∷ es) same refl
+same_entry (e ∷ es) (suc i) h is = ap (λ (l : List Entry). e ∷ l) (same_entry es i h is)
+
+-- a value into what is held
+abbrev with : Held → Dynamic → Held
+with h v = record { value = v; read_only = h.read_only }
+
+unchanged : (before after : List Entry) (i : ℕ) (h : Held) (v : Dynamic) →
+    held_at before i ≡ Some h → v ≡ h.value → after ≡ set_held before i (with h v) →
+    after ≡ before
+unchanged before after i h v is same written =
+    written ∙ ap (λ (x : Dynamic). set_held before i (with h x)) same ∙ same_entry before i h is
+
+pub entry_assigned : (r : Result OpAssigned OutOfMemory) (o : Outcome) (before after : List Entry)
+    (i : ℕ) (h : Held) (v : Dynamic) → held_at before i ≡ Some h → Assigned r o h.value v →
+    after ≡ set_held before i (with h v) → AssignedEntry r o before after i h
+entry_assigned (Ok assigned.NotBuiltIn) o before after i h v is a written =
+    (a.0, unchanged before after i h v is a.1 written)
+entry_assigned (Ok assigned.Done) o before after i h v is a written = (v, a, written)
+entry_assigned (Ok (assigned.Arithmetic text)) o before after i h v is a written =
+    (a.0, unchanged before after i h v is a.1 written)
+entry_assigned (Ok (assigned.TooLarge what)) o before after i h v is a written =
+    (a.0, unchanged before after i h v is a.1 written)
+entry_assigned (Err e) o before after i h v is a written =
+    unchanged before after i h v is a written
+
+-- an entry within a scope is there
+pub is_there : (es : List Entry) (i : ℕ) → i < length es → held_at es i ≡ None → ⊥
+is_there [] i within none = omega (arith, within)
+is_there (e ∷ es) zero within none = cc
+is_there (e ∷ es) (suc i) within none = is_there es i (omega (arith, within)) none
+
+pub is_within : (es : List Entry) (i : ℕ) (h : Held) → held_at es i ≡ Some h → i < length es
+is_within [] i h is = absurd cc
+is_within (e ∷ es) zero h is = omega arith
+is_within (e ∷ es) (suc i) h is =
+    let rest : i < length es = is_within es i h is in omega (arith, rest)

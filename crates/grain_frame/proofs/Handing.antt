@@ -1,0 +1,144 @@
+-- What a native gave, as the frame goes on with it.
+use Rattle.std.proofs.Common.{◌≡◌, ◌∙◌, ◌<◌, ◌≤◌, ◌+◌, ◌-◌, ℕ, List, [], ◌∷◌, Option, Some, true, false, take, drop, inl, inr, Result, Ok, Err, length, refl, ap, arith}
+use Rattle.std.proofs.lemmas.List.{length-take-le, length-drop, take_all}
+use Rattle.grain_value.specs.declared.values.Dynamic.{Dynamic}
+use Rattle.grain_value.specs.declared.values.Held.{Held}
+use Rattle.grain_value.specs.declared.scopes.Entry.{Entry}
+use Rattle.grain_value.specs.declared.memory.OutOfMemory.{OutOfMemory}
+use Rattle.grain_value.specs.Operands.{arguments, below}
+use Rattle.grain_value.specs.Scopes.{set_held}
+use Rattle.grain_fault.specs.declared.faults.EvalAltResult.{EvalAltResult}
+use Rattle.grain_program.specs.View.{View}
+use Rattle.grain_stack.specs.Views.{StacksView}
+use Rattle.grain_host.specs.Law.{Law}
+use Rattle.grain_global.specs.declared.engines.Engine.{Engine}
+use Rattle.grain_means.specs.Worlds.{Act, Place, Setup, World}
+use Rattle.grain_means.specs.Rules.{native, pushed, write_entry}
+use Rattle.grain_means.specs.Simulation.{Computation, SimulatesExactly, stopped, world}
+use Rattle.grain_means.specs.Means.{setup}
+use Rattle.grain_means.specs.lemmas.Stretches.{then_exactly}
+use Rattle.grain_means.specs.lemmas.Scopes.{length_set_held}
+use Rattle.grain_frame.specs.Counts.{Counts}
+use Rattle.grain_frame.specs.Abstraction.{abstraction, frame_in, is_out, continuation, KeepsFrame, Implements}
+use Rattle.grain_frame.specs.Following.{moved, marked_once}
+use Rattle.grain_frame.specs.declared.activations.Activation.{Activation}
+use Rattle.grain_frame.specs.declared.runs.Progress.{Progress}
+use Rattle.grain_frame.specs.declared.runs.Progress.TheVariants as progress
+use Rattle.grain_frame.specs.declared.runs.Run.{Run}
+use Rattle.grain_frame.proofs.Arms.{implements_after}
+use Rattle.grain_frame.proofs.Failing.{native_stops}
+use Rattle.grain_frame.proofs.Serving.{implements_then, fault_kept}
+
+pub one_held : (o : Option Held) (a b : Held) → o ≡ Some a → o ≡ Some b → a ≡ b
+one_held o a b is also = cc
+
+-- all from a place on are the last operands
+pub last_ones : (n : ℕ) (xs : List Held) →
+    take (length xs - (length xs - n)) (drop (length xs - n) xs) ≡ arguments n xs
+last_ones n xs = take_all (length xs - (length xs - n)) (drop (length xs - n) xs)
+    (omega (arith, length-drop (length xs - n) xs))
+
+-- memory is out before the host is called
+pub native_short : {H : Type 0} (law : Law H) (p : View) (engine : Engine) (f : Activation)
+    (s : Run H) (n : Counts) (host : H) {ts : List ℕ} {h : ℕ} (name : List ℕ) (args : List Held)
+    (go : Setup H → Option Place → Dynamic → World H → Act H) (r : Result Progress OutOfMemory) →
+    is_out r ≡ true → f.base ≤ length s.scope →
+    Implements law p engine f s n
+    (λ m place w. native m name args (frame_in f s place) w (go m place)) ts h r f s n host host
+native_short law p engine f s n host name args go (Ok y) er inside = absurd cc
+native_short law p engine f s n host name args go (Err y) er inside = record {
+  same = record {
+    this = refl;
+    order = omega arith;
+    equal = λ stop clear halts u place. native_stops (stopped (setup law p engine) stop) name args
+        (frame_in f s place) (world (abstraction s n host) u)
+        (go (stopped (setup law p engine) stop) place) halts;
+  };
+  kept = record {
+    chunk = refl;
+    base = refl;
+    scope = inside;
+    room = refl;
+    noted = refl;
+    outer = refl;
+    saved = refl;
+    level = refl;
+    later = omega arith;
+  };
+  lands = tt;
+  before = refl;
+}
+
+module _ {H : Type 0} (law : Law H) (p : View) (engine : Engine) (f : Activation) (s t : Run H)
+    (n k : Counts) (host mid : H) {rule : Computation H} (x : EvalAltResult)
+    (run : t ≡ record s { fault = x }) (before : k.before ≡ n.before)
+    (inside : f.base ≤ length s.scope) where
+  -- its value is the last operand, in the place of the arguments
+  pub native_pushed : (f' : Activation) (s' : Run H) (n' : Counts) (v : Dynamic) (next h : ℕ)
+      (ops : List Held) (cut : StacksView) {r : Result Progress OutOfMemory} →
+      SimulatesExactly (setup law p engine) (abstraction s n host) rule false
+      (abstraction t k mid) (λ m place w. pushed m (frame_in f s place) next ops v w) →
+      cut ≡ record t.stacks { operands = ops } →
+      Implements law p engine f (record t { stacks = cut }) k
+      (λ m place w. pushed m (frame_in f (record t { stacks = cut }) place) next cut.operands v w)
+      (next ∷ []) (length cut.operands - 0 + 1) r f' s' n' mid mid → length ops + 1 ≡ h →
+      Implements law p engine f s n rule (next ∷ []) h r f' s' n' host mid
+  native_pushed f' s' n' v next h ops cut does cut_is pushes height =
+      implements_then law p engine f s t n k host mid f' s' n' mid does
+      (fault_kept law p engine f s t n k host mid x run inside) before
+      (implements_after law p engine f f' t s' k n' cut ops mid mid cut_is pushes
+      (λ stop u place. rw (ap (λ (q : StacksView). q.operands) cut_is) refl) (λ b i. i)
+      (omega (arith, height, ap (λ (q : StacksView). length q.operands) cut_is)))
+
+  -- its value is written into the entry
+  pub native_written : (h : Held) (slot index next : ℕ) (v : Dynamic) (stacks : StacksView)
+      (scope : List Entry) → SimulatesExactly (setup law p engine) (abstraction s n host) rule false
+      (abstraction t k mid)
+      (λ m place w. write_entry m h.read_only slot h v next (frame_in f s place) w) →
+      stacks ≡ record t.stacks { operands = below t.stacks.operands } →
+      scope ≡ set_held t.scope index (record { value = v; read_only = h.read_only }) →
+      f.base + slot ≡ index → f.address < next →
+      Implements law p engine f s n rule (next ∷ []) (length s.stacks.operands - 1 + 0)
+      (Ok progress.Continues) (moved f next) (record t { stacks = stacks; scope = scope })
+      (marked_once (marked_once k)) host mid
+  native_written h slot index next v stacks scope does es ec ei ahead = record {
+    same = then_exactly does second;
+    kept = keeps;
+    lands = (inl refl, rw (es, run) long, inr (rw run (omega arith), ahead));
+    before = before;
+  } where
+    written : Held
+    written = record { value = v; read_only = h.read_only }
+
+    long : length (below s.stacks.operands) ≡ length s.stacks.operands - 1 + 0
+    long = omega
+        (arith, length-take-le (length s.stacks.operands - 1) s.stacks.operands (omega arith))
+
+    second : SimulatesExactly (setup law p engine) (abstraction t k mid)
+        (λ m place w. write_entry m h.read_only slot h v next (frame_in f s place) w) false
+        (abstraction (record t { stacks = stacks; scope = scope }) (marked_once (marked_once k))
+        mid)
+        (continuation (Ok progress.Continues) t.fault
+        (frame_in (moved f next) (record t { stacks = stacks; scope = scope })))
+    second = rw (es, ec, run) (record {
+      this = refl;
+      order = omega arith;
+      equal = λ stop clear halts u place. rw (
+        clear k.passed (omega arith) (omega arith),
+        clear (k.passed + 1) (omega arith) (omega arith),
+        ei,
+      ) refl;
+    })
+
+    keeps : KeepsFrame f s (moved f next) (record t { stacks = stacks; scope = scope })
+    keeps = rw (es, ec, run) (record {
+      chunk = refl;
+      base = refl;
+      scope = omega (arith, inside, length_set_held s.scope index written);
+      room = refl;
+      noted = refl;
+      outer = refl;
+      saved = refl;
+      level = refl;
+      later = omega arith;
+    })

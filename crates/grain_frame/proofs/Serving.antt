@@ -1,0 +1,243 @@
+-- A native is sought, and the host is called.
+use Rattle.std.proofs.Common.{◌≡◌, ◌∙◌, ◌<◌, ◌≤◌, ◌+◌, ◌-◌, ◌++◌, ℕ, List, [], ◌∷◌, Option, None, Some, Bool, true, false, inl, inr, Result, Ok, Err, length, map, refl, ap, subst, arith}
+use Rattle.grain_value.specs.Tree.{Tree}
+use Rattle.grain_value.specs.declared.values.Dynamic.{Dynamic}
+use Rattle.grain_value.specs.declared.values.Held.{Held}
+use Rattle.grain_value.specs.declared.memory.OutOfMemory.{OutOfMemory}
+use Rattle.grain_value.specs.Operands.{values_in}
+use Rattle.grain_fault.specs.declared.places.Position.{Position}
+use Rattle.grain_fault.specs.declared.faults.EvalAltResult.{EvalAltResult}
+use Rattle.grain_fault.specs.Problems.{Problem, problem_of}
+use Rattle.grain_fault.specs.Positions.{at_position_if_none}
+use Rattle.grain_program.specs.Typing.{In}
+use Rattle.grain_program.specs.View.{View, position_of}
+use Rattle.grain_host.specs.Law.{Law, native_of}
+use Rattle.grain_host.specs.Law as reply
+use Rattle.grain_global.specs.declared.engines.Engine.{Engine}
+use Rattle.grain_means.specs.Worlds.{Act, Frame, Place, Setup, World}
+use Rattle.grain_means.specs.Rules.{native, kinds_in, trees_in}
+use Rattle.grain_means.specs.Signatures.{not_found}
+use Rattle.grain_value.specs.Same.{value_of, value_of-tree}
+use Rattle.grain_frame.specs.declared.natives.Arguments.{Arguments}
+use Rattle.grain_means.specs.Simulation.{Computation, Environment, SimulatesExactly, stopped, world}
+use Rattle.grain_means.specs.Means.{setup}
+use Rattle.grain_means.specs.lemmas.Stretches.{then_exactly}
+use Rattle.grain_frame.specs.Counts.{Counts}
+use Rattle.grain_frame.specs.Abstraction.{abstraction, frame_in, is_out, continuation, native_continuation, KeepsFrame, ContinuesAt, Progresses, Implements}
+use Rattle.grain_frame.specs.Natives.{Describes, Seeks, Serves}
+use Rattle.grain_frame.specs.declared.activations.Activation.{Activation}
+use Rattle.grain_frame.specs.declared.natives.NativeEnd.{NativeEnd}
+use Rattle.grain_frame.specs.declared.natives.NativeEnd.TheVariants as native_end
+use Rattle.grain_frame.specs.declared.natives.Sought.TheVariants as sought
+use Rattle.grain_frame.specs.declared.runs.Progress.{Progress}
+use Rattle.grain_frame.specs.declared.runs.Progress.TheVariants as progress
+use Rattle.grain_frame.specs.declared.runs.Run.{Run}
+
+-- the trees of what is held are its values
+values_are : (hs : List Held) → map value_of (trees_in hs) ≡ values_in hs
+values_are [] = refl
+values_are (h ∷ hs) = rw (value_of-tree h.value, values_are hs) refl
+
+-- no native takes these arguments
+pub seeks_none : {H : Type 0} (law : Law H) (host : H) (name word : List ℕ) (args : List Held)
+    (a : Arguments) (q : Position) (x : EvalAltResult) → Describes a args →
+    native_of law host word a.kinds ≡ None → word ≡ name →
+    problem_of x ≡ not_found name (map value_of a.values) q →
+    Seeks law host name args q (sought.Fault x)
+seeks_none law host name word args a q x describes none same is = inl (
+  subst (λ (w : List ℕ). native_of law host w (kinds_in args) ≡ None) same
+      (subst (λ (ks : List ℕ). native_of law host word ks ≡ None) describes.kinds none),
+  is ∙ ap (λ (vs : List Dynamic). not_found name vs q)
+      (ap (λ (ts : List Tree). map value_of ts) describes.values ∙ values_are args),
+)
+
+module _ {H : Type 0} (law : Law H) (s : Run H) (n : Counts) (host : H) (q : Position)
+    (m : Setup H) (name : List ℕ) (args : List Held) (f : Option Place → Frame)
+    (go : Setup H → Option Place → Dynamic → World H → Act H) (own : m.law ≡ law)
+    (at : (place : Option Place) → position_of m.program (f place).address ≡ q) where
+  -- what the code says of a native that it was to call
+  abbrev pub Calls : Result NativeEnd OutOfMemory → Run H → Counts → H → Type 0
+  Calls r s' n' host' = SimulatesExactly m (abstraction s n host)
+      (λ m place w. native m name args (f place) w (go m place))
+      (is_out r) (abstraction s' n' host') (native_continuation r s'.fault f go)
+
+  -- there is none, or it may not be called
+  pub refuses : (x : EvalAltResult) (s' : Run H) (n' : Counts) →
+      Seeks law host name args q (sought.Fault x) → s' ≡ record s { fault = x } →
+      n' ≡ record n { passed = n.passed + 1 } → Calls (Ok native_end.Failed) s' n' host
+  refuses x s' n' (inl none) es en = rw (es, en) (record {
+    this = refl;
+    order = omega arith;
+    equal = λ stop clear halts u place. rw (
+      own,
+      none.0,
+      clear n.passed (omega arith) (omega arith),
+      none.1,
+      at place,
+    ) refl;
+  })
+  refuses x s' n' (inr one) es en = rw (es, en) (record {
+    this = refl;
+    order = omega arith;
+    equal = λ stop clear halts u place.
+        rw (
+          own,
+          one.1,
+          one.2,
+          clear n.passed (omega arith) (omega arith),
+          one.3,
+          at place,
+        ) refl;
+  })
+
+  -- it is called
+  pub serves : (key : ℕ) (values : List Tree) (r : Result NativeEnd OutOfMemory) (s' : Run H)
+      (n' : Counts) (host' : H) → Seeks law host name args q (sought.Native key values) →
+      Serves law s n host key values q r s' n' host' → Calls r s' n' host'
+  serves key values (Ok (native_end.Value v)) s' n' host' seeks did =
+      gives (subst (λ (ts : List Tree). reply.Done v ≡ law.call_reply host seeks.0.key None ts)
+      seeks.4
+      (subst (λ (k : ℕ). reply.Done v ≡ law.call_reply host k None values) seeks.3 did.0))
+      (subst (λ (ts : List Tree). host' ≡ law.call_after host seeks.0.key None ts) seeks.4
+      (subst (λ (k : ℕ). host' ≡ law.call_after host k None values) seeks.3 did.1)) where
+        gives : reply.Done v ≡ law.call_reply host seeks.0.key None (trees_in args) →
+            host' ≡ law.call_after host seeks.0.key None (trees_in args) →
+            Calls (Ok (native_end.Value v)) s' n' host'
+        gives says after = rw (did.2, did.3, after) (record {
+          this = refl;
+          order = omega arith;
+          equal = λ stop clear halts u place. rw (
+            own,
+            seeks.1,
+            seeks.2,
+            clear n.passed (omega arith) (omega arith),
+            clear (n.passed + 1) (omega arith) (omega arith),
+            ← says,
+          ) refl;
+        })
+  serves key values (Ok native_end.Failed) s' n' host' seeks did =
+      fails s'.fault did.3 did.4
+      (subst (λ (ts : List Tree). reply.Failed did.0 ≡ law.call_reply host seeks.0.key None ts)
+      seeks.4
+      (subst (λ (k : ℕ). reply.Failed did.0 ≡ law.call_reply host k None values) seeks.3 did.1))
+      (subst (λ (ts : List Tree). host' ≡ law.call_after host seeks.0.key None ts) seeks.4
+      (subst (λ (k : ℕ). host' ≡ law.call_after host k None values) seeks.3 did.2)) where
+        fails : (x : EvalAltResult) → problem_of x ≡ at_position_if_none q did.0 →
+            s' ≡ record s { fault = x } →
+            reply.Failed did.0 ≡ law.call_reply host seeks.0.key None (trees_in args) →
+            host' ≡ law.call_after host seeks.0.key None (trees_in args) →
+            Calls (Ok native_end.Failed) s' n' host'
+        fails x is es says after = rw (es, did.5, after) (record {
+          this = refl;
+          order = omega arith;
+          equal = λ stop clear halts u place. rw (
+            own,
+            seeks.1,
+            seeks.2,
+            clear n.passed (omega arith) (omega arith),
+            clear (n.passed + 1) (omega arith) (omega arith),
+            ← says,
+            clear (n.passed + 1 + 1) (omega arith) (omega arith),
+            is,
+            at place,
+          ) refl;
+        })
+  serves key values (Err e) s' n' host' seeks did = rw (did.0, did.1, did.2) (record {
+    this = refl;
+    order = omega arith;
+    equal = λ stop clear halts u place. rw (own, seeks.1, seeks.2, halts) refl;
+  })
+
+-- one stretch after another that keep the frame
+pub kept_on : {H : Type 0} (f g h : Activation) (s t u : Run H) → KeepsFrame f s g t →
+    KeepsFrame g t h u → KeepsFrame f s h u
+kept_on f g h s t u one two = record {
+  chunk = two.chunk ∙ one.chunk;
+  base = two.base ∙ one.base;
+  scope = omega (arith, two.scope, one.base);
+  room = two.room ∙ one.room;
+  noted = two.noted ∙ one.noted;
+  outer = two.outer ∙ one.outer;
+  saved = two.saved ∙ one.saved;
+  level = two.level ∙ one.level;
+  later = omega (arith, one.later, two.later);
+}
+
+later_lands : {H : Type 0} (engine : Engine) (f f' : Activation) (s t s' : Run H) (ts : List ℕ)
+    (h : ℕ) (r : Result Progress OutOfMemory) → s.count ≤ t.count →
+    ContinuesAt engine t f s' f' ts h r → ContinuesAt engine s f s' f' ts h r
+later_lands engine f f' s t s' ts h (Ok progress.Continues) le l = (l.0, l.1, at l.2) where
+  at : Progresses engine t f s' f' → Progresses engine s f s' f'
+  at (inl a) = inl (omega (arith, a.0, le), omega (arith, a.1, le))
+  at (inr a) = inr (omega (arith, a.0, le), a.1)
+later_lands engine f f' s t s' ts h (Ok progress.Returned) le l = tt
+later_lands engine f f' s t s' ts h (Ok progress.Failed) le l = tt
+later_lands engine f f' s t s' ts h (Err e) le l = tt
+
+module _ {H : Type 0} (law : Law H) (p : View) (engine : Engine) (f : Activation) (s t : Run H)
+    (n k : Counts) (host mid : H) where
+  -- a rule that begins with a stretch at which the frame stays
+  pub implements_then : (f' : Activation) (s' : Run H) (n' : Counts) (host' : H)
+      {rule via : Computation H} {ts : List ℕ} {h : ℕ} {r : Result Progress OutOfMemory} →
+      SimulatesExactly (setup law p engine) (abstraction s n host) rule false
+      (abstraction t k mid) via → KeepsFrame f s f t → k.before ≡ n.before →
+      Implements law p engine f t k via ts h r f' s' n' mid host' →
+      Implements law p engine f s n rule ts h r f' s' n' host host'
+  implements_then f' s' n' host' {rule} {via} {ts} {h} {r} first kept before does = record {
+    same = then_exactly first does.same;
+    kept = kept_on f f f' s t s' kept does.kept;
+    lands = later_lands engine f f' s t s' ts h r kept.later does.lands;
+    before = does.before ∙ before;
+  }
+
+  -- the frame stays where only the fault differs
+  pub fault_kept : (x : EvalAltResult) → t ≡ record s { fault = x } → f.base ≤ length s.scope →
+      KeepsFrame f s f t
+  fault_kept x et inside = rw et (record {
+    chunk = refl;
+    base = refl;
+    scope = inside;
+    room = refl;
+    noted = refl;
+    outer = refl;
+    saved = refl;
+    level = refl;
+    later = omega arith;
+  })
+
+  module _ {rule : Computation H} {ts : List ℕ} {h : ℕ}
+      (go : Setup H → Option Place → Dynamic → World H → Act H) (x : EvalAltResult)
+      (run : t ≡ record s { fault = x }) (before : k.before ≡ n.before)
+      (inside : f.base ≤ length s.scope) where
+    -- a fault left the frame
+    pub native_failed : SimulatesExactly (setup law p engine) (abstraction s n host) rule false
+        (abstraction t k mid)
+        (native_continuation (Ok native_end.Failed) t.fault (frame_in f s) go) →
+        Implements law p engine f s n rule ts h (Ok progress.Failed) f t k host mid
+    native_failed does = record {
+      same = record {
+        this = does.this;
+        order = does.order;
+        equal = λ stop clear halts u place. does.equal stop clear halts u place;
+      };
+      kept = fault_kept x run inside;
+      lands = tt;
+      before = before;
+    }
+
+    -- memory is out
+    pub native_wants : (e : OutOfMemory) (r : Result Progress OutOfMemory) → is_out r ≡ true →
+        SimulatesExactly (setup law p engine) (abstraction s n host) rule true
+        (abstraction t k mid) (native_continuation (Err e) t.fault (frame_in f s) go) →
+        Implements law p engine f s n rule ts h r f t k host mid
+    native_wants e (Ok y) er does = absurd cc
+    native_wants e (Err y) er does = record {
+      same = record {
+        this = does.this;
+        order = does.order;
+        equal = λ stop clear halts u place. does.equal stop clear halts u place;
+      };
+      kept = fault_kept x run inside;
+      lands = tt;
+      before = before;
+    }

@@ -1,0 +1,54 @@
+-- What a native is given, and what was found for it.
+use Rattle.std.specs.Prelude.{◌≡◌, ◌⊎◌, ◌+◌, ℕ, List, None, Some, Bool, true, false, ◌&&◌, Result, Ok, Err}
+use Rattle.grain_value.specs.Tree.{Tree}
+use Rattle.grain_value.specs.Operands.{values_in}
+use Rattle.grain_value.specs.declared.values.Held.{Held}
+use Rattle.grain_value.specs.declared.memory.OutOfMemory.{OutOfMemory}
+use Rattle.grain_value.specs.declared.natives.Native.{Native}
+use Rattle.grain_fault.specs.declared.places.Position.{Position}
+use Rattle.grain_fault.specs.Positions.{at_position_if_none}
+use Rattle.grain_fault.specs.Problems.{Problem, NonPureCall, problem_of}
+use Rattle.grain_host.specs.Law.{Law, native_of}
+use Rattle.grain_host.specs.Law as reply
+use Rattle.grain_means.specs.Signatures.{not_found}
+use Rattle.grain_means.specs.Rules.{kinds_in, trees_in, first_is_read_only}
+use Rattle.grain_frame.specs.Counts.{Counts}
+use Rattle.grain_frame.specs.declared.natives.Arguments.{Arguments}
+use Rattle.grain_frame.specs.declared.natives.Sought.{Sought}
+use Rattle.grain_frame.specs.declared.natives.Sought.TheVariants as sought
+use Rattle.grain_frame.specs.declared.natives.NativeEnd.{NativeEnd}
+use Rattle.grain_frame.specs.declared.natives.NativeEnd.TheVariants as native_end
+use Rattle.grain_frame.specs.declared.runs.Run.{Run}
+
+-- what a host is given of these arguments
+pub record Describes (a : Arguments) (args : List Held) : Type 0 where
+  pub kinds : a.kinds ≡ kinds_in args
+  pub values : a.values ≡ trees_in args
+  pub read_only : a.read_only ≡ first_is_read_only args
+
+-- what the host has for a name and arguments: a native that may be called, or the fault that there
+-- is none or that its first argument can only be read
+abbrev pub Seeks : {S : Type 0} → Law S → S → List ℕ → List Held → Position → Sought → Type 0
+Seeks law s name args p (sought.Native key values) = (n : Native)
+    × (native_of law s name (kinds_in args) ≡ Some n)
+    × ((n.writes && first_is_read_only args) ≡ false) × (key ≡ n.key) × (values ≡ trees_in args)
+Seeks law s name args p (sought.Fault x) =
+    ((native_of law s name (kinds_in args) ≡ None)
+    × (problem_of x ≡ not_found name (values_in args) p))
+    ⊎ ((n : Native) × (native_of law s name (kinds_in args) ≡ Some n)
+    × ((n.writes && first_is_read_only args) ≡ true) × (problem_of x ≡ NonPureCall name p))
+
+-- the host was called with a key and values: two marks are passed where it gives a value, and one
+-- more where it fails; where memory is out, nothing changed
+abbrev pub Serves : {H : Type 0} → Law H → Run H → Counts → H → ℕ → List Tree → Position →
+    Result NativeEnd OutOfMemory → Run H → Counts → H → Type 0
+Serves law s n host key values p (Ok (native_end.Value v)) s' n' host' =
+    (reply.Done v ≡ law.call_reply host key None values)
+    × (host' ≡ law.call_after host key None values) × (s' ≡ s)
+    × (n' ≡ record n { passed = n.passed + 1 + 1 })
+Serves law s n host key values p (Ok native_end.Failed) s' n' host' = (y : Problem)
+    × (reply.Failed y ≡ law.call_reply host key None values)
+    × (host' ≡ law.call_after host key None values)
+    × (problem_of s'.fault ≡ at_position_if_none p y) × (s' ≡ record s { fault = s'.fault })
+    × (n' ≡ record n { passed = n.passed + 1 + 1 + 1 })
+Serves law s n host key values p (Err e) s' n' host' = (host' ≡ host) × (s' ≡ s) × (n' ≡ n)

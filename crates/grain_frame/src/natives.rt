@@ -1,0 +1,179 @@
+//! Natives: what the host is asked for, and how it is called.
+
+ghost use Rattle.std.specs.Prelude.{◌≡◌, ◌++◌, ◌∷◌, [], ℕ, List, Option, IfOk};
+ghost use Rattle.grain_program.specs.View.{position_of};
+ghost use Rattle.grain_value.specs.declared.values.Dynamic.{Dynamic};
+ghost use Rattle.grain_value.specs.declared.values.Held.{Held};
+ghost use Rattle.grain_means.specs.Worlds.{Setup, Frame, Place, World, Act};
+ghost use Rattle.grain_means.specs.Rules.{native};
+ghost use Rattle.grain_means.specs.Simulation.{SimulatesExactly};
+ghost use Rattle.grain_frame.specs.Abstraction.{abstraction, is_out, native_continuation};
+ghost use Rattle.grain_frame.specs.Natives.{Describes, Seeks, Serves};
+
+use crate::runs::Run;
+use crate::signatures::not_found;
+use crate::steps::Steps;
+use grain_fault::{EvalAltResult, Position};
+use grain_host::{Args, Host, HostAnswer};
+use grain_value::{Array, Dynamic, Held, Kinds, OutOfMemory, Store, Text};
+use std::alloc::Global;
+use std::sync::ledger::Ledger;
+
+/// What came of the call of a native.
+#[derive(Drop)]
+pub enum NativeEnd {
+    /// This value.
+    Value(Dynamic),
+    /// A fault, which leaves the frame and lies in the run.
+    Failed,
+}
+
+/// Arguments as a host is given them: their kinds, copies of their values, and whether the first
+/// can only be read.
+#[derive(Drop)]
+pub struct Arguments {
+    pub kinds: Kinds,
+    pub values: Array,
+    pub read_only: bool,
+}
+
+/// What a host has for a name and arguments.
+#[derive(Drop)]
+pub enum Sought {
+    /// The native of this key, and the values that it is given.
+    Native(u64, Array),
+    /// The fault that there is none, or that it may not be called.
+    Fault(EvalAltResult),
+}
+
+impl Arguments {
+    /// No arguments. It takes no memory.
+    pub fn new(alloc: Global) -> Arguments
+        ensures { Describes result [] }
+    {
+        Arguments {
+            kinds: Kinds::new(alloc),
+            values: Array::new(alloc),
+            read_only: false,
+        }
+    }
+
+    /// One argument more.
+    pub fn push(&mut self, alloc: Global, cells: &Store, held: &Held) -> Result<(), OutOfMemory>
+        ensures { IfOk result (λ _. (args : List Held) → Describes self.old args →
+            Describes self.new (args ++ held.now ∷ [])) }
+    {
+        if self.values.is_empty() {
+            self.read_only = held.read_only;
+        }
+        self.kinds.push(held.value.kind(cells))?;
+        self.values.push(held.value.copy(alloc)?)
+    }
+
+    /// These arguments.
+    pub fn of(alloc: Global, cells: &Store, held: &[Held]) -> Result<Arguments, OutOfMemory>
+        ensures { IfOk result (λ a. Describes a held.now) }
+    {
+        let mut arguments = Arguments::new(alloc);
+        for one in held {
+            arguments.push(alloc, cells, one)?;
+        }
+        Ok(arguments)
+    }
+}
+
+/// What the host has for a name and arguments, where a fault has this position.
+pub fn seek<H: Host>(
+    alloc: Global,
+    cells: &Store,
+    host: &H,
+    name: &Text,
+    arguments: Arguments,
+    position: Position,
+) -> Result<Sought, OutOfMemory>
+    ensures { (args : List Held) → Describes arguments args →
+        IfOk result (λ s. Seeks H.law host.now name.now args position s) }
+{
+    let Arguments {
+        kinds,
+        values,
+        read_only,
+    } = arguments;
+    match host.resolve(name.as_str(), &kinds) {
+        None => Ok(Sought::Fault(not_found(alloc, cells, name, &values, position)?)),
+        Some(native) => {
+            if native.writes && read_only {
+                let name = name.copy(alloc)?;
+                let fault = EvalAltResult::ErrorNonPureMethodCallOnConstant(name, position);
+                Ok(Sought::Fault(fault))
+            } else {
+                Ok(Sought::Native(native.key, values))
+            }
+        }
+    }
+}
+
+impl<H: Host> Run<H> {
+    // Calls the native that was sought, or raises the fault that there is none. A fault of the
+    // host's without a position has this one.
+    pub(crate) fn call_native<L: Ledger>(
+        &mut self,
+        host: &mut H,
+        steps: &mut Steps<L>,
+        sought: Sought,
+        position: Position,
+    ) -> Result<NativeEnd, OutOfMemory>
+        ensures same { (m : Setup H) (name : List ℕ) (args : List Held) (f : Option Place → Frame)
+            (go : Setup H → Option Place → Dynamic → World H → Act H) → m.law ≡ H.law →
+            ((place : Option Place) → position_of m.program (f place).address ≡ position) →
+            Seeks H.law host.old name args position sought → SimulatesExactly m
+            (abstraction self.old steps.old host.old)
+            (λ m place w. native m name args (f place) w (go m place))
+            (is_out result) (abstraction self.new steps.new host.new)
+            (native_continuation result self.new.fault f go) }
+        ensures run { self.new ≡ record self.old { fault = self.new.fault } }
+        ensures before { steps.new.before ≡ steps.old.before }
+    {
+        match sought {
+            Sought::Fault(fault) => {
+                self.raise(steps, fault);
+                Ok(NativeEnd::Failed)
+            }
+            Sought::Native(key, values) => self.call_host(host, steps, key, values, position),
+        }
+    }
+
+    // Calls the native of a key.
+    fn call_host<L: Ledger>(
+        &mut self,
+        host: &mut H,
+        steps: &mut Steps<L>,
+        key: u64,
+        values: Array,
+        position: Position,
+    ) -> Result<NativeEnd, OutOfMemory>
+        ensures same { Serves H.law self.old steps.old host.old key values position result self.new
+            steps.new host.new }
+        ensures before { steps.new.before ≡ steps.old.before }
+    {
+        let mut args = Args {
+            receiver: None,
+            values,
+        };
+        match host.call(self.alloc, key, &mut args) {
+            HostAnswer::Done(value) => {
+                steps.mark();
+                steps.mark();
+                Ok(NativeEnd::Value(value))
+            }
+            HostAnswer::Failed(failure) => {
+                steps.mark();
+                steps.mark();
+                let fault = failure.into_fault().fill_position(position);
+                self.raise(steps, fault);
+                Ok(NativeEnd::Failed)
+            }
+            HostAnswer::Memory => Err(OutOfMemory),
+        }
+    }
+}

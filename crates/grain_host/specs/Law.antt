@@ -1,0 +1,71 @@
+-- The law of a host: what it answers, writes and becomes are functions of its state and of what it
+-- is given.
+use Rattle.std.specs.Prelude.{ℕ, Bool, false, List, Option, ◌≡◌, if◌then◌else◌, option_map}
+use Rattle.grain_value.specs.Tree.{Tree}
+use Rattle.grain_value.specs.declared.values.Dynamic.{Dynamic}
+use Rattle.grain_value.specs.declared.values.Held.{Held}
+use Rattle.grain_value.specs.declared.natives.Native.{Native}
+use Rattle.grain_fault.specs.Problems.{Problem}
+use Rattle.grain_host.specs.Faults.{handed_back}
+
+-- the answer to a call
+pub data Reply : Type 0 where
+  -- the call's value
+  Done : Dynamic → Reply
+  -- the call failed
+  Failed : Problem → Reply
+
+-- the answer where the host hears how many operations a run has taken
+pub data Verdict : Type 0 where
+  GoOn : Verdict
+  -- the run is to end, with this token
+  Stop : Dynamic → Verdict
+
+-- a host whose states are S
+pub record Law (S : Type 0) : Type 0 where
+  -- the key of the native of a name and of its arguments' kinds
+  pub resolves : S → List ℕ → List ℕ → Option ℕ
+  -- whether a call of the key may write its first argument
+  pub writes : S → ℕ → Bool
+  -- what is answered to a call of a key with a receiver, or with none, and the other arguments
+  pub call_reply : S → ℕ → Option Held → List Tree → Reply
+  -- the state after the call
+  pub call_after : S → ℕ → Option Held → List Tree → S
+  -- what a key that writes leaves in a receiver
+  pub call_written : S → ℕ → Held → List Tree → Dynamic
+  -- what is answered, and the state afterwards, where a run has taken a number of operations
+  pub progress_reply : S → ℕ → Verdict
+  pub progress_after : S → ℕ → S
+
+-- the native of a name and of its arguments' kinds
+abbrev pub native_of : {S : Type 0} → Law S → S → List ℕ → List ℕ → Option Native
+native_of law s name kinds =
+    option_map (λ key. record { key = key; writes = law.writes s key }) (law.resolves s name kinds)
+
+-- a receiver after a call: its flag stays, and so does its value unless the key writes
+abbrev pub written : {S : Type 0} → Law S → S → ℕ → List Tree → Held → Held
+written law s key values h =
+    if law.writes s key then record h { value = law.call_written s key h values } else h
+
+-- there is a receiver after a call exactly where there was one before
+abbrev pub receiver_after : {S : Type 0} → Law S → S → ℕ → Option Held → List Tree → Option Held
+receiver_after law s key receiver values = option_map (written law s key values) receiver
+
+-- the second state has the same natives as the first, and the same of them write
+abbrev pub KeepsTable : {S : Type 0} → Law S → S → S → Type 0
+KeepsTable law s t =
+    ((name kinds : List ℕ) → law.resolves t name kinds ≡ law.resolves s name kinds)
+    × ((key : ℕ) → law.writes t key ≡ law.writes s key)
+
+-- a fault that is answered is one that a host may answer
+abbrev pub MayBeAnswered : Reply → Type 0
+MayBeAnswered (Done v) = Unit
+MayBeAnswered (Failed x) = handed_back x ≡ false
+
+-- what every host's law keeps to
+pub record IsLawful {S : Type 0} (law : Law S) : Type 0 where
+  pub call_keeps : (s : S) (key : ℕ) (receiver : Option Held) (values : List Tree) →
+      KeepsTable law s (law.call_after s key receiver values)
+  pub progress_keeps : (s : S) (count : ℕ) → KeepsTable law s (law.progress_after s count)
+  pub faults : (s : S) (key : ℕ) (receiver : Option Held) (values : List Tree) →
+      MayBeAnswered (law.call_reply s key receiver values)

@@ -1,0 +1,208 @@
+-- The host in memory: what its calls answer, print and write, by its tables.
+use Rattle.std.specs.Prelude.{◌≡◌, ℕ, ◌+◌, ◌-◌, ◌^◌, pos, Bool, ◌||◌, List, [], ◌∷◌, ◌++◌, Option, Some, None, codes, bytes_eq, ◌==◌, length, map, option_map, if◌then◌else◌}
+use Rattle.std.specs.Fmt.{decimal}
+use Rattle.std.specs.Str.{chars}
+use Rattle.std.specs.List.{list_any}
+use Rattle.grain_value.specs.Tree.{Tree}
+use Rattle.grain_value.specs.View.{tree}
+use Rattle.grain_value.specs.Same.{value_of}
+use Rattle.grain_value.specs.Writing.{plain}
+use Rattle.grain_value.specs.declared.values.Dynamic.{Dynamic}
+use Rattle.grain_value.specs.declared.values.Dynamic.TheVariants as dynamic
+use Rattle.grain_value.specs.declared.values.Held.{Held}
+use Rattle.grain_fault.specs.Places.{nowhere}
+use Rattle.grain_fault.specs.Problems.{Runtime, Exit, SystemError}
+use Rattle.grain_host.specs.Law.{Law, Reply, Done, Failed, Verdict, GoOn, Stop, receiver_after}
+use Rattle.grain_host.specs.Answers.{reply_of}
+use Rattle.grain_host.specs.declared.answers.Args.{Args}
+use Rattle.grain_host.specs.declared.answers.HostAnswer.{HostAnswer}
+use Rattle.grain_host.specs.declared.tables.TableHost.{TableHost}
+use Rattle.grain_host.specs.declared.tables.StopLine.{StopLine}
+use Rattle.grain_host.specs.declared.tables.Turn.{Turn}
+use Rattle.grain_host.specs.declared.tables.Turn.TheVariants as turns
+
+-- a host with empty tables that has printed nothing
+abbrev pub blank : TableHost
+blank = record { printed = []; steps = 0; failing = []; stops = [] }
+
+-- a further call that is to fail, by its number
+abbrev pub failing_at : ℕ → TableHost → TableHost
+failing_at n s = record s { failing = s.failing ++ n ∷ [] }
+
+-- a further number of operations at which a run is to end, with its token
+abbrev pub stopping_at : ℕ → Dynamic → TableHost → TableHost
+stopping_at n v s = record s { stops = s.stops ++ record { count = n; value = v } ∷ [] }
+
+-- the arguments in order: the receiver, if there is one, and then the values
+abbrev pub arguments : Option Held → List Tree → List Dynamic
+arguments None values = map value_of values
+arguments (Some h) values = h.value ∷ map value_of values
+
+-- the argument, if there is exactly one
+abbrev pub sole : List Dynamic → Option Dynamic
+sole [] = None
+sole (v ∷ []) = Some v
+sole (v ∷ u ∷ vs) = None
+
+-- the first argument, if there are exactly two
+abbrev pub first_of_two : List Dynamic → Option Dynamic
+first_of_two [] = None
+first_of_two (v ∷ []) = None
+first_of_two (v ∷ u ∷ []) = Some v
+first_of_two (v ∷ u ∷ w ∷ vs) = None
+
+-- the host's own failure, for this reason
+abbrev pub refused : List ℕ → Reply
+refused reason = Failed (SystemError [] reason)
+
+-- the call of a key that has no native, or of one that has no form for these arguments
+abbrev pub unknown : Reply
+unknown = refused (codes "unknown to the table host")
+
+-- `print` of one value
+abbrev pub print_reply : Option Dynamic → Reply
+print_reply None = unknown
+print_reply (Some v) = Done dynamic.Unit
+
+-- the line that `print` appends: the value's plain text and LF
+abbrev pub line_of : Option Dynamic → List ℕ
+line_of None = []
+line_of (Some v) = plain v ++ codes "\n"
+
+-- `push` onto the first of two values, which is an array
+abbrev pub push_reply : Option Dynamic → Reply
+push_reply (Some (dynamic.Array ts)) = Done dynamic.Unit
+push_reply v = unknown
+
+-- an array with one more value at its end; everything else as it is
+abbrev pub pushed : Dynamic → Option Dynamic → Dynamic
+pushed (dynamic.Array ts) (Some v) = dynamic.Array (ts ++ tree v ∷ [])
+pushed d v = d
+
+-- what `push` leaves of a receiver
+abbrev pub pushed_onto : List Tree → Held → Held
+pushed_onto values h = record h { value = pushed h.value (sole (map value_of values)) }
+
+abbrev pub pushed_receiver : Option Held → List Tree → Option Held
+pushed_receiver receiver values = option_map (pushed_onto values) receiver
+
+-- how many characters, values, bytes or keys there are
+abbrev pub entries_in : Dynamic → Option ℕ
+entries_in (dynamic.Text s) = Some (length (chars s))
+entries_in (dynamic.Array ts) = Some (length ts)
+entries_in (dynamic.Blob s) = Some (length s)
+entries_in (dynamic.Map es) = Some (length es)
+entries_in v = None
+
+abbrev pub counted : Option ℕ → Reply
+counted None = unknown
+counted (Some n) = Done (dynamic.Int (pos n))
+
+-- `len` of one value that has entries
+abbrev pub len_reply : Option Dynamic → Reply
+len_reply None = unknown
+len_reply (Some v) = counted (entries_in v)
+
+-- `exit` with one value
+abbrev pub exit_reply : Option Dynamic → Reply
+exit_reply None = unknown
+exit_reply (Some v) = Failed (Exit v nowhere)
+
+-- the natives by their keys: 1 `print`, 2 `push`, 3 `len`, 5 `exit`
+abbrev pub native_reply : ℕ → List Dynamic → Reply
+native_reply key vs =
+    if key == 1 then print_reply (sole vs)
+    else (if key == 2 then push_reply (first_of_two vs)
+    else (if key == 3 then len_reply (sole vs)
+    else (if key == 5 then exit_reply (sole vs)
+    else unknown)))
+
+-- what the native of a key prints
+abbrev pub printed_by : ℕ → List Dynamic → List ℕ
+printed_by key vs = if key == 1 then line_of (sole vs) else []
+
+-- `push` alone writes
+abbrev pub writing : ℕ → Bool
+writing key = key == 2
+
+-- what the native of a key leaves of a receiver
+abbrev pub received : ℕ → Option Held → List Tree → Option Held
+received key receiver values = if writing key then pushed_receiver receiver values else receiver
+
+-- the natives by their names and kinds: `print` and `exit` take one argument of any kind, `push` an
+-- array and one of any kind, `len` a text, an array, a blob or a map
+abbrev pub for_one : ℕ → List ℕ → Option ℕ
+for_one key (k ∷ []) = Some key
+for_one key ks = None
+
+abbrev pub for_array : ℕ → List ℕ → Option ℕ
+for_array key (k ∷ l ∷ []) = if k == 5 then Some key else None
+for_array key ks = None
+
+abbrev pub has_entries : ℕ → Bool
+has_entries k = (k == 4) || (k == 5) || (k == 6) || (k == 7)
+
+abbrev pub for_entries : ℕ → List ℕ → Option ℕ
+for_entries key (k ∷ []) = if has_entries k then Some key else None
+for_entries key ks = None
+
+abbrev pub key_of : List ℕ → List ℕ → Option ℕ
+key_of name kinds =
+    if bytes_eq name (codes "print") then for_one 1 kinds
+    else (if bytes_eq name (codes "push") then for_array 2 kinds
+    else (if bytes_eq name (codes "len") then for_entries 3 kinds
+    else (if bytes_eq name (codes "exit") then for_one 5 kinds
+    else None)))
+
+-- what comes of a call: the host can count no further call, or the call of this number is one that
+-- is to fail, or it is done; calls are counted from 1
+abbrev pub turn : TableHost → Turn
+turn s =
+    if s.steps == 2 ^ 64 - 1 then turns.Full
+    else (if list_any (λ n. n == s.steps + 1) s.failing then turns.Failing (s.steps + 1)
+    else turns.Ready (s.steps + 1))
+
+abbrev pub reply_at : Turn → ℕ → List Dynamic → Reply
+reply_at turns.Full key vs = refused (codes "table host is full")
+reply_at (turns.Failing n) key vs =
+    Failed (Runtime (dynamic.Text (codes "host failure " ++ decimal n)) nowhere)
+reply_at (turns.Ready n) key vs = native_reply key vs
+
+abbrev pub after_at : Turn → TableHost → ℕ → List Dynamic → TableHost
+after_at turns.Full s key vs = s
+after_at (turns.Failing n) s key vs = record s { steps = n }
+after_at (turns.Ready n) s key vs =
+    record s { steps = n; printed = s.printed ++ printed_by key vs }
+
+abbrev pub written_at : Turn → Held → List Tree → Dynamic
+written_at turns.Full h values = h.value
+written_at (turns.Failing n) h values = h.value
+written_at (turns.Ready n) h values = pushed h.value (sole (map value_of values))
+
+-- the value of the first line for the number
+abbrev pub stop_at : ℕ → List StopLine → Option Dynamic
+stop_at n [] = None
+stop_at n (l ∷ ls) = if l.count == n then Some l.value else stop_at n ls
+
+abbrev pub verdict : Option Dynamic → Verdict
+verdict None = GoOn
+verdict (Some v) = Stop v
+
+abbrev pub table_law : Law TableHost
+table_law = record {
+  resolves = λ s name kinds. key_of name kinds;
+  writes = λ s key. writing key;
+  call_reply = λ s key receiver values.
+      reply_at (turn s) key (arguments receiver values);
+  call_after = λ s key receiver values. after_at (turn s) s key (arguments receiver values);
+  call_written = λ s key h values. written_at (turn s) h values;
+  progress_reply = λ s count. verdict (stop_at count s.stops);
+  progress_after = λ s count. s;
+}
+
+-- one call was counted, and then it failed or was done
+abbrev pub IsStep : TableHost → ℕ → Args → HostAnswer → TableHost → Args → Type 0
+IsStep s key args a t left =
+    (reply_of a ≡ Some (table_law.call_reply s key args.receiver args.values))
+    × (t ≡ table_law.call_after s key args.receiver args.values)
+    × (left.receiver ≡ receiver_after table_law s key args.receiver args.values)

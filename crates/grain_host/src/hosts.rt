@@ -1,0 +1,32 @@
+//! What a machine asks of its host.
+
+ghost use Rattle.std.specs.Prelude.{◌≡◌};
+ghost use Rattle.grain_host.specs.Law.{Law, IsLawful, native_of};
+ghost use Rattle.grain_host.specs.Answers.{Answers, Hears};
+
+use crate::answers::{Args, HostAnswer, ProgressAnswer};
+use grain_value::{Kinds, Native};
+use std::alloc::Global;
+
+/// A host. Unless it answers that there is no memory, its answer, what it writes into the receiver
+/// and its state afterwards are functions of its state and of what it is given. Where it answers
+/// that there is no memory, it and the receiver are as they were.
+pub trait Host {
+    ghost law: { Law Self };
+
+    /// The native of this name for arguments of these kinds, if there is one. No call changes what
+    /// is found.
+    fn resolve(&self, name: &str, kinds: &Kinds) -> Option<Native>
+        ensures { result ≡ native_of law self.now name.now kinds.now };
+
+    /// Calls the native of this key. A receiver stays in the arguments with its flag, and its value
+    /// stays too unless the key writes. The values may be taken.
+    fn call(&mut self, alloc: Global, key: u64, args: &mut Args) -> HostAnswer
+        ensures { Answers law self.old key args.old result self.new args.new };
+
+    /// Hears that a run has taken `count` operations, and says whether it goes on.
+    fn progress(&mut self, alloc: Global, count: u64) -> ProgressAnswer
+        ensures { Hears law self.old count result self.new };
+
+    ghost lawful: { IsLawful law };
+}

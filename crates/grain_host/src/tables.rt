@@ -1,0 +1,150 @@
+//! A host that lives in memory.
+
+ghost use Rattle.std.specs.Prelude.{◌≡◌, IfOk, IfErr, is_ok, if◌then◌else◌, option_copied};
+ghost use Rattle.grain_host.specs.Tables.{table_law, blank, failing_at, stopping_at, turn, stop_at, IsStep};
+ghost use Rattle.grain_host.specs.Lawful.{table_lawful};
+
+use crate::answers::{Args, HostAnswer, ProgressAnswer};
+use crate::hosts::Host;
+use crate::natives::{self, key_of, perform};
+use grain_value::{Dynamic, Kinds, List, Native, OutOfMemory, Text};
+use std::alloc::Global;
+
+/// A number of operations at which a run ends, and the token with which it ends.
+#[derive(Drop)]
+struct StopLine {
+    count: u64,
+    value: Dynamic,
+}
+
+// What comes of a call: no further one can be counted, or the call of this number is to fail, or it
+// is done.
+enum Turn {
+    Full,
+    Failing(u64),
+    Ready(u64),
+}
+
+/// A host that lives in memory. It has the natives `print`, `push`, `len` and `exit`. Its calls are
+/// counted, and calls of given numbers fail.
+#[derive(Drop)]
+pub struct TableHost {
+    printed: Text,
+    steps: u64,
+    failing: List<u64>,
+    stops: List<StopLine>,
+}
+
+impl TableHost {
+    /// A host with empty tables that has printed nothing. It takes no memory.
+    pub fn new(alloc: Global) -> TableHost
+        ensures { result ≡ blank }
+    {
+        TableHost {
+            printed: Text::new(alloc),
+            steps: 0,
+            failing: List::new(alloc),
+            stops: List::new(alloc),
+        }
+    }
+
+    /// The text that was printed.
+    pub fn printed(&self) -> &Text
+        ensures { result.now ≡ self.now.printed }
+    {
+        &self.printed
+    }
+
+    /// The call of this number, counted from 1, is to fail. After want of memory the host is as it
+    /// was.
+    pub fn fail(&mut self, n: u64) -> Result<(), OutOfMemory>
+        ensures { self.new ≡ (if is_ok result then failing_at n self.old else self.old) }
+    {
+        self.failing.push(n)
+    }
+
+    /// A run that has taken this number of operations is to end, with this value as its token. Of
+    /// several lines for a number the first holds. After want of memory the host is as it was.
+    pub fn stop(&mut self, n: u64, value: Dynamic) -> Result<(), OutOfMemory>
+        ensures { self.new ≡ (if is_ok result then stopping_at n value self.old else self.old) }
+    {
+        self.stops.push(StopLine { count: n, value })
+    }
+
+    // The token for this number of operations, if a run is to end there.
+    fn token(&self, count: u64) -> Option<&Dynamic>
+        ensures { option_copied result ≡ stop_at count self.now.stops }
+    {
+        for line in self.stops.as_slice() {
+            if line.count == count {
+                return Some(&line.value);
+            }
+        }
+        None
+    }
+
+    // What comes of the next call.
+    fn turn(&self) -> Turn
+        ensures { result ≡ turn self.now }
+    {
+        if self.steps == u64::MAX {
+            return Turn::Full;
+        }
+        let number = self.steps + 1;
+        if self.failing.as_slice().contains(&number) {
+            Turn::Failing(number)
+        } else {
+            Turn::Ready(number)
+        }
+    }
+
+    // One call. After want of memory nothing changed.
+    fn step(&mut self, alloc: Global, key: u64, args: &mut Args) -> Result<HostAnswer, OutOfMemory>
+        ensures done { IfOk result (λ a. IsStep self.old key args.old a self.new args.new) }
+        ensures unchanged { IfErr result (λ _.
+            (self.new ≡ self.old) × (args.new.receiver ≡ args.old.receiver)) }
+    {
+        match self.turn() {
+            Turn::Full => natives::refused(alloc, "table host is full"),
+            Turn::Failing(number) => {
+                let answer = natives::failure(alloc, number)?;
+                self.steps = number;
+                Ok(answer)
+            }
+            Turn::Ready(number) => {
+                let answer = perform(alloc, key, args, &mut self.printed)?;
+                self.steps = number;
+                Ok(answer)
+            }
+        }
+    }
+}
+
+impl Host for TableHost {
+    ghost law = { table_law };
+
+    ghost lawful = { table_lawful };
+
+    fn resolve(&self, name: &str, kinds: &Kinds) -> Option<Native> {
+        let key = key_of(name, kinds.as_slice())?;
+        let writes = key == natives::PUSH;
+        Some(Native { key, writes })
+    }
+
+    fn call(&mut self, alloc: Global, key: u64, args: &mut Args) -> HostAnswer {
+        match self.step(alloc, key, args) {
+            Ok(answer) => answer,
+            Err(OutOfMemory) => HostAnswer::Memory,
+        }
+    }
+
+    fn progress(&mut self, alloc: Global, count: u64) -> ProgressAnswer {
+        match self.token(count) {
+            None => ProgressAnswer::GoOn,
+            Some(value) => match value.copy(alloc) {
+                Ok(value) => ProgressAnswer::Stop(value),
+                Err(OutOfMemory) => ProgressAnswer::Memory,
+            },
+        }
+    }
+}

@@ -1,0 +1,28 @@
+-- The tree of a value.
+use Rattle.std.specs.Prelude.{ℕ, List, map, String, string_bytes}
+use Rattle.std.specs.declared.alloc.Global.{Global}
+use Rattle.grain_value.specs.Tree.{Tree, unit, boolean, integer, character, text, array, blob, dict, pointer, range, foreign, pack, pack_fields}
+use Rattle.grain_value.specs.declared.values.Dynamic.{Dynamic}
+use Rattle.grain_value.specs.declared.values.Dynamic.TheVariants.{Unit, Bool, Int, Char, Text, Array, Blob, Map, Pointer, Range, Foreign}
+
+abbrev pub tree : Dynamic → Tree
+tree Unit = unit
+tree (Bool b) = boolean b
+tree (Int n) = integer n
+tree (Char c) = character c
+tree (Text s) = text s
+tree (Array ts) = array (pack ts)
+tree (Blob s) = blob s
+tree (Map es) = dict (pack_fields es)
+tree (Pointer p) = pointer p.name (pack p.curry)
+tree (Range from to inclusive) = range from to inclusive
+tree (Foreign kind number) = foreign kind number
+
+abbrev pub trees : List Dynamic → List Tree
+trees ds = map tree ds
+
+abbrev pub entry : String Global × Dynamic → List ℕ × Tree
+entry e = (string_bytes e.0, tree e.1)
+
+abbrev pub entries_view : List (String Global × Dynamic) → List (List ℕ × Tree)
+entries_view es = map entry es

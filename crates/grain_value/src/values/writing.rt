@@ -1,0 +1,181 @@
+//! The texts of values.
+
+ghost use Rattle.std.specs.Prelude.{◌≡◌, ◌<◌, ◌++◌, [], Some, false, is_ok, if◌then◌else◌};
+ghost use Rattle.std.specs.Fmt.{WritesOnOk, digit_glyph};
+ghost use Rattle.std.specs.List.{flat_map};
+ghost use Rattle.grain_value.specs.Tree.{pack, pack_fields};
+ghost use Rattle.grain_value.specs.Writing.{plain, quoted, items_text, fields_text, hex_byte, quoted_blob, quoted_range};
+
+use super::{Array, Dynamic, FnPtr, Map};
+use crate::memory::OutOfMemory;
+use crate::quoting::{Quoted, QuotedCharacter};
+use crate::texts::Text;
+use std::fmt;
+
+impl Dynamic {
+    /// Puts the value's plain text at the end, as `{}` prints it: unit is empty, a text and a
+    /// character are as they stand, and every other value is as it is quoted. After want of memory
+    /// `out` is as it was.
+    pub fn write_plain(&self, out: &mut Text) -> Result<(), OutOfMemory>
+        ensures { out.new ≡ (if is_ok result then out.old ++ plain self.now else out.old) }
+    {
+        out.push_display(self)
+    }
+
+    /// Puts the value's quoted text at the end, which is as a listing has it: a text stands between
+    /// quotes, with escapes. After want of memory `out` is as it was.
+    pub fn write_quoted(&self, out: &mut Text) -> Result<(), OutOfMemory>
+        ensures { out.new ≡ (if is_ok result then out.old ++ quoted self.now else out.old) }
+    {
+        out.push_display(&QuotedValue(self))
+    }
+}
+
+/// The plain text: unit is empty, and a text and a character are as they stand.
+impl fmt::Display for Dynamic {
+    ghost output = { λ v. Some (plain v) };
+
+    fn fmt<W: fmt::Write>(&self, f: &mut fmt::Formatter<W>) -> fmt::Result {
+        match self {
+            Dynamic::Unit => Ok(()),
+            Dynamic::Char(character) => write!(f, "{character}"),
+            Dynamic::Text(text) => write!(f, "{text}"),
+            value => write_value(value, f),
+        }
+    }
+}
+
+// Prints the quoted text of a value.
+#[derive(Drop)]
+struct QuotedValue<'v>(&'v Dynamic);
+
+impl fmt::Display for QuotedValue<'_> {
+    ghost output = { λ q. Some (quoted q.0.now) };
+
+    fn fmt<W: fmt::Write>(&self, f: &mut fmt::Formatter<W>) -> fmt::Result {
+        let value: &Dynamic = self.0;
+        write_value(value, f)
+    }
+}
+
+// Writes the quoted text of a value.
+#[cycle(write)]
+fn write_value<W: fmt::Write>(value: &Dynamic, f: &mut fmt::Formatter<W>) -> fmt::Result
+    ensures { WritesOnOk W.write_str_gives f.old result (quoted value.now) f.new }
+{
+    match value {
+        Dynamic::Unit => f.write_str("()"),
+        Dynamic::Bool(truth) => write!(f, "{truth}"),
+        Dynamic::Int(integer) => write!(f, "{integer}"),
+        Dynamic::Char(character) => {
+            let quoted = QuotedCharacter(*character);
+            write!(f, "{quoted}")
+        }
+        Dynamic::Text(text) => {
+            let quoted = Quoted(text.as_str());
+            write!(f, "{quoted}")
+        }
+        Dynamic::Array(array) => {
+            f.write_str("[")?;
+            write_items(array, "", f)?;
+            f.write_str("]")
+        }
+        Dynamic::Blob(blob) => write_blob(blob.as_slice(), f),
+        Dynamic::Map(map) => {
+            f.write_str("#{")?;
+            write_pairs(map, f)?;
+            f.write_str("}")
+        }
+        Dynamic::Pointer(FnPtr { name, curry }) => {
+            let quoted = Quoted(name.as_str());
+            write!(f, "fn({quoted}")?;
+            write_items(curry, ", ", f)?;
+            f.write_str(")")
+        }
+        Dynamic::Range {
+            from,
+            to,
+            inclusive,
+        } => write_range(*from, *to, *inclusive, f),
+        Dynamic::Foreign { kind, number } => write!(f, "foreign({kind}, {number})"),
+    }
+}
+
+// Writes values, with the lead before the first and a comma before each other.
+#[cycle(write)]
+fn write_items<W: fmt::Write>(array: &Array, lead: &str, f: &mut fmt::Formatter<W>) -> fmt::Result
+    ensures { WritesOnOk W.write_str_gives f.old result (items_text lead.now (pack array.now))
+        f.new }
+{
+    let mut lead = lead;
+    for value in &array.values {
+        f.write_str(lead)?;
+        write_value(value, f)?;
+        lead = ", ";
+    }
+    Ok(())
+}
+
+// Writes keys with their values, with a comma before each but the first.
+#[cycle(write)]
+fn write_pairs<W: fmt::Write>(map: &Map, f: &mut fmt::Formatter<W>) -> fmt::Result
+    ensures { WritesOnOk W.write_str_gives f.old result (fields_text [] (pack_fields map.now))
+        f.new }
+{
+    let mut lead = "";
+    for (key, value) in map.pairs.iter() {
+        f.write_str(lead)?;
+        let quoted = Quoted(key.as_str());
+        write!(f, "{quoted}: ")?;
+        write_value(value, f)?;
+        lead = ", ";
+    }
+    Ok(())
+}
+
+// Writes a range.
+fn write_range<W: fmt::Write>(
+    from: i64,
+    to: i64,
+    inclusive: bool,
+    f: &mut fmt::Formatter<W>,
+) -> fmt::Result
+    ensures { WritesOnOk W.write_str_gives f.old result (quoted_range from to inclusive) f.new }
+{
+    if inclusive {
+        write!(f, "range=({from}, {to})")
+    } else {
+        write!(f, "range({from}, {to})")
+    }
+}
+
+// Writes bytes, each as two digits.
+fn write_blob<W: fmt::Write>(bytes: &[u8], f: &mut fmt::Formatter<W>) -> fmt::Result
+    ensures { WritesOnOk W.write_str_gives f.old result (quoted_blob bytes.now) f.new }
+{
+    f.write_str("blob(")?;
+    for byte in bytes {
+        write_byte(*byte, f)?;
+    }
+    f.write_str(")")
+}
+
+// Writes a byte as two digits of base 16.
+fn write_byte<W: fmt::Write>(byte: u8, f: &mut fmt::Formatter<W>) -> fmt::Result
+    ensures { WritesOnOk W.write_str_gives f.old result (hex_byte byte) f.new }
+{
+    f.write_char(hex_digit(byte / 16))?;
+    f.write_char(hex_digit(byte % 16))
+}
+
+// A digit of base 16.
+fn hex_digit(digit: u8) -> char
+    requires { digit < 16 }
+    ensures { result ≡ digit_glyph false digit }
+{
+    char::from(if digit < 10 {
+        b'0' + digit
+    } else {
+        b'a' + (digit - 10)
+    })
+}
