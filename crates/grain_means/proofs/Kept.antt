@@ -1,10 +1,14 @@
 -- What is kept of a scope: the names below a base, whatever is written, pushed or cut above it.
-use Rattle.std.proofs.Common.{◌≡◌, ◌≤◌, ◌∙◌, ℕ, zero, suc, List, [], ◌∷◌, ◌++◌, length, take, refl, ap, arith}
+use Rattle.std.proofs.Common.{◌≡◌, ◌≤◌, ◌∙◌, ℕ, zero, suc, Option, Some, None, List, [], ◌∷◌, ◌++◌, length, take, refl, ap, arith}
 use Rattle.std.proofs.lemmas.List.{take-append-le, length-take, length-append}
 use Rattle.std.proofs.Math.Seq.{take-length}
 use Rattle.grain_value.specs.declared.values.Held.{Held}
 use Rattle.grain_value.specs.declared.scopes.Entry.{Entry}
 use Rattle.grain_value.specs.Scopes.{set_held}
+use Rattle.grain_value.specs.Tree.{Tree}
+use Rattle.grain_host.specs.Law.{Law}
+use Rattle.grain_host.specs.Law as reply
+use Rattle.grain_means.specs.Rules.{Receiver, given_back}
 use Rattle.grain_means.specs.Leavings.{names, Keeps}
 use Rattle.grain_means.specs.lemmas.Scopes.{length_set_held}
 
@@ -54,3 +58,10 @@ keeps_set b ns scope i h k =
       named =
           names_set b scope i h ∙ k.named;
     }
+
+pub keeps_given : {S : Type 0} {b : ℕ} {ns : List (List ℕ)} (law : Law S) (host : S) (key : ℕ)
+    (values : List Tree) (r : Option Receiver) (scope : List Entry) → Keeps b ns scope →
+    Keeps b ns (given_back law host key values r scope)
+keeps_given law host key values None scope k = k
+keeps_given {b = b} {ns = ns} law host key values (Some q) scope k =
+    keeps_set b ns scope q.index (reply.written law host key values q.held) k

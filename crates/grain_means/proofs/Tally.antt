@@ -30,20 +30,20 @@ use Rattle.grain_program.specs.Reading.{op_at}
 use Rattle.grain_program.specs.View.{name_of, const_of, token_of, assign_op_of}
 use Rattle.grain_ops.specs.Outcomes.{Outcome, NotBuiltIn, Gave, ArithmeticFault, TooLarge}
 use Rattle.grain_means.specs.Worlds.{Act, Go, End, Then, Answer, Came, Failed, World, Setup, Frame, Todo, InFrame, Place}
-use Rattle.grain_means.specs.Signatures.{not_found}
+use Rattle.grain_means.specs.Signatures.{not_found, says_missing}
 use Rattle.grain_host.specs.Law.{Reply, Verdict, GoOn, Stop, native_of}
 use Rattle.grain_host.specs.Law as reply
 use Rattle.grain_value.specs.declared.natives.Native.{Native}
 use Rattle.grain_means.proofs.Moving.{placed_twice, caught_anywhere, placed_if_none}
 use Rattle.grain_means.proofs.Missing.{missing_here, missing_position, row_of_missing}
-use Rattle.grain_means.specs.Rules.{kinds_in, trees_in, first_is_read_only, exit_of, on_verdict, progressed, answered, host_called, native_found, native, pushed, written, exited, without, bound, function_found, frame_at, held_at, stepped, is_full, is_stop, or_return, operated, op_assigned, agrees, leave_by_fault, marked, raised, charged, onward, jumped, slot_past_scope, at_slot, at_entry, load_local, declare, push_outcome, assignment_to_constant, write_entry, store_local, store_outcome, assign, assign_op, branched, tested, skip, unwind, propagate, resume_caller, enter_function, function_entered, call_function, instr, start_instruction, next, passing, closed, called, main_frame, position}
+use Rattle.grain_means.specs.Rules.{Receiver, lent, given, given_back, held_or, operator_assigned, op_assign_failed, native_assigned, kinds_in, trees_in, first_is_read_only, exit_of, on_verdict, progressed, answered, host_called, native_found, native, pushed, written, exited, without, bound, function_found, frame_at, held_at, stepped, is_full, is_stop, or_return, operated, op_assigned, agrees, leave_by_fault, marked, raised, charged, onward, jumped, slot_past_scope, at_slot, at_entry, load_local, declare, push_outcome, assignment_to_constant, write_entry, store_local, store_outcome, assign, assign_op, branched, tested, skip, unwind, propagate, resume_caller, enter_function, function_entered, call_function, instr, start_instruction, next, passing, closed, called, main_frame, position}
 use Rattle.grain_means.specs.Ends.{Ends, ended, went, joined}
 use Rattle.grain_means.specs.Comes.{Spot, Comes, here, further, within, behind, Meets, Stands}
 use Rattle.grain_means.specs.Leavings.{names, Keeps, AtCheckpoint, Cut, Cuts}
 use Rattle.grain_means.specs.Length.{run_length}
-use Rattle.grain_means.specs.Causes.{AsksNative, FindsNone, FindsNative, HostAnswers, HasPosition, Why, Calls, Charges, Overfills, UsesEntry, Unwinds, Tests, Holds, AssignsConstant, Operates, CallsOn, Enters, LeftCall, Tells, Row, Cause, Caused}
+use Rattle.grain_means.specs.Causes.{Question, native_asked, reply_to, asks_first, EndsWith, HasNoBuiltIn, AssignsByHost, AsksNative, FindsNone, FindsNative, HostAnswers, HasPosition, Why, Calls, Charges, Overfills, UsesEntry, Unwinds, Tests, Holds, AssignsConstant, Operates, CallsOn, Enters, LeftCall, Tells, Row, Cause, Caused}
 use Rattle.grain_means.specs.lemmas.Branches.{of_two}
-use Rattle.grain_means.proofs.Kept.{keeps_all, keeps_nothing, keeps_cut, keeps_push, keeps_set}
+use Rattle.grain_means.proofs.Kept.{keeps_all, keeps_nothing, keeps_cut, keeps_push, keeps_set, keeps_given}
 use Rattle.grain_means.proofs.Lengths.{past_scope, cut_short, length_under, length_pushed, length_rotated}
 use Rattle.grain_means.proofs.Standing.{Fitting, fits_main, fits_function, fits_next, fits_stand}
 
@@ -444,72 +444,128 @@ module _ {S : Type 0} (m : Setup S) where
           (λ _. even_written (stepped f behind_it (below f.operands)) (λ scope. scope ++ entry ∷ [])
           (keeps_push k.base k.names now.scope entry keeps) refl u)
 
-      -- the world once the host has answered the call of a native
-      abbrev served : S → World S
-      served host = record start { passed = start.passed + 1 + 1; host = host }
+      -- the world once the host has answered the call of a native, with the host and the scope as
+      -- it left them
+      abbrev served : World S → S → List Entry → World S
+      served w host scope = record w { passed = w.passed + 1 + 1; host = host; scope = scope }
 
-      module _ (operands : List Held) (go : Dynamic → World S → Act S)
-          (next_is : (v : Dynamic) (host : S) → Even (now.ran + 1) (go v (served host))) where
-        even_answered : (host : S) (said : Reply) →
-            ((y : Problem) → said ≡ reply.Failed y → HostAnswers m y spot) →
-            Even (now.ran + 1) (answered m said (holding operands) (served host) go)
-        even_answered host (reply.Done v) answers = next_is v host
-        even_answered host (reply.Failed y) answers =
-            even_raised (now.ran + 1) _ (served host) steady (why_answered y (answers y refl))
+      -- a native is asked for in a world
+      module _ (operands : List Held) (w : World S) (s : Steady (now.ran + 1) w) (name : List ℕ)
+          (r : Option Receiver) (args : List Held)
+          (asks : AsksNative m (record { host = w.host; name = name; lent = r; args = args })
+          spot) where
+        abbrev asked : Question S
+        asked = record { host = w.host; name = name; lent = r; args = args }
 
-        even_found : (name : List ℕ) (args : List Held) → AsksNative m name args spot →
-            (found : Option Native) → native_of m.law now.host name (kinds_in args) ≡ found →
-            Even (now.ran + 1) (native_found m found name args (holding operands) start go)
-        even_found name args asks None e =
+        abbrev answered_by : ℕ → World S
+        answered_by key =
+            served w (m.law.call_after w.host key (lent r) (trees_in args))
+            (given_back m.law w.host key (trees_in args) r w.scope)
+
+        steady_after : (key : ℕ) → Steady (now.ran + 1) (answered_by key)
+        steady_after key =
+            (s.0, s.1, s.2, keeps_given m.law w.host key (trees_in args) r w.scope s.3)
+
+        abbrev finds : (n : Native) → native_asked m asked ≡ Some n → FindsNative m name n spot
+        finds n e = record { question = asked; named = refl; asks = asks; found = e }
+
+        -- the fault is raised
+        none_raised : native_asked m asked ≡ None →
+            Even (now.ran + 1)
+            (raised m f (not_found name (values_in (given r args)) (position m f)) w)
+        none_raised e =
             let p = position m f in
-            let x = not_found name (values_in args) p in
-            even_raised (now.ran + 1) x start steady (why x (missing_here name (values_in args) p)
-            (row_of_missing m spot name (values_in args) p (
-              name,
-              args,
-              ap (not_found name (values_in args))
-                  (missing_position name (values_in args) p),
-              asks,
-              e,
-            )))
-        even_found name args asks (Some n) e =
-            let r : ℕ = now.ran + 1 in
-            let g = holding operands in
-            let x = problem.NonPureCall name (position m f) in
-            let c : FindsNative m name n spot = record { args = args; asks = asks; found = e } in
-            let after : World S → World S = λ w1. record w1 {
-              host = m.law.call_after w1.host n.key None (trees_in args);
-            } in
-            let answers : World S → World S → Act S =
-            λ w1 w2. answered m (m.law.call_reply w1.host n.key None (trees_in args)) g w2 go in
-            let before : World S = record start { passed = start.passed + 1 } in
-            by_test (Even r) (n.writes && first_is_read_only args) (raised m g x start)
-            (host_called m n.key args g start go)
-            (λ refused. let both = both_true n.writes (first_is_read_only args) refused in
-            even_raised r x start steady (why x refl (n, c, both.0, both.1)))
-            (λ _. even_marked r start steady (λ w1. marked m g (after w1) (answers w1))
-            (even_marked r (after before) steady (answers before)
-            (even_answered (m.law.call_after now.host n.key None (trees_in args))
-            (m.law.call_reply now.host n.key None (trees_in args)) (λ y said. (name, n, c, said)))))
+            let all = values_in (given r args) in
+            even_raised (now.ran + 1) (not_found name all p) w s
+            (why (not_found name all p) (missing_here name all p)
+            (row_of_missing m spot name all p
+            (asked, ap (not_found name all) (missing_position name all p), asks, e)))
 
-        even_native : (name : List ℕ) (args : List Held) → AsksNative m name args spot →
-            Even (now.ran + 1) (native m name args (holding operands) start go)
-        even_native name args asks =
-            even_found name args asks (native_of m.law now.host name (kinds_in args)) refl
+        refused_raised : (n : Native) → native_asked m asked ≡ Some n → n.writes ≡ true →
+            first_is_read_only (given r args) ≡ true →
+            Even (now.ran + 1) (raised m f (problem.NonPureCall name (position m f)) w)
+        refused_raised n e writes only =
+            let x = problem.NonPureCall name (position m f) in
+            even_raised (now.ran + 1) x w s (why x refl (n, finds n e, writes, only))
+
+        failed_raised : (n : Native) → native_asked m asked ≡ Some n → (y : Problem) →
+            reply_to m asked n.key ≡ reply.Failed y →
+            Even (now.ran + 1)
+            (raised m f (at_position_if_none (position m f) y) (answered_by n.key))
+        failed_raised n e y is =
+            even_raised (now.ran + 1) (at_position_if_none (position m f) y) (answered_by n.key)
+            (steady_after n.key) (why_answered y (name, n, finds n e, is))
+
+        module _ (go : Dynamic → World S → Act S) (fails : Problem → World S → Act S)
+            (goes : (n : Native) → native_asked m asked ≡ Some n → (v : Dynamic) →
+            Even (now.ran + 1) (go v (answered_by n.key)))
+            (none : native_asked m asked ≡ None →
+            Even (now.ran + 1) (fails (not_found name (values_in (given r args)) (position m f)) w))
+            (refused : (n : Native) → native_asked m asked ≡ Some n → n.writes ≡ true →
+            first_is_read_only (given r args) ≡ true →
+            Even (now.ran + 1) (fails (problem.NonPureCall name (position m f)) w))
+            (failed : (n : Native) → native_asked m asked ≡ Some n → (y : Problem) →
+            reply_to m asked n.key ≡ reply.Failed y →
+            Even (now.ran + 1) (fails (at_position_if_none (position m f) y) (answered_by n.key)))
+            where
+          even_answered : (n : Native) → native_asked m asked ≡ Some n → (said : Reply) →
+              reply_to m asked n.key ≡ said →
+              Even (now.ran + 1)
+              (answered m said (holding operands) (answered_by n.key) go fails)
+          even_answered n e (reply.Done v) is = goes n e v
+          even_answered n e (reply.Failed y) is = failed n e y is
+
+          even_found : (found : Option Native) → native_asked m asked ≡ found →
+              Even (now.ran + 1) (native_found m found name r args (holding operands) w go fails)
+          even_found None e = none e
+          even_found (Some n) e =
+              let ran : ℕ = now.ran + 1 in
+              let g = holding operands in
+              let x = problem.NonPureCall name (position m f) in
+              let after : World S → World S = λ w1. record w1 {
+                host = m.law.call_after w1.host n.key (lent r) (trees_in args);
+                scope = given_back m.law w1.host n.key (trees_in args) r w1.scope;
+              } in
+              let answers : World S → World S → Act S =
+              λ w1 w2. answered m (m.law.call_reply w1.host n.key (lent r) (trees_in args)) g w2 go
+              fails in
+              let before : World S = record w { passed = w.passed + 1 } in
+              by_test (Even ran) (n.writes && first_is_read_only (given r args)) (fails x w)
+              (host_called m n.key r args g w go fails)
+              (λ no. let both = both_true n.writes (first_is_read_only (given r args)) no in
+              refused n e both.0 both.1)
+              (λ _. even_marked ran w s (λ w1. marked m g (after w1) (answers w1))
+              (even_marked ran (after before) (steady_after n.key) (answers before)
+              (even_answered n e (m.law.call_reply w.host n.key (lent r) (trees_in args)) refl)))
+
+        even_native : (go : Dynamic → World S → Act S) →
+            ((n : Native) → native_asked m asked ≡ Some n → (v : Dynamic) →
+            Even (now.ran + 1) (go v (answered_by n.key))) →
+            Even (now.ran + 1)
+            (native m name r args (holding operands) w go (raised m (holding operands)))
+        even_native go goes =
+            even_found go (raised m (holding operands)) goes none_raised refused_raised
+            failed_raised (native_asked m asked) refl
 
       even_pushed : (name : List ℕ) (args operands : List Held) →
           ((v : Dynamic) → Sits m k (stepped f behind_it (operands ++ read_write v ∷ []))) →
           (outcome : Outcome) → Operates m outcome name args o f now →
+          (outcome ≡ NotBuiltIn → HasNoBuiltIn m name args o f) →
           Even (now.ran + 1) (push_outcome m outcome name args behind_it operands f start)
-      even_pushed name args operands u NotBuiltIn says =
-          even_native f.operands (λ v w1. pushed m f behind_it operands v w1)
-          (λ v host. even_onward (now.ran + 1) _ (served host) steady trace (inl refl) (u v))
-          name args (inr says)
-      even_pushed name args operands u (Gave v) says = even_on _ refl (u v)
-      even_pushed name args operands u (ArithmeticFault t) says =
+      even_pushed name args operands u NotBuiltIn says asks =
+          let q : AsksNative m
+          (record { host = start.host; name = name; lent = None; args = args }) spot =
+          inl (refl, refl, inr (asks refl)) in
+          even_native f.operands start steady name None args q
+          (λ v w1. pushed m f behind_it operands v w1)
+          (λ n e v. even_onward (now.ran + 1) (stepped f behind_it (operands ++ read_write v ∷ []))
+          (answered_by f.operands start steady name None args q n.key) steady trace (inl refl)
+          (u v))
+      even_pushed name args operands u (Gave v) says asks = even_on _ refl (u v)
+      even_pushed name args operands u (ArithmeticFault t) says asks =
           even_raised (now.ran + 1) _ start steady
           (why (problem.Arithmetic t (position m f)) refl (name, args, says))
-      even_pushed name args operands u (TooLarge t) says =
+      even_pushed name args operands u (TooLarge t) says asks =
           even_raised (now.ran + 1) _ start steady
           (why (problem.DataTooLarge t (position m f)) refl (name, args, says))
 
@@ -528,29 +584,93 @@ module _ {S : Type 0} (m : Setup S) where
           (λ scope. set_held scope (f.base + slot) held)
           (keeps_set k.base k.names now.scope (f.base + slot) held keeps) refl u
 
-      even_stored : (name : List ℕ) (h : Held) (slot : ℕ) →
+      -- a value into an entry, in another world
+      even_entry_in : (w : World S) → Steady (now.ran + 1) w → w.trace ≡ k.trace →
+          (read_only : Bool) (slot : ℕ) (h : Held) (v : Dynamic) →
+          Sits m k (stepped f behind_it (below f.operands)) →
+          Even (now.ran + 1) (write_entry m read_only slot h v behind_it f w)
+      even_entry_in w s t read_only slot h v u =
+          let held : Held = record { value = v; read_only = read_only } in
+          let after : Frame = stepped f behind_it (below f.operands) in
+          even_marked (now.ran + 1) w s
+          (λ w1. onward m f after (written m read_only (f.base + slot) h v w1))
+          (even_onward (now.ran + 1) after
+          (written m read_only (f.base + slot) h v (record w { passed = w.passed + 1 }))
+          (s.0, s.1, s.2, keeps_set k.base k.names w.scope (f.base + slot) held s.3) t (inl refl) u)
+
+      -- an op-assignment that no built-in does
+      module _ (a : AssignOp) (slot : ℕ) (h : Held)
+          (u : Sits m k (stepped f behind_it (below f.operands)))
+          (by_host : AssignsByHost m a (f.base + slot) h (top f.operands) o f now) where
+        abbrev operand : Held
+        operand = top f.operands
+
+        abbrev first_question : Question S
+        first_question = asks_first m a (f.base + slot) h operand now
+
+        abbrev says : Problem → Bool
+        says x = says_missing (name_of m.program a.op_assign_name) x
+
+        even_operator : (w : World S) → Steady (now.ran + 1) w → w.trace ≡ k.trace →
+            (x : Problem) → EndsWith m f now.scope first_question x w.host w.scope →
+            says x ≡ true →
+            Even (now.ran + 1)
+            (operator_assigned m (name_of m.program a.op_name)
+            (held_or h (held_at w.scope (f.base + slot))) slot behind_it f w)
+        even_operator w s t x ends missing =
+            let g = held_or h (held_at w.scope (f.base + slot)) in
+            let name = name_of m.program a.op_name in
+            let args : List Held = g ∷ operand ∷ [] in
+            let q : AsksNative m
+            (record { host = w.host; name = name; lent = None; args = args }) spot =
+            inr (a, f.base + slot, h, operand, by_host, inr (x, w.host, w.scope, ends, missing, refl)) in
+            even_native f.operands w s name None args q
+            (λ z w1. write_entry m g.read_only slot g z behind_it f w1)
+            (λ n e z. even_entry_in (answered_by f.operands w s name None args q n.key)
+            (steady_after f.operands w s name None args q n.key) t g.read_only slot g z u)
+
+        even_natively : Even (now.ran + 1) (native_assigned m a h slot behind_it f start)
+        even_natively =
+            let name = name_of m.program a.op_assign_name in
+            let r : Option Receiver = Some (record { index = f.base + slot; held = h }) in
+            let args : List Held = operand ∷ [] in
+            let q : AsksNative m
+            (record { host = start.host; name = name; lent = r; args = args }) spot =
+            inr (a, f.base + slot, h, operand, by_host, inl refl) in
+            let there = answered_by f.operands start steady name r args q in
+            let steady_there = steady_after f.operands start steady name r args q in
+            even_found f.operands start steady name r args q
+            (λ z w1. onward m f (stepped f behind_it (below f.operands)) w1)
+            (op_assign_failed m a h slot behind_it f)
+            (λ n e z. even_onward (now.ran + 1) (stepped f behind_it (below f.operands))
+            (there n.key) (steady_there n.key) trace (inl refl) u)
+            (λ e. let x = not_found name (values_in (given r args)) (position m f) in
+            by_test (Even (now.ran + 1)) (says x) _ _
+            (λ missing. even_operator start steady trace x (inl (e, refl, refl, refl)) missing)
+            (λ _. none_raised f.operands start steady name r args q e))
+            (refused_raised f.operands start steady name r args q)
+            (λ n e y is. let x = at_position_if_none (position m f) y in
+            by_test (Even (now.ran + 1)) (says x) _ _
+            (λ missing. even_operator (there n.key) (steady_there n.key) trace x
+            (inr (n, e, (y, is, refl, refl, refl))) missing)
+            (λ _. failed_raised f.operands start steady name r args q n e y is))
+            (native_asked m first_question) refl
+
+      even_stored : (a : AssignOp) (name : List ℕ) (args : List Held) (h : Held) (slot : ℕ) →
           Sits m k (stepped f behind_it (below f.operands)) → (outcome : Outcome) →
-          Operates m outcome name (h ∷ top f.operands ∷ []) o f now →
-          Even (now.ran + 1) (store_outcome m outcome name h slot behind_it f start)
-      even_stored name h slot u NotBuiltIn says =
-          let held : Dynamic → Held = λ v. record { value = v; read_only = h.read_only } in
-          even_native f.operands (λ v w1. write_entry m h.read_only slot h v behind_it f w1)
-          (λ v host. even_marked (now.ran + 1) (served host) steady
-          (λ w1. onward m f (stepped f behind_it (below f.operands))
-          (written m h.read_only (f.base + slot) h v w1))
-          (even_onward (now.ran + 1) (stepped f behind_it (below f.operands))
-          (written m h.read_only (f.base + slot) h v
-          (record (served host) { passed = (served host).passed + 1 }))
-          (refl, tokens, level, keeps_set k.base k.names now.scope (f.base + slot) (held v) keeps)
-          trace (inl refl) u))
-          name (h ∷ top f.operands ∷ []) (inr says)
-      even_stored name h slot u (Gave v) says = even_entry h.read_only slot h v u
-      even_stored name h slot u (ArithmeticFault t) says =
+          Operates m outcome name args o f now →
+          (outcome ≡ NotBuiltIn →
+          AssignsByHost m a (f.base + slot) h (top f.operands) o f now) →
+          Even (now.ran + 1) (store_outcome m outcome a h slot behind_it f start)
+      even_stored a name args h slot u NotBuiltIn says by_host =
+          even_natively a slot h u (by_host refl)
+      even_stored a name args h slot u (Gave v) says by_host = even_entry h.read_only slot h v u
+      even_stored a name args h slot u (ArithmeticFault t) says by_host =
           even_raised (now.ran + 1) _ start steady
-          (why (problem.Arithmetic t (position m f)) refl (name, h ∷ top f.operands ∷ [], says))
-      even_stored name h slot u (TooLarge t) says =
+          (why (problem.Arithmetic t (position m f)) refl (name, args, says))
+      even_stored a name args h slot u (TooLarge t) says by_host =
           even_raised (now.ran + 1) _ start steady
-          (why (problem.DataTooLarge t (position m f)) refl (name, h ∷ top f.operands ∷ [], says))
+          (why (problem.DataTooLarge t (position m f)) refl (name, args, says))
 
       even_assigned : (n slot : ℕ) → Sits m k (stepped f behind_it (below f.operands)) →
           ((h : Held) → Holds now (f.base + slot) true h →
@@ -572,17 +692,21 @@ module _ {S : Type 0} (m : Setup S) where
           ((h : Held) → Holds now (f.base + slot) false h →
           Operates m (op_assigned m.engine a h (top f.operands).value)
           (name_of m.program a.op_name) (h ∷ top f.operands ∷ []) o f now) →
+          ((h : Held) → Holds now (f.base + slot) false h →
+          op_assigned m.engine a h (top f.operands).value ≡ NotBuiltIn →
+          AssignsByHost m a (f.base + slot) h (top f.operands) o f now) →
           (h : Held) → held_at now.scope (f.base + slot) ≡ Some h →
           Even (now.ran + 1)
           (if h.read_only then assignment_to_constant m n f start
-          else store_outcome m (op_assigned m.engine a h (top f.operands).value)
-          (name_of m.program a.op_name) h slot behind_it f start)
-      even_assigned_op n a slot u constant says h e =
+          else store_outcome m (op_assigned m.engine a h (top f.operands).value) a h slot behind_it
+          f start)
+      even_assigned_op n a slot u constant says by_host h e =
           let gives : Outcome = op_assigned m.engine a h (top f.operands).value in
           by_test (Even (now.ran + 1)) h.read_only (assignment_to_constant m n f start)
-          (store_outcome m gives (name_of m.program a.op_name) h slot behind_it f start)
+          (store_outcome m gives a h slot behind_it f start)
           (λ yes. even_constant n (constant h (e, yes)))
-          (λ no. even_stored (name_of m.program a.op_name) h slot u gives (says h (e, no)))
+          (λ no. even_stored a (name_of m.program a.op_name) (h ∷ top f.operands ∷ []) h slot u
+          gives (says h (e, no)) (by_host h (e, no)))
 
       even_branched : (taken : Bool) (target : ℕ) → Sits m k (stepped f target (below f.operands)) →
           Sits m k (stepped f behind_it (below f.operands)) →
@@ -776,11 +900,18 @@ module _ {S : Type 0} (m : Setup S) where
         (without count f) (f.address + width) start)
     even_call n count width stands u None e =
         let o = op.Call n count in
-        even_native o width stands (under count f.operands)
-        (λ v w1. pushed m (without count f) (f.address + width) (under count f.operands) v w1)
-        (λ v host. even_onward (now.ran + 1) _ (served o width stands host) steady trace (inl refl)
-        (u v))
-        (name_of m.program n) (arguments count f.operands) (inl (refl, refl, e))
+        let args = arguments count f.operands in
+        let ops = under count f.operands in
+        let q : AsksNative m
+        (record { host = start.host; name = name_of m.program n; lent = None; args = args })
+        (record { instruction = o; frame = f; world = now }) =
+        inl (refl, refl, inl (refl, refl, e)) in
+        even_native o width stands ops start steady (name_of m.program n) None args q
+        (λ v w1. pushed m (without count f) (f.address + width) ops v w1)
+        (λ found e v. even_onward (now.ran + 1)
+        (stepped (without count f) (f.address + width) (ops ++ read_write v ∷ []))
+        (answered_by o width stands ops start steady (name_of m.program n) None args q found.key)
+        steady trace (inl refl) (u v))
     even_call n count width stands u (Some g) e =
         even_entered (op.Call n count) width stands g (g, e) (arguments count f.operands)
         (under count f.operands) u (g, e) (λ many. (g, e, many))
@@ -828,7 +959,18 @@ module _ {S : Type 0} (m : Setup S) where
         refl
         (even_assigned_op (op.AssignLocalOp slot n a) width at n (assign_op_of m.program a) slot
         (sits_at (op.AssignLocalOp slot n a) width at _ _ (inl refl) (λ _. one_less))
-        (λ h held. (refl, (h, held))) (λ h held. (refl, (h, held, refl, refl))))
+        (λ h held. (refl, (h, held))) (λ h held. (refl, (h, held, refl, refl)))
+        (λ h held none. record {
+          slot = slot;
+          name = n;
+          assigns = a;
+          is = refl;
+          operator = refl;
+          index = refl;
+          holds = held;
+          value = refl;
+          none = none;
+        }))
     even_instr op.Pop width at =
         even_on op.Pop width at _ refl (sits_at op.Pop width at _ _ (inl refl) (λ _. one_less))
     even_instr (op.Rotate n) width at =
@@ -874,6 +1016,7 @@ module _ {S : Type 0} (m : Setup S) where
         (λ _. omega
         (arith, length_pushed (under count f.operands) v, length_under count f.operands)))
         (operated m.program m.engine o (arguments count f.operands)) (refl, refl, refl)
+        (λ none. (refl, refl, none))
     even_instr (op.UnwindTo depth) width at = even_unwound (op.UnwindTo depth) width at
         (f.base + depth)
         (sits_at (op.UnwindTo depth) width at _ f.operands (inl refl) (λ _. omega arith))

@@ -1,8 +1,9 @@
 -- Why a run ends in a fault: it came to a frame at an instruction that raises the fault on what the
 -- frame and the world then have.
-use Rattle.std.specs.Prelude.{◌≡◌, ◌⊎◌, ◌<◌, ◌≤◌, ◌+◌, ℕ, List, [], ◌∷◌, Some, None, Bool, true, false, length, codes, Result, Ok, Err}
+use Rattle.std.specs.Prelude.{◌≡◌, ◌⊎◌, ◌<◌, ◌≤◌, ◌+◌, ℕ, List, [], ◌∷◌, Option, Some, None, Bool, true, false, length, codes, Result, Ok, Err}
 use Rattle.grain_value.specs.declared.values.Dynamic.{Dynamic}
 use Rattle.grain_value.specs.declared.values.Held.{Held}
+use Rattle.grain_value.specs.declared.scopes.Entry.{Entry}
 use Rattle.grain_value.specs.Looking.{truth_of, is_unit}
 use Rattle.grain_value.specs.Operands.{top, arguments, values_in}
 use Rattle.grain_value.specs.Writing.{type_name_of}
@@ -16,15 +17,16 @@ use Rattle.grain_fault.specs.Problems.{Problem, FunctionNotFound, MismatchDataTy
 use Rattle.grain_program.specs.declared.code.instructions.Op.{Op}
 use Rattle.grain_program.specs.declared.code.instructions.Op.TheVariants as op
 use Rattle.grain_program.specs.declared.code.functions.Function.{Function}
+use Rattle.grain_program.specs.declared.code.parts.AssignOp.{AssignOp}
 use Rattle.grain_program.specs.View.{View, name_of, token_of, assign_op_of}
 use Rattle.grain_global.specs.declared.engines.Engine.{Engine}
 use Rattle.grain_ops.specs.Outcomes.{Outcome, NotBuiltIn, ArithmeticFault, TooLarge}
 use Rattle.grain_means.specs.Worlds.{Act, Go, Answer, Came, Failed, World, Setup, Frame, InFrame}
-use Rattle.grain_means.specs.Signatures.{not_found}
-use Rattle.grain_host.specs.Law.{Law, Stop, native_of}
+use Rattle.grain_means.specs.Signatures.{not_found, says_missing}
+use Rattle.grain_host.specs.Law.{Law, Reply, Stop, native_of}
 use Rattle.grain_host.specs.Law as reply
 use Rattle.grain_value.specs.declared.natives.Native.{Native}
-use Rattle.grain_means.specs.Rules.{kinds_in, trees_in, first_is_read_only, bound, frame_at, held_at, function_found, is_stop, position, main, operated, op_assigned}
+use Rattle.grain_means.specs.Rules.{Receiver, lent, given, given_back, held_or, kinds_in, trees_in, first_is_read_only, bound, frame_at, held_at, function_found, is_stop, position, main, operated, op_assigned}
 use Rattle.grain_means.specs.Means.{Begin, setup, first_world}
 use Rattle.grain_means.specs.Comes.{Spot, Comes, Meets}
 
@@ -109,34 +111,119 @@ Operates m said name args (op.AssignLocalOp slot n a) f w =
     (op_assigned m.engine (assign_op_of m.program a) h (top f.operands).value ≡ said))
 Operates m said name args o f w = ⊥
 
--- it asks the host for a native of this name on these arguments: no function is found for a call,
--- or no built-in for an operator
-abbrev pub AsksNative : {S : Type 0} → Setup S → List ℕ → List Held → Spot S → Type 0
-AsksNative m name args at = Misses m.program name args at.instruction at.frame
-    ⊎ Operates m NotBuiltIn name args at.instruction at.frame at.world
+-- an operator asks the built-in of these operands, which says that it is none
+abbrev pub HasNoBuiltIn : {S : Type 0} → Setup S → List ℕ → List Held → Op → Frame → Type 0
+HasNoBuiltIn m name args (op.CallOp n k t) f = (name ≡ name_of m.program n) ×
+    (args ≡ arguments k f.operands) ×
+    (operated m.program m.engine t (arguments k f.operands) ≡ NotBuiltIn)
+HasNoBuiltIn m name args o f = ⊥
+
+-- an op-assignment of this value to the entry at this index, which holds this and can be written,
+-- asks the built-in, which says that it is none
+pub record AssignsByHost {S : Type 0} (m : Setup S) (a : AssignOp) (i : ℕ) (h v : Held) (o : Op)
+    (f : Frame) (w : World S) : Type 0 where
+  pub slot : ℕ
+  pub name : ℕ
+  pub assigns : ℕ
+  pub is : o ≡ op.AssignLocalOp slot name assigns
+  pub operator : a ≡ assign_op_of m.program assigns
+  pub index : i ≡ f.base + slot
+  pub holds : Holds w i false h
+  pub value : v ≡ top f.operands
+  pub none : op_assigned m.engine a h v.value ≡ NotBuiltIn
+
+-- what an instruction asks the host for: a native of this name, on what is lent and on these
+-- arguments, where the host stands so
+pub record Question (S : Type 0) : Type 0 where
+  pub host : S
+  pub name : List ℕ
+  pub lent : Option Receiver
+  pub args : List Held
+
+abbrev pub all_args : {S : Type 0} → Question S → List Held
+all_args q = given q.lent q.args
+
+-- the native that is asked for, if it is there
+abbrev pub native_asked : {S : Type 0} → Setup S → Question S → Option Native
+native_asked m q = native_of m.law q.host q.name (kinds_in (all_args q))
+
+-- the host's answer where the native of this key is asked for
+abbrev pub reply_to : {S : Type 0} → Setup S → Question S → ℕ → Reply
+reply_to m q key = m.law.call_reply q.host key (lent q.lent) (trees_in q.args)
+
+-- the question ended with this fault in a frame: there is no native, or the host answered it; and
+-- this is then the host, and this the scope
+abbrev pub EndsWith : {S : Type 0} → Setup S → Frame → List Entry → Question S → Problem → S →
+    List Entry → Type 0
+EndsWith m f scope q x host left =
+    ((native_asked m q ≡ None) ×
+    (x ≡ not_found q.name (values_in (all_args q)) (position m f)) × (host ≡ q.host) ×
+    (left ≡ scope))
+    ⊎ ((n : Native) × (native_asked m q ≡ Some n) ×
+    ((y : Problem) × (reply_to m q n.key ≡ reply.Failed y) ×
+    (x ≡ at_position_if_none (position m f) y) ×
+    (host ≡ m.law.call_after q.host n.key (lent q.lent) (trees_in q.args)) ×
+    (left ≡ given_back m.law q.host n.key (trees_in q.args) q.lent scope)))
+
+-- an op-assignment asks for the host's op-assignment, to which the entry is lent
+abbrev pub asks_first : {S : Type 0} → Setup S → AssignOp → ℕ → Held → Held → World S → Question S
+asks_first m a i h v w = record {
+  host = w.host;
+  name = name_of m.program a.op_assign_name;
+  lent = Some (record { index = i; held = h });
+  args = v ∷ [];
+}
+
+-- The question is the first of an op-assignment that no built-in does; or the second, for the
+-- operator on what the entry then holds, where the first ended with the fault that no function of
+-- its name is found.
+abbrev pub AsksToAssign : {S : Type 0} → Setup S → Question S → Spot S → Type 0
+AsksToAssign {S = S} m q at =
+    (a : AssignOp) × (i : ℕ) × (h : Held) × (v : Held) ×
+    AssignsByHost m a i h v at.instruction at.frame at.world ×
+    ((q ≡ asks_first m a i h v at.world)
+    ⊎ ((x : Problem) × (host : S) × (left : List Entry) ×
+    EndsWith m at.frame at.world.scope (asks_first m a i h v at.world) x host left ×
+    (says_missing (name_of m.program a.op_assign_name) x ≡ true) ×
+    (q ≡ record {
+      host = host;
+      name = name_of m.program a.op_name;
+      lent = None;
+      args = held_or h (held_at left i) ∷ v ∷ [];
+    })))
+
+-- it asks the host for a native: no function is found for a call, or no built-in for an operator or
+-- for an op-assignment
+abbrev pub AsksNative : {S : Type 0} → Setup S → Question S → Spot S → Type 0
+AsksNative m q at =
+    ((q.host ≡ at.world.host) × (q.lent ≡ None) ×
+    (Misses m.program q.name q.args at.instruction at.frame
+    ⊎ HasNoBuiltIn m q.name q.args at.instruction at.frame))
+    ⊎ AsksToAssign m q at
 
 -- it asks for a native that is not there, and this is the fault of it
 abbrev pub FindsNone : {S : Type 0} → Setup S → Problem → Spot S → Type 0
-FindsNone m x at = (name : List ℕ) × (args : List Held)
-    × (not_found name (values_in args) (position_of_problem x) ≡ x) × AsksNative m name args at
-    × (native_of m.law at.world.host name (kinds_in args) ≡ None)
+FindsNone {S = S} m x at = (q : Question S)
+    × (not_found q.name (values_in (all_args q)) (position_of_problem x) ≡ x)
+    × AsksNative m q at × (native_asked m q ≡ None)
 
 -- it asks for this native, which is there
 pub record FindsNative {S : Type 0} (m : Setup S) (name : List ℕ) (n : Native) (at : Spot S) :
     Type 0 where
-  pub args : List Held
-  pub asks : AsksNative m name args at
-  pub found : native_of m.law at.world.host name (kinds_in args) ≡ Some n
+  pub question : Question S
+  pub named : name ≡ question.name
+  pub asks : AsksNative m question at
+  pub found : native_asked m question ≡ Some n
 
 -- the native of this name writes its first argument, which can only be read
 abbrev pub WritesConstant : {S : Type 0} → Setup S → List ℕ → Spot S → Type 0
 WritesConstant m name at = (n : Native) × (c : FindsNative m name n at)
-    × (n.writes ≡ true) × (first_is_read_only c.args ≡ true)
+    × (n.writes ≡ true) × (first_is_read_only (all_args c.question) ≡ true)
 
 -- the host answers this fault to the call of a native
 abbrev pub HostAnswers : {S : Type 0} → Setup S → Problem → Spot S → Type 0
 HostAnswers m y at = (name : List ℕ) × (n : Native) × (c : FindsNative m name n at)
-    × (m.law.call_reply at.world.host n.key None (trees_in c.args) ≡ reply.Failed y)
+    × (reply_to m c.question n.key ≡ reply.Failed y)
 
 -- the host answered the fault, whatever its position
 abbrev pub FromHost : {S : Type 0} → Setup S → Problem → Spot S → Type 0

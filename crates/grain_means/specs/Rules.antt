@@ -30,7 +30,7 @@ use Rattle.grain_global.specs.declared.engines.Engine.{Engine}
 use Rattle.grain_ops.specs.Outcomes.{Outcome, NotBuiltIn, Gave, ArithmeticFault, TooLarge}
 use Rattle.grain_ops.specs.Operators.{operation, assignment}
 use Rattle.grain_means.specs.Worlds.{Answer, Came, Failed, Place, Frame, World, Todo, InFrame, Act, Go, End, Then, Setup}
-use Rattle.grain_means.specs.Signatures.{not_found}
+use Rattle.grain_means.specs.Signatures.{not_found, says_missing}
 use Rattle.grain_host.specs.Law.{Law, Reply, Verdict, GoOn, Stop, native_of}
 use Rattle.grain_host.specs.Law as reply
 
@@ -107,6 +107,31 @@ trees_in hs = map (λ h. tree h.value) hs
 abbrev pub first_is_read_only : List Held → Bool
 first_is_read_only [] = false
 first_is_read_only (h ∷ hs) = h.read_only
+
+-- what an entry of a scope holds, at its index, as a native is lent it
+pub record Receiver : Type 0 where
+  pub index : ℕ
+  pub held : Held
+
+abbrev pub lent : Option Receiver → Option Held
+lent r = option_map (λ q. q.held) r
+
+-- all arguments of a native: what is lent stands first
+abbrev pub given : Option Receiver → List Held → List Held
+given None args = args
+given (Some r) args = r.held ∷ args
+
+-- the scope once what was lent is back, as the native left it
+abbrev pub given_back : {S : Type 0} → Law S → S → ℕ → List Tree → Option Receiver →
+    List Entry → List Entry
+given_back law s key values None scope = scope
+given_back law s key values (Some r) scope =
+    set_held scope r.index (reply.written law s key values r.held)
+
+-- what is held, or else the other
+abbrev pub held_or : Held → Option Held → Held
+held_or h None = h
+held_or h (Some g) = g
 
 -- the value with which an exit ends a run
 abbrev pub exit_of : Answer → Option Dynamic
@@ -195,37 +220,43 @@ module _ {S : Type 0} (m : Setup S) where
   abbrev pub at_slot : Frame → ℕ → World S → (Held → Act S) → Act S
   at_slot f slot w go = at_entry (held_at w.scope (f.base + slot)) f (f.base + slot) w go
 
-  -- what the host answered, and then what follows from its value; a fault without a position has
-  -- the instruction's
-  abbrev pub answered : Reply → Frame → World S → (Dynamic → World S → Act S) → Act S
-  answered (reply.Done v) f w go = go v w
-  answered (reply.Failed x) f w go = raised f (at_position_if_none (position f) x) w
+  -- what the host answered, and then what follows from its value, or from its fault; one without a
+  -- position has the instruction's
+  abbrev pub answered : Reply → Frame → World S → (Dynamic → World S → Act S) →
+      (Problem → World S → Act S) → Act S
+  answered (reply.Done v) f w go fails = go v w
+  answered (reply.Failed x) f w go fails = fails (at_position_if_none (position f) x) w
 
   -- the host is called, with a mark before and one after
-  abbrev pub host_called : ℕ → List Held → Frame → World S → (Dynamic → World S → Act S) →
-      Act S
-  host_called key args f w go =
+  abbrev pub host_called : ℕ → Option Receiver → List Held → Frame → World S →
+      (Dynamic → World S → Act S) → (Problem → World S → Act S) → Act S
+  host_called key r args f w go fails =
       marked f w (λ w1.
-      marked f (record w1 { host = m.law.call_after w1.host key None (trees_in args) }) (λ w2.
-      answered (m.law.call_reply w1.host key None (trees_in args)) f w2 go))
+      marked f (record w1 {
+        host = m.law.call_after w1.host key (lent r) (trees_in args);
+        scope = given_back m.law w1.host key (trees_in args) r w1.scope;
+      }) (λ w2.
+      answered (m.law.call_reply w1.host key (lent r) (trees_in args)) f w2 go fails))
 
   -- a native that writes its first argument is not called where that can only be read
-  abbrev pub native_called : Native → List ℕ → List Held → Frame → World S →
-      (Dynamic → World S → Act S) → Act S
-  native_called n name args f w go =
-      if n.writes && first_is_read_only args then raised f (NonPureCall name (position f)) w else
-      host_called n.key args f w go
+  abbrev pub native_called : Native → List ℕ → Option Receiver → List Held → Frame → World S →
+      (Dynamic → World S → Act S) → (Problem → World S → Act S) → Act S
+  native_called n name r args f w go fails =
+      if n.writes && first_is_read_only (given r args) then fails (NonPureCall name (position f)) w
+      else host_called n.key r args f w go fails
 
-  abbrev pub native_found : Option Native → List ℕ → List Held → Frame → World S →
-      (Dynamic → World S → Act S) → Act S
-  native_found None name args f w go = raised f (not_found name (values_in args) (position f)) w
-  native_found (Some n) name args f w go = native_called n name args f w go
+  abbrev pub native_found : Option Native → List ℕ → Option Receiver → List Held → Frame →
+      World S → (Dynamic → World S → Act S) → (Problem → World S → Act S) → Act S
+  native_found None name r args f w go fails =
+      fails (not_found name (values_in (given r args)) (position f)) w
+  native_found (Some n) name r args f w go fails = native_called n name r args f w go fails
 
-  -- the host's native of this name on these arguments, and then what follows from its value
-  abbrev pub native : List ℕ → List Held → Frame → World S → (Dynamic → World S → Act S) →
-      Act S
-  native name args f w go =
-      native_found (native_of m.law w.host name (kinds_in args)) name args f w go
+  -- the host's native of this name on what is lent and these arguments, and then what follows from
+  -- its value, or from the fault
+  abbrev pub native : List ℕ → Option Receiver → List Held → Frame → World S →
+      (Dynamic → World S → Act S) → (Problem → World S → Act S) → Act S
+  native name r args f w go fails =
+      native_found (native_of m.law w.host name (kinds_in (given r args))) name r args f w go fails
 
   abbrev pub load_local : ℕ → ℕ → Frame → World S → Act S
   load_local slot next f w =
@@ -266,27 +297,48 @@ module _ {S : Type 0} (m : Setup S) where
       flattened (top f.operands) (name_of m.program n) f w
       (λ v. write_entry h.read_only slot h v next f w))
 
+  -- the host's operator on copies of what is held and of the last operand, whose value the entry
+  -- takes
+  abbrev pub operator_assigned : List ℕ → Held → ℕ → ℕ → Frame → World S → Act S
+  operator_assigned name h slot next f w =
+      native name None (h ∷ top f.operands ∷ []) f w
+      (λ v w1. write_entry h.read_only slot h v next f w1) (raised f)
+
+  -- the fault of the host's op-assignment; where there is none of its name, its operator is asked
+  abbrev pub op_assign_failed : AssignOp → Held → ℕ → ℕ → Frame → Problem → World S → Act S
+  op_assign_failed a h slot next f x w =
+      if says_missing (name_of m.program a.op_assign_name) x then
+      operator_assigned (name_of m.program a.op_name)
+      (held_or h (held_at w.scope (f.base + slot))) slot next f w
+      else raised f x w
+
+  -- the host's op-assignment, to which the entry is lent
+  abbrev pub native_assigned : AssignOp → Held → ℕ → ℕ → Frame → World S → Act S
+  native_assigned a h slot next f w =
+      native (name_of m.program a.op_assign_name)
+      (Some (record { index = f.base + slot; held = h })) (top f.operands ∷ []) f w
+      (λ v w1. onward f (stepped f next (below f.operands)) w1)
+      (op_assign_failed a h slot next f)
+
   -- what an op-assignment gives, in the entry
-  abbrev pub store_outcome : Outcome → List ℕ → Held → ℕ → ℕ → Frame → World S → Act S
-  store_outcome NotBuiltIn name h slot next f w =
-      native name (h ∷ top f.operands ∷ []) f w (λ v w1. write_entry h.read_only slot h v next f w1)
-  store_outcome (Gave v) name h slot next f w = write_entry h.read_only slot h v next f w
-  store_outcome (ArithmeticFault text) name h slot next f w =
+  abbrev pub store_outcome : Outcome → AssignOp → Held → ℕ → ℕ → Frame → World S → Act S
+  store_outcome NotBuiltIn a h slot next f w = native_assigned a h slot next f w
+  store_outcome (Gave v) a h slot next f w = write_entry h.read_only slot h v next f w
+  store_outcome (ArithmeticFault text) a h slot next f w =
       raised f (Arithmetic text (position f)) w
-  store_outcome (TooLarge what) name h slot next f w = raised f (DataTooLarge what (position f)) w
+  store_outcome (TooLarge what) a h slot next f w = raised f (DataTooLarge what (position f)) w
 
   abbrev pub assign_op : AssignOp → ℕ → ℕ → ℕ → Frame → World S → Act S
   assign_op a slot n next f w =
       at_slot f slot w (λ h. if is_read_only w h then assignment_to_constant n f w else
       flattened (top f.operands) (name_of m.program n) f w
-      (λ v. store_outcome (op_assigned m.engine a h v) (name_of m.program a.op_name) h slot next
-      f w))
+      (λ v. store_outcome (op_assigned m.engine a h v) a h slot next f w))
 
   -- what an operator gives, as the last operand
   abbrev pub push_outcome : Outcome → List ℕ → List Held → ℕ → List Held → Frame → World S →
       Act S
   push_outcome NotBuiltIn name args next operands f w =
-      native name args f w (λ v w1. pushed f next operands v w1)
+      native name None args f w (λ v w1. pushed f next operands v w1) (raised f)
   push_outcome (Gave v) name args next operands f w = pushed f next operands v w
   push_outcome (ArithmeticFault text) name args next operands f w =
       raised f (Arithmetic text (position f)) w
@@ -359,7 +411,7 @@ module _ {S : Type 0} (m : Setup S) where
   abbrev pub call_function : Option Function → List ℕ → List Held → Frame → ℕ → World S →
       Act S
   call_function None name args f next w =
-      native name args f w (λ v w1. pushed f next f.operands v w1)
+      native name None args f w (λ v w1. pushed f next f.operands v w1) (raised f)
   call_function (Some g) name args f next w = enter_function g args f next w
 
   -- an instruction, and the address after it

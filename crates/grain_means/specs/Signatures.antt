@@ -1,6 +1,6 @@
 -- How a function that is not found is named, and the fault that it is not: by its name and the
 -- types of its arguments.
-use Rattle.std.specs.Prelude.{ℕ, zero, suc, List, [], ◌∷◌, ◌++◌, codes, drop, eqb, bytes_eq, if◌then◌else◌}
+use Rattle.std.specs.Prelude.{ℕ, zero, suc, Bool, false, List, [], ◌∷◌, ◌++◌, codes, drop, eqb, bytes_eq, if◌then◌else◌}
 use Rattle.std.specs.List.{starts_with}
 use Rattle.grain_fault.specs.Problems.{Problem, FunctionNotFound, DotExpr, IndexingType}
 use Rattle.grain_fault.specs.declared.places.Position.{Position}
@@ -43,3 +43,8 @@ not_found name args p =
     (if bytes_eq name (codes "index$set$")
     then IndexingType (index_text args ++ codes " = " ++ type_at 2 args) p
     else FunctionNotFound (signature_text name args) p)))
+
+-- the fault says that no function of this name is found
+abbrev pub says_missing : List ℕ → Problem → Bool
+says_missing name (FunctionNotFound text p) = starts_with eqb text name
+says_missing name x = false
