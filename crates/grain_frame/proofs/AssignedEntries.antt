@@ -12,7 +12,7 @@ use Rattle.grain_frame.specs.declared.operated.OpAssigned.{OpAssigned}
 use Rattle.grain_frame.specs.declared.operated.OpAssigned.TheVariants as assigned
 
 -- an entry that is written with what it holds is as it was
-same_entry : (es : List Entry) (i : ℕ) (h : Held) → held_at es i ≡ Some h → set_held es i h ≡ es
+pub same_entry : (es : List Entry) (i : ℕ) (h : Held) → held_at es i ≡ Some h → set_held es i h ≡ es
 same_entry [] i h is = refl
 same_entry (e ∷ es) zero h is =
     let same : e.held ≡ h = cc in

@@ -7,13 +7,13 @@ use Rattle.grain_value.specs.declared.scopes.Entry.{Entry}
 use Rattle.grain_value.specs.declared.memory.OutOfMemory.{OutOfMemory}
 use Rattle.grain_value.specs.Operands.{arguments, below}
 use Rattle.grain_value.specs.Scopes.{set_held}
-use Rattle.grain_fault.specs.declared.faults.EvalAltResult.{EvalAltResult}
 use Rattle.grain_program.specs.View.{View}
 use Rattle.grain_stack.specs.Views.{StacksView}
 use Rattle.grain_host.specs.Law.{Law}
 use Rattle.grain_global.specs.declared.engines.Engine.{Engine}
 use Rattle.grain_means.specs.Worlds.{Act, Place, Setup, World}
-use Rattle.grain_means.specs.Rules.{native, pushed, write_entry}
+use Rattle.grain_means.specs.Rules.{Receiver, is_stop, native, pushed, write_entry}
+use Rattle.grain_fault.specs.Problems.{Problem}
 use Rattle.grain_means.specs.Simulation.{Computation, SimulatesExactly, stopped, world}
 use Rattle.grain_means.specs.Means.{setup}
 use Rattle.grain_means.specs.lemmas.Stretches.{then_exactly}
@@ -26,8 +26,8 @@ use Rattle.grain_frame.specs.declared.runs.Progress.{Progress}
 use Rattle.grain_frame.specs.declared.runs.Progress.TheVariants as progress
 use Rattle.grain_frame.specs.declared.runs.Run.{Run}
 use Rattle.grain_frame.proofs.Arms.{implements_after}
-use Rattle.grain_frame.proofs.Failing.{native_stops}
-use Rattle.grain_frame.proofs.Serving.{implements_then, fault_kept}
+use Rattle.grain_frame.proofs.Failing.{native_stops, StopsAtMark}
+use Rattle.grain_frame.proofs.Serving.{implements_then, scope_kept}
 
 pub one_held : (o : Option Held) (a b : Held) → o ≡ Some a → o ≡ Some b → a ≡ b
 one_held o a b is also = cc
@@ -40,19 +40,25 @@ last_ones n xs = take_all (length xs - (length xs - n)) (drop (length xs - n) xs
 
 -- memory is out before the host is called
 pub native_short : {H : Type 0} (law : Law H) (p : View) (engine : Engine) (f : Activation)
-    (s : Run H) (n : Counts) (host : H) {ts : List ℕ} {h : ℕ} (name : List ℕ) (args : List Held)
-    (go : Setup H → Option Place → Dynamic → World H → Act H) (r : Result Progress OutOfMemory) →
-    is_out r ≡ true → f.base ≤ length s.scope →
+    (s : Run H) (n : Counts) (host : H) {ts : List ℕ} {h : ℕ} (name : List ℕ)
+    (lend : Option Receiver) (args : List Held)
+    (go : Setup H → Option Place → Dynamic → World H → Act H)
+    (fails : Setup H → Option Place → Problem → World H → Act H)
+    (r : Result Progress OutOfMemory) → is_out r ≡ true → f.base ≤ length s.scope →
+    ((m : Setup H) (place : Option Place) (w : World H) → is_stop m.stop w.passed ≡ true →
+    StopsAtMark m (frame_in f s place) w (fails m place)) →
     Implements law p engine f s n
-    (λ m place w. native m name args (frame_in f s place) w (go m place)) ts h r f s n host host
-native_short law p engine f s n host name args go (Ok y) er inside = absurd cc
-native_short law p engine f s n host name args go (Err y) er inside = record {
+    (λ m place w. native m name lend args (frame_in f s place) w (go m place) (fails m place)) ts h
+    r f s n host host
+native_short law p engine f s n host name lend args go fails (Ok y) er inside stops = absurd cc
+native_short law p engine f s n host name lend args go fails (Err y) er inside stops = record {
   same = record {
     this = refl;
     order = omega arith;
-    equal = λ stop clear halts u place. native_stops (stopped (setup law p engine) stop) name args
-        (frame_in f s place) (world (abstraction s n host) u)
-        (go (stopped (setup law p engine) stop) place) halts;
+    equal = λ stop clear halts u place. let m = stopped (setup law p engine) stop in
+        let w = world (abstraction s n host) u in
+        native_stops m name lend args (frame_in f s place) w (go m place) (fails m place) halts
+        (stops m place w halts);
   };
   kept = record {
     chunk = refl;
@@ -70,9 +76,11 @@ native_short law p engine f s n host name args go (Err y) er inside = record {
 }
 
 module _ {H : Type 0} (law : Law H) (p : View) (engine : Engine) (f : Activation) (s t : Run H)
-    (n k : Counts) (host mid : H) {rule : Computation H} (x : EvalAltResult)
-    (run : t ≡ record s { fault = x }) (before : k.before ≡ n.before)
-    (inside : f.base ≤ length s.scope) where
+    (n k : Counts) (host mid : H) {rule : Computation H} (run : t ≡ s)
+    (before : k.before ≡ n.before) (inside : f.base ≤ length s.scope) where
+  same_kept : KeepsFrame f s f t
+  same_kept = scope_kept law p engine f s t n k host mid s.scope run refl inside
+
   -- its value is the last operand, in the place of the arguments
   pub native_pushed : (f' : Activation) (s' : Run H) (n' : Counts) (v : Dynamic) (next h : ℕ)
       (ops : List Held) (cut : StacksView) {r : Result Progress OutOfMemory} →
@@ -85,7 +93,7 @@ module _ {H : Type 0} (law : Law H) (p : View) (engine : Engine) (f : Activation
       Implements law p engine f s n rule (next ∷ []) h r f' s' n' host mid
   native_pushed f' s' n' v next h ops cut does cut_is pushes height =
       implements_then law p engine f s t n k host mid f' s' n' mid does
-      (fault_kept law p engine f s t n k host mid x run inside) before
+      same_kept before
       (implements_after law p engine f f' t s' k n' cut ops mid mid cut_is pushes
       (λ stop u place. rw (ap (λ (q : StacksView). q.operands) cut_is) refl) (λ b i. i)
       (omega (arith, height, ap (λ (q : StacksView). length q.operands) cut_is)))

@@ -13,3 +13,4 @@ pub mod Serving
 pub mod Signing
 pub mod Jumping
 pub mod Handing
+pub mod Lending

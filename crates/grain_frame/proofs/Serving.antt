@@ -3,6 +3,7 @@ use Rattle.std.proofs.Common.{◌≡◌, ◌∙◌, ◌<◌, ◌≤◌, ◌+◌,
 use Rattle.grain_value.specs.Tree.{Tree}
 use Rattle.grain_value.specs.declared.values.Dynamic.{Dynamic}
 use Rattle.grain_value.specs.declared.values.Held.{Held}
+use Rattle.grain_value.specs.declared.scopes.Entry.{Entry}
 use Rattle.grain_value.specs.declared.memory.OutOfMemory.{OutOfMemory}
 use Rattle.grain_value.specs.Operands.{values_in}
 use Rattle.grain_fault.specs.declared.places.Position.{Position}
@@ -15,7 +16,7 @@ use Rattle.grain_host.specs.Law.{Law, native_of}
 use Rattle.grain_host.specs.Law as reply
 use Rattle.grain_global.specs.declared.engines.Engine.{Engine}
 use Rattle.grain_means.specs.Worlds.{Act, Frame, Place, Setup, World}
-use Rattle.grain_means.specs.Rules.{native, kinds_in, trees_in}
+use Rattle.grain_means.specs.Rules.{Receiver, given, native, kinds_in, trees_in, raised}
 use Rattle.grain_means.specs.Signatures.{not_found}
 use Rattle.grain_value.specs.Same.{value_of, value_of-tree}
 use Rattle.grain_frame.specs.declared.natives.Arguments.{Arguments}
@@ -43,7 +44,7 @@ pub seeks_none : {H : Type 0} (law : Law H) (host : H) (name word : List ℕ) (a
     (a : Arguments) (q : Position) (x : EvalAltResult) → Describes a args →
     native_of law host word a.kinds ≡ None → word ≡ name →
     problem_of x ≡ not_found name (map value_of a.values) q →
-    Seeks law host name args q (sought.Fault x)
+    Seeks law host name None args q (sought.Fault x)
 seeks_none law host name word args a q x describes none same is = inl (
   subst (λ (w : List ℕ). native_of law host w (kinds_in args) ≡ None) same
       (subst (λ (ks : List ℕ). native_of law host word ks ≡ None) describes.kinds none),
@@ -51,59 +52,57 @@ seeks_none law host name word args a q x describes none same is = inl (
       (ap (λ (ts : List Tree). map value_of ts) describes.values ∙ values_are args),
 )
 
+-- no native takes what is lent and this argument
+pub lent_none : {H : Type 0} (law : Law H) (host : H) (name word : List ℕ) (index : ℕ)
+    (h v : Held) (kinds : List ℕ) (values : List Tree) (q : Position) (x : EvalAltResult) →
+    kinds ≡ kinds_in (h ∷ v ∷ []) → values ≡ trees_in (h ∷ v ∷ []) →
+    native_of law host word kinds ≡ None → word ≡ name →
+    problem_of x ≡ not_found name (map value_of values) q →
+    Seeks law host name (Some (record { index = index; held = h })) (v ∷ []) q (sought.Fault x)
+lent_none law host name word index h v kinds values q x kinds_are trees_are none same is = inl (
+  subst (λ (w : List ℕ). native_of law host w (kinds_in (h ∷ v ∷ [])) ≡ None) same
+      (subst (λ (ks : List ℕ). native_of law host word ks ≡ None) kinds_are none),
+  is ∙ ap (λ (vs : List Dynamic). not_found name vs q)
+      (ap (λ (ts : List Tree). map value_of ts) trees_are ∙ values_are (h ∷ v ∷ [])),
+)
+
 module _ {H : Type 0} (law : Law H) (s : Run H) (n : Counts) (host : H) (q : Position)
-    (m : Setup H) (name : List ℕ) (args : List Held) (f : Option Place → Frame)
-    (go : Setup H → Option Place → Dynamic → World H → Act H) (own : m.law ≡ law)
+    (m : Setup H) (name : List ℕ) (lend : Option Receiver) (args : List Held)
+    (f : Option Place → Frame) (go : Setup H → Option Place → Dynamic → World H → Act H)
+    (fails : Setup H → Option Place → Problem → World H → Act H) (own : m.law ≡ law)
     (at : (place : Option Place) → position_of m.program (f place).address ≡ q) where
   -- what the code says of a native that it was to call
   abbrev pub Calls : Result NativeEnd OutOfMemory → Run H → Counts → H → Type 0
   Calls r s' n' host' = SimulatesExactly m (abstraction s n host)
-      (λ m place w. native m name args (f place) w (go m place))
-      (is_out r) (abstraction s' n' host') (native_continuation r s'.fault f go)
+      (λ m place w. native m name lend args (f place) w (go m place) (fails m place))
+      (is_out r) (abstraction s' n' host') (native_continuation r f go fails)
 
   -- there is none, or it may not be called
-  pub refuses : (x : EvalAltResult) (s' : Run H) (n' : Counts) →
-      Seeks law host name args q (sought.Fault x) → s' ≡ record s { fault = x } →
-      n' ≡ record n { passed = n.passed + 1 } → Calls (Ok native_end.Failed) s' n' host
-  refuses x s' n' (inl none) es en = rw (es, en) (record {
+  pub refuses : (x : EvalAltResult) → Seeks law host name lend args q (sought.Fault x) →
+      Calls (Ok (native_end.Fault x)) s n host
+  refuses x (inl none) = record {
     this = refl;
     order = omega arith;
-    equal = λ stop clear halts u place. rw (
-      own,
-      none.0,
-      clear n.passed (omega arith) (omega arith),
-      none.1,
-      at place,
-    ) refl;
-  })
-  refuses x s' n' (inr one) es en = rw (es, en) (record {
+    equal = λ stop clear halts u place. rw (own, none.0, none.1, at place) refl;
+  }
+  refuses x (inr one) = record {
     this = refl;
     order = omega arith;
-    equal = λ stop clear halts u place.
-        rw (
-          own,
-          one.1,
-          one.2,
-          clear n.passed (omega arith) (omega arith),
-          one.3,
-          at place,
-        ) refl;
-  })
+    equal = λ stop clear halts u place. rw (own, one.1, one.2, one.3, at place) refl;
+  }
 
   -- it is called
   pub serves : (key : ℕ) (values : List Tree) (r : Result NativeEnd OutOfMemory) (s' : Run H)
-      (n' : Counts) (host' : H) → Seeks law host name args q (sought.Native key values) →
-      Serves law s n host key values q r s' n' host' → Calls r s' n' host'
-  serves key values (Ok (native_end.Value v)) s' n' host' seeks did =
-      gives (subst (λ (ts : List Tree). reply.Done v ≡ law.call_reply host seeks.0.key None ts)
+      (n' : Counts) (host' : H) → Seeks law host name lend args q (sought.Native key values) →
+      Serves law s n host key lend values q r s' n' host' → Calls r s' n' host'
+  serves key values r s' n' host' seeks did =
+      called r (subst (λ (ts : List Tree). Serves law s n host seeks.0.key lend ts q r s' n' host')
       seeks.4
-      (subst (λ (k : ℕ). reply.Done v ≡ law.call_reply host k None values) seeks.3 did.0))
-      (subst (λ (ts : List Tree). host' ≡ law.call_after host seeks.0.key None ts) seeks.4
-      (subst (λ (k : ℕ). host' ≡ law.call_after host k None values) seeks.3 did.1)) where
-        gives : reply.Done v ≡ law.call_reply host seeks.0.key None (trees_in args) →
-            host' ≡ law.call_after host seeks.0.key None (trees_in args) →
-            Calls (Ok (native_end.Value v)) s' n' host'
-        gives says after = rw (did.2, did.3, after) (record {
+      (subst (λ (k : ℕ). Serves law s n host k lend values q r s' n' host') seeks.3 did)) where
+        called : (r : Result NativeEnd OutOfMemory) →
+            Serves law s n host seeks.0.key lend (trees_in args) q r s' n' host' →
+            Calls r s' n' host'
+        called (Ok (native_end.Value v)) did = rw (did.2, did.3, did.1) (record {
           this = refl;
           order = omega arith;
           equal = λ stop clear halts u place. rw (
@@ -112,22 +111,10 @@ module _ {H : Type 0} (law : Law H) (s : Run H) (n : Counts) (host : H) (q : Pos
             seeks.2,
             clear n.passed (omega arith) (omega arith),
             clear (n.passed + 1) (omega arith) (omega arith),
-            ← says,
+            ← did.0,
           ) refl;
         })
-  serves key values (Ok native_end.Failed) s' n' host' seeks did =
-      fails s'.fault did.3 did.4
-      (subst (λ (ts : List Tree). reply.Failed did.0 ≡ law.call_reply host seeks.0.key None ts)
-      seeks.4
-      (subst (λ (k : ℕ). reply.Failed did.0 ≡ law.call_reply host k None values) seeks.3 did.1))
-      (subst (λ (ts : List Tree). host' ≡ law.call_after host seeks.0.key None ts) seeks.4
-      (subst (λ (k : ℕ). host' ≡ law.call_after host k None values) seeks.3 did.2)) where
-        fails : (x : EvalAltResult) → problem_of x ≡ at_position_if_none q did.0 →
-            s' ≡ record s { fault = x } →
-            reply.Failed did.0 ≡ law.call_reply host seeks.0.key None (trees_in args) →
-            host' ≡ law.call_after host seeks.0.key None (trees_in args) →
-            Calls (Ok native_end.Failed) s' n' host'
-        fails x is es says after = rw (es, did.5, after) (record {
+        called (Ok (native_end.Fault x)) did = rw (did.4, did.5, did.2) (record {
           this = refl;
           order = omega arith;
           equal = λ stop clear halts u place. rw (
@@ -136,17 +123,16 @@ module _ {H : Type 0} (law : Law H) (s : Run H) (n : Counts) (host : H) (q : Pos
             seeks.2,
             clear n.passed (omega arith) (omega arith),
             clear (n.passed + 1) (omega arith) (omega arith),
-            ← says,
-            clear (n.passed + 1 + 1) (omega arith) (omega arith),
-            is,
+            ← did.1,
+            did.3,
             at place,
           ) refl;
         })
-  serves key values (Err e) s' n' host' seeks did = rw (did.0, did.1, did.2) (record {
-    this = refl;
-    order = omega arith;
-    equal = λ stop clear halts u place. rw (own, seeks.1, seeks.2, halts) refl;
-  })
+        called (Err e) did = rw (did.0, did.1, did.2) (record {
+          this = refl;
+          order = omega arith;
+          equal = λ stop clear halts u place. rw (own, seeks.1, seeks.2, halts) refl;
+        })
 
 -- one stretch after another that keep the frame
 pub kept_on : {H : Type 0} (f g h : Activation) (s t u : Run H) → KeepsFrame f s g t →
@@ -190,13 +176,13 @@ module _ {H : Type 0} (law : Law H) (p : View) (engine : Engine) (f : Activation
     before = does.before ∙ before;
   }
 
-  -- the frame stays where only the fault differs
-  pub fault_kept : (x : EvalAltResult) → t ≡ record s { fault = x } → f.base ≤ length s.scope →
-      KeepsFrame f s f t
-  fault_kept x et inside = rw et (record {
+  -- the frame stays where only the scope differs, which is as long
+  pub scope_kept : (scope : List Entry) → t ≡ record s { scope = scope } →
+      length scope ≡ length s.scope → f.base ≤ length s.scope → KeepsFrame f s f t
+  scope_kept scope et long inside = rw et (record {
     chunk = refl;
     base = refl;
-    scope = inside;
+    scope = omega (arith, long, inside);
     room = refl;
     noted = refl;
     outer = refl;
@@ -206,38 +192,54 @@ module _ {H : Type 0} (law : Law H) (p : View) (engine : Engine) (f : Activation
   })
 
   module _ {rule : Computation H} {ts : List ℕ} {h : ℕ}
-      (go : Setup H → Option Place → Dynamic → World H → Act H) (x : EvalAltResult)
-      (run : t ≡ record s { fault = x }) (before : k.before ≡ n.before)
-      (inside : f.base ≤ length s.scope) where
-    -- a fault left the frame
-    pub native_failed : SimulatesExactly (setup law p engine) (abstraction s n host) rule false
-        (abstraction t k mid)
-        (native_continuation (Ok native_end.Failed) t.fault (frame_in f s) go) →
-        Implements law p engine f s n rule ts h (Ok progress.Failed) f t k host mid
-    native_failed does = record {
-      same = record {
-        this = does.this;
-        order = does.order;
-        equal = λ stop clear halts u place. does.equal stop clear halts u place;
-      };
-      kept = fault_kept x run inside;
+      (go : Setup H → Option Place → Dynamic → World H → Act H)
+      (fails : Setup H → Option Place → Problem → World H → Act H) (scope : List Entry)
+      (run : t ≡ record s { scope = scope }) (long : length scope ≡ length s.scope)
+      (before : k.before ≡ n.before) (inside : f.base ≤ length s.scope) where
+    -- memory is out
+    pub native_wants : (e : OutOfMemory) (r : Result Progress OutOfMemory) → is_out r ≡ true →
+        SimulatesExactly (setup law p engine) (abstraction s n host) rule true
+        (abstraction t k mid) (native_continuation (Err e) (frame_in f s) go fails) →
+        Implements law p engine f s n rule ts h r f t k host mid
+    native_wants e (Ok y) er does = absurd cc
+    native_wants e (Err y) er does = record {
+      same = rw run (record {
+        this = (rw run at does).this;
+        order = (rw run at does).order;
+        equal = λ stop clear halts u place. (rw run at does).equal stop clear halts u place;
+      });
+      kept = scope_kept scope run long inside;
       lands = tt;
       before = before;
     }
 
-    -- memory is out
-    pub native_wants : (e : OutOfMemory) (r : Result Progress OutOfMemory) → is_out r ≡ true →
-        SimulatesExactly (setup law p engine) (abstraction s n host) rule true
-        (abstraction t k mid) (native_continuation (Err e) t.fault (frame_in f s) go) →
-        Implements law p engine f s n rule ts h r f t k host mid
-    native_wants e (Ok y) er does = absurd cc
-    native_wants e (Err y) er does = record {
-      same = record {
-        this = does.this;
-        order = does.order;
-        equal = λ stop clear halts u place. does.equal stop clear halts u place;
-      };
-      kept = fault_kept x run inside;
+    -- its fault is raised
+    pub native_raised : (x : EvalAltResult) (s' : Run H) (n' : Counts) →
+        SimulatesExactly (setup law p engine) (abstraction s n host) rule false
+        (abstraction t k mid) (λ m place w. raised m (frame_in f s place) (problem_of x) w) →
+        s' ≡ record t { fault = x } → n' ≡ record k { passed = k.passed + 1 } →
+        Implements law p engine f s n rule ts h (Ok progress.Failed) f s' n' host mid
+    native_raised x s' n' does es en = record {
+      same = then_exactly does second;
+      kept = kept_on f f f s t s' (scope_kept scope run long inside) (rw (es, run) (record {
+        chunk = refl;
+        base = refl;
+        scope = omega (arith, long, inside);
+        room = refl;
+        noted = refl;
+        outer = refl;
+        saved = refl;
+        level = refl;
+        later = omega arith;
+      }));
       lands = tt;
-      before = before;
-    }
+      before = rw en before;
+    } where
+      second : SimulatesExactly (setup law p engine) (abstraction t k mid)
+          (λ m place w. raised m (frame_in f s place) (problem_of x) w) false
+          (abstraction s' n' mid) (continuation (Ok progress.Failed) s'.fault (frame_in f s'))
+      second = rw (es, en, run) (record {
+        this = refl;
+        order = omega arith;
+        equal = λ stop clear halts u place. rw (clear k.passed (omega arith) (omega arith)) refl;
+      })

@@ -3,7 +3,7 @@ use Rattle.std.specs.Prelude.{◌≡◌, ◌⊎◌, ◌<◌, ◌≤◌, ◌+◌,
 use Rattle.grain_value.specs.declared.values.Dynamic.{Dynamic}
 use Rattle.grain_value.specs.declared.memory.OutOfMemory.{OutOfMemory}
 use Rattle.grain_value.specs.Operands.{top, under}
-use Rattle.grain_fault.specs.Problems.{NoMemory, problem_of}
+use Rattle.grain_fault.specs.Problems.{Problem, NoMemory, problem_of}
 use Rattle.grain_fault.specs.declared.faults.EvalAltResult.{EvalAltResult}
 use Rattle.grain_program.specs.declared.code.instructions.Op.{Op}
 use Rattle.grain_program.specs.declared.code.instructions.Op.TheVariants as op
@@ -269,14 +269,13 @@ ChargeResult engine s s' (Ok false) =
 ChargeResult engine s s' (Err e) =
     (s' ≡ record s { count = s'.count; fault = s'.fault }) × (s.count ≤ s'.count)
 
--- what follows from a native's value, or a fault left the frame
-abbrev pub native_continuation : {H : Type 0} → Result NativeEnd OutOfMemory → EvalAltResult →
+-- what follows from a native's value or from its fault; where memory is out, a fault left the frame
+abbrev pub native_continuation : {H : Type 0} → Result NativeEnd OutOfMemory →
     (Option Place → Frame) → (Setup H → Option Place → Dynamic → World H → Act H) →
-    Computation H
-native_continuation (Ok (native_end.Value v)) x f go m place w = go m place v w
-native_continuation (Ok native_end.Failed) x f go m place w =
-    leave_by_fault m None (f place) (problem_of x) w
-native_continuation (Err e) x f go m place w = leave_by_fault m None (f place) NoMemory w
+    (Setup H → Option Place → Problem → World H → Act H) → Computation H
+native_continuation (Ok (native_end.Value v)) f go fails m place w = go m place v w
+native_continuation (Ok (native_end.Fault x)) f go fails m place w = fails m place (problem_of x) w
+native_continuation (Err e) f go fails m place w = leave_by_fault m None (f place) NoMemory w
 
 -- the run of the frame around the innermost one, which is left
 abbrev pub caller_of : {H : Type 0} → Run H → Run H

@@ -1,5 +1,5 @@
 -- What a native is given, and what was found for it.
-use Rattle.std.specs.Prelude.{◌≡◌, ◌⊎◌, ◌+◌, ℕ, List, None, Some, Bool, true, false, ◌&&◌, Result, Ok, Err}
+use Rattle.std.specs.Prelude.{◌≡◌, ◌⊎◌, ◌+◌, ℕ, List, Option, None, Some, Bool, true, false, ◌&&◌, Result, Ok, Err}
 use Rattle.grain_value.specs.Tree.{Tree}
 use Rattle.grain_value.specs.Operands.{values_in}
 use Rattle.grain_value.specs.declared.values.Held.{Held}
@@ -8,10 +8,10 @@ use Rattle.grain_value.specs.declared.natives.Native.{Native}
 use Rattle.grain_fault.specs.declared.places.Position.{Position}
 use Rattle.grain_fault.specs.Positions.{at_position_if_none}
 use Rattle.grain_fault.specs.Problems.{Problem, NonPureCall, problem_of}
-use Rattle.grain_host.specs.Law.{Law, native_of}
+use Rattle.grain_host.specs.Law.{Law, Reply, native_of}
 use Rattle.grain_host.specs.Law as reply
 use Rattle.grain_means.specs.Signatures.{not_found}
-use Rattle.grain_means.specs.Rules.{kinds_in, trees_in, first_is_read_only}
+use Rattle.grain_means.specs.Rules.{Receiver, lent, given, given_back, kinds_in, trees_in, first_is_read_only}
 use Rattle.grain_frame.specs.Counts.{Counts}
 use Rattle.grain_frame.specs.declared.natives.Arguments.{Arguments}
 use Rattle.grain_frame.specs.declared.natives.Sought.{Sought}
@@ -26,29 +26,47 @@ pub record Describes (a : Arguments) (args : List Held) : Type 0 where
   pub values : a.values ≡ trees_in args
   pub read_only : a.read_only ≡ first_is_read_only args
 
--- what the host has for a name and arguments: a native that may be called, or the fault that there
--- is none or that its first argument can only be read
-abbrev pub Seeks : {S : Type 0} → Law S → S → List ℕ → List Held → Position → Sought → Type 0
-Seeks law s name args p (sought.Native key values) = (n : Native)
-    × (native_of law s name (kinds_in args) ≡ Some n)
-    × ((n.writes && first_is_read_only args) ≡ false) × (key ≡ n.key) × (values ≡ trees_in args)
-Seeks law s name args p (sought.Fault x) =
-    ((native_of law s name (kinds_in args) ≡ None)
-    × (problem_of x ≡ not_found name (values_in args) p))
-    ⊎ ((n : Native) × (native_of law s name (kinds_in args) ≡ Some n)
-    × ((n.writes && first_is_read_only args) ≡ true) × (problem_of x ≡ NonPureCall name p))
+-- what the host has for a name, for what is lent and for arguments: a native that may be called, or
+-- the fault that there is none or that its first argument can only be read
+abbrev pub Seeks : {S : Type 0} → Law S → S → List ℕ → Option Receiver → List Held → Position →
+    Sought → Type 0
+Seeks law s name r args p (sought.Native key values) = (n : Native)
+    × (native_of law s name (kinds_in (given r args)) ≡ Some n)
+    × ((n.writes && first_is_read_only (given r args)) ≡ false) × (key ≡ n.key)
+    × (values ≡ trees_in args)
+Seeks law s name r args p (sought.Fault x) =
+    ((native_of law s name (kinds_in (given r args)) ≡ None)
+    × (problem_of x ≡ not_found name (values_in (given r args)) p))
+    ⊎ ((n : Native) × (native_of law s name (kinds_in (given r args)) ≡ Some n)
+    × ((n.writes && first_is_read_only (given r args)) ≡ true)
+    × (problem_of x ≡ NonPureCall name p))
 
--- the host was called with a key and values: two marks are passed where it gives a value, and one
--- more where it fails; where memory is out, nothing changed
-abbrev pub Serves : {H : Type 0} → Law H → Run H → Counts → H → ℕ → List Tree → Position →
-    Result NativeEnd OutOfMemory → Run H → Counts → H → Type 0
-Serves law s n host key values p (Ok (native_end.Value v)) s' n' host' =
-    (reply.Done v ≡ law.call_reply host key None values)
-    × (host' ≡ law.call_after host key None values) × (s' ≡ s)
+-- what comes of the host's answer: two marks are passed, or where memory is out, none
+abbrev pub EndsBy : Option Reply → Position → Result NativeEnd OutOfMemory → Counts → Counts → Type 0
+EndsBy said p (Ok (native_end.Value v)) n n' =
+    (said ≡ Some (reply.Done v)) × (n' ≡ record n { passed = n.passed + 1 + 1 })
+EndsBy said p (Ok (native_end.Fault x)) n n' = (y : Problem)
+    × (said ≡ Some (reply.Failed y)) × (problem_of x ≡ at_position_if_none p y)
     × (n' ≡ record n { passed = n.passed + 1 + 1 })
-Serves law s n host key values p (Ok native_end.Failed) s' n' host' = (y : Problem)
-    × (reply.Failed y ≡ law.call_reply host key None values)
-    × (host' ≡ law.call_after host key None values)
-    × (problem_of s'.fault ≡ at_position_if_none p y) × (s' ≡ record s { fault = s'.fault })
-    × (n' ≡ record n { passed = n.passed + 1 + 1 + 1 })
-Serves law s n host key values p (Err e) s' n' host' = (host' ≡ host) × (s' ≡ s) × (n' ≡ n)
+EndsBy said p (Err e) n n' = (said ≡ None) × (n' ≡ n)
+
+-- the run once the host has answered
+abbrev pub served_run : {H : Type 0} → Law H → Run H → H → ℕ → Option Receiver → List Tree → Run H
+served_run law s host key r values =
+    record s { scope = given_back law host key values r s.scope }
+
+-- the host was called with a key, what is lent and values: two marks are passed; where memory is
+-- out, nothing changed
+abbrev pub Serves : {H : Type 0} → Law H → Run H → Counts → H → ℕ → Option Receiver → List Tree →
+    Position → Result NativeEnd OutOfMemory → Run H → Counts → H → Type 0
+Serves law s n host key r values p (Ok (native_end.Value v)) s' n' host' =
+    (reply.Done v ≡ law.call_reply host key (lent r) values)
+    × (host' ≡ law.call_after host key (lent r) values)
+    × (s' ≡ served_run law s host key r values)
+    × (n' ≡ record n { passed = n.passed + 1 + 1 })
+Serves law s n host key r values p (Ok (native_end.Fault x)) s' n' host' = (y : Problem)
+    × (reply.Failed y ≡ law.call_reply host key (lent r) values)
+    × (host' ≡ law.call_after host key (lent r) values)
+    × (problem_of x ≡ at_position_if_none p y) × (s' ≡ served_run law s host key r values)
+    × (n' ≡ record n { passed = n.passed + 1 + 1 })
+Serves law s n host key r values p (Err e) s' n' host' = (host' ≡ host) × (s' ≡ s) × (n' ≡ n)

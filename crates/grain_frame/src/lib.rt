@@ -3,6 +3,7 @@
 #![tactic(auto)]
 
 mod activations;
+mod assignments;
 mod branches;
 mod calls;
 mod charges;

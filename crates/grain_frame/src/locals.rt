@@ -7,12 +7,11 @@ ghost use Rattle.grain_program.specs.Indices.{InPools};
 ghost use Rattle.grain_program.specs.View.{View, name_of, assign_op_of};
 ghost use Rattle.grain_program.specs.declared.code.instructions.Op.TheVariants as op;
 ghost use Rattle.grain_global.specs.declared.engines.Engine.{Engine};
-ghost use Rattle.grain_means.specs.Rules.{store_local, declare, held_at, native, write_entry};
+ghost use Rattle.grain_means.specs.Rules.{store_local, declare};
 ghost use Rattle.grain_frame.specs.Abstraction.{frame_in, Implements, Performs, Ready};
 
 use crate::activations::Activation;
 use crate::contexts::Context;
-use crate::natives::{Arguments, NativeEnd, seek};
 use crate::operated::{OpAssigned, assign_entry};
 use crate::runs::{Progress, Run};
 use crate::steps::Steps;
@@ -203,62 +202,8 @@ impl<H: Host> Run<H> {
                 Ok(self.data_too_large(context, steps, frame.address, what))
             }
             OpAssigned::NotBuiltIn => {
-                self.native_assigned(context, host, steps, frame, index, assign_op.op_name, next)
+                self.native_assigned(context, host, steps, frame, index, assign_op, next)
             }
-        }
-    }
-
-    // The host's native of a name on what an entry holds and the last operand, whose value the
-    // entry takes.
-    #[cold]
-    #[inline(never)]
-    #[tactic(auto, using(grain_means::specs::lemmas::Scopes::length_set_held))]
-    fn native_assigned<L: Ledger>(
-        &mut self,
-        context: Context<'_>,
-        host: &mut H,
-        steps: &mut Steps<L>,
-        frame: &mut Activation,
-        index: usize,
-        name: u32,
-        next: usize,
-    ) -> Result<Progress, OutOfMemory>
-        requires inside { frame.old.base ≤ length self.old.scope }
-        requires entry { index < length self.old.scope }
-        requires operand { 0 < length self.old.stacks.operands }
-        requires ahead { frame.old.address < next }
-        requires pool { name < length context.program.now.names }
-        ensures implements { (h : Held) → held_at self.old.scope index ≡ Some h →
-            (slot : ℕ) → frame.old.base + slot ≡ index → Implements H.law
-            context.entry.program.now context.entry.engine.now frame.old self.old steps.old
-            (λ m place w. native m (name_of m.program name)
-            (h ∷ top self.old.stacks.operands ∷ []) (frame_in frame.old self.old place) w
-            (λ v w1. write_entry m h.read_only slot h v next (frame_in frame.old self.old place)
-            w1))
-            (next ∷ []) (length self.old.stacks.operands - 1 + 0) result
-            frame.new self.new steps.new host.old host.new }
-    {
-        let held = match self.scope.get(index) {
-            Some(held) => held,
-            None => unreachable!(),
-        };
-        let read_only = held.read_only;
-        let mut arguments = Arguments::new(self.alloc);
-        arguments.push(self.alloc, &self.cells, held)?;
-        arguments.push(self.alloc, &self.cells, self.stacks.top())?;
-        let name = context.program.name(name);
-        let position = context.program.position(frame.address);
-        let sought = seek(self.alloc, &self.cells, host, name, arguments, position)?;
-        match self.call_native(host, steps, sought, position)? {
-            NativeEnd::Value(value) => {
-                let _value = self.stacks.pop();
-                self.scope.set(index, Held { value, read_only });
-                steps.mark();
-                frame.address = next;
-                steps.mark();
-                Ok(Progress::Continues)
-            }
-            NativeEnd::Failed => Ok(Progress::Failed),
         }
     }
 

@@ -1,6 +1,6 @@
 //! Natives: what the host is asked for, and how it is called.
 
-ghost use Rattle.std.specs.Prelude.{◌≡◌, ◌++◌, ◌∷◌, [], ℕ, List, Option, IfOk};
+ghost use Rattle.std.specs.Prelude.{◌≡◌, ◌++◌, ◌∷◌, [], ℕ, List, Option, None, IfOk};
 ghost use Rattle.grain_program.specs.View.{position_of};
 ghost use Rattle.grain_value.specs.declared.values.Dynamic.{Dynamic};
 ghost use Rattle.grain_value.specs.declared.values.Held.{Held};
@@ -8,7 +8,9 @@ ghost use Rattle.grain_means.specs.Worlds.{Setup, Frame, Place, World, Act};
 ghost use Rattle.grain_means.specs.Rules.{native};
 ghost use Rattle.grain_means.specs.Simulation.{SimulatesExactly};
 ghost use Rattle.grain_frame.specs.Abstraction.{abstraction, is_out, native_continuation};
-ghost use Rattle.grain_frame.specs.Natives.{Describes, Seeks, Serves};
+ghost use Rattle.grain_frame.specs.Natives.{Describes, Seeks, Serves, EndsBy};
+ghost use Rattle.grain_fault.specs.Problems.{Problem};
+ghost use Rattle.grain_host.specs.Answers.{reply_of};
 
 use crate::runs::Run;
 use crate::signatures::not_found;
@@ -24,8 +26,8 @@ use std::sync::ledger::Ledger;
 pub enum NativeEnd {
     /// This value.
     Value(Dynamic),
-    /// A fault, which leaves the frame and lies in the run.
-    Failed,
+    /// This fault, which is not raised yet.
+    Fault(EvalAltResult),
 }
 
 /// Arguments as a host is given them: their kinds, copies of their values, and whether the first
@@ -92,7 +94,7 @@ pub fn seek<H: Host>(
     position: Position,
 ) -> Result<Sought, OutOfMemory>
     ensures { (args : List Held) → Describes arguments args →
-        IfOk result (λ s. Seeks H.law host.now name.now args position s) }
+        IfOk result (λ s. Seeks H.law host.now name.now None args position s) }
 {
     let Arguments {
         kinds,
@@ -113,8 +115,33 @@ pub fn seek<H: Host>(
     }
 }
 
+/// What came of the host's answer, with a mark before the call and one after. A fault without a
+/// position has this one.
+pub fn served<L: Ledger>(
+    steps: &mut Steps<L>,
+    answer: HostAnswer,
+    position: Position,
+) -> Result<NativeEnd, OutOfMemory>
+    ensures ends { EndsBy (reply_of answer) position result steps.old steps.new }
+    ensures before { steps.new.before ≡ steps.old.before }
+{
+    match answer {
+        HostAnswer::Done(value) => {
+            steps.mark();
+            steps.mark();
+            Ok(NativeEnd::Value(value))
+        }
+        HostAnswer::Failed(failure) => {
+            steps.mark();
+            steps.mark();
+            Ok(NativeEnd::Fault(failure.into_fault().fill_position(position)))
+        }
+        HostAnswer::Memory => Err(OutOfMemory),
+    }
+}
+
 impl<H: Host> Run<H> {
-    // Calls the native that was sought, or raises the fault that there is none. A fault of the
+    // Calls the native that was sought, or gives the fault that there is none. A fault of the
     // host's without a position has this one.
     pub(crate) fn call_native<L: Ledger>(
         &mut self,
@@ -124,21 +151,19 @@ impl<H: Host> Run<H> {
         position: Position,
     ) -> Result<NativeEnd, OutOfMemory>
         ensures same { (m : Setup H) (name : List ℕ) (args : List Held) (f : Option Place → Frame)
-            (go : Setup H → Option Place → Dynamic → World H → Act H) → m.law ≡ H.law →
+            (go : Setup H → Option Place → Dynamic → World H → Act H)
+            (fails : Setup H → Option Place → Problem → World H → Act H) → m.law ≡ H.law →
             ((place : Option Place) → position_of m.program (f place).address ≡ position) →
-            Seeks H.law host.old name args position sought → SimulatesExactly m
+            Seeks H.law host.old name None args position sought → SimulatesExactly m
             (abstraction self.old steps.old host.old)
-            (λ m place w. native m name args (f place) w (go m place))
+            (λ m place w. native m name None args (f place) w (go m place) (fails m place))
             (is_out result) (abstraction self.new steps.new host.new)
-            (native_continuation result self.new.fault f go) }
-        ensures run { self.new ≡ record self.old { fault = self.new.fault } }
+            (native_continuation result f go fails) }
+        ensures run { self.new ≡ self.old }
         ensures before { steps.new.before ≡ steps.old.before }
     {
         match sought {
-            Sought::Fault(fault) => {
-                self.raise(steps, fault);
-                Ok(NativeEnd::Failed)
-            }
+            Sought::Fault(fault) => Ok(NativeEnd::Fault(fault)),
             Sought::Native(key, values) => self.call_host(host, steps, key, values, position),
         }
     }
@@ -152,28 +177,16 @@ impl<H: Host> Run<H> {
         values: Array,
         position: Position,
     ) -> Result<NativeEnd, OutOfMemory>
-        ensures same { Serves H.law self.old steps.old host.old key values position result self.new
-            steps.new host.new }
+        ensures same { Serves H.law self.old steps.old host.old key None values position result
+            self.new steps.new host.new }
+        ensures run { self.new ≡ self.old }
         ensures before { steps.new.before ≡ steps.old.before }
     {
         let mut args = Args {
             receiver: None,
             values,
         };
-        match host.call(self.alloc, key, &mut args) {
-            HostAnswer::Done(value) => {
-                steps.mark();
-                steps.mark();
-                Ok(NativeEnd::Value(value))
-            }
-            HostAnswer::Failed(failure) => {
-                steps.mark();
-                steps.mark();
-                let fault = failure.into_fault().fill_position(position);
-                self.raise(steps, fault);
-                Ok(NativeEnd::Failed)
-            }
-            HostAnswer::Memory => Err(OutOfMemory),
-        }
+        let answer = host.call(self.alloc, key, &mut args);
+        served(steps, answer, position)
     }
 }

@@ -1,13 +1,13 @@
 //! Instructions on operands alone.
 
-ghost use Rattle.std.specs.Prelude.{◌≡◌, ◌<◌, ◌≤◌, ◌+◌, ◌-◌, ◌∷◌, [], length, Ok, IfOk, IfSome};
+ghost use Rattle.std.specs.Prelude.{◌≡◌, ◌<◌, ◌≤◌, ◌+◌, ◌-◌, ◌∷◌, [], length, Ok, IfOk, IfSome, None};
 ghost use Rattle.grain_program.specs.View.{View, name_of};
 ghost use Rattle.grain_program.specs.declared.code.instructions.Op.TheVariants as op;
 ghost use Rattle.grain_value.specs.declared.values.Dynamic.TheVariants as dynamic;
 ghost use Rattle.grain_value.specs.Operands.{arguments, under};
 ghost use Rattle.grain_global.specs.declared.engines.Engine.{Engine};
 ghost use Rattle.grain_ops.specs.Outcomes.{Gave};
-ghost use Rattle.grain_means.specs.Rules.{pushed, operated, native};
+ghost use Rattle.grain_means.specs.Rules.{pushed, operated, native, raised};
 ghost use Rattle.grain_frame.specs.Abstraction.{frame_in, Implements, Performs, Ready};
 ghost use Rattle.grain_frame.specs.Operated.{outcome_of};
 ghost use Rattle.grain_program.specs.Indices.{InPools};
@@ -163,10 +163,11 @@ impl<H: Host> Run<H> {
         requires pool { name < length context.program.now.names }
         ensures implements { Implements H.law context.entry.program.now context.entry.engine.now
             frame.old self.old steps.old
-            (λ m place w. native m (name_of m.program name)
+            (λ m place w. native m (name_of m.program name) None
             (arguments count self.old.stacks.operands) (frame_in frame.old self.old place) w
             (λ v w1. pushed m (frame_in frame.old self.old place) next
-            (under count self.old.stacks.operands) v w1))
+            (under count self.old.stacks.operands) v w1)
+            (raised m (frame_in frame.old self.old place)))
             (next ∷ []) (length self.old.stacks.operands - count + 1) result
             frame.new self.new steps.new host.old host.new }
     {
@@ -181,7 +182,7 @@ impl<H: Host> Run<H> {
                 self.stacks.cut(self.stacks.height() - count);
                 Ok(self.push_on(steps, frame, value, next))
             }
-            NativeEnd::Failed => Ok(Progress::Failed),
+            NativeEnd::Fault(fault) => Ok(self.raise(steps, fault)),
         }
     }
 

@@ -3,7 +3,7 @@
 ghost use Rattle.std.specs.Prelude.{◌≡◌, ◌++◌, [], IfOk, map};
 ghost use Rattle.grain_value.specs.Same.{value_of};
 ghost use Rattle.grain_fault.specs.Problems.{problem_of};
-ghost use Rattle.grain_means.specs.Signatures.{types_text, signature_text, type_at, unknown_property, unwritable_property, index_text, not_found};
+ghost use Rattle.grain_means.specs.Signatures.{types_text, signature_text, type_at, unknown_property, unwritable_property, index_text, not_found, says_missing};
 
 use grain_fault::{EvalAltResult, Position};
 use grain_value::{Array, OutOfMemory, Store, Text};
@@ -43,6 +43,16 @@ pub fn not_found(
     }
     let text = signature(alloc, cells, name, values)?;
     Ok(EvalAltResult::ErrorFunctionNotFound(text, position))
+}
+
+/// Whether a fault says that no function of this name is found.
+pub fn says_missing(name: &Text, fault: &EvalAltResult) -> bool
+    ensures { result ≡ says_missing name.now (problem_of fault.now) }
+{
+    match fault {
+        EvalAltResult::ErrorFunctionNotFound(text, _) => text.as_str().starts_with(name.as_str()),
+        _ => false,
+    }
 }
 
 // A function's name and the types of its arguments.

@@ -1,15 +1,17 @@
-use Rattle.std.proofs.Common.{◌≡◌, ◌∷◌, [], Some, true, refl, sym, rules}
+use Rattle.std.proofs.Common.{◌≡◌, ◌∷◌, [], Option, None, Some, true, refl, sym, rules}
 use Rattle.grain_program.specs.View.{name_of}
 use Rattle.grain_value.specs.Operands.{top}
-use Rattle.grain_means.specs.Rules.{held_at, write_entry}
+use Rattle.grain_fault.specs.Problems.{Problem}
+use Rattle.grain_means.specs.Worlds.{Place, Setup, World}
+use Rattle.grain_means.specs.Rules.{held_at, raised, write_entry}
 use Rattle.grain_means.specs.Means.{setup}
 use Rattle.grain_frame.specs.Abstraction.{frame_in, is_out}
 use Rattle.grain_frame.specs.Natives.{Describes, Seeks}
-use Rattle.grain_frame.proofs.Serving.{native_failed, native_wants}
+use Rattle.grain_frame.proofs.Serving.{native_raised, native_wants}
 use Rattle.grain_frame.specs.Following.{moved, marked_once}
 use Rattle.grain_frame.proofs.Arms.{implements_as}
 use Rattle.grain_frame.proofs.Handing.{native_written, one_held}
-use Rattle.grain_frame.proofs.runs.Run.native_assigned.Goals as goal
+use Rattle.grain_frame.proofs.runs.Run.operator_assigned.Goals as goal
 
 pub returns-in_err-value : goal.returns-in_err-value
 returns-in_err-value g c =
@@ -23,7 +25,7 @@ returns-in_err-value g c =
     let two : Describes c.push-2.new.self (held ∷ top s.stacks.operands ∷ []) =
     rw c.top.ensures at (c.in_ok-push-2.ensures (held ∷ []) one) in
     let args = held ∷ top s.stacks.operands ∷ [] in
-    let seeks : Seeks g.H.Host.law c.args.host.now (name_of p c.args.name) args
+    let seeks : Seeks g.H.Host.law c.args.host.now (name_of p c.args.name) None args
     c.position-position.result c.in_ok-sought.sought =
     rw c.name-name.ensures at (c.in_ok-sought.ensures args two) in
     let m = setup g.H.Host.law p c.args.context.engine.now in
@@ -33,7 +35,7 @@ returns-in_err-value g c =
           let did = c.in_err-value.ensures.same m (name_of p c.args.name) args (frame_in f s)
           (λ n place v w. write_entry n held.read_only slot held v c.args.next (frame_in f s place)
           w)
-          refl
+          (λ n place x w. raised n (frame_in f s place) x w) refl
           (λ place. sym c.position-position.ensures) seeks in
           rw (← one_held (held_at s.scope c.args.index) held h there is)
           (implements_as g.H.Host.law c.args.context.program.now c.args.context.engine.now
@@ -44,14 +46,15 @@ returns-in_err-value g c =
           c.call_native.new.host
           (λ n place v w. write_entry n held.read_only slot held v c.args.next (frame_in f s place)
           w)
-          c.call_native.new.self.fault c.call_native.ensures.run c.call_native.ensures.before
+          (λ n place x w. raised n (frame_in f s place) x w)
+          s.scope c.call_native.ensures.run refl c.call_native.ensures.before
           c.requires.inside
           c.in_err-value.field-0.0 c.from_residual-in_err-value.result out did)
           (λ stop u place. refl));
     }
 
-pub returns-in-Failed : goal.returns-in-Failed
-returns-in-Failed g c =
+pub returns-in-Fault : goal.returns-in-Fault
+returns-in-Fault g c =
     let p = c.args.context.program.now in
     let s = c.args.self.now in
     let f = c.args.frame.now in
@@ -62,7 +65,7 @@ returns-in-Failed g c =
     let two : Describes c.push-2.new.self (held ∷ top s.stacks.operands ∷ []) =
     rw c.top.ensures at (c.in_ok-push-2.ensures (held ∷ []) one) in
     let args = held ∷ top s.stacks.operands ∷ [] in
-    let seeks : Seeks g.H.Host.law c.args.host.now (name_of p c.args.name) args
+    let seeks : Seeks g.H.Host.law c.args.host.now (name_of p c.args.name) None args
     c.position-position.result c.in_ok-sought.sought =
     rw c.name-name.ensures at (c.in_ok-sought.ensures args two) in
     let m = setup g.H.Host.law p c.args.context.engine.now in
@@ -71,20 +74,22 @@ returns-in-Failed g c =
           let did = c.in_ok-value.ensures.same m (name_of p c.args.name) args (frame_in f s)
           (λ n place v w. write_entry n held.read_only slot held v c.args.next (frame_in f s place)
           w)
-          refl
+          (λ n place x w. raised n (frame_in f s place) x w) refl
           (λ place. sym c.position-position.ensures) seeks in
-          rw (← one_held (held_at s.scope c.args.index) held h there is)
+          rw (← one_held (held_at s.scope c.args.index) held h there is, c.raise.ensures.progress)
           (implements_as g.H.Host.law c.args.context.program.now c.args.context.engine.now
-          f f s s c.call_native.new.self c.args.steps.now c.call_native.new.steps c.args.host.now
+          f f s s c.raise.new.self c.args.steps.now c.raise.new.steps c.args.host.now
           c.call_native.new.host refl
-          (native_failed g.H.Host.law c.args.context.program.now c.args.context.engine.now
+          (native_raised g.H.Host.law c.args.context.program.now c.args.context.engine.now
           f s c.call_native.new.self c.args.steps.now c.call_native.new.steps c.args.host.now
           c.call_native.new.host
           (λ n place v w. write_entry n held.read_only slot held v c.args.next (frame_in f s place)
           w)
-          c.call_native.new.self.fault c.call_native.ensures.run c.call_native.ensures.before
-          c.requires.inside
-          (rw c.in-Failed.is at did)) (λ stop u place. refl));
+          (λ n place x w. raised n (frame_in f s place) x w)
+          s.scope c.call_native.ensures.run refl c.call_native.ensures.before
+          c.requires.inside c.in-Fault.fault c.raise.new.self c.raise.new.steps
+          (rw c.in-Fault.is at did) c.raise.ensures.after c.raise.ensures.marked)
+          (λ stop u place. refl));
     }
 
 pub returns-in-Value : goal.returns-in-Value
@@ -99,7 +104,7 @@ returns-in-Value g c =
     let two : Describes c.push-2.new.self (held ∷ top s.stacks.operands ∷ []) =
     rw c.top.ensures at (c.in_ok-push-2.ensures (held ∷ []) one) in
     let args = held ∷ top s.stacks.operands ∷ [] in
-    let seeks : Seeks g.H.Host.law c.args.host.now (name_of p c.args.name) args
+    let seeks : Seeks g.H.Host.law c.args.host.now (name_of p c.args.name) None args
     c.position-position.result c.in_ok-sought.sought =
     rw c.name-name.ensures at (c.in_ok-sought.ensures args two) in
     let m = setup g.H.Host.law p c.args.context.engine.now in
@@ -108,7 +113,7 @@ returns-in-Value g c =
           let did = c.in_ok-value.ensures.same m (name_of p c.args.name) args (frame_in f s)
           (λ n place v w. write_entry n held.read_only slot held v c.args.next (frame_in f s place)
           w)
-          refl
+          (λ n place x w. raised n (frame_in f s place) x w) refl
           (λ place. sym c.position-position.ensures) seeks in
           rw (
             ← one_held (held_at s.scope c.args.index) held h there is,
@@ -124,7 +129,7 @@ returns-in-Value g c =
           (native_written g.H.Host.law c.args.context.program.now c.args.context.engine.now
           f s c.call_native.new.self c.args.steps.now c.call_native.new.steps c.args.host.now
           c.call_native.new.host
-          c.call_native.new.self.fault c.call_native.ensures.run c.call_native.ensures.before
+          c.call_native.ensures.run c.call_native.ensures.before
           c.requires.inside
           held slot c.args.index c.args.next c.in-Value.value c.pop-value.new.self c.set.new.self
           (rw c.in-Value.is at did) c.pop-value.ensures.rest c.set.ensures at c.requires.ahead)
