@@ -12,7 +12,7 @@ use Rattle.grain_program.specs.declared.code.parts.Chunk.{Chunk}
 use Rattle.grain_program.specs.declared.code.instructions.Op.{Op}
 use Rattle.grain_program.specs.declared.code.instructions.Op.TheVariants as op
 use Rattle.grain_frame.specs.declared.loops.Attempt.{Attempt}
-use Rattle.grain_frame.specs.declared.loops.Pending.{Pending}
+use Rattle.grain_frame.specs.declared.loops.Attempt.TheVariants as attempt
 use Rattle.grain_program.specs.Effects.{takes_of, gives_of, leads_of}
 use Rattle.grain_program.specs.laws.TypedAt.{IsTypedAt, Verified}
 use Rattle.grain_program.specs.Reading.{op_at}
@@ -27,7 +27,7 @@ use Rattle.grain_means.specs.lemmas.Stretches.{same, exactly}
 use Rattle.grain_means.specs.lemmas.Branches.{of_two}
 use Rattle.grain_means.specs.lemmas.Scopes.{length_set_held}
 use Rattle.grain_frame.specs.Counts.{Counts}
-use Rattle.grain_frame.specs.Abstraction.{abstraction, frame_in, is_out, continuation, KeepsFrame, ContinuesAt, Ready, Runs, Implements, Performs, Raises, StaysTyped, Stepped, OnTrue, OnFalse, Unchanged, Attempted, CallsNothing, StandsAt, IsPending, attempt_of, attempt_or}
+use Rattle.grain_frame.specs.Abstraction.{abstraction, frame_in, is_out, continuation, KeepsFrame, ContinuesAt, Ready, Runs, Implements, Performs, Raises, StaysTyped, Stepped, OnTrue, OnFalse, Unchanged, Attempted, CallsNothing, StandsAt, StandsAtJump, attempt_of, attempt_or}
 use Rattle.grain_frame.specs.declared.activations.Activation.{Activation}
 use Rattle.grain_frame.specs.declared.runs.Progress.{Progress}
 use Rattle.grain_frame.specs.declared.runs.Progress.TheVariants as progress
@@ -134,13 +134,13 @@ module _ {H : Type 0} (law : Law H) (p : View) (engine : Engine) (f : Activation
         rw e (attempted law p engine f f' s s' n n' b
         (tried b does (λ d host. stepped host host (d host))) undone calls)
 
-    -- the instruction was tried, and if it is not done, this is to be done
-    pub tried_or : (b : Bool) (q : Pending) (a : Attempt) → a ≡ attempt_or b q →
+    -- a jump was tried, and if it is not done, it stands there still
+    pub tried_or : (b : Bool) (target : ℕ) (a : Attempt) → a ≡ attempt_or b (attempt.Jump target) →
         OnTrue b ((host : H) → Performs law p engine f s n o (f.address + width)
         (Ok progress.Continues) f' s' n' host host) → OnFalse b (Unchanged f s n f' s' n') →
-        IsPending p f s q → Attempted law p engine f s n f' s' n' a
-    tried_or true q a e does undone at = rw e (λ host. stepped host host (does host))
-    tried_or false q a e does undone at = rw e (undone, at)
+        StandsAtJump p f s target → Attempted law p engine f s n f' s' n' a
+    tried_or true target a e does undone at = rw e (λ host. stepped host host (does host))
+    tried_or false target a e does undone at = rw e (undone, at)
 
     -- an instruction that reaches the host was done
     pub stepped_on : (host host' : H) {r : Result Progress OutOfMemory} →

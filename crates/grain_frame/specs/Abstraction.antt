@@ -327,12 +327,14 @@ abbrev pub CallsNothing : View → Activation → Type 0
 CallsNothing program f =
     (name count width : ℕ) → op_at program.code f.address ≡ Some (op.Call name count, width) → ⊥
 
+-- the frame stands at a jump to this address
+abbrev pub StandsAtJump : {H : Type 0} → View → Activation → Run H → ℕ → Type 0
+StandsAtJump program f s target = (next : ℕ) × StandsAt program f s (op.Jump target) next
+
 -- what is known of an instruction that is still to be done
 abbrev pub IsPending : {H : Type 0} → View → Activation → Run H → Pending → Type 0
 IsPending program f s (pending.Call name count next) =
     StandsAt program f s (op.Call name count) next
-IsPending program f s (pending.Jump target) =
-    (next : ℕ) × StandsAt program f s (op.Jump target) next
 IsPending program f s pending.Other = CallsNothing program f
 
 -- What came of an instruction that the loop tried first: it is done, or nothing was done.
@@ -343,13 +345,15 @@ Attempted {H = H} law program engine f s n f' s' n' attempt.Done =
     (host : H) → Stepped law program engine f s n (Ok progress.Continues) f' s' n' host host
 Attempted {H = H} law program engine f s n f' s' n' attempt.Returned =
     (host : H) → Stepped law program engine f s n (Ok progress.Returned) f' s' n' host host
+Attempted law program engine f s n f' s' n' (attempt.Jump target) =
+    Unchanged f s n f' s' n' × StandsAtJump program f s target
 Attempted law program engine f s n f' s' n' (attempt.Pending p) =
     Unchanged f s n f' s' n' × IsPending program f s p
 
--- what came of it by whether it was done, and by what is to be done if not
-abbrev pub attempt_or : Bool → Pending → Attempt
-attempt_or true q = attempt.Done
-attempt_or false q = attempt.Pending q
+-- what came of it by whether it was done, and what else
+abbrev pub attempt_or : Bool → Attempt → Attempt
+attempt_or true other = attempt.Done
+attempt_or false other = other
 
 abbrev pub attempt_of : Bool → Attempt
-attempt_of b = attempt_or b pending.Other
+attempt_of b = attempt_or b (attempt.Pending pending.Other)

@@ -12,7 +12,7 @@ ghost use Rattle.grain_means.specs.Worlds.{Go, InFrame, Setup};
 ghost use Rattle.grain_means.specs.Rules.{called, closed, instr};
 ghost use Rattle.grain_means.specs.Simulation.{Simulates, SimulatesExactly, StopPersists};
 ghost use Rattle.grain_means.specs.Means.{setup};
-ghost use Rattle.grain_frame.specs.Abstraction.{abstraction, frame_in, is_out, finished_with, frame_over, frame_answer, answer_of, continuation, entry_of, KeepsFrame, ContinuesAt, Ready, Runs, Stepped, Attempted, CallsNothing, IsPending, attempt_of, attempt_or};
+ghost use Rattle.grain_frame.specs.Abstraction.{abstraction, frame_in, is_out, finished_with, frame_over, frame_answer, answer_of, continuation, entry_of, KeepsFrame, ContinuesAt, Ready, Runs, Stepped, Attempted, CallsNothing, IsPending, StandsAtJump, attempt_of, attempt_or};
 
 use crate::activations::Activation;
 use crate::contexts::Context;
@@ -31,6 +31,8 @@ pub enum Attempt {
     Done,
     /// It is done, and the frame is over, with a value.
     Returned,
+    /// Nothing was done. It is a jump to this address, which costs an operation.
+    Jump(u32),
     /// Nothing was done.
     Pending(Pending),
 }
@@ -41,8 +43,6 @@ pub enum Pending {
     /// A call of the function with the name of this index and this number of arguments, after which
     /// the frame goes on at this address.
     Call(u16, u8, usize),
-    /// A jump to this address, which costs an operation.
-    Jump(u32),
     /// One that calls nothing.
     Other,
 }
@@ -53,18 +53,18 @@ impl Attempt {
     fn of(done: bool) -> Attempt
         ensures { result ≡ attempt_of done }
     {
-        Attempt::or(done, Pending::Other)
+        Attempt::or(done, Attempt::Pending(Pending::Other))
     }
 
-    // Whether an instruction was done, and if not, what is still to be done.
+    // That an instruction was done, or what else came of it.
     #[inline(always)]
-    fn or(done: bool, pending: Pending) -> Attempt
-        ensures { result ≡ attempt_or done pending }
+    fn or(done: bool, other: Attempt) -> Attempt
+        ensures { result ≡ attempt_or done other }
     {
         if done {
             Attempt::Done
         } else {
-            Attempt::Pending(pending)
+            other
         }
     }
 }
@@ -98,7 +98,7 @@ impl<H: Host> Run<H> {
             }
             (Op::Jump(target), width) => {
                 let done = self.quick_jump(context, steps, frame, target, address + width);
-                Attempt::or(done, Pending::Jump(target))
+                Attempt::or(done, Attempt::Jump(target))
             }
             (Op::JumpIfFalse(target), width) => {
                 let next = address + width;
@@ -206,6 +206,24 @@ impl<H: Host> Run<H> {
         }
     }
 
+    // The jump at which the frame stands.
+    #[inline(always)]
+    fn jump<L: Ledger>(
+        &mut self,
+        context: Context<'_>,
+        host: &mut H,
+        steps: &mut Steps<L>,
+        frame: &mut Activation,
+        target: u32,
+    ) -> Result<Progress, OutOfMemory>
+        requires runs { Runs context.program.now frame.old self.old }
+        requires here { StandsAtJump context.program.now frame.old self.old target }
+        ensures stepped { Stepped H.law context.entry.program.now context.entry.engine.now
+            frame.old self.old steps.old result frame.new self.new steps.new host.old host.new }
+    {
+        self.jump_to(context, host, steps, frame, target as usize)
+    }
+
     // `call`: a function on the last `count` operands, in a frame of its own.
     #[cycle(run)]
     #[inline(always)]
@@ -271,7 +289,6 @@ impl<H: Host> Run<H> {
             Pending::Call(name, count, next) => {
                 self.call(context, host, steps, frame, name, count, next)
             }
-            Pending::Jump(target) => self.jump_to(context, host, steps, frame, target as usize),
             Pending::Other => {
                 let mut copy = *frame;
                 let progress = self.step(context, host, steps, &mut copy);
@@ -333,6 +350,22 @@ impl<H: Host> Run<H> {
             let pending = match self.quick(context, steps, &mut frame) {
                 Attempt::Done => continue 'turn,
                 Attempt::Returned => return Ok(FrameEnd::Value),
+                Attempt::Jump(target) => {
+                    match self.jump(context, host, steps, &mut frame, target) {
+                        Err(e) => {
+                            self.leave_by_fault(frame.address, frame.floor);
+                            return Err(e);
+                        }
+                        Ok(progress) => match progress {
+                            Progress::Continues => continue 'turn,
+                            Progress::Returned => return Ok(FrameEnd::Value),
+                            Progress::Failed => {
+                                self.leave_by_fault(frame.address, frame.floor);
+                                return Ok(FrameEnd::Fault);
+                            }
+                        },
+                    }
+                }
                 Attempt::Pending(pending) => pending,
             };
             match self.proceed(context, host, steps, &mut frame, pending) {

@@ -83,18 +83,6 @@ proceed-returns-in-Call g t c =
           c.call.ensures.before;
     }
 
-pub proceed-returns-in-Jump : goal.proceed-returns-in-Jump
-proceed-returns-in-Jump g t c =
-    let p = c.args.context.program.now in
-    let at = subst (λ (q : Pending). IsPending p c.args.frame.now c.args.self.now q) c.in-Jump.is
-    c.requires.pending in
-    record {
-      stepped = stood g.H.Host.law p c.args.context.engine.now c.args.frame.now
-          c.args.self.now (op.Jump c.in-Jump.target) at.0 at.1 c.requires.runs
-          c.args.steps.now c.jump_to.new.frame c.jump_to.new.self c.jump_to.new.steps
-          c.args.host.now c.jump_to.new.host c.jump_to.ensures.implements;
-    }
-
 pub proceed-returns-in-Other : goal.proceed-returns-in-Other
 proceed-returns-in-Other g t c =
     let did = c.step-progress.ensures.stepped in
@@ -167,17 +155,99 @@ run_frame-returns-in-Returned-clause-before g t c =
 
 pub run_frame-returns-in-Err-clause-goes : goal.run_frame-returns-in-Err-clause-goes
 run_frame-returns-in-Err-clause-goes g t c =
+    let at = frame_in c.jump.new.frame c.jump.new.self in
+    let did =
+    moved_back
+    (λ (s : Run g.row.H.Denot) (f : Activation) (n : Counts).
+    Stepped g.H.Host.law c.args.context.program.now c.args.context.engine.now f s n
+    (Err c.in-Err.e) c.jump.new.frame c.jump.new.self c.jump.new.steps c.turn.host
+    c.jump.new.host) c.in-Jump.ensures.0 c.in-Err.ensures.stepped in
+    left_out (abstraction c.jump.new.self c.jump.new.steps c.jump.new.host)
+    (abstraction c.leave_by_fault.new.self c.jump.new.steps c.jump.new.host) at
+    c.jump.new.frame.floor c.jump.new.frame.address (λ place. refl) (λ place. refl)
+    (rw c.leave_by_fault.ensures refl)
+    (turn (abstraction c.turn.self c.turn.steps c.turn.host)
+    (rw (c.mark.ensures, c.tick.ensures) refl) c.turn.invariant.goes did.goes)
+
+pub run_frame-turn-preserved-in-Continues : goal.run_frame-turn-preserved-in-Continues
+run_frame-turn-preserved-in-Continues g t c =
+    let at = frame_in c.jump.new.frame c.jump.new.self in
+    let did =
+    moved_back
+    (λ (s : Run g.row.H.Denot) (f : Activation) (n : Counts).
+    Stepped g.H.Host.law c.args.context.program.now c.args.context.engine.now f s n
+    (Ok c.in-Ok.progress) c.jump.new.frame c.jump.new.self c.jump.new.steps c.turn.host
+    c.jump.new.host) c.in-Jump.ensures.0 c.in-Ok.ensures.stepped in
+    let stays =
+    subst (λ (q : Progress). StaysTyped c.args.context.program.now c.args.context.engine.now
+    c.turn.self c.turn.frame c.jump.new.self c.jump.new.frame (Ok q)) c.in-Continues.is
+    did.stays in
+    let now = c.turn.invariant in
+    let fewer = falls c.args.context.engine.now c.turn.self.count c.jump.new.self.count
+    c.turn.frame.address c.jump.new.frame.address stays.1 stays.2 in
+    record {
+      goes = flowed at c.jump.new.self.fault c.in-Continues.is
+          (turn (abstraction c.turn.self c.turn.steps c.turn.host)
+          (rw (c.mark.ensures, c.tick.ensures) refl) now.goes did.goes);
+      runs = next_runs c.args.context.program.now c.turn.frame c.jump.new.frame c.turn.self
+          c.jump.new.self now.runs did.kept stays.0;
+      outer = did.kept.outer ∙ now.outer;
+      saved = did.kept.saved ∙ now.saved;
+      level = did.kept.level ∙ now.level;
+      later = omega (arith, did.kept.later, now.later);
+      fewer = omega (arith, fewer, now.fewer);
+      before = did.before ∙
+          (ap (λ (k : Counts). k.before) c.mark.ensures ∙
+          (ap (λ (k : Counts). k.before) c.tick.ensures ∙ now.before));
+    }
+
+pub run_frame-returns-in-Returned-progress-clause-goes :
+    goal.run_frame-returns-in-Returned-progress-clause-goes
+run_frame-returns-in-Returned-progress-clause-goes g t c =
+    let at = frame_in c.jump.new.frame c.jump.new.self in
+    let did =
+    moved_back
+    (λ (s : Run g.row.H.Denot) (f : Activation) (n : Counts).
+    Stepped g.H.Host.law c.args.context.program.now c.args.context.engine.now f s n
+    (Ok c.in-Ok.progress) c.jump.new.frame c.jump.new.self c.jump.new.steps c.turn.host
+    c.jump.new.host) c.in-Jump.ensures.0 c.in-Ok.ensures.stepped in
+    flowed at c.jump.new.self.fault c.in-Returned-progress.is
+    (turn (abstraction c.turn.self c.turn.steps c.turn.host)
+    (rw (c.mark.ensures, c.tick.ensures) refl) c.turn.invariant.goes did.goes)
+
+pub run_frame-returns-in-Failed-clause-goes : goal.run_frame-returns-in-Failed-clause-goes
+run_frame-returns-in-Failed-clause-goes g t c =
+    let at = frame_in c.jump.new.frame c.jump.new.self in
+    let did =
+    moved_back
+    (λ (s : Run g.row.H.Denot) (f : Activation) (n : Counts).
+    Stepped g.H.Host.law c.args.context.program.now c.args.context.engine.now f s n
+    (Ok c.in-Ok.progress) c.jump.new.frame c.jump.new.self c.jump.new.steps c.turn.host
+    c.jump.new.host) c.in-Jump.ensures.0 c.in-Ok.ensures.stepped in
+    let left = c.leave_by_fault-in-Failed in
+    let fault : left.new.self.fault ≡ c.jump.new.self.fault =
+    ap (λ (s : Run g.row.H.Denot). s.fault) left.ensures in
+    rw fault (left_out (abstraction c.jump.new.self c.jump.new.steps c.jump.new.host)
+    (abstraction left.new.self c.jump.new.steps c.jump.new.host) at
+    c.jump.new.frame.floor c.jump.new.frame.address (λ place. refl) (λ place. refl)
+    (rw left.ensures refl)
+    (flowed at c.jump.new.self.fault c.in-Failed.is
+    (turn (abstraction c.turn.self c.turn.steps c.turn.host)
+    (rw (c.mark.ensures, c.tick.ensures) refl) c.turn.invariant.goes did.goes)))
+
+pub run_frame-returns-in-Err-proceed-clause-goes : goal.run_frame-returns-in-Err-proceed-clause-goes
+run_frame-returns-in-Err-proceed-clause-goes g t c =
     let at = frame_in c.proceed.new.frame c.proceed.new.self in
     let did =
     moved_back
     (λ (s : Run g.row.H.Denot) (f : Activation) (n : Counts).
     Stepped g.H.Host.law c.args.context.program.now c.args.context.engine.now f s n
-    (Err c.in-Err.e) c.proceed.new.frame c.proceed.new.self c.proceed.new.steps c.turn.host
-    c.proceed.new.host) c.in-Pending.ensures.0 c.in-Err.ensures.stepped in
+    (Err c.in-Err-proceed.e) c.proceed.new.frame c.proceed.new.self c.proceed.new.steps c.turn.host
+    c.proceed.new.host) c.in-Pending.ensures.0 c.in-Err-proceed.ensures.stepped in
     left_out (abstraction c.proceed.new.self c.proceed.new.steps c.proceed.new.host)
-    (abstraction c.leave_by_fault.new.self c.proceed.new.steps c.proceed.new.host) at
+    (abstraction c.leave_by_fault-in-Err-proceed.new.self c.proceed.new.steps c.proceed.new.host) at
     c.proceed.new.frame.floor c.proceed.new.frame.address (λ place. refl) (λ place. refl)
-    (rw c.leave_by_fault.ensures refl)
+    (rw c.leave_by_fault-in-Err-proceed.ensures refl)
     (turn (abstraction c.turn.self c.turn.steps c.turn.host)
     (rw (c.mark.ensures, c.tick.ensures) refl) c.turn.invariant.goes did.goes)
 
@@ -188,17 +258,17 @@ run_frame-turn-preserved g t c =
     moved_back
     (λ (s : Run g.row.H.Denot) (f : Activation) (n : Counts).
     Stepped g.H.Host.law c.args.context.program.now c.args.context.engine.now f s n
-    (Ok c.in-Ok.progress) c.proceed.new.frame c.proceed.new.self c.proceed.new.steps c.turn.host
-    c.proceed.new.host) c.in-Pending.ensures.0 c.in-Ok.ensures.stepped in
+    (Ok c.in-Ok-proceed.progress) c.proceed.new.frame c.proceed.new.self c.proceed.new.steps c.turn.host
+    c.proceed.new.host) c.in-Pending.ensures.0 c.in-Ok-proceed.ensures.stepped in
     let stays =
     subst (λ (q : Progress). StaysTyped c.args.context.program.now c.args.context.engine.now
-    c.turn.self c.turn.frame c.proceed.new.self c.proceed.new.frame (Ok q)) c.in-Continues.is
+    c.turn.self c.turn.frame c.proceed.new.self c.proceed.new.frame (Ok q)) c.in-Continues-progress.is
     did.stays in
     let now = c.turn.invariant in
     let fewer = falls c.args.context.engine.now c.turn.self.count c.proceed.new.self.count
     c.turn.frame.address c.proceed.new.frame.address stays.1 stays.2 in
     record {
-      goes = flowed at c.proceed.new.self.fault c.in-Continues.is
+      goes = flowed at c.proceed.new.self.fault c.in-Continues-progress.is
           (turn (abstraction c.turn.self c.turn.steps c.turn.host)
           (rw (c.mark.ensures, c.tick.ensures) refl) now.goes did.goes);
       runs = next_runs c.args.context.program.now c.turn.frame c.proceed.new.frame c.turn.self
@@ -213,36 +283,36 @@ run_frame-turn-preserved g t c =
           (ap (λ (k : Counts). k.before) c.tick.ensures ∙ now.before));
     }
 
-pub run_frame-returns-in-Returned-progress-clause-goes :
-    goal.run_frame-returns-in-Returned-progress-clause-goes
-run_frame-returns-in-Returned-progress-clause-goes g t c =
+pub run_frame-returns-in-Returned-progress-2-clause-goes :
+    goal.run_frame-returns-in-Returned-progress-2-clause-goes
+run_frame-returns-in-Returned-progress-2-clause-goes g t c =
     let at = frame_in c.proceed.new.frame c.proceed.new.self in
     let did =
     moved_back
     (λ (s : Run g.row.H.Denot) (f : Activation) (n : Counts).
     Stepped g.H.Host.law c.args.context.program.now c.args.context.engine.now f s n
-    (Ok c.in-Ok.progress) c.proceed.new.frame c.proceed.new.self c.proceed.new.steps c.turn.host
-    c.proceed.new.host) c.in-Pending.ensures.0 c.in-Ok.ensures.stepped in
-    flowed at c.proceed.new.self.fault c.in-Returned-progress.is
+    (Ok c.in-Ok-proceed.progress) c.proceed.new.frame c.proceed.new.self c.proceed.new.steps c.turn.host
+    c.proceed.new.host) c.in-Pending.ensures.0 c.in-Ok-proceed.ensures.stepped in
+    flowed at c.proceed.new.self.fault c.in-Returned-progress-2.is
     (turn (abstraction c.turn.self c.turn.steps c.turn.host)
     (rw (c.mark.ensures, c.tick.ensures) refl) c.turn.invariant.goes did.goes)
 
-pub run_frame-returns-in-Failed-clause-goes : goal.run_frame-returns-in-Failed-clause-goes
-run_frame-returns-in-Failed-clause-goes g t c =
+pub run_frame-returns-in-Failed-progress-clause-goes : goal.run_frame-returns-in-Failed-progress-clause-goes
+run_frame-returns-in-Failed-progress-clause-goes g t c =
     let at = frame_in c.proceed.new.frame c.proceed.new.self in
     let did =
     moved_back
     (λ (s : Run g.row.H.Denot) (f : Activation) (n : Counts).
     Stepped g.H.Host.law c.args.context.program.now c.args.context.engine.now f s n
-    (Ok c.in-Ok.progress) c.proceed.new.frame c.proceed.new.self c.proceed.new.steps c.turn.host
-    c.proceed.new.host) c.in-Pending.ensures.0 c.in-Ok.ensures.stepped in
-    let left = c.leave_by_fault-in-Failed in
+    (Ok c.in-Ok-proceed.progress) c.proceed.new.frame c.proceed.new.self c.proceed.new.steps c.turn.host
+    c.proceed.new.host) c.in-Pending.ensures.0 c.in-Ok-proceed.ensures.stepped in
+    let left = c.leave_by_fault-in-Failed-progress in
     let fault : left.new.self.fault ≡ c.proceed.new.self.fault =
     ap (λ (s : Run g.row.H.Denot). s.fault) left.ensures in
     rw fault (left_out (abstraction c.proceed.new.self c.proceed.new.steps c.proceed.new.host)
     (abstraction left.new.self c.proceed.new.steps c.proceed.new.host) at
     c.proceed.new.frame.floor c.proceed.new.frame.address (λ place. refl) (λ place. refl)
     (rw left.ensures refl)
-    (flowed at c.proceed.new.self.fault c.in-Failed.is
+    (flowed at c.proceed.new.self.fault c.in-Failed-progress.is
     (turn (abstraction c.turn.self c.turn.steps c.turn.host)
     (rw (c.mark.ensures, c.tick.ensures) refl) c.turn.invariant.goes did.goes)))

@@ -1,6 +1,5 @@
 use Rattle.std.proofs.Common.{refl}
 use Rattle.grain_program.specs.declared.code.instructions.Op.TheVariants as op
-use Rattle.grain_frame.specs.declared.loops.Pending.TheVariants as pending
 use Rattle.grain_frame.proofs.Arms.{tried_out, tried_or, tried_on, stepped, stands}
 use Rattle.grain_frame.proofs.runs.Run.quick.Goals as goal
 
@@ -48,7 +47,7 @@ returns-in-Jump-default g c =
     c.height-depth.result c.in-Jump-default.is-0 c.height-depth.ensures c.requires.runs
     c.fetch.ensures.verified c.fetch.ensures.read c.args.steps.now c.quick_jump-done.new.frame
     c.quick_jump-done.new.self c.quick_jump-done.new.steps c.quick_jump-done.result
-    (pending.Jump c.in-Jump-default.target) c.or.result c.or.ensures
+    c.in-Jump-default.target c.or.result c.or.ensures
     c.quick_jump-done.ensures.performs c.quick_jump-done.ensures.undone (_, at)
 
 pub returns-in-JumpIfFalse-default : goal.returns-in-JumpIfFalse-default
