@@ -78,9 +78,6 @@ native_short law p engine f s n host name lend args go fails (Err y) er inside s
 module _ {H : Type 0} (law : Law H) (p : View) (engine : Engine) (f : Activation) (s t : Run H)
     (n k : Counts) (host mid : H) {rule : Computation H} (run : t ≡ s)
     (before : k.before ≡ n.before) (inside : f.base ≤ length s.scope) where
-  same_kept : KeepsFrame f s f t
-  same_kept = scope_kept law p engine f s t n k host mid s.scope run refl inside
-
   -- its value is the last operand, in the place of the arguments
   pub native_pushed : (f' : Activation) (s' : Run H) (n' : Counts) (v : Dynamic) (next h : ℕ)
       (ops : List Held) (cut : StacksView) {r : Result Progress OutOfMemory} →
@@ -93,7 +90,7 @@ module _ {H : Type 0} (law : Law H) (p : View) (engine : Engine) (f : Activation
       Implements law p engine f s n rule (next ∷ []) h r f' s' n' host mid
   native_pushed f' s' n' v next h ops cut does cut_is pushes height =
       implements_then law p engine f s t n k host mid f' s' n' mid does
-      same_kept before
+      (scope_kept law p engine f s t n k host mid s.scope run refl inside) before
       (implements_after law p engine f f' t s' k n' cut ops mid mid cut_is pushes
       (λ stop u place. rw (ap (λ (q : StacksView). q.operands) cut_is) refl) (λ b i. i)
       (omega (arith, height, ap (λ (q : StacksView). length q.operands) cut_is)))

@@ -5,7 +5,7 @@ use Rattle.grain_value.specs.Tree.{Tree}
 use Rattle.grain_value.specs.declared.values.Held.{Held}
 use Rattle.grain_value.specs.declared.scopes.Entry.{Entry}
 use Rattle.grain_value.specs.declared.memory.OutOfMemory.{OutOfMemory}
-use Rattle.grain_value.specs.Operands.{below}
+use Rattle.grain_value.specs.Operands.{below, top}
 use Rattle.grain_value.specs.Scopes.{set_held}
 use Rattle.grain_fault.specs.declared.places.Position.{Position}
 use Rattle.grain_fault.specs.declared.faults.EvalAltResult.{EvalAltResult}
@@ -19,9 +19,9 @@ use Rattle.grain_host.specs.Answers.{Answers, Replies, reply_of}
 use Rattle.grain_host.specs.declared.answers.Args.{Args}
 use Rattle.grain_host.specs.declared.answers.HostAnswer.{HostAnswer}
 use Rattle.grain_global.specs.declared.engines.Engine.{Engine}
-use Rattle.grain_means.specs.Worlds.{Place}
+use Rattle.grain_means.specs.Worlds.{Frame, Place, Setup, World}
 use Rattle.grain_means.specs.Signatures.{says_missing}
-use Rattle.grain_means.specs.Rules.{held_at, onward, op_assign_failed, operator_assigned, stepped}
+use Rattle.grain_means.specs.Rules.{held_at, native, native_assigned, onward, op_assign_failed, operator_assigned, stepped}
 use Rattle.grain_means.specs.Simulation.{Computation, SimulatesExactly}
 use Rattle.grain_means.specs.Means.{setup}
 use Rattle.grain_means.specs.lemmas.Stretches.{then_exactly}
@@ -46,6 +46,24 @@ set_twice [] i a b = refl
 set_twice (e ∷ es) zero a b = refl
 set_twice (e ∷ es) (suc i) a b = ap (λ (l : List Entry). e ∷ l) (set_twice es i a b)
 
+-- an op-assignment that the host does asks for a native to which the entry is lent
+pub lent_at : {S : Type 0} (m : Setup S) (a : AssignOp) (h : Held) (slot index next : ℕ) (f : Frame)
+    (w : World S) → f.base + slot ≡ index → native_assigned m a h slot next f w
+    ≡ native m (name_of m.program a.op_assign_name) (Some (record { index = index; held = h }))
+    (top f.operands ∷ []) f w (λ v w1. onward m f (stepped f next (below f.operands)) w1)
+    (op_assign_failed m a h slot next f)
+lent_at m a h slot index next f w at =
+    subst (λ (i : ℕ). native_assigned m a h slot next f w
+    ≡ native m (name_of m.program a.op_assign_name) (Some (record { index = i; held = h }))
+    (top f.operands ∷ []) f w (λ v w1. onward m f (stepped f next (below f.operands)) w1)
+    (op_assign_failed m a h slot next f)) at refl
+
+-- an index within a scope has an entry
+pub entry_at : (es : List Entry) (i : ℕ) → i < length es → (h : Held) × (held_at es i ≡ Some h)
+entry_at [] i within = absurd (omega (arith, within))
+entry_at (e ∷ es) zero within = (e.held, refl)
+entry_at (e ∷ es) (suc i) within = entry_at es i (omega (arith, within))
+
 module _ {H : Type 0} (law : Law H) (s : Run H) (n : Counts) (host : H) (key index : ℕ) (h : Held)
     (values : List Tree) (p : Position) (there : held_at s.scope index ≡ Some h) (left : Args)
     (host' : H) (n' : Counts) (u back : Held) (mid scope : List Entry)
@@ -68,8 +86,7 @@ module _ {H : Type 0} (law : Law H) (s : Run H) (n : Counts) (host : H) (key ind
       Replies law host key (record { receiver = Some h; values = values }) said host' left →
       (r : Result NativeEnd OutOfMemory) → EndsBy said p r n n' → Served r
   by_reply (Some x) follows (Ok (native_end.Value v)) ends =
-      let is : x ≡ reply.Done v = cc in
-      (
+      let is : x ≡ reply.Done v = cc in (
         sym is ∙ follows.0,
         follows.1,
         ap (λ (es : List Entry). record s { scope = es })
@@ -78,8 +95,7 @@ module _ {H : Type 0} (law : Law H) (s : Run H) (n : Counts) (host : H) (key ind
       )
   by_reply (Some x) follows (Ok (native_end.Fault f)) ends =
       let said = ends.1 in
-      let is : x ≡ reply.Failed ends.0 = cc in
-      (
+      let is : x ≡ reply.Failed ends.0 = cc in (
         ends.0,
         sym is ∙ follows.0,
         follows.1,
@@ -176,3 +192,39 @@ module _ {H : Type 0} (law : Law H) (p : View) (engine : Engine) (f : Activation
       (ap (λ (q : Run H). length q.stacks.operands - 1 + 0) run)
       (implements_as law p engine f f' t t s' k n' mid host' refl second
       (λ stop u place. rw (missing, at, there, run) refl)))
+
+  -- the fault says something else, and it is raised
+  pub native_unmissed : (a : AssignOp) (h : Held) (slot next : ℕ) (x : EvalAltResult) (s' : Run H)
+      (n' : Counts) {ts : List ℕ} {many : ℕ} →
+      SimulatesExactly (setup law p engine) (abstraction s n host) rule false (abstraction t k mid)
+      (λ m place w. op_assign_failed m a h slot next (frame_in f s place) (problem_of x) w) →
+      says_missing (name_of p a.op_assign_name) (problem_of x) ≡ false →
+      s' ≡ record t { fault = x } → n' ≡ record k { passed = k.passed + 1 } →
+      Implements law p engine f s n rule ts many (Ok progress.Failed) f s' n' host mid
+  native_unmissed a h slot next x s' n' {ts} {many} does other es en =
+      implements_then law p engine f s t n k host mid f s' n' mid does
+      (scope_kept law p engine f s t n k host mid scope run long inside) before second where
+        second : Implements law p engine f t k
+            (λ m place w. op_assign_failed m a h slot next (frame_in f s place) (problem_of x) w)
+            ts many (Ok progress.Failed) f s' n' mid mid
+        second = rw (es, en, run) (record {
+          same = record {
+            this = refl;
+            order = omega arith;
+            equal = λ stop clear halts u place.
+                rw (other, clear k.passed (omega arith) (omega arith)) refl;
+          };
+          kept = record {
+            chunk = refl;
+            base = refl;
+            scope = omega (arith, long, inside);
+            room = refl;
+            noted = refl;
+            outer = refl;
+            saved = refl;
+            level = refl;
+            later = omega arith;
+          };
+          lands = tt;
+          before = refl;
+        })

@@ -61,11 +61,7 @@ impl Attempt {
     fn or(done: bool, other: Attempt) -> Attempt
         ensures { result ≡ attempt_or done other }
     {
-        if done {
-            Attempt::Done
-        } else {
-            other
-        }
+        if done { Attempt::Done } else { other }
     }
 }
 
