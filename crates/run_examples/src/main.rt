@@ -5,6 +5,7 @@
 ghost use Rattle.std.specs.Prelude.{◌≡◌, ◌<◌, IfOk};
 ghost use Rattle.run_examples.specs.Reports.{Reported};
 
+mod prices;
 mod reports;
 mod rules;
 
