@@ -1,5 +1,6 @@
 //! Whole calls, over sources and sinks in memory.
 
+mod assignments;
 mod calls;
 mod edges;
 mod memory;
