@@ -42,7 +42,8 @@ Seeks law s name r args p (sought.Fault x) =
     × (problem_of x ≡ NonPureCall name p))
 
 -- what comes of the host's answer: two marks are passed, or where memory is out, none
-abbrev pub EndsBy : Option Reply → Position → Result NativeEnd OutOfMemory → Counts → Counts → Type 0
+abbrev pub EndsBy : Option Reply → Position → Result NativeEnd OutOfMemory → Counts → Counts →
+    Type 0
 EndsBy said p (Ok (native_end.Value v)) n n' =
     (said ≡ Some (reply.Done v)) × (n' ≡ record n { passed = n.passed + 1 + 1 })
 EndsBy said p (Ok (native_end.Fault x)) n n' = (y : Problem)

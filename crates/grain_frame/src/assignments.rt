@@ -119,8 +119,8 @@ impl<H: Host> Run<H> {
         served(steps, answer, position)
     }
 
-    // Calls the native that was sought, to which what the entry at the index holds is lent, or gives
-    // the fault that there is none. A fault of the host's without a position has this one.
+    // Calls the native that was sought, to which what the entry at the index holds is lent, or
+    // gives the fault that there is none. A fault of the host's without a position has this one.
     fn call_lent<L: Ledger>(
         &mut self,
         host: &mut H,

@@ -507,36 +507,37 @@ module _ {S : Type 0} (m : Setup S) where
             (failed : (n : Native) → native_asked m asked ≡ Some n → (y : Problem) →
             reply_to m asked n.key ≡ reply.Failed y →
             Even (now.ran + 1) (fails (at_position_if_none (position m f) y) (answered_by n.key)))
-            where
-          even_answered : (n : Native) → native_asked m asked ≡ Some n → (said : Reply) →
-              reply_to m asked n.key ≡ said →
-              Even (now.ran + 1)
-              (answered m said (holding operands) (answered_by n.key) go fails)
-          even_answered n e (reply.Done v) is = goes n e v
-          even_answered n e (reply.Failed y) is = failed n e y is
+          where
+            even_answered : (n : Native) → native_asked m asked ≡ Some n → (said : Reply) →
+                reply_to m asked n.key ≡ said →
+                Even (now.ran + 1)
+                (answered m said (holding operands) (answered_by n.key) go fails)
+            even_answered n e (reply.Done v) is = goes n e v
+            even_answered n e (reply.Failed y) is = failed n e y is
 
-          even_found : (found : Option Native) → native_asked m asked ≡ found →
-              Even (now.ran + 1) (native_found m found name r args (holding operands) w go fails)
-          even_found None e = none e
-          even_found (Some n) e =
-              let ran : ℕ = now.ran + 1 in
-              let g = holding operands in
-              let x = problem.NonPureCall name (position m f) in
-              let after : World S → World S = λ w1. record w1 {
-                host = m.law.call_after w1.host n.key (lent r) (trees_in args);
-                scope = given_back m.law w1.host n.key (trees_in args) r w1.scope;
-              } in
-              let answers : World S → World S → Act S =
-              λ w1 w2. answered m (m.law.call_reply w1.host n.key (lent r) (trees_in args)) g w2 go
-              fails in
-              let before : World S = record w { passed = w.passed + 1 } in
-              by_test (Even ran) (n.writes && first_is_read_only (given r args)) (fails x w)
-              (host_called m n.key r args g w go fails)
-              (λ no. let both = both_true n.writes (first_is_read_only (given r args)) no in
-              refused n e both.0 both.1)
-              (λ _. even_marked ran w s (λ w1. marked m g (after w1) (answers w1))
-              (even_marked ran (after before) (steady_after n.key) (answers before)
-              (even_answered n e (m.law.call_reply w.host n.key (lent r) (trees_in args)) refl)))
+            even_found : (found : Option Native) → native_asked m asked ≡ found →
+                Even (now.ran + 1) (native_found m found name r args (holding operands) w go fails)
+            even_found None e = none e
+            even_found (Some n) e =
+                let ran : ℕ = now.ran + 1 in
+                let g = holding operands in
+                let x = problem.NonPureCall name (position m f) in
+                let after : World S → World S = λ w1. record w1 {
+                  host = m.law.call_after w1.host n.key (lent r) (trees_in args);
+                  scope = given_back m.law w1.host n.key (trees_in args) r w1.scope;
+                } in
+                let answers : World S → World S → Act S =
+                λ w1 w2. answered m (m.law.call_reply w1.host n.key (lent r) (trees_in args)) g w2
+                go
+                fails in
+                let before : World S = record w { passed = w.passed + 1 } in
+                by_test (Even ran) (n.writes && first_is_read_only (given r args)) (fails x w)
+                (host_called m n.key r args g w go fails)
+                (λ no. let both = both_true n.writes (first_is_read_only (given r args)) no in
+                refused n e both.0 both.1)
+                (λ _. even_marked ran w s (λ w1. marked m g (after w1) (answers w1))
+                (even_marked ran (after before) (steady_after n.key) (answers before)
+                (even_answered n e (m.law.call_reply w.host n.key (lent r) (trees_in args)) refl)))
 
         even_native : (go : Dynamic → World S → Act S) →
             ((n : Native) → native_asked m asked ≡ Some n → (v : Dynamic) →
@@ -623,7 +624,14 @@ module _ {S : Type 0} (m : Setup S) where
             let args : List Held = g ∷ operand ∷ [] in
             let q : AsksNative m
             (record { host = w.host; name = name; lent = None; args = args }) spot =
-            inr (a, f.base + slot, h, operand, by_host, inr (x, w.host, w.scope, ends, missing, refl)) in
+            inr (
+              a,
+              f.base + slot,
+              h,
+              operand,
+              by_host,
+              inr (x, w.host, w.scope, ends, missing, refl),
+            ) in
             even_native f.operands w s name None args q
             (λ z w1. write_entry m g.read_only slot g z behind_it f w1)
             (λ n e z. even_entry_in (answered_by f.operands w s name None args q n.key)

@@ -37,23 +37,11 @@ fn the_operator_gives_the_value(rt: HostRuntime) -> Result<(), OutOfMemory> {
 #[test]
 fn neither_is_found(rt: HostRuntime) -> Result<(), OutOfMemory> {
     let text = "fault ErrorFunctionNotFound\nFunction not found: + (array, i64)\ntrace 9\n";
-    run(
-        &rt,
-        rt.alloc(),
-        "name \"+=\"\nname \"+\"\n",
-        1,
-        text,
-    )
+    run(&rt, rt.alloc(), "name \"+=\"\nname \"+\"\n", 1, text)
 }
 
 #[test]
 fn another_fault_goes_on(rt: HostRuntime) -> Result<(), OutOfMemory> {
     let text = "fault ErrorDotExpr\nUnknown property 'x' for 'array'\ntrace 9\n";
-    run(
-        &rt,
-        rt.alloc(),
-        "name \"get$x\"\nname \"push\"\n",
-        1,
-        text,
-    )
+    run(&rt, rt.alloc(), "name \"get$x\"\nname \"push\"\n", 1, text)
 }

@@ -258,11 +258,13 @@ run_frame-turn-preserved g t c =
     moved_back
     (λ (s : Run g.row.H.Denot) (f : Activation) (n : Counts).
     Stepped g.H.Host.law c.args.context.program.now c.args.context.engine.now f s n
-    (Ok c.in-Ok-proceed.progress) c.proceed.new.frame c.proceed.new.self c.proceed.new.steps c.turn.host
+    (Ok c.in-Ok-proceed.progress) c.proceed.new.frame c.proceed.new.self c.proceed.new.steps
+    c.turn.host
     c.proceed.new.host) c.in-Pending.ensures.0 c.in-Ok-proceed.ensures.stepped in
     let stays =
     subst (λ (q : Progress). StaysTyped c.args.context.program.now c.args.context.engine.now
-    c.turn.self c.turn.frame c.proceed.new.self c.proceed.new.frame (Ok q)) c.in-Continues-progress.is
+    c.turn.self c.turn.frame c.proceed.new.self c.proceed.new.frame (Ok q))
+    c.in-Continues-progress.is
     did.stays in
     let now = c.turn.invariant in
     let fewer = falls c.args.context.engine.now c.turn.self.count c.proceed.new.self.count
@@ -291,20 +293,23 @@ run_frame-returns-in-Returned-progress-2-clause-goes g t c =
     moved_back
     (λ (s : Run g.row.H.Denot) (f : Activation) (n : Counts).
     Stepped g.H.Host.law c.args.context.program.now c.args.context.engine.now f s n
-    (Ok c.in-Ok-proceed.progress) c.proceed.new.frame c.proceed.new.self c.proceed.new.steps c.turn.host
+    (Ok c.in-Ok-proceed.progress) c.proceed.new.frame c.proceed.new.self c.proceed.new.steps
+    c.turn.host
     c.proceed.new.host) c.in-Pending.ensures.0 c.in-Ok-proceed.ensures.stepped in
     flowed at c.proceed.new.self.fault c.in-Returned-progress-2.is
     (turn (abstraction c.turn.self c.turn.steps c.turn.host)
     (rw (c.mark.ensures, c.tick.ensures) refl) c.turn.invariant.goes did.goes)
 
-pub run_frame-returns-in-Failed-progress-clause-goes : goal.run_frame-returns-in-Failed-progress-clause-goes
+pub run_frame-returns-in-Failed-progress-clause-goes :
+    goal.run_frame-returns-in-Failed-progress-clause-goes
 run_frame-returns-in-Failed-progress-clause-goes g t c =
     let at = frame_in c.proceed.new.frame c.proceed.new.self in
     let did =
     moved_back
     (λ (s : Run g.row.H.Denot) (f : Activation) (n : Counts).
     Stepped g.H.Host.law c.args.context.program.now c.args.context.engine.now f s n
-    (Ok c.in-Ok-proceed.progress) c.proceed.new.frame c.proceed.new.self c.proceed.new.steps c.turn.host
+    (Ok c.in-Ok-proceed.progress) c.proceed.new.frame c.proceed.new.self c.proceed.new.steps
+    c.turn.host
     c.proceed.new.host) c.in-Pending.ensures.0 c.in-Ok-proceed.ensures.stepped in
     let left = c.leave_by_fault-in-Failed-progress in
     let fault : left.new.self.fault ≡ c.proceed.new.self.fault =

@@ -84,7 +84,8 @@ returns-in-Value g c =
           c.args.steps.now (marked_once c.call_lent.new.steps) c.args.host.now c.call_lent.new.host
           refl
           (native_used g.H.Host.law p engine f s c.call_lent.new.self
-          c.args.steps.now c.call_lent.new.steps c.args.host.now c.call_lent.new.host c.call_lent.new.self.scope c.call_lent.ensures.run c.call_lent.ensures.long
+          c.args.steps.now c.call_lent.new.steps c.args.host.now c.call_lent.new.host
+          c.call_lent.new.self.scope c.call_lent.ensures.run c.call_lent.ensures.long
           c.call_lent.ensures.before c.requires.inside c.args.next c.pop-value.new.self
           (rw c.in-Value.is at did) c.pop-value.ensures.rest c.requires.ahead)
           (λ stop u place. lent_at (stopped (setup g.H.Host.law p engine) stop) a held slot
@@ -126,7 +127,8 @@ returns-then-says_missing g c =
           c.operator_assigned.new.self c.args.steps.now c.operator_assigned.new.steps
           c.args.host.now c.operator_assigned.new.host refl
           (native_missing g.H.Host.law p engine f s c.call_lent.new.self
-          c.args.steps.now c.call_lent.new.steps c.args.host.now c.call_lent.new.host c.call_lent.new.self.scope c.call_lent.ensures.run c.call_lent.ensures.long
+          c.args.steps.now c.call_lent.new.steps c.args.host.now c.call_lent.new.host
+          c.call_lent.new.self.scope c.call_lent.ensures.run c.call_lent.ensures.long
           c.call_lent.ensures.before c.requires.inside a held now.0 slot c.args.index c.args.next
           c.in-Fault.fault c.operator_assigned.new.frame c.operator_assigned.new.self
           c.operator_assigned.new.steps c.operator_assigned.new.host
@@ -166,7 +168,8 @@ returns g c =
           (implements_as g.H.Host.law p engine f f s s c.raise.new.self c.args.steps.now
           c.raise.new.steps c.args.host.now c.call_lent.new.host refl
           (native_unmissed g.H.Host.law p engine f s c.call_lent.new.self
-          c.args.steps.now c.call_lent.new.steps c.args.host.now c.call_lent.new.host c.call_lent.new.self.scope c.call_lent.ensures.run c.call_lent.ensures.long
+          c.args.steps.now c.call_lent.new.steps c.args.host.now c.call_lent.new.host
+          c.call_lent.new.self.scope c.call_lent.ensures.run c.call_lent.ensures.long
           c.call_lent.ensures.before c.requires.inside a held slot c.args.next c.in-Fault.fault
           c.raise.new.self c.raise.new.steps (rw c.in-Fault.is at did) other c.raise.ensures.after
           c.raise.ensures.marked)
