@@ -77,19 +77,6 @@ limits [] = []
 limits (limit_line l ∷ before) = limits before ++ l ∷ []
 limits (s ∷ before) = limits before
 
--- the flags that are turned
-abbrev pub flags : List Statement → List (List ℕ)
-flags [] = []
-flags (flag_line name ∷ before) = flags before ++ name ∷ []
-flags (s ∷ before) = flags before
-
--- the host: one with empty tables, to which each line of theirs was added
-abbrev pub host : List Statement → TableHost
-host [] = host_tables.blank
-host (fail_line n ∷ before) = failing_at n (host before)
-host (stop_line s ∷ before) = stopping_at s.0 s.1 (host before)
-host (s ∷ before) = host before
-
 abbrev pub consts : List Statement → List Tree
 consts [] = []
 consts (const_line v ∷ before) = consts before ++ tree v ∷ []
@@ -114,6 +101,19 @@ abbrev pub scope : List Statement → List Entry
 scope [] = []
 scope (scope_line e ∷ before) = scope before ++ e ∷ []
 scope (s ∷ before) = scope before
+
+-- the flags that are turned
+abbrev pub flags : List Statement → List (List ℕ)
+flags [] = []
+flags (flag_line name ∷ before) = flags before ++ name ∷ []
+flags (s ∷ before) = flags before
+
+-- the host: one with empty tables, to which each line of theirs was added
+abbrev pub host : List Statement → TableHost
+host [] = host_tables.blank
+host (fail_line n ∷ before) = failing_at n (host before)
+host (stop_line s ∷ before) = stopping_at s.0 s.1 (host before)
+host (s ∷ before) = host before
 
 -- the pieces of the code
 abbrev pub pieces : List Statement → List Piece
