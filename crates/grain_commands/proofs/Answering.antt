@@ -9,7 +9,7 @@ use Rattle.std.proofs.lemmas.Bool.{cases_lt}
 use Rattle.grain_commands.specs.Streams.{IsSpent}
 use Rattle.grain_listing.specs.Reading.{SetUp, reads, bad_line, most_bytes}
 use Rattle.grain_commands.specs.Replies.{Replies, no_listing, refused, reported, bad_line_text, refusal_text}
-use Rattle.grain_commands.specs.Runs.{Reported}
+use Rattle.grain_commands.specs.Runs.{Reported, engine_of, start}
 use Rattle.grain_listing.specs.declared.reasons.BadLine.{BadLine}
 use Rattle.grain_listing.specs.declared.reasons.Reason.TheVariants.{TooLong}
 use Rattle.grain_commands.specs.declared.replies.Reply.{Reply}
@@ -36,7 +36,8 @@ answers_refusal s e (Ok x) status text other complete first =
     rw (status, text) (refused refl (λ p. other (complete p)) (is_refusal s.parts e other first))
 
 pub answers_end : (s : SetUp) (r : Result Reply OutOfMemory) → IsProgram s.parts →
-    IfOk r (λ x. Reported s.parts s.limits s.scope x.status x.text) →
+    IfOk r (λ x. Reported s.parts (engine_of s.limits s.fast_operators) (start s.scope s.host)
+    x.status x.text) →
     IfOk r (λ x. Replies (Ok s) x.status x.text)
 answers_end s (Err m) valid told = tt
 answers_end s (Ok x) valid told = reported refl valid told

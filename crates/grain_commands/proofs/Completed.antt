@@ -31,12 +31,12 @@ same_set_up said s t one other = cc
 
 -- the end that is told is the end that the program means
 same_report : MeansOne → (s : SetUp) (end : Finish TableHost) (n status : ℕ) (text : List ℕ) →
-    Means table_law s.parts (engine_of s.limits) (start s.scope) end n →
-    Reported s.parts s.limits s.scope status text →
+    Means table_law s.parts (engine_of s.limits s.fast_operators) (start s.scope s.host) end n →
+    Reported s.parts (engine_of s.limits s.fast_operators) (start s.scope s.host) status text →
     (status ≡ status_of end.answer) × (text ≡ report end)
 same_report law s end n status text means told =
-    let one = law s.parts (engine_of s.limits)
-    (start s.scope) end told.end n told.instructions means told.means in (
+    let one = law s.parts (engine_of s.limits s.fast_operators)
+    (start s.scope s.host) end told.end n told.instructions means told.means in (
       told.number ∙ ap (λ (x : Finish TableHost). status_of x.answer) (sym one.0),
       told.written ∙
           ap report (sym one.0),
@@ -45,14 +45,16 @@ same_report law s end n status text means told =
 same_end : MeansOne → (said : Result SetUp BadLine) (s : SetUp) (end : Finish TableHost)
     (n status : ℕ)
     (text : List ℕ) → said ≡ Ok s → IsProgram s.parts →
-    Means table_law s.parts (engine_of s.limits) (start s.scope) end n → Replies said status text →
+    Means table_law s.parts (engine_of s.limits s.fast_operators) (start s.scope s.host) end n →
+    Replies said status text →
     (status ≡ status_of end.answer) × (text ≡ report end)
 same_end law said s end n status text is valid means (no_listing e) = absurd cc
 same_end law said s end n status text is valid means (refused {s = t} e invalid first) =
     absurd (invalid (subst (λ (x : SetUp). IsProgram x.parts) (same_set_up said t s e is) valid))
 same_end law said s end n status text is valid means (reported {s = t} e v h) =
     same_report law s end n status text means
-    (subst (λ (x : SetUp). Reported x.parts x.limits x.scope status text)
+    (subst (λ (x : SetUp). Reported x.parts (engine_of x.limits x.fast_operators)
+    (start x.scope x.host) status text)
     (same_set_up said s t is e) h)
 
 same_reason : (said : Result SetUp BadLine) (bad : BadLine) (status : ℕ) (text : List ℕ) →

@@ -1,5 +1,5 @@
 -- A call of the machine, as the end that the program means.
-use Rattle.std.proofs.Common.{◌≡◌, ◌≢◌, ◌++◌, ℕ, Bool, true, List, [], Result, Ok, Err, IfOk, refl, ap, ◌∙◌}
+use Rattle.std.proofs.Common.{◌≡◌, ◌≢◌, ◌++◌, ℕ, Bool, List, [], Result, Ok, Err, IfOk, refl, ap, ◌∙◌}
 use Rattle.grain_value.specs.declared.memory.OutOfMemory.{OutOfMemory}
 use Rattle.grain_value.specs.declared.values.Dynamic.{Dynamic}
 use Rattle.grain_value.specs.declared.values.Limits.{Limits}
@@ -7,7 +7,7 @@ use Rattle.grain_fault.specs.Problems.{NoMemory, problem_of}
 use Rattle.grain_fault.specs.declared.traces.Fault.{Fault}
 use Rattle.grain_fault.specs.declared.faults.EvalAltResult.{EvalAltResult}
 use Rattle.grain_fault.specs.declared.faults.EvalAltResult.TheVariants as faults
-use Rattle.grain_host.specs.Tables.{blank, table_law}
+use Rattle.grain_host.specs.Tables.{table_law}
 use Rattle.grain_host.specs.declared.tables.TableHost.{TableHost}
 use Rattle.grain_program.specs.View.{View}
 use Rattle.grain_global.specs.declared.engines.Engine.{Engine}
@@ -72,31 +72,30 @@ abbrev pub EndsAs : (Answer → Finish TableHost) → List ℕ → List Fault �
 EndsAs finish printed trace = (a : Answer) → ((finish a).answer ≡ a) ×
     ((finish a).trace ≡ trace) × ((finish a).host.printed ≡ printed)
 
-pub engine_is : (e : Engine) (l : Limits) → e.limits ≡ l → e.fast_operators ≡ true →
-    e ≡ engine_of l
-engine_is e l limits fast = ap
-    (λ (x : Limits). record { limits = x; fast_operators = e.fast_operators }) limits ∙
-    ap (λ (b : Bool). record { limits = l; fast_operators = b }) fast
+-- an engine whose flag is written
+pub engine_is : (e : Engine) (l : Limits) (fast : Bool) → e.limits ≡ l →
+    record e { fast_operators = fast } ≡ engine_of l fast
+engine_is e l fast limits = ap (λ (x : Limits). engine_of x fast) limits
 
 pub begin_is : (scope : List Entry) (cells : List Cell) (host : TableHost) (m : VmView)
-    (e : Engine) → cells ≡ [] → host ≡ blank →
+    (e : Engine) → cells ≡ [] →
     m ≡ record { engine = e; global = record { num_operations = 0; level = 0 }; trace = [] } →
-    begin scope cells host m.global ≡ start scope
-begin_is scope cells host m e none empty fresh =
+    begin scope cells host m.global ≡ start scope host
+begin_is scope cells host m e none fresh =
     ap (λ (x : List Cell). begin scope x host m.global) none ∙
-    (ap (λ (x : TableHost). begin scope [] x m.global) empty ∙
-    ap (λ (x : VmView). begin scope [] blank x.global) fresh)
+    ap (λ (x : VmView). begin scope [] host x.global) fresh
 
-pub value_told : (p : View) (l : Limits) (s : List Entry) (v : Dynamic) (e : Engine)
+pub value_told : (p : View) (under : Engine) (first : Begin TableHost) (v : Dynamic) (e : Engine)
     (b : Begin TableHost)
     (finish : Answer → Finish TableHost) (printed : List ℕ) (trace : List Fault) (ran : ℕ)
     (r : Result Reply OutOfMemory) →
-    e ≡ engine_of l → b ≡ start s →
+    e ≡ under → b ≡ first →
     EndsAs finish printed trace → Evaluates table_law p e b (Ok v) finish ran →
     IfOk r (λ x. x.status ≡ 0) →
-    IfOk r (λ x. x.text ≡ printed ++ report_value v) → IfOk r (λ x. Reported p l s x.status x.text)
-value_told p l s v e b finish printed trace ran (Err m) engine begun ends h status text = tt
-value_told p l s v e b finish printed trace ran (Ok x) engine begun ends h status text =
+    IfOk r (λ x. x.text ≡ printed ++ report_value v) →
+    IfOk r (λ x. Reported p under first x.status x.text)
+value_told p under first v e b finish printed trace ran (Err m) engine begun ends h status text = tt
+value_told p under first v e b finish printed trace ran (Ok x) engine begun ends h status text =
     let is = ends (Came v) in
     record {
       end = finish (Came v);
@@ -108,17 +107,20 @@ value_told p l s v e b finish printed trace ran (Ok x) engine begun ends h statu
       memory = rw is.0 (no_value v);
     }
 
-pub fault_told : (p : View) (l : Limits) (s : List Entry) (f : EvalAltResult) (e : Engine)
+pub fault_told : (p : View) (under : Engine) (first : Begin TableHost) (f : EvalAltResult)
+    (e : Engine)
     (b : Begin TableHost) (finish : Answer → Finish TableHost) (printed : List ℕ)
     (trace : List Fault) (ran : ℕ)
-    (r : Result Reply OutOfMemory) → e ≡ engine_of l → b ≡ start s →
+    (r : Result Reply OutOfMemory) → e ≡ under → b ≡ first →
     EndsAs finish printed trace → Evaluates table_law p e b (Err f) finish ran →
     IfOk r (λ x. x.status ≡ 1) →
     IfOk r (λ x. x.text ≡ printed ++ report_fault (problem_of f) trace) →
     IfOk r (λ x. f ≢ faults.Memory) →
-    IfOk r (λ x. Reported p l s x.status x.text)
-fault_told p l s f e b finish printed trace ran (Err m) engine begun ends h status text other = tt
-fault_told p l s f e b finish printed trace ran (Ok x) engine begun ends h status text other =
+    IfOk r (λ x. Reported p under first x.status x.text)
+fault_told p under first f e b finish printed trace ran (Err m) engine begun ends h status text
+    other = tt
+fault_told p under first f e b finish printed trace ran (Ok x) engine begun ends h status text
+    other =
     let is = ends (Failed (problem_of f)) in
     let means = meant p e b f finish ran other h in
     record {

@@ -9,7 +9,7 @@ use Rattle.grain_listing.specs.Reading.{SetUp, reads}
 use Rattle.grain_listing.specs.Reasons.{reason_text}
 use Rattle.grain_commands.specs.Puts.{PutWhole, PutPart}
 use Rattle.grain_commands.specs.Reports.{line_end}
-use Rattle.grain_commands.specs.Runs.{Reported}
+use Rattle.grain_commands.specs.Runs.{Reported, engine_of, start}
 use Rattle.grain_commands.specs.Streams.{Rose, added, PartAdded}
 use Rattle.grain_commands.specs.declared.sinks.Put.{Put}
 use Rattle.grain_listing.specs.declared.reasons.BadLine.{BadLine}
@@ -52,7 +52,8 @@ pub data Replies (said : Result SetUp BadLine) : ℕ → List ℕ → Type 0 whe
       IsRefusal s.parts r → Replies said 4 (refusal_text r)
   -- its program is run
   reported : {s : SetUp} {status : ℕ} {text : List ℕ} → said ≡ Ok s → IsProgram s.parts →
-      Reported s.parts s.limits s.scope status text → Replies said status text
+      Reported s.parts (engine_of s.limits s.fast_operators) (start s.scope s.host) status text →
+      Replies said status text
 
 -- what is answered to the words and to the bytes of the source, if it says them
 pub data Answers (words : List (List ℕ)) (input : Option (List ℕ)) : ℕ → List ℕ → Type 0 where

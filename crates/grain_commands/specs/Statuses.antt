@@ -16,15 +16,15 @@ use Rattle.grain_commands.specs.Runs.{engine_of, start}
 use Rattle.grain_commands.specs.Streams.{Rose, IsSpent, added, PartAdded}
 use Rattle.grain_listing.specs.declared.reasons.BadLine.{BadLine}
 
--- the bytes are a listing whose parts are a program, and within the listing's limits the program
--- means this end
+-- the bytes are a listing whose parts are a program, and with the listing's limits, flag, scope and
+-- host the program means this end
 pub record RunEnds (bytes : List ℕ) (end : Finish TableHost) : Type 0 where
   pub set_up : SetUp
   pub said : reads bytes ≡ Ok set_up
   pub valid : IsProgram set_up.parts
   pub instructions : ℕ
-  pub means : Means table_law set_up.parts (engine_of set_up.limits) (start set_up.scope) end
-      instructions
+  pub means : Means table_law set_up.parts (engine_of set_up.limits set_up.fast_operators)
+      (start set_up.scope set_up.host) end instructions
 
 -- the bytes are a listing whose parts are no program: this is the first rule that they break
 pub record IsRefused (bytes : List ℕ) (refusal : Refusal) : Type 0 where

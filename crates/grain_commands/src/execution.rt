@@ -4,7 +4,7 @@ ghost use Rattle.std.specs.Prelude.{◌≡◌, ◌≢◌, ◌<◌, ◌++◌, IfO
 ghost use Rattle.grain_fault.specs.Problems.{problem_of};
 ghost use Rattle.grain_fault.specs.declared.faults.EvalAltResult.TheVariants as faults;
 ghost use Rattle.grain_commands.specs.Reports.{report_value, report_fault};
-ghost use Rattle.grain_commands.specs.Runs.{Reported};
+ghost use Rattle.grain_commands.specs.Runs.{Reported, engine_of, start};
 
 use crate::replies::Reply;
 use crate::reports::{report_fault, report_value};
@@ -49,23 +49,27 @@ fn fault_reply(
     Ok(Reply { status: 1, text })
 }
 
-/// Runs the program on the scope, with a host in memory, and reports the end. At least one
-/// operation is allowed.
+/// Runs the program on the scope, with the host, and reports the end. At least one operation is
+/// allowed.
 pub fn run_program<L: Ledger>(
     alloc: Global,
     program: &Program,
     limits: Limits,
+    fast_operators: bool,
+    host: TableHost,
     scope: Scope,
     steps: &mut Steps<L>,
 ) -> Result<Reply, OutOfMemory>
     requires { 0 < limits.operations }
-    ensures { IfOk result (λ r. Reported program.now limits scope r.status r.text) }
+    ensures { IfOk result (λ r. Reported program.now (engine_of limits fast_operators)
+        (start scope host) r.status r.text) }
 {
-    let engine = Engine::new(alloc, limits);
+    let mut engine = Engine::new(alloc, limits);
+    engine.fast_operators = fast_operators;
     let mut vm = Vm::new(alloc, &engine)?;
     let mut scope = scope;
     let mut cells = Store::new(alloc);
-    let mut host = TableHost::new(alloc);
+    let mut host = host;
     match vm.eval_with_callbacks(alloc, &mut host, &mut cells, &mut scope, program, steps) {
         Ok(value) => value_reply(alloc, host.printed(), &value),
         Err(fault) => fault_reply(alloc, host.printed(), &fault, vm.fault_trace()),

@@ -121,11 +121,13 @@ fn run_set_up<L: Ledger>(
     let Setup {
         parts,
         limits,
+        fast_operators,
+        host,
         scope,
     } = setup;
     match verify(alloc, parts) {
         Err(refusal) => refused(alloc, refusal),
-        Ok(program) => run_program(alloc, &program, limits, scope, steps),
+        Ok(program) => run_program(alloc, &program, limits, fast_operators, host, scope, steps),
     }
 }
 

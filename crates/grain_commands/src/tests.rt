@@ -5,6 +5,7 @@ mod calls;
 mod edges;
 mod memory;
 mod natives;
+mod settings;
 mod streams;
 mod values;
 

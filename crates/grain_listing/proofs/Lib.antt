@@ -18,6 +18,7 @@ pub mod ValuesSpelled
 pub mod MapsRead
 pub mod ValuesRead
 pub mod LiteralsRead
+pub mod StopsRead
 pub mod Shorter
 pub mod Rooms
 pub mod MapsListed

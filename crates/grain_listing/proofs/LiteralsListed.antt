@@ -1,5 +1,5 @@
 -- What a line gives is a value that a listing can hold.
-use Rattle.std.proofs.Common.{◌≡◌, ◌==◌, ℕ, Bool, true, false, cond, List, [], ◌∷◌, Option, Some, None, Result, Ok, Err, codes, bytes_eq, subst, refl, sym}
+use Rattle.std.proofs.Common.{◌≡◌, ◌==◌, ℕ, ◌-◌, ◌^◌, Bool, true, false, cond, List, [], ◌∷◌, Option, Some, None, Result, Ok, Err, codes, bytes_eq, subst, refl, sym}
 use Rattle.std.proofs.Math.Utf8.{scalars}
 use Rattle.std.specs.Char.{IsScalar}
 use Rattle.std.specs.List.{AllByRecursion}
@@ -9,10 +9,12 @@ use Rattle.grain_value.specs.Tree.{Tree}
 use Rattle.grain_value.specs.View.{tree}
 use Rattle.grain_value.specs.declared.scopes.Entry.{Entry}
 use Rattle.grain_value.specs.declared.values.Dynamic.{Dynamic}
+use Rattle.grain_words.specs.Numerals.{number}
 use Rattle.grain_words.specs.Words.{trim_start, is_gap, is_quote, is_word_end, bare, is_over, up_to, onward_from, ends_word, next_word, quoted, whole, text, next_text}
 use Rattle.grain_listing.specs.Listed.{IsListed}
+use Rattle.grain_listing.specs.HostLines.{count_operand, stop_of}
 use Rattle.grain_listing.specs.Literals.{literal, value_operand, whole_value, constant_of, text_operand, entry_in, entry_after, entry_of, entry_with}
-use Rattle.grain_listing.specs.Operands.{alone, after_name, behind_name}
+use Rattle.grain_listing.specs.Operands.{word_operand, alone, after_name, behind_name}
 use Rattle.grain_listing.specs.Steps.{and_then, present}
 use Rattle.grain_listing.specs.Values.{Found, made, value}
 use Rattle.grain_listing.specs.declared.reasons.Reason.{Reason}
@@ -146,3 +148,41 @@ constants_listed cs v h is =
 pub entries_listed : (cs : List ℕ) (e : Entry) → AllByRecursion IsScalar cs →
     entry_of cs ≡ Ok e → IsUtf8 e.name × IsListed 64 (tree e.held.value)
 entries_listed cs e h is = subst (λ r. Answers IsEntry r) is (entry_listed cs (all_scalars cs h))
+
+-- what is left after a word or a number
+abbrev IsWord : List ℕ × List ℕ → Type 0
+IsWord a = scalars a.1 ≡ true
+
+abbrev IsCount : ℕ × List ℕ → Type 0
+IsCount a = scalars a.1 ≡ true
+
+present_word : (o : Option (List ℕ × List ℕ)) → AfterWord o → Answers IsWord (present BadOperand o)
+present_word None h = tt
+present_word (Some a) h = h
+
+present_count : (o : Option ℕ) (rest : List ℕ) → scalars rest ≡ true →
+    Answers IsCount (and_then (present BadOperand o) (λ n. Ok (n, rest)))
+present_count None rest h = tt
+present_count (Some n) rest h = h
+
+count_left : (cs : List ℕ) → scalars cs ≡ true → Answers IsCount (count_operand cs)
+count_left cs h =
+    in_step IsWord IsCount
+    (λ a. and_then (present BadOperand (number (2 ^ 64 - 1) a.0)) (λ n. Ok (n, a.1)))
+    (word_operand cs)
+    (present_word (next_word cs) (after_bare (trim_start cs) (trimmed cs h)))
+    (λ a p. present_count (number (2 ^ 64 - 1) a.0) a.1 p)
+
+abbrev IsStop : ℕ × Dynamic → Type 0
+IsStop s = IsValue s.1
+
+stop_listed : (cs : List ℕ) → scalars cs ≡ true → Answers IsStop (stop_of cs)
+stop_listed cs h =
+    in_step IsCount IsStop (λ a. and_then (constant_of a.1) (λ v. Ok (a.0, v)))
+    (count_operand cs) (count_left cs h)
+    (λ a p. in_step IsValue IsStop (λ v. Ok (a.0, v)) (constant_of a.1) (constant_listed a.1 p)
+    (λ v q. q))
+
+pub stops_listed : (cs : List ℕ) (n : ℕ) (v : Dynamic) → AllByRecursion IsScalar cs →
+    stop_of cs ≡ Ok (n, v) → IsListed 64 (tree v)
+stops_listed cs n v h is = subst (λ r. Answers IsStop r) is (stop_listed cs (all_scalars cs h))

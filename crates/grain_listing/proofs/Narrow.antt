@@ -12,10 +12,12 @@ use Rattle.grain_listing.specs.Steps.{and_then, present}
 use Rattle.grain_listing.specs.Operands.{word_operand, after_name, alone, position_after, byte_of}
 use Rattle.grain_listing.specs.Literals.{constant_of, text_of, token_of, entry_of}
 use Rattle.grain_listing.specs.Settings.{capability_bits, capabilities}
+use Rattle.grain_listing.specs.Flags.{flag_of}
+use Rattle.grain_listing.specs.HostLines.{fail_of, stop_of}
 use Rattle.grain_listing.specs.Headers.{stack_of, assign_of, header_of, is_crowded}
 use Rattle.grain_listing.specs.Instructions.{kinds_of}
 use Rattle.grain_listing.specs.Table.{line_of, stands, is_block}
-use Rattle.grain_listing.specs.Statements.{Piece, Byte, Goto, Statement, blank, header, caps_line, limit_line, const_line, name_line, op_line, assign_line, scope_line, main_line, fn_line, end_line, code_line, label_line, section, caps, limits, consts, names, tokens, assigns, functions, labels, label_address, pieces, width, address}
+use Rattle.grain_listing.specs.Statements.{Piece, Byte, Goto, Statement, blank, header, caps_line, limit_line, flag_line, fail_line, stop_line, const_line, name_line, op_line, assign_line, scope_line, main_line, fn_line, end_line, code_line, label_line, section, caps, limits, consts, names, tokens, assigns, functions, labels, label_address, pieces, width, address}
 use Rattle.grain_listing.specs.LineMeanings.{bytes, operand, code_operand, operands, limit_set, statement, before_colon, labelled, known, header_end, header_number, begun_by, in_section, says}
 use Rattle.grain_listing.specs.declared.table.Line.{Line}
 use Rattle.grain_listing.specs.declared.table.Line.TheVariants as lines
@@ -172,6 +174,9 @@ line_narrow lines.Assign n cs before =
     (and_then (assign_of n cs) (λ a. Ok (assign_line a))) (Err TooMany)
     (step_narrow (assign_of n cs) (λ a. assign_line a) (λ x e. tt)) tt
 line_narrow lines.Entry n cs before = step_narrow (entry_of cs) (λ x. scope_line x) (λ x e. tt)
+line_narrow lines.Flag n cs before = step_narrow (flag_of cs) (λ x. flag_line x) (λ x e. tt)
+line_narrow lines.Fail n cs before = step_narrow (fail_of cs) (λ x. fail_line x) (λ x e. tt)
+line_narrow lines.Stop n cs before = step_narrow (stop_of cs) (λ x. stop_line x) (λ x e. tt)
 line_narrow lines.Main n cs before = step_narrow (stack_of cs) (λ m. main_line m) (λ x e. tt)
 line_narrow lines.Function n cs before =
     let read : Result Statement Reason = and_then (header_of cs) (λ x. Ok (fn_line x)) in

@@ -11,12 +11,15 @@ use Rattle.grain_listing.specs.Operands.{word_operand, after_name, alone, positi
 use Rattle.grain_value.specs.View.{tree}
 use Rattle.grain_listing.specs.Literals.{constant_of, text_of, token_of, entry_of}
 use Rattle.grain_listing.specs.Settings.{capability_bits, capabilities}
+use Rattle.grain_host.specs.Tables.{failing_at, stopping_at}
+use Rattle.grain_listing.specs.Flags.{flag_of}
+use Rattle.grain_listing.specs.HostLines.{fail_of, stop_of}
 use Rattle.grain_listing.specs.Headers.{stack_of, assign_of, header_of, is_crowded}
 use Rattle.grain_program.specs.declared.code.instructions.Op.{Op}
 use Rattle.grain_program.specs.InstructionSet.{tag_of, fields_of}
 use Rattle.grain_listing.specs.Instructions.{kinds_of}
 use Rattle.grain_listing.specs.Table.{line_of, stands, is_block}
-use Rattle.grain_listing.specs.Statements.{Piece, Byte, Goto, Statement, blank, header, caps_line, limit_line, const_line, name_line, op_line, assign_line, scope_line, main_line, fn_line, end_line, code_line, label_line, section, caps, limits, consts, names, tokens, assigns, functions, labels, label_address, address, open_block}
+use Rattle.grain_listing.specs.Statements.{Piece, Byte, Goto, Statement, blank, header, caps_line, limit_line, flag_line, fail_line, stop_line, const_line, name_line, op_line, assign_line, scope_line, main_line, fn_line, end_line, code_line, label_line, section, caps, limits, flags, host, consts, names, tokens, assigns, functions, labels, label_address, address, open_block}
 use Rattle.grain_listing.specs.LineMeanings.{bytes, operand, code_operand, operands, in_list, limit_set, statement, before_colon, label_said, labelled, known, header_end, header_number, header_said, begun_by, in_section, says}
 use Rattle.grain_listing.specs.views.Assembling
 use Rattle.grain_listing.specs.views.Assembling.{AssemblerView, with_code, with_fixup, with_position, put_operand_word, put_operand, put_operands, closed, opened, put_line, put_label, known_line, with_header, is_start, after_header, take_line}
@@ -276,6 +279,18 @@ line_said lines.Entry n cs said =
       scope =
           (assembled n said).scope ++ e ∷ [];
     }) (λ e. scope_line e) (λ e. refl)
+line_said lines.Flag n cs said =
+    step n said (flag_of cs)
+    (λ name. record (assembled n said) { flags = flags said ++ name ∷ [] })
+    (λ name. flag_line name) (λ name. refl)
+line_said lines.Fail n cs said =
+    step n said (fail_of cs)
+    (λ k. record (assembled n said) { host = failing_at k (host said) }) (λ k. fail_line k)
+    (λ k. refl)
+line_said lines.Stop n cs said =
+    step n said (stop_of cs)
+    (λ s. record (assembled n said) { host = stopping_at s.0 s.1 (host said) })
+    (λ s. stop_line s) (λ s. refl)
 line_said lines.Main n cs said =
     at_next n said (λ a. and_then (stack_of cs) (λ m. Ok (main_opened n said a m)))
     (and_then (stack_of cs) (λ m. Ok (main_line m)))

@@ -8,10 +8,10 @@ is_among (t ∷ ts) w = bytes_eq w t || is_among ts w
 -- lines and blocks
 abbrev pub later_lines : List (List ℕ)
 later_lines =
-    codes "source" ∷ codes "flag" ∷ codes "chain" ∷ codes "step" ∷ codes "switch" ∷ codes "case" ∷
+    codes "source" ∷ codes "chain" ∷ codes "step" ∷ codes "switch" ∷ codes "case" ∷
     codes "range" ∷ codes "range=" ∷ codes "site" ∷ codes "input" ∷
     codes "fragment" ∷ codes "module" ∷ codes "item" ∷ codes "var" ∷ codes "answer" ∷
-    codes "forbid" ∷ codes "fail" ∷ codes "stop" ∷ codes "chunk" ∷ []
+    codes "forbid" ∷ codes "chunk" ∷ []
 
 -- instructions that read and write variables
 abbrev pub later_variables : List (List ℕ)

@@ -10,6 +10,8 @@ pub mod Values
 pub mod Listed
 pub mod Literals
 pub mod Settings
+pub mod Flags
+pub mod HostLines
 pub mod Headers
 pub mod InstructionLines
 pub mod Statements

@@ -10,11 +10,13 @@ use Rattle.grain_listing.specs.Steps.{and_then, present}
 use Rattle.grain_listing.specs.Operands.{word_operand, after_name, alone, position_after, byte_of}
 use Rattle.grain_listing.specs.Literals.{constant_of, text_of, token_of, entry_of}
 use Rattle.grain_listing.specs.Settings.{entry_named, limit_named, limit_number, capability_bits, capabilities}
+use Rattle.grain_listing.specs.Flags.{flag_of}
+use Rattle.grain_listing.specs.HostLines.{fail_of, stop_of}
 use Rattle.grain_listing.specs.Headers.{stack_of, assign_of, header_of, is_crowded}
 use Rattle.grain_program.specs.InstructionSet.{tag_of, fields_of}
 use Rattle.grain_listing.specs.Instructions.{kinds_of}
 use Rattle.grain_listing.specs.Table.{line_of, stands, is_block}
-use Rattle.grain_listing.specs.Statements.{Piece, Byte, Goto, Statement, blank, header, caps_line, limit_line, const_line, name_line, op_line, assign_line, scope_line, main_line, fn_line, end_line, code_line, label_line, section, caps, limits, consts, names, tokens, assigns, functions, labels, label_address, bad_line}
+use Rattle.grain_listing.specs.Statements.{Piece, Byte, Goto, Statement, blank, header, caps_line, limit_line, flag_line, fail_line, stop_line, const_line, name_line, op_line, assign_line, scope_line, main_line, fn_line, end_line, code_line, label_line, section, caps, limits, consts, names, tokens, assigns, functions, labels, label_address, bad_line}
 use Rattle.grain_listing.specs.declared.table.Line.{Line}
 use Rattle.grain_listing.specs.declared.table.Line.TheVariants as lines
 use Rattle.grain_listing.specs.declared.table.OperandKind.{OperandKind}
@@ -86,6 +88,9 @@ statement lines.Operator n cs before =
 statement lines.Assign n cs before =
     in_pool (assigns before) (and_then (assign_of n cs) (λ a. Ok (assign_line a)))
 statement lines.Entry n cs before = and_then (entry_of cs) (λ e. Ok (scope_line e))
+statement lines.Flag n cs before = and_then (flag_of cs) (λ name. Ok (flag_line name))
+statement lines.Fail n cs before = and_then (fail_of cs) (λ k. Ok (fail_line k))
+statement lines.Stop n cs before = and_then (stop_of cs) (λ s. Ok (stop_line s))
 statement lines.Main n cs before = and_then (stack_of cs) (λ m. Ok (main_line m))
 statement lines.Function n cs before =
     in_pool (functions before) (in_list cs

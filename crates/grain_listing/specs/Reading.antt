@@ -1,18 +1,21 @@
 -- What a listing says. It is lines; each says something after those before it; and what they say
--- makes the parts of a program, the limits of its run and the scope in which that begins.
-use Rattle.std.specs.Prelude.{ℕ, ◌+◌, List, [], ◌∷◌, length, take, count_by, Option, Some, None, Result, Ok, Err, ◌==◌, nat_lt, if◌then◌else◌, slice_get, chars, codes}
+-- makes the parts of a program, the limits of its run, a flag and a host for it, and the scope in
+-- which it begins.
+use Rattle.std.specs.Prelude.{ℕ, ◌+◌, Bool, List, [], ◌∷◌, length, take, count_by, Option, Some, None, Result, Ok, Err, ◌==◌, nat_lt, if◌then◌else◌, slice_get, chars, codes}
 use Rattle.std.specs.Str.{is_utf8}
 use Rattle.std.specs.Str.Lossy.{utf8_valid_len}
 use Rattle.grain_value.specs.declared.values.Limits.{Limits}
 use Rattle.grain_value.specs.declared.operators.Token.{Token}
 use Rattle.grain_value.specs.declared.scopes.Entry.{Entry}
+use Rattle.grain_host.specs.declared.tables.TableHost.{TableHost}
 use Rattle.grain_program.specs.View.{View}
 use Rattle.grain_program.specs.declared.code.parts.AssignOp.{AssignOp}
 use Rattle.grain_words.specs.Lines.{lines_of}
 use Rattle.grain_listing.specs.Steps.{and_then, present}
 use Rattle.grain_listing.specs.Settings.{number_of}
+use Rattle.grain_listing.specs.Flags.{is_on}
 use Rattle.grain_listing.specs.Statements
-use Rattle.grain_listing.specs.Statements.{Statement, section, caps, limits, assigns, pieces, labels, main_chunk, functions, positions, code_of}
+use Rattle.grain_listing.specs.Statements.{Statement, section, caps, limits, flags, host, assigns, pieces, labels, main_chunk, functions, positions, code_of}
 use Rattle.grain_listing.specs.LineMeanings.{statements}
 use Rattle.grain_listing.specs.declared.headers.AssignLine.{AssignLine}
 use Rattle.grain_listing.specs.declared.table.Section.{Section}
@@ -21,11 +24,13 @@ use Rattle.grain_listing.specs.declared.reasons.BadLine.{BadLine}
 use Rattle.grain_listing.specs.declared.reasons.Reason.{Reason}
 use Rattle.grain_listing.specs.declared.reasons.Reason.TheVariants.{TooLong, NotUtf8, MissingHeader, BadOperand, UnfinishedChunk, MissingMain}
 
--- what a listing says: what may become a program, the limits of its run, and the scope in which
--- that begins
+-- what a listing says: what may become a program, the limits of its run, whether operators are fast
+-- in it, the host with which it begins, and the scope in which it begins
 pub record SetUp : Type 0 where
   pub parts : View
   pub limits : Limits
+  pub fast_operators : Bool
+  pub host : TableHost
   pub scope : List Entry
 
 abbrev pub bad_line : ℕ → Reason → BadLine
@@ -87,6 +92,8 @@ set_up said assign_ops code =
         positions = positions said;
       };
       limits = limits_of (limits said);
+      fast_operators = is_on (codes "operators") (flags said);
+      host = host said;
       scope = Statements.scope said;
     }
 

@@ -7,7 +7,13 @@ use Rattle.grain_listing.specs.declared.setups.Setup.{Setup}
 use Rattle.grain_listing.specs.declared.reasons.BadLine.{BadLine}
 
 abbrev pub set_up_of : Setup → SetUp
-set_up_of s = record { parts = view_of s.parts; limits = s.limits; scope = s.scope }
+set_up_of s = record {
+  parts = view_of s.parts;
+  limits = s.limits;
+  fast_operators = s.fast_operators;
+  host = s.host;
+  scope = s.scope;
+}
 
 -- the set-up may be verified and run: positions are in order, and at least one operation is allowed
 pub record IsReady (s : Setup) : Type 0 where

@@ -8,6 +8,9 @@ use Rattle.grain_value.specs.declared.values.Dynamic.{Dynamic}
 use Rattle.grain_value.specs.declared.operators.Token.{Token}
 use Rattle.grain_value.specs.declared.scopes.Entry.{Entry}
 use Rattle.grain_fault.specs.declared.places.Position.{Position}
+use Rattle.grain_host.specs.Tables as host_tables
+use Rattle.grain_host.specs.Tables.{failing_at, stopping_at}
+use Rattle.grain_host.specs.declared.tables.TableHost.{TableHost}
 use Rattle.grain_program.specs.declared.code.parts.Chunk.{Chunk}
 use Rattle.grain_program.specs.declared.code.parts.PositionEntry.{PositionEntry}
 use Rattle.grain_program.specs.declared.code.functions.Function.{Function}
@@ -35,6 +38,11 @@ pub data Statement : Type 0 where
   -- the bits of the capabilities, and a limit's name with its number
   caps_line : ℕ → Statement
   limit_line : List ℕ × ℕ → Statement
+  -- the name of a flag that is turned, the number of a call that is to fail, and a number of
+  -- operations at which the run is to end, with its token
+  flag_line : List ℕ → Statement
+  fail_line : ℕ → Statement
+  stop_line : ℕ × Dynamic → Statement
   -- an entry of a pool, and one of the starting scope
   const_line : Dynamic → Statement
   name_line : List ℕ → Statement
@@ -93,6 +101,19 @@ abbrev pub scope : List Statement → List Entry
 scope [] = []
 scope (scope_line e ∷ before) = scope before ++ e ∷ []
 scope (s ∷ before) = scope before
+
+-- the flags that are turned
+abbrev pub flags : List Statement → List (List ℕ)
+flags [] = []
+flags (flag_line name ∷ before) = flags before ++ name ∷ []
+flags (s ∷ before) = flags before
+
+-- the host: one with empty tables, to which each line of theirs was added
+abbrev pub host : List Statement → TableHost
+host [] = host_tables.blank
+host (fail_line n ∷ before) = failing_at n (host before)
+host (stop_line s ∷ before) = stopping_at s.0 s.1 (host before)
+host (s ∷ before) = host before
 
 -- the pieces of the code
 abbrev pub pieces : List Statement → List Piece

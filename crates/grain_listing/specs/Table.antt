@@ -19,11 +19,14 @@ own_line w =
     else (if bytes_eq w (codes "op") then Some lines.Operator
     else (if bytes_eq w (codes "assign") then Some lines.Assign
     else (if bytes_eq w (codes "scope") then Some lines.Entry
+    else (if bytes_eq w (codes "flag") then Some lines.Flag
+    else (if bytes_eq w (codes "fail") then Some lines.Fail
+    else (if bytes_eq w (codes "stop") then Some lines.Stop
     else (if bytes_eq w (codes "main") then Some lines.Main
     else (if bytes_eq w (codes "fn") then Some lines.Function
     else (if bytes_eq w (codes "byte") then Some lines.Byte
     else (if bytes_eq w (codes "end") then Some lines.End
-    else None)))))))))))
+    else None))))))))))))))
 
 -- an instruction's line
 abbrev pub instruction_line_of : Option Op → Option Line
@@ -72,6 +75,9 @@ stands lines.Name s = is_pools s
 stands lines.Operator s = is_pools s
 stands lines.Assign s = is_pools s
 stands lines.Entry s = is_pools s
+stands lines.Flag s = is_pools s
+stands lines.Fail s = is_pools s
+stands lines.Stop s = is_pools s
 stands lines.Main s = is_pools s
 stands lines.Function s = is_after s
 stands lines.Byte s = is_block s

@@ -1,5 +1,6 @@
 pub mod Tables
 pub mod Limits
+pub mod Flags
 pub mod Results
 pub mod Assembling
 pub mod AssemblerView

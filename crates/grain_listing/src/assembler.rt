@@ -8,6 +8,7 @@ use crate::headers::AssignLine;
 use crate::limits::LimitLine;
 use crate::table::Section;
 use grain_fault::Position;
+use grain_host::TableHost;
 use grain_program::{Chunk, Functions, Names, PositionEntry, Positions, Tokens};
 use grain_value::{Array, OutOfMemory, Scope, Text};
 use grain_words::Labels;
@@ -29,6 +30,8 @@ pub struct Assembler {
     pub section: Section,
     pub caps: Option<u8>,
     pub limits: Vec<LimitLine>,
+    pub flags: Vec<&'static str>,
+    pub host: TableHost,
     pub scope: Scope,
     pub consts: Array,
     pub names: Names,
@@ -57,6 +60,8 @@ impl Assembler {
             section: Section::Start,
             caps: None,
             limits: Vec::new(alloc),
+            flags: Vec::new(alloc),
+            host: TableHost::new(alloc),
             scope: Scope::new(alloc),
             consts: Array::new(alloc),
             names: Names::new(alloc),

@@ -1,7 +1,8 @@
 //! What is written is read.
 
-ghost use Rattle.std.specs.Prelude.{◌≡◌, ◌≤◌, ◌++◌, ◌∷◌, [], ℕ, length, true, false, List, All, Ok, codes};
+ghost use Rattle.std.specs.Prelude.{◌≡◌, ◌≤◌, ◌<◌, ◌^◌, ◌++◌, ◌∷◌, [], ℕ, length, true, false, List, All, Ok, codes};
 ghost use Rattle.std.specs.Char.{IsScalar};
+ghost use Rattle.std.specs.Fmt.{decimal};
 ghost use Rattle.std.specs.List.{flat_map, AllByRecursion};
 ghost use Rattle.std.specs.Str.{chars, IsUtf8};
 ghost use Rattle.grain_value.specs.Quoting.{quoted_text};
@@ -17,6 +18,7 @@ ghost use Rattle.grain_listing.specs.Steps.{and_then};
 ghost use Rattle.grain_listing.specs.Listed.{IsListed};
 ghost use Rattle.grain_listing.specs.Values.{others, all_others, entry_here, value};
 ghost use Rattle.grain_listing.specs.Literals.{literal, constant_of, entry_of, entry_with};
+ghost use Rattle.grain_listing.specs.HostLines.{stop_of};
 ghost use Rattle.grain_listing.specs.InstructionLines.{instruction_text};
 ghost use Rattle.grain_listing.specs.Statements.{Statement, section, pieces};
 ghost use Rattle.grain_listing.specs.LineMeanings.{bytes, statements};
@@ -24,8 +26,9 @@ ghost use Rattle.grain_listing.specs.declared.table.Section.TheVariants as secti
 
 /// A value that a listing can hold is read from its quoted text as that value, and what follows it
 /// is left, where that begins with no digit and no minus. A `const` line with that text is read as
-/// that constant, and a `scope` line with the quoted text of a name and that text as that entry,
-/// which is read-only behind `const`.
+/// that constant, a `scope` line with the quoted text of a name and that text as that entry, which
+/// is read-only behind `const`, and a `stop` line with a number and that text as that number and
+/// that value.
 pub fn values_are_read()
     ensures read { (v : Dynamic) (rest : List ℕ) → IsListed 64 (tree v) →
         up_to ends_integer rest ≡ [] → literal (chars (quoted v) ++ rest) ≡ Ok (v, rest) }
@@ -37,17 +40,20 @@ pub fn values_are_read()
     ensures read_only { (name : List ℕ) (v : Dynamic) → IsUtf8 name → IsListed 64 (tree v) →
         entry_of (codes " const " ++ (chars (quoted_text name) ++ 32 ∷ chars (quoted v))) ≡
         Ok (entry_with name true v) }
+    ensures stops { (n : ℕ) (v : Dynamic) → n < 2 ^ 64 → IsListed 64 (tree v) →
+        stop_of (32 ∷ (decimal n ++ 32 ∷ chars (quoted v))) ≡ Ok (n, v) }
 {
     grain_words::decimals_are_read();
     grain_words::numbers_are_read();
     grain_words::characters_are_read();
     grain_words::bytes_are_read();
     grain_words::quoted_texts_are_read();
+    grain_words::plain_texts_are_read();
 }
 
 /// What is read is a value that a listing can hold, where the line's characters are scalar values,
-/// as those of a text are: the value that begins somewhere, that of a `const` line, and that of a
-/// `scope` line, whose name is UTF-8.
+/// as those of a text are: the value that begins somewhere, that of a `const` line, that of a
+/// `scope` line, whose name is UTF-8, and that of a `stop` line.
 pub fn read_values_can_be_listed()
     ensures values { (cs rest : List ℕ) (v : Dynamic) → AllByRecursion IsScalar cs →
         literal cs ≡ Ok (v, rest) → IsListed 64 (tree v) }
@@ -55,6 +61,8 @@ pub fn read_values_can_be_listed()
         constant_of cs ≡ Ok v → IsListed 64 (tree v) }
     ensures entries { (cs : List ℕ) (e : Entry) → AllByRecursion IsScalar cs →
         entry_of cs ≡ Ok e → IsUtf8 e.name × IsListed 64 (tree e.held.value) }
+    ensures stops { (cs : List ℕ) (n : ℕ) (v : Dynamic) → AllByRecursion IsScalar cs →
+        stop_of cs ≡ Ok (n, v) → IsListed 64 (tree v) }
 {}
 
 /// How many things a list of a value may have is bounded by its line alone. What is read of a list

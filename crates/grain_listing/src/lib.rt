@@ -5,7 +5,11 @@ mod assembler;
 mod block_lines;
 mod blocks;
 mod code_lines;
+mod flags;
 mod headers;
+#[cfg(test)]
+mod host_line_tests;
+mod host_lines;
 mod later;
 mod laws;
 mod limits;

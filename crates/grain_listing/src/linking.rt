@@ -9,6 +9,7 @@ ghost use Rattle.grain_listing.specs.views.Linking.{ending, finish, filled, fill
 ghost use Rattle.grain_listing.specs.views.Ordered.{IsOrdered};
 
 use crate::assembler::{Assembler, Fixup};
+use crate::flags::is_on;
 use crate::headers::AssignLine;
 use crate::limits::LimitLine;
 use crate::reasons::{BadLine, Reason};
@@ -136,6 +137,8 @@ fn set_up(assembler: Assembler, assign_ops: AssignOps) -> Result<Setup, BadLine>
         section: _,
         caps,
         limits,
+        flags,
+        host,
         scope,
         consts,
         names,
@@ -164,6 +167,8 @@ fn set_up(assembler: Assembler, assign_ops: AssignOps) -> Result<Setup, BadLine>
     Ok(Setup {
         parts,
         limits: limits_of(limits.as_slice()),
+        fast_operators: is_on("operators", flags.as_slice()),
+        host,
         scope,
     })
 }

@@ -1,4 +1,4 @@
-//! The lines before the blocks: capabilities, limits, pools and the starting scope.
+//! The lines before the blocks: capabilities, limits, flags, pools and the starting scope.
 
 ghost use Rattle.std.specs.Prelude.{◌≡◌, IfOk};
 ghost use Rattle.grain_listing.specs.declared.table.Line.TheVariants as lines;
@@ -7,6 +7,7 @@ ghost use Rattle.grain_listing.specs.views.Limits.{Allows, set_view};
 ghost use Rattle.grain_listing.specs.views.Assembling.{unset, limit_line, put_line};
 
 use crate::assembler::Assembler;
+use crate::flags::flag_of;
 use crate::headers::assign_of;
 use crate::limits::LimitLine;
 use crate::literals::{ScopeEntry, constant_of, entry_of, text_of, token_of};
@@ -50,6 +51,20 @@ impl Assembler {
             Err(reason) => Ok(Err(reason)),
             Ok(limit) => {
                 self.limits.push(limit)?;
+                Ok(Ok(()))
+            }
+        }
+    }
+
+    /// A flag.
+    pub fn put_flag(&mut self, rest: &[char]) -> Result<Result<(), Reason>, OutOfMemory>
+        ensures { IfOk result (λ r. result_view r (assembler_view self.new) ≡
+            put_line lines.Flag rest.now (assembler_view self.old)) }
+    {
+        match flag_of(rest) {
+            Err(reason) => Ok(Err(reason)),
+            Ok(name) => {
+                self.flags.push(name)?;
                 Ok(Ok(()))
             }
         }

@@ -45,6 +45,9 @@ pub enum Line {
     Operator,
     Assign,
     Entry,
+    Flag,
+    Fail,
+    Stop,
     Main,
     Function,
     Byte,
@@ -145,6 +148,12 @@ fn own_line(word: &[char]) -> Option<Line>
         Some(Line::Assign)
     } else if is_word(word, "scope") {
         Some(Line::Entry)
+    } else if is_word(word, "flag") {
+        Some(Line::Flag)
+    } else if is_word(word, "fail") {
+        Some(Line::Fail)
+    } else if is_word(word, "stop") {
+        Some(Line::Stop)
     } else if is_word(word, "main") {
         Some(Line::Main)
     } else if is_word(word, "fn") {
@@ -217,6 +226,9 @@ pub fn stands(line: Line, section: Section) -> bool
         | Line::Operator
         | Line::Assign
         | Line::Entry
+        | Line::Flag
+        | Line::Fail
+        | Line::Stop
         | Line::Main => is_pools(section),
         Line::Function => is_after(section),
         Line::Byte | Line::End | Line::Instruction(_) => is_block(section),

@@ -2,6 +2,7 @@
 use Rattle.std.specs.Prelude.{ℕ, List, Result, Ok, Err}
 use Rattle.std.specs.Borrow.{Bor}
 use Rattle.grain_listing.specs.views.Limits.{limits_view}
+use Rattle.grain_listing.specs.views.Flags.{names_view}
 use Rattle.grain_listing.specs.views.Assembling.{AssemblerView}
 use Rattle.grain_listing.specs.declared.assembler.Assembler.{Assembler}
 use Rattle.grain_listing.specs.declared.reasons.Reason.{Reason}
@@ -13,6 +14,8 @@ assembler_view a =
       section = a.section;
       caps = a.caps;
       limits = limits_view a.limits.items;
+      flags = names_view a.flags.items;
+      host = a.host;
       scope = a.scope;
       consts = a.consts;
       names = a.names;

@@ -7,6 +7,9 @@ use Rattle.grain_value.specs.View.{tree}
 use Rattle.grain_value.specs.declared.operators.Token.{Token}
 use Rattle.grain_value.specs.declared.scopes.Entry.{Entry}
 use Rattle.grain_fault.specs.declared.places.Position.{Position}
+use Rattle.grain_host.specs.Tables as host_tables
+use Rattle.grain_host.specs.Tables.{failing_at, stopping_at}
+use Rattle.grain_host.specs.declared.tables.TableHost.{TableHost}
 use Rattle.grain_program.specs.declared.code.parts.Chunk.{Chunk}
 use Rattle.grain_program.specs.declared.code.parts.PositionEntry.{PositionEntry}
 use Rattle.grain_program.specs.declared.code.functions.Function.{Function}
@@ -17,6 +20,8 @@ use Rattle.grain_listing.specs.Steps.{and_then, present}
 use Rattle.grain_listing.specs.Operands.{word_operand, alone, position_after, byte_of}
 use Rattle.grain_listing.specs.Literals.{constant_of, text_of, token_of, entry_of}
 use Rattle.grain_listing.specs.Settings.{capability_bits, capabilities}
+use Rattle.grain_listing.specs.Flags.{flag_of}
+use Rattle.grain_listing.specs.HostLines.{fail_of, stop_of}
 use Rattle.grain_listing.specs.Headers.{stack_of, assign_of, header_of}
 use Rattle.grain_program.specs.InstructionSet.{tag_of, fields_of}
 use Rattle.grain_listing.specs.Instructions.{kinds_of}
@@ -43,6 +48,8 @@ pub record AssemblerView : Type 0 where
   pub section : Section
   pub caps : Option ℕ
   pub limits : List (List ℕ × ℕ)
+  pub flags : List (List ℕ)
+  pub host : TableHost
   pub scope : List Entry
   pub consts : List Tree
   pub names : List (List ℕ)
@@ -63,6 +70,8 @@ empty =
       section = sections.Start;
       caps = None;
       limits = [];
+      flags = [];
+      host = host_tables.blank;
       scope = [];
       consts = [];
       names = [];
@@ -170,6 +179,12 @@ put_line lines.Assign cs v =
     (λ a. Ok (record v { assigns = v.assigns ++ a ∷ [] })))
 put_line lines.Entry cs v = and_then (entry_of cs)
     (λ e. Ok (record v { scope = v.scope ++ e ∷ [] }))
+put_line lines.Flag cs v = and_then (flag_of cs)
+    (λ name. Ok (record v { flags = v.flags ++ name ∷ [] }))
+put_line lines.Fail cs v = and_then (fail_of cs)
+    (λ n. Ok (record v { host = failing_at n v.host }))
+put_line lines.Stop cs v = and_then (stop_of cs)
+    (λ s. Ok (record v { host = stopping_at s.0 s.1 v.host }))
 put_line lines.Main cs v =
     and_then (stack_of cs) (λ n. Ok
     (record v { section = sections.Block; block = Some (blocks.Main (length v.code) n) }))

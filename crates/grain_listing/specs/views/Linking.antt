@@ -1,9 +1,10 @@
 -- How the assembler's last state becomes what the listing says.
-use Rattle.std.specs.Prelude.{ℕ, ◌+◌, List, [], ◌∷◌, Result, Ok, Err, slice_set}
+use Rattle.std.specs.Prelude.{ℕ, ◌+◌, List, [], ◌∷◌, Result, Ok, Err, codes, slice_set}
 use Rattle.std.specs.Int.{w32, to_le_bytes}
 use Rattle.grain_program.specs.declared.code.parts.AssignOp.{AssignOp}
 use Rattle.grain_words.specs.Labels.{Addresses, address_of}
 use Rattle.grain_listing.specs.Steps.{and_then, present}
+use Rattle.grain_listing.specs.Flags.{is_on}
 use Rattle.grain_listing.specs.Reading.{SetUp, bad_line, limits_of, caps_of, assign_ops_of, complete}
 use Rattle.grain_listing.specs.views.Assembling.{AssemblerView}
 use Rattle.grain_listing.specs.declared.assembler.Fixup.{Fixup}
@@ -42,6 +43,8 @@ set_up v assign_ops code =
         positions = v.positions;
       };
       limits = limits_of v.limits;
+      fast_operators = is_on (codes "operators") v.flags;
+      host = v.host;
       scope = v.scope;
     }
 

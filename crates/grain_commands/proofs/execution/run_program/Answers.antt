@@ -1,4 +1,7 @@
 use Rattle.std.proofs.Common.{◌≡◌, ◌∙◌, ap, refl}
+use Rattle.grain_host.specs.declared.tables.TableHost.{TableHost}
+use Rattle.grain_global.specs.declared.engines.Engine.{Engine}
+use Rattle.grain_means.specs.Means.{Begin}
 use Rattle.grain_frame.specs.Machines.{begin, finish}
 use Rattle.grain_commands.specs.Runs.{engine_of, start}
 use Rattle.grain_commands.proofs.Ends.{engine_is, begin_is, value_told, fault_told}
@@ -6,18 +9,18 @@ use Rattle.grain_commands.proofs.execution.run_program.Goals as goal
 
 pub returns-in-Ok : goal.returns-in-Ok
 returns-in-Ok g c =
-    let engine : c.in_ok-vm.vm.engine ≡ engine_of c.args.limits =
-    ap (λ m. m.engine) c.in_ok-vm.ensures ∙
-    engine_is c.new-engine.result c.args.limits c.new-engine.ensures.limits
-    c.new-engine.ensures.flags in
-    let begun : begin c.args.scope c.new-cells.result c.new-host.result c.in_ok-vm.vm.global ≡
-    start c.args.scope =
-    begin_is c.args.scope c.new-cells.result c.new-host.result c.in_ok-vm.vm c.new-engine.result
-    c.new-cells.ensures c.new-host.ensures c.in_ok-vm.ensures in
+    let under : Engine = engine_of c.args.limits c.args.fast_operators in
+    let first : Begin TableHost = start c.args.scope c.args.host in
+    let written : Engine = record c.new-engine.result { fast_operators = c.args.fast_operators } in
+    let engine : c.in_ok-vm.vm.engine ≡ under = ap (λ m. m.engine) c.in_ok-vm.ensures ∙
+    engine_is c.new-engine.result c.args.limits c.args.fast_operators c.new-engine.ensures.limits in
+    let begun : begin c.args.scope c.new-cells.result c.args.host c.in_ok-vm.vm.global ≡ first =
+    begin_is c.args.scope c.new-cells.result c.args.host c.in_ok-vm.vm written c.new-cells.ensures
+    c.in_ok-vm.ensures in
     let run = c.in-Ok.ensures.evaluates in
     let text = rw c.printed.ensures at c.value_reply.ensures.text in
-    value_told c.args.program.now c.args.limits c.args.scope c.in-Ok.value c.in_ok-vm.vm.engine
-    (begin c.args.scope c.new-cells.result c.new-host.result c.in_ok-vm.vm.global)
+    value_told c.args.program.now under first c.in-Ok.value c.in_ok-vm.vm.engine
+    (begin c.args.scope c.new-cells.result c.args.host c.in_ok-vm.vm.global)
     (finish c.eval_with_callbacks.new.self.trace c.eval_with_callbacks.new.scope
     c.eval_with_callbacks.new.cells c.eval_with_callbacks.new.host
     c.eval_with_callbacks.new.self.global) c.eval_with_callbacks.new.host.printed
@@ -27,18 +30,18 @@ returns-in-Ok g c =
 
 pub returns : goal.returns
 returns g c =
-    let engine : c.in_ok-vm.vm.engine ≡ engine_of c.args.limits =
-    ap (λ m. m.engine) c.in_ok-vm.ensures ∙
-    engine_is c.new-engine.result c.args.limits c.new-engine.ensures.limits
-    c.new-engine.ensures.flags in
-    let begun : begin c.args.scope c.new-cells.result c.new-host.result c.in_ok-vm.vm.global ≡
-    start c.args.scope =
-    begin_is c.args.scope c.new-cells.result c.new-host.result c.in_ok-vm.vm c.new-engine.result
-    c.new-cells.ensures c.new-host.ensures c.in_ok-vm.ensures in
+    let under : Engine = engine_of c.args.limits c.args.fast_operators in
+    let first : Begin TableHost = start c.args.scope c.args.host in
+    let written : Engine = record c.new-engine.result { fast_operators = c.args.fast_operators } in
+    let engine : c.in_ok-vm.vm.engine ≡ under = ap (λ m. m.engine) c.in_ok-vm.ensures ∙
+    engine_is c.new-engine.result c.args.limits c.args.fast_operators c.new-engine.ensures.limits in
+    let begun : begin c.args.scope c.new-cells.result c.args.host c.in_ok-vm.vm.global ≡ first =
+    begin_is c.args.scope c.new-cells.result c.args.host c.in_ok-vm.vm written c.new-cells.ensures
+    c.in_ok-vm.ensures in
     let run = c.in-Err.ensures.evaluates in
     let text = rw (c.fault_trace.ensures, c.printed-in-Err.ensures) at c.fault_reply.ensures.text in
-    fault_told c.args.program.now c.args.limits c.args.scope c.in-Err.fault c.in_ok-vm.vm.engine
-    (begin c.args.scope c.new-cells.result c.new-host.result c.in_ok-vm.vm.global)
+    fault_told c.args.program.now under first c.in-Err.fault c.in_ok-vm.vm.engine
+    (begin c.args.scope c.new-cells.result c.args.host c.in_ok-vm.vm.global)
     (finish c.eval_with_callbacks.new.self.trace c.eval_with_callbacks.new.scope
     c.eval_with_callbacks.new.cells c.eval_with_callbacks.new.host
     c.eval_with_callbacks.new.self.global) c.eval_with_callbacks.new.host.printed

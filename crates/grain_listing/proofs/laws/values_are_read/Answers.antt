@@ -1,4 +1,5 @@
 use Rattle.grain_listing.proofs.ValuesSpelled.{Laws}
+use Rattle.grain_listing.proofs.StopsRead.{Numbers, stop_read}
 use Rattle.grain_listing.proofs.LiteralsRead.{Texts, literal_read, constant_read, entry_read, read_only_read}
 use Rattle.grain_listing.proofs.laws.values_are_read.Goals as goal
 
@@ -22,9 +23,15 @@ returns c =
       read = c.quoted_texts_are_read.ensures.written;
       characters = λ s valid. (c.quoted_texts_are_read.ensures.spelled s valid).1;
     } in
+    let numbers : Numbers = record {
+      read = c.decimals_are_read.ensures.numbers;
+      plain = c.decimals_are_read.ensures.plain;
+      next = c.plain_texts_are_read.ensures.next;
+    } in
     record {
       read = literal_read laws;
       constants = constant_read laws;
       entries = entry_read laws texts;
       read_only = read_only_read laws texts;
+      stops = stop_read laws numbers;
     }
