@@ -247,7 +247,7 @@ impl<H: Host> Run<H> {
     {
         let count = usize::from(count);
         let Some(number) = context.program.function(u32::from(name), count) else {
-            return self.native_on(context, host, steps, frame, name, count, next);
+            return self.native_on_copy(context, host, steps, frame, name, count, next);
         };
         let function = context.program.function_at(number);
         match self.begin(context, host, steps, frame, function) {

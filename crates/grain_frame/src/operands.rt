@@ -186,6 +186,40 @@ impl<H: Host> Run<H> {
         }
     }
 
+    // The same on a copy of the frame, so that the loop can hold its own in registers.
+    #[inline(always)]
+    pub(crate) fn native_on_copy<L: Ledger>(
+        &mut self,
+        context: Context<'_>,
+        host: &mut H,
+        steps: &mut Steps<L>,
+        frame: &mut Activation,
+        name: u16,
+        count: usize,
+        next: usize,
+    ) -> Result<Progress, OutOfMemory>
+        requires inside { frame.old.base ≤ length self.old.scope }
+        requires operands { count ≤ length self.old.stacks.operands }
+        requires room { length self.old.stacks.operands - count < self.old.stacks.room }
+        requires ahead { frame.old.address < next }
+        requires pool { name < length context.program.now.names }
+        ensures implements { Implements H.law context.entry.program.now context.entry.engine.now
+            frame.old self.old steps.old
+            (λ m place w. native m (name_of m.program name) None
+            (arguments count self.old.stacks.operands) (frame_in frame.old self.old place) w
+            (λ v w1. pushed m (frame_in frame.old self.old place) next
+            (under count self.old.stacks.operands) v w1)
+            (raised m (frame_in frame.old self.old place)))
+            (next ∷ []) (length self.old.stacks.operands - count + 1) result
+            frame.new self.new steps.new host.old host.new }
+    {
+        let mut copy = *frame;
+        let progress = self.native_on(context, host, steps, &mut copy, name, count, next);
+        frame.address = copy.address;
+        frame.floor = copy.floor;
+        progress
+    }
+
     // What an operator makes of the last `count` operands, if operators are fast.
     #[inline(never)]
     fn operate(

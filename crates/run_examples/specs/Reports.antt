@@ -1,16 +1,20 @@
 -- What is written of a run's end, and of bytes that are no rule.
 use Rattle.std.specs.Prelude.{◌≡◌, ℕ, List, [], ◌∷◌, ◌++◌, Result, Ok, Err, codes}
-use Rattle.std.specs.Fmt.{decimal}
+use Rattle.std.specs.Fmt.{decimal, signed_decimal}
 use Rattle.grain_value.specs.Writing.{quoted}
 use Rattle.grain_value.specs.declared.values.Dynamic.{Dynamic}
 use Rattle.grain_fault.specs.Problems.{problem_of}
 use Rattle.grain_fault.specs.Texts.{fault_name, fault_text}
 use Rattle.grain_fault.specs.declared.faults.EvalAltResult.{EvalAltResult}
 use Rattle.grain_fault.specs.declared.traces.Fault.{Fault}
+use Rattle.grain_host.specs.Law.{Law}
+use Rattle.grain_host.specs.declared.tables.TableHost.{TableHost}
 use Rattle.grain_program.specs.View.{View}
-use Rattle.grain_value.specs.declared.values.Limits.{Limits}
+use Rattle.grain_global.specs.declared.engines.Engine.{Engine}
+use Rattle.grain_means.specs.Means.{Begin}
 use Rattle.grain_value.specs.declared.scopes.Entry.{Entry}
 use Rattle.run_examples.specs.Rules.{Ran}
+use Rattle.run_examples.specs.declared.prices.PriceList.{PriceList}
 
 -- LF
 abbrev pub line_end : List ℕ
@@ -29,16 +33,25 @@ end_text (Err fault) trace =
     (problem_of fault) ++ line_end ++
     codes "trace" ++ addresses trace ++ line_end
 
--- what was printed, and then the end
+-- what is said of the host, and then the end
 abbrev pub report : List ℕ → Result Dynamic EvalAltResult → List Fault → List ℕ
-report printed result trace = printed ++ end_text result trace
+report said result trace = said ++ end_text result trace
 
--- the text is the report of how the program's run ends
-pub record Reported (program : View) (limits : Limits) (scope : List Entry)
-    (text : List ℕ) : Type 0 where
-  pub after : List Entry
+-- what a host in memory has printed
+abbrev pub printed_by : TableHost → List ℕ
+printed_by host = host.printed
+
+-- what was charged to a price list, on a line
+abbrev pub charged_to : PriceList → List ℕ
+charged_to list = codes "charged " ++ signed_decimal list.total ++ line_end
+
+-- the text is the report of how the program's run ends over a host of this law: what is said of the
+-- host as the run left it, and the end
+pub record Reported {S : Type 0} (law : Law S) (said_of : S → List ℕ) (program : View)
+    (engine : Engine) (first : Begin S) (text : List ℕ) : Type 0 where
+  pub scope : List Entry
+  pub host : S
   pub result : Result Dynamic EvalAltResult
-  pub printed : List ℕ
   pub trace : List Fault
-  pub ran : Ran program limits scope after printed result trace
-  pub written : text ≡ report printed result trace
+  pub ran : Ran law program engine first scope host result trace
+  pub written : text ≡ report (said_of host) result trace

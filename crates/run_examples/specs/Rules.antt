@@ -1,12 +1,11 @@
 -- Which rule a listing says, and how the run of one ends.
-use Rattle.std.specs.Prelude.{◌≡◌, ℕ, min, List, [], true, Result, Ok, Err, ⊤}
+use Rattle.std.specs.Prelude.{◌≡◌, ℕ, min, Bool, List, [], Result, Ok, Err, ⊤}
 use Rattle.grain_value.specs.declared.values.Dynamic.{Dynamic}
 use Rattle.grain_value.specs.declared.values.Limits.{Limits}
 use Rattle.grain_value.specs.declared.scopes.Entry.{Entry}
 use Rattle.grain_fault.specs.declared.faults.EvalAltResult.{EvalAltResult}
 use Rattle.grain_fault.specs.declared.traces.Fault.{Fault}
-use Rattle.grain_host.specs.Tables.{blank, table_law}
-use Rattle.grain_host.specs.declared.tables.TableHost.{TableHost}
+use Rattle.grain_host.specs.Law.{Law}
 use Rattle.grain_program.specs.Typing.{IsProgram, IsRefusal}
 use Rattle.grain_program.specs.View.{View}
 use Rattle.grain_global.specs.declared.engines.Engine.{Engine}
@@ -16,6 +15,7 @@ use Rattle.grain_global.specs.declared.states.GlobalRuntimeState.{GlobalRuntimeS
 use Rattle.grain_value.specs.declared.stores.Cell.{Cell}
 use Rattle.grain_listing.specs.Reading.{SetUp}
 use Rattle.grain_listing.specs.declared.reasons.BadLine.{BadLine}
+use Rattle.run_examples.specs.declared.rules.Rule.{Rule}
 use Rattle.run_examples.specs.declared.rules.RuleError.{RuleError}
 use Rattle.run_examples.specs.declared.rules.RuleError.TheVariants.{NoListing, Refused, OutOfMemory}
 
@@ -31,15 +31,17 @@ capped limits = record {
   map = limits.map;
 }
 
--- what the bytes read to is this valid program, with these limits and this scope
-pub record IsRule (said : Result SetUp BadLine) (program : View) (limits : Limits)
-    (scope : List Entry) : Type 0 where
+-- what the bytes read to is this rule: a valid program, with its limits, its flag, its host and its
+-- scope
+pub record IsRule (said : Result SetUp BadLine) (rule : Rule) : Type 0 where
   pub set_up : SetUp
   pub read : said ≡ Ok set_up
-  pub parts : program ≡ set_up.parts
+  pub parts : rule.program ≡ set_up.parts
   pub valid : IsProgram set_up.parts
-  pub limited : limits ≡ capped set_up.limits
-  pub begun : scope ≡ set_up.scope
+  pub limited : rule.limits ≡ capped set_up.limits
+  pub flagged : rule.fast_operators ≡ set_up.fast_operators
+  pub hosted : rule.host ≡ set_up.host
+  pub begun : rule.scope ≡ set_up.scope
 
 -- why what the bytes read to is no rule; want of memory has no reason
 abbrev pub IsReason : Result SetUp BadLine → RuleError → Type 0
@@ -47,23 +49,21 @@ IsReason said (NoListing bad) = said ≡ Err bad
 IsReason said (Refused refusal) = (s : SetUp) × (said ≡ Ok s) × IsRefusal s.parts refusal
 IsReason said OutOfMemory = ⊤
 
--- operators are fast
-abbrev pub engine_of : Limits → Engine
-engine_of limits = record { limits = limits; fast_operators = true }
+-- limits, and whether operators are fast
+abbrev pub engine_of : Limits → Bool → Engine
+engine_of limits fast_operators = record { limits = limits; fast_operators = fast_operators }
 
--- The scope, without cells, with a host in memory whose tables are empty. Nothing was run before.
-abbrev pub start : List Entry → Begin TableHost
-start scope = begin scope [] blank (record { num_operations = 0; level = 0 })
+-- The scope, without cells, with a host. Nothing was run before.
+abbrev pub start : {S : Type 0} → List Entry → S → Begin S
+start scope host = begin scope [] host (record { num_operations = 0; level = 0 })
 
--- The program's run within the limits, from the scope before, prints this, ends with this result
--- and this trace, and leaves the scope after. Where memory was out, it is the run stopped at some
--- point.
-pub record Ran (program : View) (limits : Limits) (before after : List Entry)
-    (printed : List ℕ) (result : Result Dynamic EvalAltResult) (trace : List Fault) : Type 0 where
+-- The program's run under the engine, from the beginning on, ends with this result and this trace,
+-- and leaves the scope and the host. Where memory was out, it is the run stopped at some point.
+pub record Ran {S : Type 0} (law : Law S) (program : View) (engine : Engine) (first : Begin S)
+    (scope : List Entry) (host : S) (result : Result Dynamic EvalAltResult)
+    (trace : List Fault) : Type 0 where
   pub instructions : ℕ
   pub cells : List Cell
   pub global : GlobalRuntimeState
-  pub host : TableHost
-  pub prints : printed ≡ host.printed
-  pub evaluates : Evaluates table_law program (engine_of limits) (start before) result
-      (finish trace after cells host global) instructions
+  pub evaluates : Evaluates law program engine first result (finish trace scope cells host global)
+      instructions

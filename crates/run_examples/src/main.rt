@@ -3,7 +3,10 @@
 #![tactic(auto)]
 
 ghost use Rattle.std.specs.Prelude.{◌≡◌, ◌<◌, IfOk};
-ghost use Rattle.run_examples.specs.Reports.{Reported};
+ghost use Rattle.grain_host.specs.Tables.{table_law};
+ghost use Rattle.run_examples.specs.Prices.{price_law};
+ghost use Rattle.run_examples.specs.Reports.{Reported, printed_by, charged_to};
+ghost use Rattle.run_examples.specs.Rules.{engine_of, start};
 
 mod prices;
 mod reports;
@@ -11,6 +14,7 @@ mod rules;
 
 use grain_value::{OutOfMemory, Text};
 use grain_vm::Steps;
+use prices::PriceList;
 use reports::report;
 use rules::{Rule, load, run};
 use std::alloc::Global;
@@ -20,30 +24,108 @@ use std::rt::Files;
 use std::sync::ledger::{Blank, Ledger};
 use std::{fs, io};
 
-/// The examples. NAME.grain is the listing, and NAME.out the report that is expected.
-const NAMES: [&str; 4] = ["sum", "fibonacci", "limit", "fault"];
+/// Over which host an example runs.
+#[derive(Clone, Copy)]
+enum ExampleHost {
+    /// The one in memory that its listing says.
+    Table,
+    /// A price list.
+    Prices,
+}
+
+/// The examples, with their hosts. NAME.grain is the listing, and NAME.out the report that is
+/// expected.
+const EXAMPLES: [(&str, ExampleHost); 5] = [
+    ("sum", ExampleHost::Table),
+    ("fibonacci", ExampleHost::Table),
+    ("limit", ExampleHost::Table),
+    ("fault", ExampleHost::Table),
+    ("prices", ExampleHost::Prices),
+];
 
 /// Into how many shares the counts of instructions and marks can be split.
 const SHARES: u64 = 8;
 
-/// The report of a rule's run.
+/// The report of a rule's run over its own host: what was printed, and the end.
 fn report_of<L: Ledger>(
     alloc: Global,
     rule: Rule,
     steps: &mut Steps<L>,
 ) -> Result<Text, OutOfMemory>
     requires { 0 < rule.limits.operations }
-    ensures { IfOk result (λ text. Reported rule.program rule.limits rule.scope text) }
+    ensures { IfOk result (Reported table_law printed_by rule.program
+        (engine_of rule.limits rule.fast_operators) (start rule.scope rule.host)) }
 {
+    let mut host = rule.host;
     let mut scope = rule.scope;
-    let outcome = run(alloc, &rule.program, rule.limits, &mut scope, steps)?;
-    report(alloc, &outcome)
+    let outcome = run(
+        alloc,
+        &rule.program,
+        rule.limits,
+        rule.fast_operators,
+        &mut host,
+        &mut scope,
+        steps,
+    )?;
+    report(alloc, host.printed(), &outcome)
+}
+
+/// The report of a rule's run over a price list: what was charged, and the end.
+fn charges_of<L: Ledger>(
+    alloc: Global,
+    rule: Rule,
+    list: PriceList,
+    steps: &mut Steps<L>,
+) -> Result<Text, OutOfMemory>
+    requires { 0 < rule.limits.operations }
+    ensures { IfOk result (Reported price_law charged_to rule.program
+        (engine_of rule.limits rule.fast_operators) (start rule.scope list)) }
+{
+    let mut list = list;
+    let mut scope = rule.scope;
+    let outcome = run(
+        alloc,
+        &rule.program,
+        rule.limits,
+        rule.fast_operators,
+        &mut list,
+        &mut scope,
+        steps,
+    )?;
+    let mut charged = Text::copy_of(alloc, "charged ")?;
+    charged.push_integer(list.total())?;
+    charged.push_str("\n")?;
+    report(alloc, &charged, &outcome)
+}
+
+/// The price list of the examples.
+fn price_list(alloc: Global) -> Result<PriceList, OutOfMemory> {
+    let mut list = PriceList::new(alloc);
+    list.add(Text::copy_of(alloc, "pear")?, 120)?;
+    list.add(Text::copy_of(alloc, "plum")?, 250)?;
+    Ok(list)
+}
+
+/// The report of a rule's run over the host of an example.
+fn report_over<L: Ledger>(
+    alloc: Global,
+    rule: Rule,
+    host: ExampleHost,
+    steps: &mut Steps<L>,
+) -> Result<Text, OutOfMemory>
+    requires { 0 < rule.limits.operations }
+{
+    match host {
+        ExampleHost::Table => report_of(alloc, rule, steps),
+        ExampleHost::Prices => charges_of(alloc, rule, price_list(alloc)?, steps),
+    }
 }
 
 /// Whether an example gives the report that is expected.
 fn is_as_expected<R: Files + Print + AllocGlobal, L: Ledger>(
     rt: &R,
     name: &str,
+    host: ExampleHost,
     steps: &mut Steps<L>,
 ) -> io::Result<bool> {
     let listing = fs::read(rt, format!(in rt.alloc(); "{name}.grain")?.as_str())?;
@@ -55,7 +137,7 @@ fn is_as_expected<R: Files + Print + AllocGlobal, L: Ledger>(
             return Ok(false);
         }
     };
-    let report = match report_of(rt.alloc(), rule, steps) {
+    let report = match report_over(rt.alloc(), rule, host, steps) {
         Ok(report) => report,
         Err(OutOfMemory) => return Err(io::Error::from(io::ErrorKind::OutOfMemory)),
     };
@@ -70,8 +152,8 @@ fn run_all<R: Files + Print + AllocGlobal, L: Ledger>(rt: &R, blank: Blank) -> i
 {
     let mut steps = Steps::<L>::new(blank);
     let mut all = true;
-    for name in NAMES {
-        if is_as_expected(rt, name, &mut steps)? {
+    for (name, host) in EXAMPLES {
+        if is_as_expected(rt, name, host, &mut steps)? {
             println!(rt; "{name}: as expected")?;
         } else {
             println!(rt; "{name}: not as expected")?;

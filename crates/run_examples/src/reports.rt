@@ -34,12 +34,12 @@ fn push_fault(out: &mut Text, fault: &EvalAltResult) -> Result<(), OutOfMemory>
     out.push_str("\n")
 }
 
-/// The report of a run: what was printed, and its end.
-pub fn report(alloc: Global, outcome: &Outcome) -> Result<Text, OutOfMemory>
+/// The report of a run: what is said of its host, and its end.
+pub fn report(alloc: Global, said: &Text, outcome: &Outcome) -> Result<Text, OutOfMemory>
     ensures { IfOk result (λ t.
-        t ≡ report outcome.now.printed outcome.now.result outcome.now.trace.items) }
+        t ≡ report said.now outcome.now.result outcome.now.trace.items) }
 {
-    let mut out = outcome.printed.copy(alloc)?;
+    let mut out = said.copy(alloc)?;
     match &outcome.result {
         Ok(value) => {
             out.push_str("value ")?;

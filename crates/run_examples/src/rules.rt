@@ -3,13 +3,13 @@
 ghost use Rattle.std.specs.Prelude.{◌≡◌, ◌<◌, Ok, IfOk, IfErr};
 ghost use Rattle.grain_listing.specs.Reading.{reads};
 ghost use Rattle.grain_listing.specs.SetUpView.{set_up_of, IsReady};
-ghost use Rattle.run_examples.specs.Rules.{capped, IsRule, IsReason, Ran};
+ghost use Rattle.run_examples.specs.Rules.{capped, engine_of, start, IsRule, IsReason, Ran};
 
 use grain_fault::{Fault, RhaiResult};
-use grain_host::TableHost;
+use grain_host::{Host, TableHost};
 use grain_listing::{BadLine, Setup, read};
 use grain_program::{Program, Refusal, verify};
-use grain_value::{Limits, OutOfMemory, Scope, Store, Text};
+use grain_value::{Limits, OutOfMemory, Scope, Store};
 use grain_vm::{Engine, Steps, Vm};
 use std::alloc::Global;
 use std::fmt;
@@ -19,11 +19,18 @@ use std::sync::ledger::Ledger;
 /// The most operations that the host allows a rule, whatever its listing asks for.
 const MOST_OPERATIONS: u64 = 1_000_000;
 
-/// A verified program, with the limits of its run and the scope in which that begins.
+/// A rule: a program with all that its run begins with.
 #[derive(Drop)]
 pub struct Rule {
+    /// The program, which is verified.
     pub program: Program,
+    /// How much its run may take.
     pub limits: Limits,
+    /// Whether an operator goes to its built-in before any other function.
+    pub fast_operators: bool,
+    /// The host in memory with which its run begins.
+    pub host: TableHost,
+    /// The scope in which its run begins.
     pub scope: Scope,
 }
 
@@ -69,8 +76,6 @@ impl From<OutOfMemory> for RuleError {
 /// How a run ended.
 #[derive(Drop)]
 pub struct Outcome {
-    /// What the host has printed.
-    pub printed: Text,
     /// The value, or the fault.
     pub result: RhaiResult,
     /// After a fault, the instruction at which each frame stopped, the innermost first.
@@ -90,19 +95,23 @@ fn capped(limits: Limits) -> Limits
 /// Verifies what a listing says.
 fn verified(alloc: Global, setup: Setup) -> Result<Rule, RuleError>
     requires { IsReady setup }
-    ensures rule { IfOk result (λ r. IsRule (Ok (set_up_of setup)) r.program r.limits r.scope) }
+    ensures rule { IfOk result (IsRule (Ok (set_up_of setup))) }
     ensures reason { IfErr result (IsReason (Ok (set_up_of setup))) }
     ensures allowed { IfOk result (λ rule. 0 < rule.limits.operations) }
 {
     let Setup {
         parts,
         limits,
+        fast_operators,
+        host,
         scope,
     } = setup;
     match verify(alloc, parts) {
         Ok(program) => Ok(Rule {
             program,
             limits: capped(limits),
+            fast_operators,
+            host,
             scope,
         }),
         Err(Refusal::Memory) => Err(RuleError::OutOfMemory),
@@ -112,7 +121,7 @@ fn verified(alloc: Global, setup: Setup) -> Result<Rule, RuleError>
 
 /// The rule that a listing says.
 pub fn load(alloc: Global, listing: &[u8]) -> Result<Rule, RuleError>
-    ensures rule { IfOk result (λ r. IsRule (reads listing.now) r.program r.limits r.scope) }
+    ensures rule { IfOk result (IsRule (reads listing.now)) }
     ensures reason { IfErr result (IsReason (reads listing.now)) }
     ensures allowed { IfOk result (λ rule. 0 < rule.limits.operations) }
 {
@@ -122,29 +131,26 @@ pub fn load(alloc: Global, listing: &[u8]) -> Result<Rule, RuleError>
     }
 }
 
-/// Runs a program within limits on a scope, which then holds what the run left. At least one
-/// operation is allowed.
-pub fn run<L: Ledger>(
+/// Runs a program within limits, with operators that are fast or not, over a host and on a scope,
+/// which then holds what the run left. At least one operation is allowed.
+pub fn run<H: Host, L: Ledger>(
     alloc: Global,
     program: &Program,
     limits: Limits,
+    fast_operators: bool,
+    host: &mut H,
     scope: &mut Scope,
     steps: &mut Steps<L>,
 ) -> Result<Outcome, OutOfMemory>
     requires { 0 < limits.operations }
-    ensures { IfOk result (λ o.
-        Ran program.now limits scope.old scope.new o.printed o.result o.trace.items) }
+    ensures { IfOk result (λ o. Ran H.law program.now (engine_of limits fast_operators)
+        (start scope.old host.old) scope.new host.new o.result o.trace.items) }
 {
-    let engine = Engine::new(alloc, limits);
+    let mut engine = Engine::new(alloc, limits);
+    engine.fast_operators = fast_operators;
     let mut vm = Vm::new(alloc, &engine)?;
     let mut cells = Store::new(alloc);
-    let mut host = TableHost::new(alloc);
-    let result = vm.eval_with_callbacks(alloc, &mut host, &mut cells, scope, program, steps);
+    let result = vm.eval_with_callbacks(alloc, host, &mut cells, scope, program, steps);
     let trace = Vec::from_slice(alloc, vm.fault_trace())?;
-    let printed = host.printed().copy(alloc)?;
-    Ok(Outcome {
-        printed,
-        result,
-        trace,
-    })
+    Ok(Outcome { result, trace })
 }

@@ -1,12 +1,11 @@
-use Rattle.std.proofs.Common.{◌≡◌, ◌∙◌, ℕ, Bool, true, List, [], Result, ap}
+use Rattle.std.proofs.Common.{◌≡◌, ◌∙◌, ℕ, Bool, List, [], Result, ap}
 use Rattle.grain_value.specs.declared.values.Dynamic.{Dynamic}
 use Rattle.grain_value.specs.declared.values.Limits.{Limits}
 use Rattle.grain_value.specs.declared.scopes.Entry.{Entry}
 use Rattle.grain_value.specs.declared.stores.Cell.{Cell}
 use Rattle.grain_fault.specs.declared.faults.EvalAltResult.{EvalAltResult}
 use Rattle.grain_fault.specs.declared.traces.Fault.{Fault}
-use Rattle.grain_host.specs.Tables.{blank, table_law}
-use Rattle.grain_host.specs.declared.tables.TableHost.{TableHost}
+use Rattle.grain_host.specs.Law.{Law}
 use Rattle.grain_program.specs.View.{View}
 use Rattle.grain_global.specs.declared.engines.Engine.{Engine}
 use Rattle.grain_frame.specs.Machines.{begin, finish}
@@ -15,34 +14,30 @@ use Rattle.grain_means.specs.Means.{Begin, Evaluates}
 use Rattle.run_examples.specs.Rules.{engine_of, start, Ran}
 use Rattle.run_examples.proofs.rules.run.Goals as goal
 
-engine_is : (e : Engine) (l : Limits) → e.limits ≡ l → e.fast_operators ≡ true → e ≡ engine_of l
-engine_is e l limits fast =
-    ap (λ (x : Limits). record { limits = x; fast_operators = e.fast_operators }) limits ∙
-    ap (λ (b : Bool). record { limits = l; fast_operators = b }) fast
+-- an engine whose flag is written
+engine_is : (e : Engine) (l : Limits) (fast : Bool) → e.limits ≡ l →
+    record e { fast_operators = fast } ≡ engine_of l fast
+engine_is e l fast limits = ap (λ (x : Limits). engine_of x fast) limits
 
-begin_is : (scope : List Entry) (cells : List Cell) (host : TableHost) (m : VmView) (e : Engine) →
-    cells ≡ [] → host ≡ blank →
+begin_is : {S : Type 0} (scope : List Entry) (cells : List Cell) (host : S) (m : VmView)
+    (e : Engine) → cells ≡ [] →
     m ≡ record { engine = e; global = record { num_operations = 0; level = 0 }; trace = [] } →
-    begin scope cells host m.global ≡ start scope
-begin_is scope cells host m e none empty fresh =
+    begin scope cells host m.global ≡ start scope host
+begin_is scope cells host m e none fresh =
     ap (λ (x : List Cell). begin scope x host m.global) none ∙
-    (ap (λ (x : TableHost). begin scope [] x m.global) empty ∙
-    ap (λ (x : VmView). begin scope [] blank x.global) fresh)
+    ap (λ (x : VmView). begin scope [] host x.global) fresh
 
 -- what a new machine did on a scope
-ran : (p : View) (l : Limits) (before after : List Entry) (r : Result Dynamic EvalAltResult)
-    (e : Engine) (b : Begin TableHost) (m : VmView) (cells : List Cell) (host : TableHost)
-    (printed : List ℕ) (trace : List Fault) (n : ℕ) →
-    e ≡ engine_of l → b ≡ start before → trace ≡ m.trace → printed ≡ host.printed →
-    Evaluates table_law p e b r (finish m.trace after cells host m.global) n →
-    Ran p l before after printed r trace
-ran p l before after r e b m cells host printed trace n engine begun same prints h =
+ran : {S : Type 0} (law : Law S) (p : View) (under : Engine) (first : Begin S) (after : List Entry)
+    (r : Result Dynamic EvalAltResult) (e : Engine) (b : Begin S) (m : VmView) (cells : List Cell)
+    (host : S) (trace : List Fault) (n : ℕ) → e ≡ under → b ≡ first → trace ≡ m.trace →
+    Evaluates law p e b r (finish m.trace after cells host m.global) n →
+    Ran law p under first after host r trace
+ran law p under first after r e b m cells host trace n engine begun same h =
     rw same record {
       instructions = n;
       cells = cells;
       global = m.global;
-      host = host;
-      prints = prints;
       evaluates = rw (engine, begun) at h;
     }
 
@@ -50,17 +45,18 @@ pub returns : goal.returns
 returns g c =
     let vm = c.in_ok-vm.vm in
     let call = c.eval_with_callbacks-result in
-    let engine = ap (λ m. m.engine) c.in_ok-vm.ensures ∙
-    engine_is c.new-engine.result c.args.limits c.new-engine.ensures.limits
-    c.new-engine.ensures.flags in
+    let written : Engine = record c.new-engine.result { fast_operators = c.args.fast_operators } in
+    let engine = ap (λ (m : VmView). m.engine) c.in_ok-vm.ensures ∙
+    engine_is c.new-engine.result c.args.limits c.args.fast_operators
+    c.new-engine.ensures.limits in
     let begun =
-    begin_is c.args.scope.now c.new-cells.result c.new-host.result vm c.new-engine.result
-    c.new-cells.ensures c.new-host.ensures c.in_ok-vm.ensures in
+    begin_is c.args.scope.now c.new-cells.result c.args.host.now vm written c.new-cells.ensures
+    c.in_ok-vm.ensures in
     let trace : c.in_ok-trace.trace.items ≡ call.new.self.trace = c.in_ok-trace.ensures.items ∙
     c.fault_trace.ensures in
-    ran c.args.program.now c.args.limits c.args.scope.now call.new.scope call.result vm.engine
-    (begin c.args.scope.now c.new-cells.result c.new-host.result vm.global) call.new.self
-    call.new.cells
-    call.new.host c.in_ok-printed.printed c.in_ok-trace.trace.items
-    call.ensures.evaluates.0 engine begun trace (c.in_ok-printed.ensures ∙ c.printed.ensures)
+    ran g.H.Host.law c.args.program.now (engine_of c.args.limits c.args.fast_operators)
+    (start c.args.scope.now c.args.host.now) call.new.scope call.result vm.engine
+    (begin c.args.scope.now c.new-cells.result c.args.host.now vm.global) call.new.self
+    call.new.cells call.new.host c.in_ok-trace.trace.items
+    call.ensures.evaluates.0 engine begun trace
     call.ensures.evaluates.1.0
