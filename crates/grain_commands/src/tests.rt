@@ -3,8 +3,10 @@
 mod assignments;
 mod calls;
 mod edges;
+mod limits;
 mod memory;
 mod natives;
+mod operator_ends;
 mod settings;
 mod streams;
 mod values;

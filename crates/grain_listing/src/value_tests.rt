@@ -135,6 +135,35 @@ fn flat_values_that_are_none(rt: HostRuntime) -> Result<(), OutOfMemory> {
 }
 
 #[test]
+fn numbers_and_escapes_that_are_none(rt: HostRuntime) -> Result<(), OutOfMemory> {
+    let rows = [
+        "-9223372036854775809",
+        "range(9223372036854775808, 0)",
+        "foreign(16)",
+        "'\\q'",
+        "'\\u{}'",
+        "'\\u{110000}'",
+        "\"\\q\"",
+        "\"\\u{}\"",
+        "\"\\u{110000}\"",
+        "\"a",
+    ];
+    for text in rows {
+        refused(&rt, rt.alloc(), text)?;
+    }
+    Ok(())
+}
+
+#[test]
+fn values_without_their_end(rt: HostRuntime) -> Result<(), OutOfMemory> {
+    let rows = ["#{\"a\": 1", "#{\"a\"", "#{", "blob(00", "foreign(16, 1"];
+    for text in rows {
+        refused(&rt, rt.alloc(), text)?;
+    }
+    Ok(())
+}
+
+#[test]
 fn lists_that_are_none(rt: HostRuntime) -> Result<(), OutOfMemory> {
     let rows = [
         "[1",

@@ -13,7 +13,7 @@ use grain_program::{
     AssignOps, Caps, Chunk, Function, Functions, Indices, Names, Op, Parts, Positions, Program,
     Tokens, assemble, verify,
 };
-use grain_value::{Array, Dynamic, Limits, Name, OutOfMemory, Scope, Store, Text};
+use grain_value::{Array, Dynamic, Held, Limits, Name, OutOfMemory, Scope, Store, Text};
 use std::alloc::Global;
 use std::marker::Brand;
 use std::process::Abort;
@@ -30,30 +30,47 @@ const LIMITS: Limits = Limits {
     map: 0,
 };
 
-// Parts of these instructions, with the constant 7 and the name `f`. What lies behind main's end is
-// a function of that name.
-fn parts_of(alloc: Global, ops: &[Op], end: u32) -> Result<Parts, OutOfMemory>
+fn names_of(alloc: Global, texts: &[&str]) -> Result<Names, OutOfMemory> {
+    let mut names = Names::new(alloc);
+    for text in texts {
+        let name = Text::copy_of(alloc, text)?;
+        names.push(Name::new(alloc, name)?)?;
+    }
+    Ok(names)
+}
+
+/// The functions that lie one behind the other from an address on, up to these ends. They have the
+/// names from the first one on.
+fn functions_of(alloc: Global, from: u32, ends: &[u32]) -> Result<Functions, OutOfMemory> {
+    let mut functions = Functions::new(alloc);
+    let mut name = 0u32;
+    let mut entry = from;
+    for end in ends {
+        functions.push(Function {
+            name,
+            params: Indices::new(alloc),
+            chunk: Chunk {
+                entry,
+                end: *end,
+                max_stack: 1,
+            },
+        })?;
+        name = name.saturating_add(1);
+        entry = *end;
+    }
+    Ok(functions)
+}
+
+// Parts of these instructions, with the constant 7. Main lies before the first end, and behind it
+// the functions `f` and `g`, each up to a further end.
+fn parts_of(alloc: Global, ops: &[Op], end: u32, further: &[u32]) -> Result<Parts, OutOfMemory>
     ensures { IfOk result (λ parts. HasOrder (view_of parts)) }
 {
     let code = assemble(alloc, ops)?;
     let mut consts = Array::new(alloc);
     consts.push(Dynamic::Int(7))?;
-    let mut names = Names::new(alloc);
-    let name = Text::copy_of(alloc, "f")?;
-    names.push(Name::new(alloc, name)?)?;
-    let mut functions = Functions::new(alloc);
-    let whole = u32::try_from(code.len()).unwrap_or(end);
-    if whole > end {
-        functions.push(Function {
-            name: 0,
-            params: Indices::new(alloc),
-            chunk: Chunk {
-                entry: end,
-                end: whole,
-                max_stack: 1,
-            },
-        })?;
-    }
+    let names = names_of(alloc, &["f", "g", "exit"])?;
+    let functions = functions_of(alloc, end, further)?;
     Ok(Parts {
         caps: Caps::all(),
         code,
@@ -71,20 +88,32 @@ fn parts_of(alloc: Global, ops: &[Op], end: u32) -> Result<Parts, OutOfMemory>
     })
 }
 
-fn program_of(alloc: Global, ops: &[Op], end: u32) -> Option<Program> {
-    match parts_of(alloc, ops, end) {
+fn program_of(alloc: Global, ops: &[Op], end: u32, further: &[u32]) -> Option<Program> {
+    match parts_of(alloc, ops, end, further) {
         Ok(parts) => verify(alloc, parts).ok(),
         Err(_) => None,
     }
 }
 
-/// What a run on an empty scope left.
+/// What a run on a scope of one entry left.
 #[derive(Drop)]
 struct Ended {
     answer: RhaiResult,
     trace: Vec<Fault>,
     address: Option<usize>,
+    scope: Scope,
     global: GlobalRuntimeState,
+}
+
+/// A scope of the entry `a`, which holds unit.
+fn scope_of_one(alloc: Global) -> Result<Scope, OutOfMemory> {
+    let mut scope = Scope::new(alloc);
+    let held = Held {
+        value: Dynamic::Unit,
+        read_only: false,
+    };
+    scope.push(Text::copy_of(alloc, "a")?, held)?;
+    Ok(scope)
 }
 
 fn end_of<L: Ledger>(
@@ -101,7 +130,7 @@ fn end_of<L: Ledger>(
     let engine = Engine::new(alloc, limits);
     let global = engine.new_global_runtime_state(alloc)?;
     let mut vm = Vm::with_global_state(alloc, &engine, global);
-    let mut scope = Scope::new(alloc);
+    let mut scope = scope_of_one(alloc)?;
     let mut cells = Store::new(alloc);
     let mut host = TableHost::new(alloc);
     let mut steps = Steps::<L>::new(blank);
@@ -114,6 +143,7 @@ fn end_of<L: Ledger>(
         answer,
         trace,
         address,
+        scope,
         global: vm.into_global_state(),
     })
 }
@@ -121,7 +151,7 @@ fn end_of<L: Ledger>(
 #[test]
 fn a_constant_is_given(rt: HostRuntime) -> Result<(), Fail> {
     let ops = [Op::LoadConst(0), Op::Return];
-    let program = program_of(rt.alloc(), &ops, 4).ok_or("refused")?;
+    let program = program_of(rt.alloc(), &ops, 4, &[]).ok_or("refused")?;
     let ended = end_of::<Brand>(rt.alloc(), Blank::new(6), &program, LIMITS)?;
     assert!(rt; matches!(ended.answer, Ok(Dynamic::Int(7))));
     assert!(rt; ended.address.is_none());
@@ -131,7 +161,7 @@ fn a_constant_is_given(rt: HostRuntime) -> Result<(), Fail> {
 
 #[test]
 fn a_jump_to_itself_stops_at_the_limit(rt: HostRuntime) -> Result<(), Fail> {
-    let program = program_of(rt.alloc(), &[Op::Jump(0)], 5).ok_or("refused")?;
+    let program = program_of(rt.alloc(), &[Op::Jump(0)], 5, &[]).ok_or("refused")?;
     let ended = end_of::<Brand>(rt.alloc(), Blank::new(6), &program, LIMITS)?;
     assert!(rt;
         matches!(
@@ -148,7 +178,7 @@ fn a_jump_to_itself_stops_at_the_limit(rt: HostRuntime) -> Result<(), Fail> {
 #[test]
 fn a_thrown_value_is_wrapped_by_the_call(rt: HostRuntime) -> Result<(), Fail> {
     let ops = [Op::Call(0, 0), Op::Return, Op::LoadConst(0), Op::Throw];
-    let program = program_of(rt.alloc(), &ops, 5).ok_or("refused")?;
+    let program = program_of(rt.alloc(), &ops, 5, &[9]).ok_or("refused")?;
     let Ended {
         answer,
         trace,
@@ -178,7 +208,7 @@ fn a_thrown_value_is_wrapped_by_the_call(rt: HostRuntime) -> Result<(), Fail> {
 #[test]
 fn a_call_without_a_level_overflows(rt: HostRuntime) -> Result<(), Fail> {
     let ops = [Op::Call(0, 0), Op::Return, Op::Return];
-    let program = program_of(rt.alloc(), &ops, 5).ok_or("refused")?;
+    let program = program_of(rt.alloc(), &ops, 5, &[6]).ok_or("refused")?;
     let limits = Limits {
         levels: 0,
         ..LIMITS
@@ -193,5 +223,66 @@ fn a_call_without_a_level_overflows(rt: HostRuntime) -> Result<(), Fail> {
     assert_eq!(rt; ended.trace.len(), 1);
     assert_eq!(rt; ended.address, Some(0));
     assert_eq!(rt; ended.global.num_operations(), 1);
+    Ok(())
+}
+
+/// The run gave 7 with an empty trace, and cut the scope to the entry that it began with.
+fn check_exit(rt: &impl Abort, ended: &Ended) {
+    assert!(rt; matches!(ended.answer, Ok(Dynamic::Int(7))));
+    assert_eq!(rt; ended.trace.len(), 0);
+    assert!(rt; ended.address.is_none());
+    assert_eq!(rt; ended.scope.len(), 1);
+    assert!(rt; ended.scope.contains("a"));
+    assert_eq!(rt; ended.global.level, 0);
+}
+
+#[test]
+fn an_exit_in_main_cuts_the_scope(rt: HostRuntime) -> Result<(), Fail> {
+    let ops = [
+        Op::Unit,
+        Op::DeclareLocal(0),
+        Op::LoadConst(0),
+        Op::Call(2, 1),
+        Op::Pop,
+        Op::Unit,
+        Op::Return,
+    ];
+    let program = program_of(rt.alloc(), &ops, 14, &[]).ok_or("refused")?;
+    let ended = end_of::<Brand>(rt.alloc(), Blank::new(6), &program, LIMITS)?;
+    check_exit(&rt, &ended);
+    assert_eq!(rt; ended.global.num_operations(), 0);
+    Ok(())
+}
+
+#[test]
+fn an_exit_two_calls_deep_cuts_the_scope(rt: HostRuntime) -> Result<(), Fail> {
+    let ops = [
+        Op::Unit,
+        Op::DeclareLocal(0),
+        Op::Call(0, 0),
+        Op::Return,
+        Op::Call(1, 0),
+        Op::Return,
+        Op::LoadConst(0),
+        Op::Call(2, 1),
+        Op::Pop,
+        Op::Return,
+    ];
+    let program = program_of(rt.alloc(), &ops, 9, &[14, 23]).ok_or("refused")?;
+    let ended = end_of::<Brand>(rt.alloc(), Blank::new(6), &program, LIMITS)?;
+    check_exit(&rt, &ended);
+    assert_eq!(rt; ended.global.num_operations(), 2);
+    Ok(())
+}
+
+#[test]
+fn a_new_machine_has_run_nothing(rt: HostRuntime) -> Result<(), Fail> {
+    let engine = Engine::new(rt.alloc(), LIMITS);
+    let vm = Vm::new(rt.alloc(), &engine)?;
+    assert_eq!(rt; vm.fault_trace().len(), 0);
+    assert!(rt; vm.fault_pc().is_none());
+    let global = vm.into_global_state();
+    assert_eq!(rt; global.num_operations(), 0);
+    assert_eq!(rt; global.level, 0);
     Ok(())
 }

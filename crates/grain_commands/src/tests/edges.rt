@@ -1,5 +1,5 @@
-//! What the definitions fix by a number or a text: the status without words, the names of the
-//! refusals, and how many bytes are read.
+//! What the definitions fix by a number or a text: the status without words, the exit codes, the
+//! names of the refusals, and how many bytes are read.
 
 ghost use Rattle.std.specs.Prelude.{◌≡◌, None};
 ghost use Rattle.grain_commands.specs.declared.sources.Read.TheVariants.{Got};
@@ -10,6 +10,7 @@ use crate::inputs::read_all;
 use crate::memory_sink::MemorySink;
 use crate::memory_source::MemorySource;
 use crate::sources::{Read, Source};
+use crate::status::{Status, exit_code};
 use grain_value::{Blob, OutOfMemory};
 use std::io::{Error, ErrorKind};
 use std::process::{ExitCode, Termination};
@@ -23,6 +24,13 @@ fn a_program_without_words_ends_with_9(rt: HostRuntime) -> Result<(), OutOfMemor
     assert_eq!(rt; exit.report(&rt), ExitCode::from(9));
     assert_eq!(rt; sink.bytes(), b"".as_slice());
     Ok(())
+}
+
+#[test]
+fn a_status_is_its_exit_code(rt: HostRuntime) {
+    for number in [0, 1, 2, 3, 4, 5, 6, 7, 9] {
+        assert_eq!(rt; exit_code(Status { number }), ExitCode::from(number));
+    }
 }
 
 #[test]
