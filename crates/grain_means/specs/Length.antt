@@ -1,4 +1,4 @@
--- How long a run is: the instructions that it begins, those of all frames that it entered included.
+-- How long a run is: how many instructions begin in it, in all of its frames.
 use Rattle.std.specs.Prelude.{ℕ, ◌+◌}
 use Rattle.grain_means.specs.Worlds.{Act, Answer, World, Setup, Todo, InFrame}
 use Rattle.grain_means.specs.Ends.{Ends, ended, went, joined}
