@@ -70,6 +70,16 @@ fn report_of<L: Ledger>(
     report(alloc, host.printed(), &outcome)
 }
 
+/// What was charged to a price list, on a line.
+fn charges(alloc: Global, list: &PriceList) -> Result<Text, OutOfMemory>
+    ensures { IfOk result (λ text. text ≡ charged_to list.now) }
+{
+    let mut text = Text::copy_of(alloc, "charged ")?;
+    text.push_integer(list.total())?;
+    text.push_str("\n")?;
+    Ok(text)
+}
+
 /// The report of a rule's run over a price list: what was charged, and the end.
 fn charges_of<L: Ledger>(
     alloc: Global,
@@ -92,10 +102,8 @@ fn charges_of<L: Ledger>(
         &mut scope,
         steps,
     )?;
-    let mut charged = Text::copy_of(alloc, "charged ")?;
-    charged.push_integer(list.total())?;
-    charged.push_str("\n")?;
-    report(alloc, &charged, &outcome)
+    let said = charges(alloc, &list)?;
+    report(alloc, &said, &outcome)
 }
 
 /// The price list of the examples.

@@ -1,4 +1,3 @@
-use Rattle.std.proofs.Common.{◌≡◌, rules}
 use Rattle.run_examples.specs.Prices.{price_law}
 use Rattle.run_examples.specs.Rules.{engine_of, start}
 use Rattle.run_examples.specs.Reports.{charged_to}
@@ -8,9 +7,8 @@ use Rattle.run_examples.proofs.charges_of.Goals as goal
 pub returns : goal.returns
 returns g c =
     let outcome = c.in_ok-outcome.outcome in
-    let said : c.push_str.new.self ≡ charged_to c.run.new.host = search rules in
     reported price_law charged_to c.args.rule.program
     (engine_of c.args.rule.limits c.args.rule.fast_operators)
     (start c.args.rule.scope c.args.list) c.run.new.scope c.run.new.host
-    c.push_str.new.self outcome.result outcome.trace.items c.in_ok-outcome.ensures
-    said c.report.result c.report.ensures
+    c.in_ok-said.said outcome.result outcome.trace.items c.in_ok-outcome.ensures
+    c.in_ok-said.ensures c.report.result c.report.ensures
