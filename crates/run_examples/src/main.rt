@@ -5,6 +5,7 @@
 ghost use Rattle.std.specs.Prelude.{◌≡◌, ◌<◌, IfOk};
 ghost use Rattle.grain_host.specs.Tables.{table_law};
 ghost use Rattle.run_examples.specs.Prices.{price_law};
+ghost use Rattle.run_examples.specs.Examples.{ReportedOver, shipped_list};
 ghost use Rattle.run_examples.specs.Reports.{Reported, printed_by, charged_to};
 ghost use Rattle.run_examples.specs.Rules.{engine_of, start};
 
@@ -107,7 +108,9 @@ fn charges_of<L: Ledger>(
 }
 
 /// The price list of the examples.
-fn price_list(alloc: Global) -> Result<PriceList, OutOfMemory> {
+fn price_list(alloc: Global) -> Result<PriceList, OutOfMemory>
+    ensures { IfOk result (λ list. list ≡ shipped_list) }
+{
     let mut list = PriceList::new(alloc);
     list.add(Text::copy_of(alloc, "pear")?, 120)?;
     list.add(Text::copy_of(alloc, "plum")?, 250)?;
@@ -122,6 +125,7 @@ fn report_over<L: Ledger>(
     steps: &mut Steps<L>,
 ) -> Result<Text, OutOfMemory>
     requires { 0 < rule.limits.operations }
+    ensures { IfOk result (ReportedOver host rule) }
 {
     match host {
         ExampleHost::Table => report_of(alloc, rule, steps),

@@ -1,0 +1,23 @@
+-- What is reported of an example.
+use Rattle.std.specs.Prelude.{ℕ, List, pos, codes}
+use Rattle.grain_host.specs.Tables.{table_law}
+use Rattle.run_examples.specs.Prices.{empty, listed, price_law}
+use Rattle.run_examples.specs.Rules.{engine_of, start}
+use Rattle.run_examples.specs.Reports.{Reported, printed_by, charged_to}
+use Rattle.run_examples.specs.declared.ExampleHost.{ExampleHost}
+use Rattle.run_examples.specs.declared.ExampleHost.TheVariants as host
+use Rattle.run_examples.specs.declared.prices.PriceList.{PriceList}
+use Rattle.run_examples.specs.declared.rules.Rule.{Rule}
+
+-- the price list over which the example `prices` runs
+abbrev pub shipped_list : PriceList
+shipped_list = listed (codes "plum") (pos 250) (listed (codes "pear") (pos 120) empty)
+
+-- the text is the report of how the rule's run ends over its own host, or over the price list
+abbrev pub ReportedOver : ExampleHost → Rule → List ℕ → Type 0
+ReportedOver host.Table r text =
+    Reported table_law printed_by r.program (engine_of r.limits r.fast_operators)
+    (start r.scope r.host) text
+ReportedOver host.Prices r text =
+    Reported price_law charged_to r.program (engine_of r.limits r.fast_operators)
+    (start r.scope shipped_list) text
