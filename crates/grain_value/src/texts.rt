@@ -37,6 +37,11 @@ impl Text {
         }
     }
 
+    /// The allocator that the text was made with.
+    pub fn allocator(&self) -> Global {
+        *self.text.allocator()
+    }
+
     /// A text of these characters.
     pub fn copy_of(alloc: Global, s: &str) -> Result<Text, OutOfMemory>
         ensures { IfOk result (λ t. t ≡ s.now) }

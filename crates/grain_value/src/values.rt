@@ -13,6 +13,7 @@ mod writing;
 use crate::blobs::Blob;
 use crate::texts::Text;
 pub use pointers::ValueFault;
+use std::alloc::Global;
 use std::collections::BTreeMap;
 use std::marker::Model;
 
@@ -48,7 +49,9 @@ pub enum Dynamic {
 #[cycle(values)]
 #[derive(Drop)]
 pub struct FnPtr {
+    /// The name of the functions, which a run looks up at each call.
     pub name: Text,
+    /// The values that stand before the arguments of a call.
     pub curry: Array,
 }
 
@@ -86,6 +89,8 @@ impl Model for Array {
 #[cycle(values)]
 #[derive(Drop)]
 pub struct Map {
+    // the allocator of `pairs`
+    alloc: Global,
     pairs: BTreeMap<String, Dynamic>,
     // how many arrays, maps and pointers stand inside one another here, this one counted, at most
     levels: usize,
@@ -119,7 +124,9 @@ pub const MOST_LEVELS: usize = 1024;
 /// A value in an operand or a scope entry. One that is read-only may not be assigned to.
 #[derive(Drop)]
 pub struct Held {
+    /// What is held.
     pub value: Dynamic,
+    /// Whether it may not be assigned to.
     pub read_only: bool,
 }
 

@@ -73,6 +73,10 @@ impl Map {
             drop(pairs.insert(name, value)?);
         }
         let levels = self.levels;
-        Ok(Map { pairs, levels })
+        Ok(Map {
+            alloc,
+            pairs,
+            levels,
+        })
     }
 }

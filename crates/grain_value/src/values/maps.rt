@@ -16,9 +16,15 @@ impl Map {
         ensures { result ≡ [] }
     {
         Map {
+            alloc,
             pairs: BTreeMap::new(alloc),
             levels: 1,
         }
+    }
+
+    /// The allocator that the map was made with.
+    pub fn allocator(&self) -> Global {
+        self.alloc
     }
 
     /// How many keys there are.

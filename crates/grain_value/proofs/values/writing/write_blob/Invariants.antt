@@ -1,5 +1,5 @@
 -- The digits of the bytes so far stand after the word.
-use Rattle.std.proofs.Common.{◌≡◌, ◌++◌, codes, take}
+use Rattle.std.proofs.Common.{◌++◌, codes, take}
 use Rattle.std.specs.List.{flat_map}
 use Rattle.std.specs.Fmt.{IsPlainFormatter, HasWritten}
 use Rattle.grain_value.specs.Writing.{hex_byte}
