@@ -25,44 +25,12 @@ use Rattle.grain_commands.specs.declared.replies.Reply.{Reply}
 meant : (p : View) (e : Engine) (b : Begin TableHost) (x : EvalAltResult) (finish : Answer →
     Finish TableHost) (ran : ℕ) → x ≢ faults.Memory → Evaluates table_law p e b (Err x) finish ran →
     Means table_law p e b (finish (Failed (problem_of x))) ran
-meant p e b (faults.ErrorFunctionNotFound s q) finish ran other h = h
-meant p e b (faults.ErrorMismatchDataType r a q) finish ran other h = h
-meant p e b (faults.ErrorAssignmentToConstant s q) finish ran other h = h
-meant p e b (faults.ErrorInFunctionCall' f s k x q) finish ran other h = h
-meant p e b (faults.ErrorRuntime v q) finish ran other h = h
-meant p e b (faults.ErrorStackOverflow q) finish ran other h = h
-meant p e b (faults.ErrorDataTooLarge s q) finish ran other h = h
-meant p e b (faults.ErrorArithmetic s q) finish ran other h = h
-meant p e b (faults.ErrorTooManyOperations q) finish ran other h = h
-meant p e b (faults.ErrorTooManyVariables q) finish ran other h = h
-meant p e b (faults.ErrorIndexingType t q) finish ran other h = h
-meant p e b (faults.ErrorNonPureMethodCallOnConstant f q) finish ran other h = h
-meant p e b (faults.ErrorDotExpr s q) finish ran other h = h
-meant p e b (faults.ErrorTerminated v q) finish ran other h = h
-meant p e b (faults.Exit v q) finish ran other h = h
-meant p e b (faults.ErrorSystem s r) finish ran other h = h
-meant p e b (faults.Malformed k q) finish ran other h = h
 meant p e b faults.Memory finish ran other h = absurd (other refl)
+meant p e b x finish ran other h = h
 
 no_want : (x : EvalAltResult) → x ≢ faults.Memory → Failed (problem_of x) ≢ Failed NoMemory
-no_want (faults.ErrorFunctionNotFound s q) other e = cc
-no_want (faults.ErrorMismatchDataType r a q) other e = cc
-no_want (faults.ErrorAssignmentToConstant s q) other e = cc
-no_want (faults.ErrorInFunctionCall' f s k x q) other e = cc
-no_want (faults.ErrorRuntime v q) other e = cc
-no_want (faults.ErrorStackOverflow q) other e = cc
-no_want (faults.ErrorDataTooLarge s q) other e = cc
-no_want (faults.ErrorArithmetic s q) other e = cc
-no_want (faults.ErrorTooManyOperations q) other e = cc
-no_want (faults.ErrorTooManyVariables q) other e = cc
-no_want (faults.ErrorIndexingType t q) other e = cc
-no_want (faults.ErrorNonPureMethodCallOnConstant f q) other e = cc
-no_want (faults.ErrorDotExpr s q) other e = cc
-no_want (faults.ErrorTerminated v q) other e = cc
-no_want (faults.Exit v q) other e = cc
-no_want (faults.ErrorSystem s r) other e = cc
-no_want (faults.Malformed k q) other e = cc
 no_want faults.Memory other e = absurd (other refl)
+no_want x other e = cc
 
 no_value : (v : Dynamic) → Came v ≢ Failed NoMemory
 no_value v e = cc

@@ -1,35 +1,15 @@
 -- The three classes of faults: each fault is in exactly one.
 use Rattle.std.specs.Prelude.{Bool, true, false, not, ◌&&◌}
-use Rattle.grain_fault.specs.Problems.{Problem, FunctionNotFound, MismatchDataType, InFunctionCall, AssignmentToConstant, IndexingType, NonPureCall, DotExpr, Arithmetic, Runtime, TooManyOperations, TooManyVariables, StackOverflow, DataTooLarge, Terminated, Exit, SystemError, Malformed, NoMemory}
+use Rattle.grain_fault.specs.Problems.{Problem, Plain, InFunctionCall, InModule, SystemError, NoMemory}
+use Rattle.grain_fault.specs.Table.{Class, Pseudo, Catchable, System, row}
 
-pub data Class : Type 0 where
-  -- no fault, but how control leaves a construct
-  Pseudo : Class
-  -- a script may catch it
-  Catchable : Class
-  -- it ends the run, whatever the script does
-  System : Class
-
--- catchable is what a script may do wrong; limits, a host that ends the run, malformed programs and
--- want of memory are the system's; an exit is a way to end a run with a value
+-- what leaves a call or a module may be caught, whatever it wraps; a host's own failure and want of
+-- memory may not
 abbrev pub class_of : Problem → Class
-class_of (FunctionNotFound s p) = Catchable
-class_of (MismatchDataType r a p) = Catchable
+class_of (Plain k p) = (row k).class
 class_of (InFunctionCall f s x p) = Catchable
-class_of (AssignmentToConstant s p) = Catchable
-class_of (IndexingType t p) = Catchable
-class_of (NonPureCall f p) = Catchable
-class_of (DotExpr s p) = Catchable
-class_of (Arithmetic s p) = Catchable
-class_of (Runtime v p) = Catchable
-class_of (TooManyOperations p) = System
-class_of (TooManyVariables p) = System
-class_of (StackOverflow p) = System
-class_of (DataTooLarge t p) = System
-class_of (Terminated v p) = System
-class_of (Exit v p) = Pseudo
+class_of (InModule m x p) = Catchable
 class_of (SystemError s e) = System
-class_of (Malformed k p) = System
 class_of NoMemory = System
 
 abbrev pub pseudo_class : Class → Bool

@@ -1,25 +1,17 @@
 -- Exits: how a script ends itself.
 use Rattle.std.specs.Prelude.{Option, Some, None}
 use Rattle.grain_value.specs.declared.values.Dynamic.{Dynamic}
-use Rattle.grain_fault.specs.Problems.{Problem, FunctionNotFound, MismatchDataType, InFunctionCall, AssignmentToConstant, IndexingType, NonPureCall, DotExpr, Arithmetic, Runtime, TooManyOperations, TooManyVariables, StackOverflow, DataTooLarge, Terminated, Exit, SystemError, Malformed, NoMemory}
+use Rattle.grain_fault.specs.Problems.{FaultKind, Parsing, VariableExists, ForbiddenVariable, VariableNotFound, PropertyNotFound, IndexNotFound, FunctionNotFound, ModuleNotFound, UnboundThis, MismatchDataType, MismatchOutputType, IndexingType, ArrayBounds, StringBounds, BitFieldBounds, For, DataRace, NonPureCall, AssignmentToConstant, DotExpr, Arithmetic, TooManyOperations, TooManyVariables, TooManyModules, StackOverflow, DataTooLarge, Terminated, CustomSyntax, Runtime, LoopBreak, Return, Exit, Malformed, Problem, Plain, InFunctionCall, InModule, SystemError, NoMemory}
+
+-- the value with which a kind of fault ends a script
+abbrev pub exit_of_kind : FaultKind → Option Dynamic
+exit_of_kind (Exit v) = Some v
+exit_of_kind k = None
 
 -- the value of an exit
 abbrev pub exit_value : Problem → Option Dynamic
-exit_value (FunctionNotFound s p) = None
-exit_value (MismatchDataType r a p) = None
+exit_value (Plain k p) = exit_of_kind k
 exit_value (InFunctionCall f s x p) = None
-exit_value (AssignmentToConstant s p) = None
-exit_value (IndexingType t p) = None
-exit_value (NonPureCall f p) = None
-exit_value (DotExpr s p) = None
-exit_value (Arithmetic s p) = None
-exit_value (Runtime v p) = None
-exit_value (TooManyOperations p) = None
-exit_value (TooManyVariables p) = None
-exit_value (StackOverflow p) = None
-exit_value (DataTooLarge t p) = None
-exit_value (Terminated v p) = None
-exit_value (Exit v p) = Some v
+exit_value (InModule m x p) = None
 exit_value (SystemError s e) = None
-exit_value (Malformed k p) = None
 exit_value NoMemory = None

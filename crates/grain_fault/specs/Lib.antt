@@ -1,8 +1,12 @@
--- What the contracts of this crate cite: positions, faults as trees, and of each fault its class,
--- its position, its name and its text.
+-- What the contracts of this crate cite: positions, faults as trees, the table of faults, and of
+-- each fault its class, its position, its name, its text and its fields. `FieldsView` is for
+-- functions of the crate's own.
 pub mod Places
 pub mod Problems
+pub mod Table
 pub mod Classes
 pub mod Exits
 pub mod Positions
 pub mod Texts
+pub mod Fields
+pub mod FieldsView

@@ -7,30 +7,14 @@ ghost use Rattle.grain_fault.specs.Classes.{pseudo_error, catchable, system_exce
 use crate::faults::EvalAltResult;
 
 impl EvalAltResult {
-    /// Whether this is no fault, but how control leaves a construct. That is an exit alone so far.
+    /// Whether this is no fault, but how control leaves a loop, a function or the script.
     pub fn is_pseudo_error(&self) -> bool
         ensures { result ≡ pseudo_error (problem_of self.now) }
     {
-        match self {
-            EvalAltResult::ErrorFunctionNotFound(..) => false,
-            EvalAltResult::ErrorMismatchDataType(..) => false,
-            EvalAltResult::ErrorInFunctionCall(..) => false,
-            EvalAltResult::ErrorAssignmentToConstant(..) => false,
-            EvalAltResult::ErrorIndexingType(..) => false,
-            EvalAltResult::ErrorNonPureMethodCallOnConstant(..) => false,
-            EvalAltResult::ErrorDotExpr(..) => false,
-            EvalAltResult::ErrorArithmetic(..) => false,
-            EvalAltResult::ErrorRuntime(..) => false,
-            EvalAltResult::ErrorTooManyOperations(..) => false,
-            EvalAltResult::ErrorTooManyVariables(..) => false,
-            EvalAltResult::ErrorStackOverflow(..) => false,
-            EvalAltResult::ErrorDataTooLarge(..) => false,
-            EvalAltResult::ErrorTerminated(..) => false,
-            EvalAltResult::Exit(..) => true,
-            EvalAltResult::ErrorSystem(..) => false,
-            EvalAltResult::Malformed(..) => false,
-            EvalAltResult::Memory => false,
-        }
+        matches!(
+            self,
+            EvalAltResult::LoopBreak(..) | EvalAltResult::Return(..) | EvalAltResult::Exit(..)
+        )
     }
 
     /// Whether a script may catch the fault.
@@ -38,24 +22,43 @@ impl EvalAltResult {
         ensures { result ≡ catchable (problem_of self.now) }
     {
         match self {
-            EvalAltResult::ErrorFunctionNotFound(..) => true,
-            EvalAltResult::ErrorMismatchDataType(..) => true,
-            EvalAltResult::ErrorInFunctionCall(..) => true,
-            EvalAltResult::ErrorAssignmentToConstant(..) => true,
-            EvalAltResult::ErrorIndexingType(..) => true,
-            EvalAltResult::ErrorNonPureMethodCallOnConstant(..) => true,
-            EvalAltResult::ErrorDotExpr(..) => true,
-            EvalAltResult::ErrorArithmetic(..) => true,
-            EvalAltResult::ErrorRuntime(..) => true,
-            EvalAltResult::ErrorTooManyOperations(..) => false,
-            EvalAltResult::ErrorTooManyVariables(..) => false,
-            EvalAltResult::ErrorStackOverflow(..) => false,
-            EvalAltResult::ErrorDataTooLarge(..) => false,
-            EvalAltResult::ErrorTerminated(..) => false,
-            EvalAltResult::Exit(..) => false,
-            EvalAltResult::ErrorSystem(..) => false,
-            EvalAltResult::Malformed(..) => false,
-            EvalAltResult::Memory => false,
+            EvalAltResult::ErrorVariableExists(..)
+            | EvalAltResult::ErrorForbiddenVariable(..)
+            | EvalAltResult::ErrorVariableNotFound(..)
+            | EvalAltResult::ErrorPropertyNotFound(..)
+            | EvalAltResult::ErrorIndexNotFound(..)
+            | EvalAltResult::ErrorFunctionNotFound(..)
+            | EvalAltResult::ErrorModuleNotFound(..)
+            | EvalAltResult::ErrorInFunctionCall(..)
+            | EvalAltResult::ErrorInModule(..)
+            | EvalAltResult::ErrorUnboundThis(..)
+            | EvalAltResult::ErrorMismatchDataType(..)
+            | EvalAltResult::ErrorMismatchOutputType(..)
+            | EvalAltResult::ErrorIndexingType(..)
+            | EvalAltResult::ErrorArrayBounds(..)
+            | EvalAltResult::ErrorStringBounds(..)
+            | EvalAltResult::ErrorBitFieldBounds(..)
+            | EvalAltResult::ErrorFor(..)
+            | EvalAltResult::ErrorDataRace(..)
+            | EvalAltResult::ErrorNonPureMethodCallOnConstant(..)
+            | EvalAltResult::ErrorAssignmentToConstant(..)
+            | EvalAltResult::ErrorDotExpr(..)
+            | EvalAltResult::ErrorArithmetic(..)
+            | EvalAltResult::ErrorRuntime(..) => true,
+            EvalAltResult::LoopBreak(..)
+            | EvalAltResult::Return(..)
+            | EvalAltResult::Exit(..)
+            | EvalAltResult::ErrorSystem(..)
+            | EvalAltResult::ErrorParsing(..)
+            | EvalAltResult::ErrorTooManyOperations(..)
+            | EvalAltResult::ErrorTooManyVariables(..)
+            | EvalAltResult::ErrorTooManyModules(..)
+            | EvalAltResult::ErrorStackOverflow(..)
+            | EvalAltResult::ErrorDataTooLarge(..)
+            | EvalAltResult::ErrorTerminated(..)
+            | EvalAltResult::ErrorCustomSyntax(..)
+            | EvalAltResult::Malformed(..)
+            | EvalAltResult::Memory => false,
         }
     }
 

@@ -2,11 +2,11 @@
 
 ghost use Rattle.std.specs.Prelude.{◌≡◌, IfOk};
 ghost use Rattle.grain_fault.specs.Places.{nowhere};
-ghost use Rattle.grain_fault.specs.Problems.{Runtime, problem_of};
+ghost use Rattle.grain_fault.specs.Problems.{Plain, Runtime, problem_of};
 ghost use Rattle.grain_value.specs.declared.values.Dynamic.TheVariants as dynamic;
 
 use crate::places::Position;
-use grain_value::{Dynamic, OutOfMemory, Text};
+use grain_value::{Array, Dynamic, OutOfMemory, Text};
 use std::alloc::Global;
 
 /// How a run ends.
@@ -15,52 +15,102 @@ pub type RhaiResult = Result<Dynamic, EvalAltResult>;
 /// How a call ends that gives something else than a value.
 pub type RhaiResultOf<T> = Result<T, EvalAltResult>;
 
-/// What is wrong with a program, where only its run shows it.
-#[derive(Debug, PartialEq, Eq, Drop)]
+/// What is wrong with a program, where only its run shows it. The texts are type names.
+#[derive(Drop)]
 pub enum MalformedKind {
     /// A slot names the entry `index`, counted from 0, of a scope of `length` entries.
     SlotPastScope { index: usize, length: usize },
     /// A scope of `length` entries is to be cut to `target` entries, which are more.
     UnwindPastScope { target: usize, length: usize },
+    /// A `try` began at a scope of `wanted` entries, and at its `catch` the scope has `length`,
+    /// which are fewer.
+    TryFloorBroken { wanted: usize, length: usize },
+    /// The template of a map is no map.
+    TemplateNotMap { kind: Text },
+    /// The key of a map is no text.
+    KeyNotText { kind: Text },
+    /// The buffer of an interpolation is no text.
+    BufferNotText { kind: Text },
+    /// A size check, of this element, outside of all literals.
+    MissingTotal { index: u16 },
 }
 
 /// Why a run ended without a value.
 #[derive(Drop)]
 pub enum EvalAltResult {
+    /// A failure of the host's own: what it is about, empty if it is about nothing, and the reason.
+    ErrorSystem(Text, Text),
+    /// A script that could not be read, for this reason.
+    ErrorParsing(Text, Position),
+    /// A declaration of a variable of this name, where one is there and may not be hidden.
+    ErrorVariableExists(Text, Position),
+    /// A declaration of a variable of this name, which the host forbids.
+    ErrorForbiddenVariable(Text, Position),
+    /// No variable of this name.
+    ErrorVariableNotFound(Text, Position),
+    /// No property of this name.
+    ErrorPropertyNotFound(Text, Position),
+    /// Nothing at this index.
+    ErrorIndexNotFound(Dynamic, Position),
     /// No function of this name and these types.
     ErrorFunctionNotFound(Text, Position),
-    /// A value of the second type where one of the first was asked for.
-    ErrorMismatchDataType(Text, Text, Position),
+    /// No module of this name.
+    ErrorModuleNotFound(Text, Position),
     /// A fault that left the body of a function of this name. The second text is the source of the
     /// function's program, empty if it has none. The position is that of the call.
     ErrorInFunctionCall(Text, Text, Box<EvalAltResult>, Position),
-    /// An assignment to an entry of this name that can only be read.
-    ErrorAssignmentToConstant(Text, Position),
+    /// A fault that left a module of this name, which is empty if the module has none.
+    ErrorInModule(Text, Box<EvalAltResult>, Position),
+    /// A use of `this` where there is none.
+    ErrorUnboundThis(Position),
+    /// A value of the second type where one of the first was asked for.
+    ErrorMismatchDataType(Text, Text, Position),
+    /// A result of the second type where the caller asked for one of the first.
+    ErrorMismatchOutputType(Text, Text, Position),
     /// No indexer for these types.
     ErrorIndexingType(Text, Position),
+    /// An index into an array or a byte string of this length, where nothing is.
+    ErrorArrayBounds(usize, i64, Position),
+    /// An index into a text of this many characters, where none is.
+    ErrorStringBounds(usize, i64, Position),
+    /// An index into this many bits, where none is.
+    ErrorBitFieldBounds(usize, i64, Position),
+    /// A loop over a value that has no items.
+    ErrorFor(Position),
+    /// A use of a shared value, of this name, that is in use already.
+    ErrorDataRace(Text, Position),
     /// A call of a native of this name, which writes its first argument, where that can only be
     /// read.
     ErrorNonPureMethodCallOnConstant(Text, Position),
+    /// An assignment to an entry of this name that can only be read.
+    ErrorAssignmentToConstant(Text, Position),
     /// A property that is not there, as the text says.
     ErrorDotExpr(Text, Position),
     /// Arithmetic without a result.
     ErrorArithmetic(Text, Position),
-    /// A value that the script threw.
-    ErrorRuntime(Dynamic, Position),
     /// The operation limit is reached.
     ErrorTooManyOperations(Position),
     /// The variable limit is reached.
     ErrorTooManyVariables(Position),
+    /// The limit of modules is reached.
+    ErrorTooManyModules(Position),
     /// The limit of calls within one another is reached.
     ErrorStackOverflow(Position),
     /// A value would be larger than a limit allows. The text says what of it is too large.
     ErrorDataTooLarge(Text, Position),
     /// The host ended the run, with this value.
     ErrorTerminated(Dynamic, Position),
+    /// Custom syntax that the host does not know: why, and the tokens.
+    ErrorCustomSyntax(Text, Array, Position),
+    /// A value that the script threw.
+    ErrorRuntime(Dynamic, Position),
+    /// A `break` with this value, or a `continue`, outside of all loops. It is no fault: it is how
+    /// control leaves a loop.
+    LoopBreak(bool, Dynamic, Position),
+    /// A function returned this value. It is no fault: it is how control leaves a function.
+    Return(Dynamic, Position),
     /// A native ended the script, with this value. It is no fault: it is how control leaves.
     Exit(Dynamic, Position),
-    /// A failure of the host's own: what it is about, empty if it is about nothing, and the reason.
-    ErrorSystem(Text, Text),
     /// The program asks for what is not there.
     Malformed(MalformedKind, Position),
     /// There was no memory for what the run wanted to make or grow.
@@ -70,7 +120,7 @@ pub enum EvalAltResult {
 impl EvalAltResult {
     /// The fault of a script that throws this text, without a position.
     pub fn from_text(alloc: Global, s: &str) -> Result<EvalAltResult, OutOfMemory>
-        ensures { IfOk result (λ f. problem_of f ≡ Runtime (dynamic.Text s.now) nowhere) }
+        ensures { IfOk result (λ f. problem_of f ≡ Plain (Runtime (dynamic.Text s.now)) nowhere) }
     {
         let text = Text::copy_of(alloc, s)?;
         Ok(EvalAltResult::ErrorRuntime(Dynamic::Text(text), Position::NONE))

@@ -3,6 +3,7 @@
 
 mod classes;
 mod faults;
+mod fields;
 mod places;
 mod positions;
 #[cfg(test)]

@@ -14,24 +14,42 @@ impl EvalAltResult {
         ensures { result ≡ position_of_problem (problem_of self.now) }
     {
         match self {
-            EvalAltResult::ErrorFunctionNotFound(_, position) => *position,
-            EvalAltResult::ErrorMismatchDataType(_, _, position) => *position,
-            EvalAltResult::ErrorInFunctionCall(_, _, _, position) => *position,
-            EvalAltResult::ErrorAssignmentToConstant(_, position) => *position,
-            EvalAltResult::ErrorIndexingType(_, position) => *position,
-            EvalAltResult::ErrorNonPureMethodCallOnConstant(_, position) => *position,
-            EvalAltResult::ErrorDotExpr(_, position) => *position,
-            EvalAltResult::ErrorArithmetic(_, position) => *position,
-            EvalAltResult::ErrorRuntime(_, position) => *position,
-            EvalAltResult::ErrorTooManyOperations(position) => *position,
-            EvalAltResult::ErrorTooManyVariables(position) => *position,
-            EvalAltResult::ErrorStackOverflow(position) => *position,
-            EvalAltResult::ErrorDataTooLarge(_, position) => *position,
-            EvalAltResult::ErrorTerminated(_, position) => *position,
-            EvalAltResult::Exit(_, position) => *position,
-            EvalAltResult::ErrorSystem(..) => Position::NONE,
-            EvalAltResult::Malformed(_, position) => *position,
-            EvalAltResult::Memory => Position::NONE,
+            EvalAltResult::ErrorParsing(_, position)
+            | EvalAltResult::ErrorVariableExists(_, position)
+            | EvalAltResult::ErrorForbiddenVariable(_, position)
+            | EvalAltResult::ErrorVariableNotFound(_, position)
+            | EvalAltResult::ErrorPropertyNotFound(_, position)
+            | EvalAltResult::ErrorIndexNotFound(_, position)
+            | EvalAltResult::ErrorFunctionNotFound(_, position)
+            | EvalAltResult::ErrorModuleNotFound(_, position)
+            | EvalAltResult::ErrorInFunctionCall(_, _, _, position)
+            | EvalAltResult::ErrorInModule(_, _, position)
+            | EvalAltResult::ErrorUnboundThis(position)
+            | EvalAltResult::ErrorMismatchDataType(_, _, position)
+            | EvalAltResult::ErrorMismatchOutputType(_, _, position)
+            | EvalAltResult::ErrorIndexingType(_, position)
+            | EvalAltResult::ErrorArrayBounds(_, _, position)
+            | EvalAltResult::ErrorStringBounds(_, _, position)
+            | EvalAltResult::ErrorBitFieldBounds(_, _, position)
+            | EvalAltResult::ErrorFor(position)
+            | EvalAltResult::ErrorDataRace(_, position)
+            | EvalAltResult::ErrorNonPureMethodCallOnConstant(_, position)
+            | EvalAltResult::ErrorAssignmentToConstant(_, position)
+            | EvalAltResult::ErrorDotExpr(_, position)
+            | EvalAltResult::ErrorArithmetic(_, position)
+            | EvalAltResult::ErrorTooManyOperations(position)
+            | EvalAltResult::ErrorTooManyVariables(position)
+            | EvalAltResult::ErrorTooManyModules(position)
+            | EvalAltResult::ErrorStackOverflow(position)
+            | EvalAltResult::ErrorDataTooLarge(_, position)
+            | EvalAltResult::ErrorTerminated(_, position)
+            | EvalAltResult::ErrorCustomSyntax(_, _, position)
+            | EvalAltResult::ErrorRuntime(_, position)
+            | EvalAltResult::LoopBreak(_, _, position)
+            | EvalAltResult::Return(_, position)
+            | EvalAltResult::Exit(_, position)
+            | EvalAltResult::Malformed(_, position) => *position,
+            EvalAltResult::ErrorSystem(..) | EvalAltResult::Memory => Position::NONE,
         }
     }
 
@@ -42,25 +60,43 @@ impl EvalAltResult {
             ≡ (if never_has_position (problem_of self.old) then nowhere else new_position) }
     {
         match self {
+            EvalAltResult::ErrorParsing(_, position) => *position = new_position,
+            EvalAltResult::ErrorVariableExists(_, position) => *position = new_position,
+            EvalAltResult::ErrorForbiddenVariable(_, position) => *position = new_position,
+            EvalAltResult::ErrorVariableNotFound(_, position) => *position = new_position,
+            EvalAltResult::ErrorPropertyNotFound(_, position) => *position = new_position,
+            EvalAltResult::ErrorIndexNotFound(_, position) => *position = new_position,
             EvalAltResult::ErrorFunctionNotFound(_, position) => *position = new_position,
-            EvalAltResult::ErrorMismatchDataType(_, _, position) => *position = new_position,
+            EvalAltResult::ErrorModuleNotFound(_, position) => *position = new_position,
             EvalAltResult::ErrorInFunctionCall(_, _, _, position) => *position = new_position,
-            EvalAltResult::ErrorAssignmentToConstant(_, position) => *position = new_position,
+            EvalAltResult::ErrorInModule(_, _, position) => *position = new_position,
+            EvalAltResult::ErrorUnboundThis(position) => *position = new_position,
+            EvalAltResult::ErrorMismatchDataType(_, _, position) => *position = new_position,
+            EvalAltResult::ErrorMismatchOutputType(_, _, position) => *position = new_position,
             EvalAltResult::ErrorIndexingType(_, position) => *position = new_position,
-            EvalAltResult::ErrorNonPureMethodCallOnConstant(_, position) => {
-                *position = new_position;
-            }
+            EvalAltResult::ErrorArrayBounds(_, _, position) => *position = new_position,
+            EvalAltResult::ErrorStringBounds(_, _, position) => *position = new_position,
+            EvalAltResult::ErrorBitFieldBounds(_, _, position) => *position = new_position,
+            EvalAltResult::ErrorFor(position) => *position = new_position,
+            EvalAltResult::ErrorDataRace(_, position) => *position = new_position,
+            EvalAltResult::ErrorNonPureMethodCallOnConstant(_, position) => *position =
+                new_position,
+            EvalAltResult::ErrorAssignmentToConstant(_, position) => *position = new_position,
             EvalAltResult::ErrorDotExpr(_, position) => *position = new_position,
             EvalAltResult::ErrorArithmetic(_, position) => *position = new_position,
-            EvalAltResult::ErrorRuntime(_, position) => *position = new_position,
             EvalAltResult::ErrorTooManyOperations(position) => *position = new_position,
             EvalAltResult::ErrorTooManyVariables(position) => *position = new_position,
+            EvalAltResult::ErrorTooManyModules(position) => *position = new_position,
             EvalAltResult::ErrorStackOverflow(position) => *position = new_position,
             EvalAltResult::ErrorDataTooLarge(_, position) => *position = new_position,
             EvalAltResult::ErrorTerminated(_, position) => *position = new_position,
+            EvalAltResult::ErrorCustomSyntax(_, _, position) => *position = new_position,
+            EvalAltResult::ErrorRuntime(_, position) => *position = new_position,
+            EvalAltResult::LoopBreak(_, _, position) => *position = new_position,
+            EvalAltResult::Return(_, position) => *position = new_position,
             EvalAltResult::Exit(_, position) => *position = new_position,
-            EvalAltResult::ErrorSystem(..) => {}
             EvalAltResult::Malformed(_, position) => *position = new_position,
+            EvalAltResult::ErrorSystem(..) => {}
             EvalAltResult::Memory => {}
         }
     }
@@ -93,31 +129,50 @@ impl EvalAltResult {
         fault
     }
 
-    /// The fault inside its wrappers, which are `ErrorInFunctionCall` alone. The inner fault of
-    /// that one is itself.
+    /// The fault inside its wrappers, which are `ErrorInFunctionCall` and `ErrorInModule`. The
+    /// inner fault of that one is itself.
     pub fn unwrap_inner(&self) -> &EvalAltResult
         ensures inner { problem_of result.now ≡ inner_fault (problem_of self.now) }
         ensures again { inner_fault (problem_of result.now) ≡ problem_of result.now }
     {
         match self {
             EvalAltResult::ErrorInFunctionCall(_, _, inner, _) => inner.unwrap_inner(),
-            EvalAltResult::ErrorFunctionNotFound(..) => self,
-            EvalAltResult::ErrorMismatchDataType(..) => self,
-            EvalAltResult::ErrorAssignmentToConstant(..) => self,
-            EvalAltResult::ErrorIndexingType(..) => self,
-            EvalAltResult::ErrorNonPureMethodCallOnConstant(..) => self,
-            EvalAltResult::ErrorDotExpr(..) => self,
-            EvalAltResult::ErrorArithmetic(..) => self,
-            EvalAltResult::ErrorRuntime(..) => self,
-            EvalAltResult::ErrorTooManyOperations(..) => self,
-            EvalAltResult::ErrorTooManyVariables(..) => self,
-            EvalAltResult::ErrorStackOverflow(..) => self,
-            EvalAltResult::ErrorDataTooLarge(..) => self,
-            EvalAltResult::ErrorTerminated(..) => self,
-            EvalAltResult::Exit(..) => self,
-            EvalAltResult::ErrorSystem(..) => self,
-            EvalAltResult::Malformed(..) => self,
-            EvalAltResult::Memory => self,
+            EvalAltResult::ErrorInModule(_, inner, _) => inner.unwrap_inner(),
+            EvalAltResult::ErrorSystem(..)
+            | EvalAltResult::ErrorParsing(..)
+            | EvalAltResult::ErrorVariableExists(..)
+            | EvalAltResult::ErrorForbiddenVariable(..)
+            | EvalAltResult::ErrorVariableNotFound(..)
+            | EvalAltResult::ErrorPropertyNotFound(..)
+            | EvalAltResult::ErrorIndexNotFound(..)
+            | EvalAltResult::ErrorFunctionNotFound(..)
+            | EvalAltResult::ErrorModuleNotFound(..)
+            | EvalAltResult::ErrorUnboundThis(..)
+            | EvalAltResult::ErrorMismatchDataType(..)
+            | EvalAltResult::ErrorMismatchOutputType(..)
+            | EvalAltResult::ErrorIndexingType(..)
+            | EvalAltResult::ErrorArrayBounds(..)
+            | EvalAltResult::ErrorStringBounds(..)
+            | EvalAltResult::ErrorBitFieldBounds(..)
+            | EvalAltResult::ErrorFor(..)
+            | EvalAltResult::ErrorDataRace(..)
+            | EvalAltResult::ErrorNonPureMethodCallOnConstant(..)
+            | EvalAltResult::ErrorAssignmentToConstant(..)
+            | EvalAltResult::ErrorDotExpr(..)
+            | EvalAltResult::ErrorArithmetic(..)
+            | EvalAltResult::ErrorTooManyOperations(..)
+            | EvalAltResult::ErrorTooManyVariables(..)
+            | EvalAltResult::ErrorTooManyModules(..)
+            | EvalAltResult::ErrorStackOverflow(..)
+            | EvalAltResult::ErrorDataTooLarge(..)
+            | EvalAltResult::ErrorTerminated(..)
+            | EvalAltResult::ErrorCustomSyntax(..)
+            | EvalAltResult::ErrorRuntime(..)
+            | EvalAltResult::LoopBreak(..)
+            | EvalAltResult::Return(..)
+            | EvalAltResult::Exit(..)
+            | EvalAltResult::Malformed(..)
+            | EvalAltResult::Memory => self,
         }
     }
 }

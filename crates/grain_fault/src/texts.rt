@@ -1,13 +1,14 @@
 //! The names and the texts of faults.
 
-ghost use Rattle.std.specs.Prelude.{◌≡◌, ◌++◌, Some, is_ok, if◌then◌else◌};
+ghost use Rattle.std.specs.Prelude.{◌≡◌, ◌++◌, [], Some, is_ok, if◌then◌else◌};
 ghost use Rattle.std.specs.Fmt.{WritesOnOk};
 ghost use Rattle.grain_fault.specs.Problems.{problem_of};
-ghost use Rattle.grain_fault.specs.Texts.{fault_name, fault_text, message, mismatch_text, kind_text, line_and_column_text, location_text, call_text, origin_text, non_pure_text, thrown_value_text};
+ghost use Rattle.grain_fault.specs.Table.{mismatch_text, size_text, after_unless_empty, spaced, kind_text, non_pure_text, thrown_value_text};
+ghost use Rattle.grain_fault.specs.Texts.{fault_name, fault_text, message, wrapper_text, line_and_column_text, location_text, call_text, origin_text, module_text};
 
 use crate::faults::{EvalAltResult, MalformedKind};
 use crate::places::Position;
-use grain_value::{Dynamic, OutOfMemory, Text};
+use grain_value::{Array, Dynamic, OutOfMemory, Text};
 use std::fmt;
 
 impl EvalAltResult {
@@ -16,24 +17,42 @@ impl EvalAltResult {
         ensures { result.now ≡ fault_name (problem_of self.now) }
     {
         match self {
+            EvalAltResult::ErrorSystem(..) => "ErrorSystem",
+            EvalAltResult::ErrorParsing(..) => "ErrorParsing",
+            EvalAltResult::ErrorVariableExists(..) => "ErrorVariableExists",
+            EvalAltResult::ErrorForbiddenVariable(..) => "ErrorForbiddenVariable",
+            EvalAltResult::ErrorVariableNotFound(..) => "ErrorVariableNotFound",
+            EvalAltResult::ErrorPropertyNotFound(..) => "ErrorPropertyNotFound",
+            EvalAltResult::ErrorIndexNotFound(..) => "ErrorIndexNotFound",
             EvalAltResult::ErrorFunctionNotFound(..) => "ErrorFunctionNotFound",
-            EvalAltResult::ErrorMismatchDataType(..) => "ErrorMismatchDataType",
+            EvalAltResult::ErrorModuleNotFound(..) => "ErrorModuleNotFound",
             EvalAltResult::ErrorInFunctionCall(..) => "ErrorInFunctionCall",
-            EvalAltResult::ErrorAssignmentToConstant(..) => "ErrorAssignmentToConstant",
+            EvalAltResult::ErrorInModule(..) => "ErrorInModule",
+            EvalAltResult::ErrorUnboundThis(..) => "ErrorUnboundThis",
+            EvalAltResult::ErrorMismatchDataType(..) => "ErrorMismatchDataType",
+            EvalAltResult::ErrorMismatchOutputType(..) => "ErrorMismatchOutputType",
             EvalAltResult::ErrorIndexingType(..) => "ErrorIndexingType",
-            EvalAltResult::ErrorNonPureMethodCallOnConstant(..) => {
-                "ErrorNonPureMethodCallOnConstant"
-            }
+            EvalAltResult::ErrorArrayBounds(..) => "ErrorArrayBounds",
+            EvalAltResult::ErrorStringBounds(..) => "ErrorStringBounds",
+            EvalAltResult::ErrorBitFieldBounds(..) => "ErrorBitFieldBounds",
+            EvalAltResult::ErrorFor(..) => "ErrorFor",
+            EvalAltResult::ErrorDataRace(..) => "ErrorDataRace",
+            EvalAltResult::ErrorNonPureMethodCallOnConstant(..) =>
+                "ErrorNonPureMethodCallOnConstant",
+            EvalAltResult::ErrorAssignmentToConstant(..) => "ErrorAssignmentToConstant",
             EvalAltResult::ErrorDotExpr(..) => "ErrorDotExpr",
             EvalAltResult::ErrorArithmetic(..) => "ErrorArithmetic",
-            EvalAltResult::ErrorRuntime(..) => "ErrorRuntime",
             EvalAltResult::ErrorTooManyOperations(..) => "ErrorTooManyOperations",
             EvalAltResult::ErrorTooManyVariables(..) => "ErrorTooManyVariables",
+            EvalAltResult::ErrorTooManyModules(..) => "ErrorTooManyModules",
             EvalAltResult::ErrorStackOverflow(..) => "ErrorStackOverflow",
             EvalAltResult::ErrorDataTooLarge(..) => "ErrorDataTooLarge",
             EvalAltResult::ErrorTerminated(..) => "ErrorTerminated",
+            EvalAltResult::ErrorCustomSyntax(..) => "ErrorCustomSyntax",
+            EvalAltResult::ErrorRuntime(..) => "ErrorRuntime",
+            EvalAltResult::LoopBreak(..) => "LoopBreak",
+            EvalAltResult::Return(..) => "Return",
             EvalAltResult::Exit(..) => "Exit",
-            EvalAltResult::ErrorSystem(..) => "ErrorSystem",
             EvalAltResult::Malformed(..) => "Malformed",
             EvalAltResult::Memory => "Memory",
         }
@@ -75,40 +94,107 @@ impl fmt::Display for MalformedKind {
             MalformedKind::UnwindPastScope { target, length } => {
                 write!(f, "unwind to {target} past a scope of {length}")
             }
+            MalformedKind::TryFloorBroken { wanted, length } => {
+                write!(f, "try began at a scope of {wanted}, now {length}")
+            }
+            MalformedKind::TemplateNotMap { kind } => write!(f, "map template is a {kind}"),
+            MalformedKind::KeyNotText { kind } => write!(f, "map key is a {kind}"),
+            MalformedKind::BufferNotText { kind } => write!(f, "interpolation buffer is a {kind}"),
+            MalformedKind::MissingTotal { index } => {
+                write!(f, "size check {index} outside a literal")
+            }
         }
     }
 }
 
-/// Writes what happened, without where: of a fault that left a call, first what happened inside,
-/// and where.
+/// Writes what happened, without where: of a fault that left a call or a module, first what
+/// happened inside, and where.
 fn write_message<W: fmt::Write>(fault: &EvalAltResult, f: &mut fmt::Formatter<W>) -> fmt::Result
     ensures { WritesOnOk W.write_str_gives f.old result (message (problem_of fault.now)) f.new }
 {
     match fault {
+        EvalAltResult::ErrorInFunctionCall(_, _, inner, _) => {
+            let inner: &EvalAltResult = inner;
+            write_message(inner, f)?;
+            write_wrapper(fault, f)
+        }
+        EvalAltResult::ErrorInModule(_, inner, _) => {
+            let inner: &EvalAltResult = inner;
+            write_message(inner, f)?;
+            write_wrapper(fault, f)
+        }
+        EvalAltResult::ErrorSystem(about, reason) => {
+            if about.is_empty() {
+                write!(f, "{reason}")
+            } else {
+                write!(f, "{about}: {reason}")
+            }
+        }
+        EvalAltResult::Memory => write!(f, "Out of memory"),
+        EvalAltResult::ErrorParsing(reason, _) => write!(f, "Syntax error: {reason}"),
+        EvalAltResult::ErrorVariableExists(variable, _) => {
+            write!(f, "Variable already defined: {variable}")
+        }
+        EvalAltResult::ErrorForbiddenVariable(variable, _) => {
+            write!(f, "Forbidden variable name: {variable}")
+        }
+        EvalAltResult::ErrorVariableNotFound(variable, _) => {
+            write!(f, "Variable not found: {variable}")
+        }
+        EvalAltResult::ErrorPropertyNotFound(property, _) => {
+            write!(f, "Property not found: {property}")
+        }
+        EvalAltResult::ErrorIndexNotFound(index, _) => write!(f, "Invalid index: {index}"),
         EvalAltResult::ErrorFunctionNotFound(function, _) => {
             write!(f, "Function not found: {function}")
         }
+        EvalAltResult::ErrorModuleNotFound(module, _) => write!(f, "Module not found: {module}"),
+        EvalAltResult::ErrorUnboundThis(_) => write!(f, "'this' not bound"),
         EvalAltResult::ErrorMismatchDataType(requested, actual, _) => {
             let mismatch = Mismatch { requested, actual };
             write!(f, "Data type incorrect{mismatch}")
         }
-        EvalAltResult::ErrorInFunctionCall(function, source, inner, _) => {
-            let inner: &EvalAltResult = inner;
-            write_message(inner, f)?;
-            let location = Location {
-                source: source.as_str(),
-                position: inner.position(),
-            };
-            let call = Call { function, source };
-            write!(f, "{location}\n{call}")
-        }
-        EvalAltResult::ErrorAssignmentToConstant(variable, _) => {
-            write!(f, "Cannot modify constant {variable}")
+        EvalAltResult::ErrorMismatchOutputType(requested, actual, _) => {
+            let mismatch = Mismatch { requested, actual };
+            write!(f, "Output type incorrect{mismatch}")
         }
         EvalAltResult::ErrorIndexingType(types, _) => write!(f, "Indexer unavailable: {types}"),
+        EvalAltResult::ErrorArrayBounds(length, index, _) => {
+            let size = Size {
+                length: *length,
+                whole: "array",
+                item: "element",
+            };
+            write!(f, "Array index {index} out of bounds: {size}")
+        }
+        EvalAltResult::ErrorStringBounds(length, index, _) => {
+            let size = Size {
+                length: *length,
+                whole: "string",
+                item: "character",
+            };
+            write!(f, "String index {index} out of bounds: {size}")
+        }
+        EvalAltResult::ErrorBitFieldBounds(length, index, _) => {
+            write!(
+                f,
+                "Bit-field index {index} out of bounds: only {length} bits in bit-field"
+            )
+        }
+        EvalAltResult::ErrorFor(_) => write!(f, "For loop expects iterable type"),
+        EvalAltResult::ErrorDataRace(variable, _) => {
+            let on = AfterUnlessEmpty {
+                lead: " on ",
+                text: variable,
+            };
+            write!(f, "Data race detected{on}")
+        }
         EvalAltResult::ErrorNonPureMethodCallOnConstant(function, _) => {
             let call = NonPureCall(function);
             write!(f, "{call}")
+        }
+        EvalAltResult::ErrorAssignmentToConstant(variable, _) => {
+            write!(f, "Cannot modify constant {variable}")
         }
         EvalAltResult::ErrorDotExpr(reason, _) => {
             if reason.is_empty() {
@@ -124,25 +210,134 @@ fn write_message<W: fmt::Write>(fault: &EvalAltResult, f: &mut fmt::Formatter<W>
                 write!(f, "{reason}")
             }
         }
+        EvalAltResult::ErrorTooManyOperations(_) => write!(f, "Too many operations"),
+        EvalAltResult::ErrorTooManyVariables(_) => write!(f, "Too many variables defined"),
+        EvalAltResult::ErrorTooManyModules(_) => write!(f, "Too many modules imported"),
+        EvalAltResult::ErrorStackOverflow(_) => write!(f, "Stack overflow"),
+        EvalAltResult::ErrorDataTooLarge(what, _) => write!(f, "{what} too large"),
+        EvalAltResult::ErrorTerminated(..) => write!(f, "Script terminated"),
+        EvalAltResult::ErrorCustomSyntax(reason, tokens, _) => {
+            let tokens = Spaced(tokens);
+            write!(f, "{reason}: {tokens}")
+        }
         EvalAltResult::ErrorRuntime(value, _) => {
             let thrown = ThrownValue(value);
             write!(f, "Runtime error{thrown}")
         }
-        EvalAltResult::ErrorTooManyOperations(_) => write!(f, "Too many operations"),
-        EvalAltResult::ErrorTooManyVariables(_) => write!(f, "Too many variables defined"),
-        EvalAltResult::ErrorStackOverflow(_) => write!(f, "Stack overflow"),
-        EvalAltResult::ErrorDataTooLarge(what, _) => write!(f, "{what} too large"),
-        EvalAltResult::ErrorTerminated(..) => write!(f, "Script terminated"),
+        EvalAltResult::LoopBreak(true, ..) => write!(f, "'break' must be within a loop"),
+        EvalAltResult::LoopBreak(false, ..) => write!(f, "'continue' must be within a loop"),
+        EvalAltResult::Return(..) => write!(f, "NOT AN ERROR - function returns value"),
         EvalAltResult::Exit(..) => write!(f, "NOT AN ERROR - exit value"),
-        EvalAltResult::ErrorSystem(about, reason) => {
-            if about.is_empty() {
-                write!(f, "{reason}")
-            } else {
-                write!(f, "{about}: {reason}")
-            }
-        }
         EvalAltResult::Malformed(kind, _) => write!(f, "Malformed program: {kind}"),
-        EvalAltResult::Memory => write!(f, "Out of memory"),
+    }
+}
+
+/// Writes what a wrapper adds to the text of the fault that it wraps: where that happened, and what
+/// it left.
+fn write_wrapper<W: fmt::Write>(fault: &EvalAltResult, f: &mut fmt::Formatter<W>) -> fmt::Result
+    ensures { WritesOnOk W.write_str_gives f.old result (wrapper_text (problem_of fault.now)) f.new }
+{
+    match fault {
+        EvalAltResult::ErrorInFunctionCall(function, source, inner, _) => {
+            let location = Location {
+                source: source.as_str(),
+                position: inner.position(),
+            };
+            let call = Call { function, source };
+            write!(f, "{location}\n{call}")
+        }
+        EvalAltResult::ErrorInModule(module, inner, _) => {
+            let location = Location {
+                source: "",
+                position: inner.position(),
+            };
+            let module = ModuleLeft(module);
+            write!(f, "{location}\n{module}")
+        }
+        _ => Ok(()),
+    }
+}
+
+/// How many items a whole has.
+#[derive(Clone, Copy)]
+struct Size<'a> {
+    length: usize,
+    whole: &'a str,
+    item: &'a str,
+}
+
+impl fmt::Display for Size<'_> {
+    ghost output = { λ s. Some (size_text s.whole.now s.item.now s.length) };
+
+    fn fmt<W: fmt::Write>(&self, f: &mut fmt::Formatter<W>) -> fmt::Result {
+        let Size {
+            length,
+            whole,
+            item,
+        } = *self;
+        if length == 0 {
+            write!(f, "{whole} is empty")
+        } else if length == 1 {
+            write!(f, "only 1 {item} in {whole}")
+        } else {
+            write!(f, "only {length} {item}s in {whole}")
+        }
+    }
+}
+
+/// A text after a lead. An empty text prints nothing.
+#[derive(Drop)]
+struct AfterUnlessEmpty<'a> {
+    lead: &'a str,
+    text: &'a Text,
+}
+
+impl fmt::Display for AfterUnlessEmpty<'_> {
+    ghost output = { λ a. Some (after_unless_empty a.lead.now a.text.now) };
+
+    fn fmt<W: fmt::Write>(&self, f: &mut fmt::Formatter<W>) -> fmt::Result {
+        let AfterUnlessEmpty { lead, text } = self;
+        if text.is_empty() {
+            Ok(())
+        } else {
+            write!(f, "{lead}{text}")
+        }
+    }
+}
+
+/// Values by their plain texts, with a blank between each two.
+#[derive(Drop)]
+struct Spaced<'a>(&'a Array);
+
+impl fmt::Display for Spaced<'_> {
+    ghost output = { λ s. Some (spaced [] s.0.now) };
+
+    fn fmt<W: fmt::Write>(&self, f: &mut fmt::Formatter<W>) -> fmt::Result {
+        let values = self.0;
+        let mut lead = "";
+        for index in 0..values.len() {
+            let value = values.at(index);
+            write!(f, "{lead}{value}")?;
+            lead = " ";
+        }
+        Ok(())
+    }
+}
+
+/// The module that a fault left. The name of one without a name is not printed.
+#[derive(Drop)]
+struct ModuleLeft<'a>(&'a Text);
+
+impl fmt::Display for ModuleLeft<'_> {
+    ghost output = { λ m. Some (module_text m.0.now) };
+
+    fn fmt<W: fmt::Write>(&self, f: &mut fmt::Formatter<W>) -> fmt::Result {
+        let module = self.0;
+        if module.is_empty() {
+            write!(f, "in module")
+        } else {
+            write!(f, "in module '{module}'")
+        }
     }
 }
 

@@ -121,40 +121,7 @@ module _ {H : Type 0} (counted : Counted H) (law : Law H) (p : View) (e : Engine
   evaluated (Ok (Ok v)) h = runs (Ok (Ok v)) h None (never_clear 0 passed) tt
   evaluated (Ok (Err fault.Memory)) h =
       (passed, runs (Ok (Err fault.Memory)) h (Some passed) (clear_before 0 passed) tt)
-  evaluated (Ok (Err (fault.ErrorFunctionNotFound s q))) h =
-      runs (Ok (Err (fault.ErrorFunctionNotFound s q))) h None (never_clear 0 passed) tt
-  evaluated (Ok (Err (fault.ErrorMismatchDataType s t q))) h =
-      runs (Ok (Err (fault.ErrorMismatchDataType s t q))) h None (never_clear 0 passed) tt
-  evaluated (Ok (Err (fault.ErrorAssignmentToConstant s q))) h =
-      runs (Ok (Err (fault.ErrorAssignmentToConstant s q))) h None (never_clear 0 passed) tt
-  evaluated (Ok (Err (fault.ErrorInFunctionCall' f s d x q))) h =
-      runs (Ok (Err (fault.ErrorInFunctionCall' f s d x q))) h None (never_clear 0 passed) tt
-  evaluated (Ok (Err (fault.ErrorRuntime v q))) h =
-      runs (Ok (Err (fault.ErrorRuntime v q))) h None (never_clear 0 passed) tt
-  evaluated (Ok (Err (fault.ErrorStackOverflow q))) h =
-      runs (Ok (Err (fault.ErrorStackOverflow q))) h None (never_clear 0 passed) tt
-  evaluated (Ok (Err (fault.ErrorDataTooLarge s q))) h =
-      runs (Ok (Err (fault.ErrorDataTooLarge s q))) h None (never_clear 0 passed) tt
-  evaluated (Ok (Err (fault.ErrorArithmetic s q))) h =
-      runs (Ok (Err (fault.ErrorArithmetic s q))) h None (never_clear 0 passed) tt
-  evaluated (Ok (Err (fault.ErrorTooManyOperations q))) h =
-      runs (Ok (Err (fault.ErrorTooManyOperations q))) h None (never_clear 0 passed) tt
-  evaluated (Ok (Err (fault.ErrorTooManyVariables q))) h =
-      runs (Ok (Err (fault.ErrorTooManyVariables q))) h None (never_clear 0 passed) tt
-  evaluated (Ok (Err (fault.ErrorIndexingType t q))) h =
-      runs (Ok (Err (fault.ErrorIndexingType t q))) h None (never_clear 0 passed) tt
-  evaluated (Ok (Err (fault.ErrorNonPureMethodCallOnConstant f q))) h =
-      runs (Ok (Err (fault.ErrorNonPureMethodCallOnConstant f q))) h None (never_clear 0 passed) tt
-  evaluated (Ok (Err (fault.ErrorDotExpr s q))) h =
-      runs (Ok (Err (fault.ErrorDotExpr s q))) h None (never_clear 0 passed) tt
-  evaluated (Ok (Err (fault.ErrorTerminated v q))) h =
-      runs (Ok (Err (fault.ErrorTerminated v q))) h None (never_clear 0 passed) tt
-  evaluated (Ok (Err (fault.Exit v q))) h =
-      runs (Ok (Err (fault.Exit v q))) h None (never_clear 0 passed) tt
-  evaluated (Ok (Err (fault.ErrorSystem s t))) h =
-      runs (Ok (Err (fault.ErrorSystem s t))) h None (never_clear 0 passed) tt
-  evaluated (Ok (Err (fault.Malformed k q))) h =
-      runs (Ok (Err (fault.Malformed k q))) h None (never_clear 0 passed) tt
+  evaluated (Ok (Err x)) h = runs (Ok (Err x)) h None (never_clear 0 passed) tt
   evaluated (Err o) h =
       (passed, runs (Err o) h (Some passed) (clear_before 0 passed) (halts_there true passed))
 

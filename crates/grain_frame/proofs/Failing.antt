@@ -8,7 +8,7 @@ use Rattle.grain_value.specs.declared.memory.OutOfMemory.{OutOfMemory}
 use Rattle.grain_value.specs.Operands.{top, below}
 use Rattle.grain_program.specs.View.{name_of}
 use Rattle.grain_value.specs.declared.values.Held.{Held}
-use Rattle.grain_fault.specs.Problems.{Problem, NoMemory, NonPureCall}
+use Rattle.grain_fault.specs.Problems.{Problem, Plain, NoMemory, NonPureCall}
 use Rattle.grain_program.specs.declared.code.parts.AssignOp.{AssignOp}
 use Rattle.grain_ops.specs.Outcomes.{Outcome, NotBuiltIn, Gave, ArithmeticFault, TooLarge}
 use Rattle.grain_means.specs.Worlds.{Act, Frame, Place, Setup, World}
@@ -34,7 +34,7 @@ found_stops : {S : Type 0} (m : Setup S) (o : Option Native) (name : List ℕ)
 found_stops m None name r args f w go fails halts stops = stops _
 found_stops {S = S} m (Some n) name r args f w go fails halts stops =
     at (n.writes && first_is_read_only (given r args)) where
-      at : (b : Bool) → (if b then fails (NonPureCall name (position m f)) w
+      at : (b : Bool) → (if b then fails (Plain (NonPureCall name) (position m f)) w
           else host_called m n.key r args f w go fails) ≡ leave_by_fault m None f NoMemory w
       at true = stops _
       at false = rw halts refl

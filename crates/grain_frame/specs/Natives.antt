@@ -7,7 +7,7 @@ use Rattle.grain_value.specs.declared.memory.OutOfMemory.{OutOfMemory}
 use Rattle.grain_value.specs.declared.natives.Native.{Native}
 use Rattle.grain_fault.specs.declared.places.Position.{Position}
 use Rattle.grain_fault.specs.Positions.{at_position_if_none}
-use Rattle.grain_fault.specs.Problems.{Problem, NonPureCall, problem_of}
+use Rattle.grain_fault.specs.Problems.{Problem, Plain, NonPureCall, problem_of}
 use Rattle.grain_host.specs.Law.{Law, Reply, native_of}
 use Rattle.grain_host.specs.Law as reply
 use Rattle.grain_means.specs.Signatures.{not_found}
@@ -39,7 +39,7 @@ Seeks law s name r args p (sought.Fault x) =
     × (problem_of x ≡ not_found name (values_in (given r args)) p))
     ⊎ ((n : Native) × (native_of law s name (kinds_in (given r args)) ≡ Some n)
     × ((n.writes && first_is_read_only (given r args)) ≡ true)
-    × (problem_of x ≡ NonPureCall name p))
+    × (problem_of x ≡ Plain (NonPureCall name) p))
 
 -- what comes of the host's answer: two marks are passed, or where memory is out, none
 abbrev pub EndsBy : Option Reply → Position → Result NativeEnd OutOfMemory → Counts → Counts →

@@ -11,7 +11,7 @@ use Rattle.grain_value.specs.declared.values.Dynamic.{Dynamic}
 use Rattle.grain_value.specs.declared.values.Dynamic.TheVariants as dynamic
 use Rattle.grain_value.specs.declared.values.Held.{Held}
 use Rattle.grain_fault.specs.Places.{nowhere}
-use Rattle.grain_fault.specs.Problems.{Runtime, Exit, SystemError}
+use Rattle.grain_fault.specs.Problems.{Plain, Runtime, Exit, SystemError}
 use Rattle.grain_host.specs.Law.{Law, Reply, Done, Failed, Verdict, GoOn, Stop, receiver_after}
 use Rattle.grain_host.specs.Answers.{reply_of}
 use Rattle.grain_host.specs.declared.answers.Args.{Args}
@@ -106,7 +106,7 @@ len_reply (Some v) = counted (entries_in v)
 -- `exit` with one value
 abbrev pub exit_reply : Option Dynamic → Reply
 exit_reply None = unknown
-exit_reply (Some v) = Failed (Exit v nowhere)
+exit_reply (Some v) = Failed (Plain (Exit v) nowhere)
 
 -- the natives by their keys: 1 `print`, 2 `push`, 3 `len`, 5 `exit`
 abbrev pub native_reply : ℕ → List Dynamic → Reply
@@ -165,7 +165,7 @@ turn s =
 abbrev pub reply_at : Turn → ℕ → List Dynamic → Reply
 reply_at turns.Full key vs = refused (codes "table host is full")
 reply_at (turns.Failing n) key vs =
-    Failed (Runtime (dynamic.Text (codes "host failure " ++ decimal n)) nowhere)
+    Failed (Plain (Runtime (dynamic.Text (codes "host failure " ++ decimal n))) nowhere)
 reply_at (turns.Ready n) key vs = native_reply key vs
 
 abbrev pub after_at : Turn → TableHost → ℕ → List Dynamic → TableHost

@@ -32,8 +32,11 @@ impl Model for HostFault {
 }
 
 impl HostFault {
-    /// The fault, if a host may answer it. A reached limit, a run that was terminated, a malformed
-    /// program and want of memory are handed back. What a call wraps is not looked at.
+    /// The fault, if a host may answer it. Handed back are those that the machine alone raises: a
+    /// reached limit of operations, variables, modules or calls, a run that was terminated, a
+    /// variable that is there already or that is forbidden, a `this` that is not bound, a result of
+    /// another type than was asked for, a malformed program, a loop or a function that is left, and
+    /// want of memory. An exit passes. What a call or a module wraps is not looked at.
     pub fn new(fault: EvalAltResult) -> Result<HostFault, EvalAltResult>
         ensures { result ≡ (if handed_back (problem_of fault) then Err fault else Ok fault) }
     {
@@ -65,13 +68,43 @@ impl HostFault {
 fn is_handed_back(fault: &EvalAltResult) -> bool
     ensures { result ≡ handed_back (problem_of fault.now) }
 {
-    matches!(
-        fault,
-        EvalAltResult::ErrorTooManyOperations(_)
-            | EvalAltResult::ErrorTooManyVariables(_)
-            | EvalAltResult::ErrorStackOverflow(_)
-            | EvalAltResult::ErrorTerminated(..)
-            | EvalAltResult::Malformed(..)
-            | EvalAltResult::Memory
-    )
+    match fault {
+        EvalAltResult::ErrorVariableExists(..)
+        | EvalAltResult::ErrorForbiddenVariable(..)
+        | EvalAltResult::ErrorUnboundThis(..)
+        | EvalAltResult::ErrorMismatchOutputType(..)
+        | EvalAltResult::ErrorTooManyOperations(..)
+        | EvalAltResult::ErrorTooManyVariables(..)
+        | EvalAltResult::ErrorTooManyModules(..)
+        | EvalAltResult::ErrorStackOverflow(..)
+        | EvalAltResult::ErrorTerminated(..)
+        | EvalAltResult::LoopBreak(..)
+        | EvalAltResult::Return(..)
+        | EvalAltResult::Malformed(..)
+        | EvalAltResult::Memory => true,
+        EvalAltResult::ErrorSystem(..)
+        | EvalAltResult::ErrorParsing(..)
+        | EvalAltResult::ErrorVariableNotFound(..)
+        | EvalAltResult::ErrorPropertyNotFound(..)
+        | EvalAltResult::ErrorIndexNotFound(..)
+        | EvalAltResult::ErrorFunctionNotFound(..)
+        | EvalAltResult::ErrorModuleNotFound(..)
+        | EvalAltResult::ErrorInFunctionCall(..)
+        | EvalAltResult::ErrorInModule(..)
+        | EvalAltResult::ErrorMismatchDataType(..)
+        | EvalAltResult::ErrorIndexingType(..)
+        | EvalAltResult::ErrorArrayBounds(..)
+        | EvalAltResult::ErrorStringBounds(..)
+        | EvalAltResult::ErrorBitFieldBounds(..)
+        | EvalAltResult::ErrorFor(..)
+        | EvalAltResult::ErrorDataRace(..)
+        | EvalAltResult::ErrorNonPureMethodCallOnConstant(..)
+        | EvalAltResult::ErrorAssignmentToConstant(..)
+        | EvalAltResult::ErrorDotExpr(..)
+        | EvalAltResult::ErrorArithmetic(..)
+        | EvalAltResult::ErrorDataTooLarge(..)
+        | EvalAltResult::ErrorCustomSyntax(..)
+        | EvalAltResult::ErrorRuntime(..)
+        | EvalAltResult::Exit(..) => false,
+    }
 }

@@ -5,7 +5,7 @@ ghost use Rattle.std.specs.Fmt.{decimal};
 ghost use Rattle.grain_value.specs.Same.{value_of};
 ghost use Rattle.grain_value.specs.declared.values.Dynamic.TheVariants as dynamic;
 ghost use Rattle.grain_fault.specs.Places.{nowhere};
-ghost use Rattle.grain_fault.specs.Problems.{Runtime};
+ghost use Rattle.grain_fault.specs.Problems.{Plain, Runtime};
 ghost use Rattle.grain_host.specs.Law.{Failed};
 ghost use Rattle.grain_host.specs.Answers.{reply_of};
 ghost use Rattle.grain_host.specs.Tables.{arguments, sole, first_of_two, refused, unknown, print_reply, line_of, push_reply, pushed, pushed_receiver, len_reply, entries_in, exit_reply, native_reply, printed_by, received, key_of, for_one, for_array, for_entries, has_entries};
@@ -96,7 +96,8 @@ pub(crate) fn refused(alloc: Global, reason: &str) -> Result<HostAnswer, OutOfMe
 /// The call of this number fails.
 pub(crate) fn failure(alloc: Global, number: u64) -> Result<HostAnswer, OutOfMemory>
     ensures { IfOk result (λ a. reply_of a
-        ≡ Some (Failed (Runtime (dynamic.Text (codes "host failure " ++ decimal number)) nowhere))) }
+        ≡ Some (Failed (Plain (Runtime (dynamic.Text (codes "host failure " ++ decimal number)))
+        nowhere))) }
 {
     let mut text = Text::copy_of(alloc, "host failure ")?;
     text.push_number(number)?;

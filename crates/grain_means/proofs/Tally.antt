@@ -18,7 +18,7 @@ use Rattle.grain_fault.specs.Positions.{at_position, at_position_if_none}
 use Rattle.grain_fault.specs.declared.places.Position.{Position}
 use Rattle.grain_fault.specs.declared.traces.Fault.{Fault}
 use Rattle.grain_fault.specs.declared.faults.MalformedKind.TheVariants as kind
-use Rattle.grain_fault.specs.Problems.{Problem, NoMemory, InFunctionCall, AssignmentToConstant, TooManyOperations, TooManyVariables, StackOverflow}
+use Rattle.grain_fault.specs.Problems.{Problem, Plain, NoMemory, InFunctionCall, AssignmentToConstant, TooManyOperations, TooManyVariables, StackOverflow}
 use Rattle.grain_fault.specs.Problems as problem
 use Rattle.grain_program.specs.declared.code.parts.AssignOp.{AssignOp}
 use Rattle.grain_program.specs.declared.code.functions.Function.{Function}
@@ -35,7 +35,7 @@ use Rattle.grain_host.specs.Law.{Reply, Verdict, GoOn, Stop, native_of}
 use Rattle.grain_host.specs.Law as reply
 use Rattle.grain_value.specs.declared.natives.Native.{Native}
 use Rattle.grain_means.proofs.Moving.{placed_twice, caught_anywhere, placed_if_none}
-use Rattle.grain_means.proofs.Missing.{missing_here, missing_position, row_of_missing}
+use Rattle.grain_means.proofs.Missing.{row_of_missing}
 use Rattle.grain_means.specs.Rules.{Receiver, lent, given, given_back, held_or, operator_assigned, op_assign_failed, native_assigned, kinds_in, trees_in, first_is_read_only, exit_of, on_verdict, progressed, answered, host_called, native_found, native, pushed, written, exited, without, bound, function_found, frame_at, held_at, stepped, is_full, is_stop, or_return, operated, op_assigned, agrees, leave_by_fault, marked, raised, charged, onward, jumped, slot_past_scope, at_slot, at_entry, load_local, declare, push_outcome, assignment_to_constant, write_entry, store_local, store_outcome, assign, assign_op, branched, tested, skip, unwind, propagate, resume_caller, enter_function, function_entered, call_function, instr, start_instruction, next, passing, closed, called, main_frame, position}
 use Rattle.grain_means.specs.Ends.{Ends, ended, went, joined}
 use Rattle.grain_means.specs.Comes.{Spot, Comes, here, further, within, behind, Meets, Stands}
@@ -108,24 +108,10 @@ module _ {S : Type 0} (m : Setup S) where
   -- a fault that no script may catch has the same cause wherever it is
   moved : (p : Position) (x : Problem) (s : Spot S) → catchable x ≡ false → Row m x s →
       Row m (at_position p x) s
-  moved p (problem.FunctionNotFound t q) s passes row = is_true passes
-  moved p (problem.MismatchDataType r a q) s passes row = is_true passes
+  moved p (Plain k q) s passes row = row
   moved p (problem.InFunctionCall t u x q) s passes row = is_true passes
-  moved p (problem.AssignmentToConstant t q) s passes row = is_true passes
-  moved p (problem.IndexingType t q) s passes row = is_true passes
-  moved p (problem.NonPureCall t q) s passes row = is_true passes
-  moved p (problem.DotExpr t q) s passes row = is_true passes
-  moved p (problem.Arithmetic t q) s passes row = is_true passes
-  moved p (problem.Runtime v q) s passes row = is_true passes
-  moved p (problem.TooManyOperations q) s passes row = row
-  moved p (problem.TooManyVariables q) s passes row = row
-  moved p (problem.StackOverflow q) s passes row = row
-  moved p (problem.DataTooLarge t q) s passes row = row
-  moved p (problem.Terminated v q) s passes row = row
-  moved p (problem.Exit v q) s passes row = absurd row
+  moved p (problem.InModule t x q) s passes row = is_true passes
   moved p (problem.SystemError t u) s passes row = absurd row
-  moved p (problem.Malformed (kind.SlotPastScope i n) q) s passes row = row
-  moved p (problem.Malformed (kind.UnwindPastScope t n) q) s passes row = row
   moved p NoMemory s passes row = absurd row
 
   moved_why : (p : Position) (x : Problem) (s : Spot S) → catchable x ≡ false → Why m x s →
@@ -358,7 +344,7 @@ module _ {S : Type 0} (m : Setup S) where
           Even (now.ran + 1) (on_verdict m said (position m f) (holding operands) w go)
       even_told operands w s go charges fits h GoOn e = h
       even_told operands w s go charges fits h (Stop v) e =
-          let x = problem.Terminated v (position m f) in
+          let x = Plain (problem.Terminated v) (position m f) in
           even_raised (now.ran + 1) x w s (why x refl (fits, e, charges))
 
       -- the world once an operation is counted, and once the host has heard of it
@@ -386,7 +372,7 @@ module _ {S : Type 0} (m : Setup S) where
           λ w1 w2. on_verdict m (m.law.progress_reply w1.host w1.count) p g w2 go in
           by_test (Even r) (nat_lt now.count m.engine.limits.operations)
           (marked m g start (λ w1. progressed m p g (record w1 { count = w1.count + 1 }) go))
-          (raised m g (TooManyOperations p) start)
+          (raised m g (Plain TooManyOperations p) start)
           (λ fits.
           let allowed = ltb-true now.count m.engine.limits.operations fits in
           even_marked r start steady
@@ -395,8 +381,8 @@ module _ {S : Type 0} (m : Setup S) where
           (even_marked r (after (record counted { passed = counted.passed + 1 })) steady
           (tells (record counted { passed = counted.passed + 1 }))
           (even_told operands heard steady go charges allowed (h allowed) said refl))))
-          (λ full. even_raised r (TooManyOperations p) start steady
-          (why (TooManyOperations p) refl
+          (λ full. even_raised r (Plain TooManyOperations p) start steady
+          (why (Plain TooManyOperations p) refl
           (ltb-false now.count m.engine.limits.operations full, charges)))
 
       even_charged_on : (g : Frame) → g.floor ≡ f.floor → Sits m k g → Charges m.program o f →
@@ -419,7 +405,7 @@ module _ {S : Type 0} (m : Setup S) where
           ((g : Held) → held_at now.scope (f.base + slot) ≡ Some g → Even (now.ran + 1) (go g)) →
           Even (now.ran + 1) (at_entry m h f (f.base + slot) start go)
       even_at slot uses go None e rest =
-          let x = problem.Malformed (kind.SlotPastScope (f.base + slot) (length now.scope))
+          let x = Plain (problem.Malformed (kind.SlotPastScope (f.base + slot) (length now.scope)))
           (position m f) in
           even_raised (now.ran + 1) x start steady
           (why x refl (refl, past_scope now.scope (f.base + slot) e, uses))
@@ -438,8 +424,8 @@ module _ {S : Type 0} (m : Setup S) where
                 record { value = (top f.operands).value; read_only = read_only };
           } in
           by_test (Even (now.ran + 1)) (is_full m.engine.limits.variables now.scope) _ _
-          (λ full. even_raised (now.ran + 1) (TooManyVariables (position m f)) start steady
-          (why (TooManyVariables (position m f)) refl
+          (λ full. even_raised (now.ran + 1) (Plain TooManyVariables (position m f)) start steady
+          (why (Plain TooManyVariables (position m f)) refl
           (fills (leb-true m.engine.limits.variables (length now.scope) full))))
           (λ _. even_written (stepped f behind_it (below f.operands)) (λ scope. scope ++ entry ∷ [])
           (keeps_push k.base k.names now.scope entry keeps) refl u)
@@ -477,15 +463,14 @@ module _ {S : Type 0} (m : Setup S) where
             let p = position m f in
             let all = values_in (given r args) in
             even_raised (now.ran + 1) (not_found name all p) w s
-            (why (not_found name all p) (missing_here name all p)
-            (row_of_missing m spot name all p
-            (asked, ap (not_found name all) (missing_position name all p), asks, e)))
+            (why (not_found name all p) refl
+            (row_of_missing m spot name all (asked, refl, asks, e)))
 
         refused_raised : (n : Native) → native_asked m asked ≡ Some n → n.writes ≡ true →
             first_is_read_only (given r args) ≡ true →
-            Even (now.ran + 1) (raised m f (problem.NonPureCall name (position m f)) w)
+            Even (now.ran + 1) (raised m f (Plain (problem.NonPureCall name) (position m f)) w)
         refused_raised n e writes only =
-            let x = problem.NonPureCall name (position m f) in
+            let x = Plain (problem.NonPureCall name) (position m f) in
             even_raised (now.ran + 1) x w s (why x refl (n, finds n e, writes, only))
 
         failed_raised : (n : Native) → native_asked m asked ≡ Some n → (y : Problem) →
@@ -503,7 +488,7 @@ module _ {S : Type 0} (m : Setup S) where
             Even (now.ran + 1) (fails (not_found name (values_in (given r args)) (position m f)) w))
             (refused : (n : Native) → native_asked m asked ≡ Some n → n.writes ≡ true →
             first_is_read_only (given r args) ≡ true →
-            Even (now.ran + 1) (fails (problem.NonPureCall name (position m f)) w))
+            Even (now.ran + 1) (fails (Plain (problem.NonPureCall name) (position m f)) w))
             (failed : (n : Native) → native_asked m asked ≡ Some n → (y : Problem) →
             reply_to m asked n.key ≡ reply.Failed y →
             Even (now.ran + 1) (fails (at_position_if_none (position m f) y) (answered_by n.key)))
@@ -521,7 +506,7 @@ module _ {S : Type 0} (m : Setup S) where
             even_found (Some n) e =
                 let ran : ℕ = now.ran + 1 in
                 let g = holding operands in
-                let x = problem.NonPureCall name (position m f) in
+                let x = Plain (problem.NonPureCall name) (position m f) in
                 let after : World S → World S = λ w1. record w1 {
                   host = m.law.call_after w1.host n.key (lent r) (trees_in args);
                   scope = given_back m.law w1.host n.key (trees_in args) r w1.scope;
@@ -565,16 +550,16 @@ module _ {S : Type 0} (m : Setup S) where
       even_pushed name args operands u (Gave v) says asks = even_on _ refl (u v)
       even_pushed name args operands u (ArithmeticFault t) says asks =
           even_raised (now.ran + 1) _ start steady
-          (why (problem.Arithmetic t (position m f)) refl (name, args, says))
+          (why (Plain (problem.Arithmetic t) (position m f)) refl (name, args, says))
       even_pushed name args operands u (TooLarge t) says asks =
           even_raised (now.ran + 1) _ start steady
-          (why (problem.DataTooLarge t (position m f)) refl (name, args, says))
+          (why (Plain (problem.DataTooLarge t) (position m f)) refl (name, args, says))
 
       even_constant : (n : ℕ) → AssignsConstant m.program (name_of m.program n) o f now →
           Even (now.ran + 1) (assignment_to_constant m n f start)
       even_constant n constant =
           even_raised (now.ran + 1) _ start steady
-          (why (AssignmentToConstant (name_of m.program n) (position m f)) refl constant)
+          (why (Plain (AssignmentToConstant (name_of m.program n)) (position m f)) refl constant)
 
       even_entry : (read_only : Bool) (slot : ℕ) (h : Held) (v : Dynamic) →
           Sits m k (stepped f behind_it (below f.operands)) →
@@ -675,10 +660,10 @@ module _ {S : Type 0} (m : Setup S) where
       even_stored a name args h slot u (Gave v) says by_host = even_entry h.read_only slot h v u
       even_stored a name args h slot u (ArithmeticFault t) says by_host =
           even_raised (now.ran + 1) _ start steady
-          (why (problem.Arithmetic t (position m f)) refl (name, args, says))
+          (why (Plain (problem.Arithmetic t) (position m f)) refl (name, args, says))
       even_stored a name args h slot u (TooLarge t) says by_host =
           even_raised (now.ran + 1) _ start steady
-          (why (problem.DataTooLarge t (position m f)) refl (name, args, says))
+          (why (Plain (problem.DataTooLarge t) (position m f)) refl (name, args, says))
 
       even_assigned : (n slot : ℕ) → Sits m k (stepped f behind_it (below f.operands)) →
           ((h : Held) → Holds now (f.base + slot) true h →
@@ -738,8 +723,8 @@ module _ {S : Type 0} (m : Setup S) where
           (agreed wanted t yes) e))
       even_tested wanted target there u tests back None e =
           even_raised (now.ran + 1) _ start steady
-          (why (problem.MismatchDataType (codes "bool") (type_name_of (top f.operands).value)
-          (position m f)) refl (refl, refl, e, tests))
+          (why (Plain (problem.MismatchDataType (codes "bool")
+          (type_name_of (top f.operands).value)) (position m f)) refl (refl, refl, e, tests))
 
       even_skipped : (target : ℕ) → Sits m k (stepped f target f.operands) →
           Sits m k (stepped f behind_it f.operands) → (unit : Bool) →
@@ -752,7 +737,7 @@ module _ {S : Type 0} (m : Setup S) where
       even_unwound : (target : ℕ) → Sits m k (stepped f behind_it f.operands) → k.base ≤ target →
           Unwinds target o f → Even (now.ran + 1) (unwind m target behind_it f start)
       even_unwound target u le unwinds =
-          let x = problem.Malformed (kind.UnwindPastScope target (length now.scope)) (position m f)
+          let x = Plain (problem.Malformed (kind.UnwindPastScope target (length now.scope))) (position m f)
           in
           by_test (Even (now.ran + 1)) (nat_lt (length now.scope) target) _ _
           (λ past. even_raised (now.ran + 1) x start steady
@@ -861,14 +846,14 @@ module _ {S : Type 0} (m : Setup S) where
             } in
             even_charged operands (function_entered m g args (holding operands) behind_it) charges
             (λ allowed. by_test (Even r) (nat_le m.engine.limits.levels now.level)
-            (raised m f (StackOverflow (position m f)) w1) _
-            (λ high. even_raised r (StackOverflow (position m f)) w1 steady
-            (why (StackOverflow (position m f)) refl
+            (raised m f (Plain StackOverflow (position m f)) w1) _
+            (λ high. even_raised r (Plain StackOverflow (position m f)) w1 steady
+            (why (Plain StackOverflow (position m f)) refl
             (allowed, leb-true m.engine.limits.levels now.level high, is_call)))
             (λ _. by_test (Even r) (nat_lt m.engine.limits.variables (length g.params))
-            (raised m f (TooManyVariables (position m f)) w1) (marked m f w1 body)
-            (λ many. even_raised r (TooManyVariables (position m f)) w1 steady
-            (why (TooManyVariables (position m f)) refl
+            (raised m f (Plain TooManyVariables (position m f)) w1) (marked m f w1 body)
+            (λ many. even_raised r (Plain TooManyVariables (position m f)) w1 steady
+            (why (Plain TooManyVariables (position m f)) refl
             (fills (ltb-true m.engine.limits.variables (length g.params) many))))
             (λ _. even_marked r w1 steady body (
               j,
@@ -1042,7 +1027,7 @@ module _ {S : Type 0} (m : Setup S) where
         (sits_at (op.Statement depth) width at _ f.operands (inl refl) (λ _. omega arith))
     even_instr op.Throw width at =
         even_raised (now.ran + 1) _ start steady
-        (why op.Throw width at (problem.Runtime (top f.operands).value (position m f)) refl
+        (why op.Throw width at (Plain (problem.Runtime (top f.operands).value) (position m f)) refl
         (refl, tt))
     even_instr op.Return width at =
         even_marked (now.ran + 1) start steady (End (Came (top f.operands).value))

@@ -8,12 +8,12 @@ use Rattle.grain_value.specs.Looking.{truth_of, is_unit}
 use Rattle.grain_value.specs.Operands.{top, arguments, values_in}
 use Rattle.grain_value.specs.Writing.{type_name_of}
 use Rattle.grain_fault.specs.Classes.{catchable}
-use Rattle.grain_fault.specs.Positions.{position_of_problem, at_position, at_position_if_none}
+use Rattle.grain_fault.specs.Positions.{at_position, at_position_if_none}
 use Rattle.grain_fault.specs.declared.places.Position.{Position}
 use Rattle.grain_fault.specs.declared.faults.MalformedKind.TheVariants as kind
 use Rattle.grain_fault.specs.declared.faults.EvalAltResult.{EvalAltResult}
 use Rattle.grain_fault.specs.declared.faults.EvalAltResult.TheVariants as fault
-use Rattle.grain_fault.specs.Problems.{Problem, FunctionNotFound, MismatchDataType, InFunctionCall, AssignmentToConstant, IndexingType, NonPureCall, DotExpr, Arithmetic, Runtime, TooManyOperations, TooManyVariables, StackOverflow, DataTooLarge, Terminated, Exit, SystemError, Malformed, NoMemory, problem_of}
+use Rattle.grain_fault.specs.Problems.{FaultKind, FunctionNotFound, MismatchDataType, AssignmentToConstant, IndexingType, NonPureCall, DotExpr, Arithmetic, Runtime, TooManyOperations, TooManyVariables, StackOverflow, DataTooLarge, Terminated, Malformed, Problem, Plain, InFunctionCall, InModule, SystemError, NoMemory, problem_of}
 use Rattle.grain_program.specs.declared.code.instructions.Op.{Op}
 use Rattle.grain_program.specs.declared.code.instructions.Op.TheVariants as op
 use Rattle.grain_program.specs.declared.code.functions.Function.{Function}
@@ -22,7 +22,7 @@ use Rattle.grain_program.specs.View.{View, name_of, token_of, assign_op_of}
 use Rattle.grain_global.specs.declared.engines.Engine.{Engine}
 use Rattle.grain_ops.specs.Outcomes.{Outcome, NotBuiltIn, ArithmeticFault, TooLarge}
 use Rattle.grain_means.specs.Worlds.{Act, Go, Answer, Came, Failed, World, Setup, Frame, InFrame}
-use Rattle.grain_means.specs.Signatures.{not_found, says_missing}
+use Rattle.grain_means.specs.Signatures.{missing_kind, not_found, says_missing}
 use Rattle.grain_host.specs.Law.{Law, Reply, Stop, native_of}
 use Rattle.grain_host.specs.Law as reply
 use Rattle.grain_value.specs.declared.natives.Native.{Native}
@@ -201,10 +201,10 @@ AsksNative m q at =
     ⊎ HasNoBuiltIn m q.name q.args at.instruction at.frame))
     ⊎ AsksToAssign m q at
 
--- it asks for a native that is not there, and this is the fault of it
-abbrev pub FindsNone : {S : Type 0} → Setup S → Problem → Spot S → Type 0
-FindsNone {S = S} m x at = (q : Question S)
-    × (not_found q.name (values_in (all_args q)) (position_of_problem x) ≡ x)
+-- it asks for a native that is not there, and a fault of this kind says so
+abbrev pub FindsNone : {S : Type 0} → Setup S → FaultKind → Spot S → Type 0
+FindsNone {S = S} m k at = (q : Question S)
+    × (missing_kind q.name (values_in (all_args q)) ≡ k)
     × AsksNative m q at × (native_asked m q ≡ None)
 
 -- it asks for this native, which is there
@@ -292,40 +292,46 @@ pub record Raised {S : Type 0} (m : Setup S) (act : Act S) (level : ℕ) (x : Pr
   pub why : Why spot
   pub tells : Tells m act level spot x
 
--- where an instruction raises this fault, or a fault leaves the call that the instruction is
-abbrev pub Row : {S : Type 0} → Setup S → Problem → Spot S → Type 0
-Row m (FunctionNotFound s p) at = FindsNone m (FunctionNotFound s p) at
-Row m (IndexingType s p) at = FindsNone m (IndexingType s p) at
-Row m (DotExpr s p) at = FindsNone m (DotExpr s p) at
-Row m (NonPureCall s p) at = WritesConstant m s at
-Row m (Terminated v p) at = IsStopped m v at
-Row m (Exit v p) at = ⊥
-Row m (SystemError s e) at = ⊥
-Row m (MismatchDataType r a p) at = (r ≡ codes "bool") ×
+-- where an instruction raises a fault of this kind; it raises no other kind than these
+abbrev pub Raises : {S : Type 0} → Setup S → FaultKind → Spot S → Type 0
+Raises m (FunctionNotFound s) at = FindsNone m (FunctionNotFound s) at
+Raises m (IndexingType s) at = FindsNone m (IndexingType s) at
+Raises m (DotExpr s) at = FindsNone m (DotExpr s) at
+Raises m (NonPureCall s) at = WritesConstant m s at
+Raises m (Terminated v) at = IsStopped m v at
+Raises m (MismatchDataType r a) at = (r ≡ codes "bool") ×
     (a ≡ type_name_of (top at.frame.operands).value) ×
     (truth_of (top at.frame.operands).value ≡ None) × Tests at.instruction
+Raises m (AssignmentToConstant s) at =
+    AssignsConstant m.program s at.instruction at.frame at.world
+Raises m (Arithmetic s) at = (name : List ℕ) × (args : List Held) ×
+    Operates m (ArithmeticFault s) name args at.instruction at.frame at.world
+Raises m (Runtime v) at = (v ≡ (top at.frame.operands).value) × Throws at.instruction
+Raises m TooManyOperations at =
+    (m.engine.limits.operations ≤ at.world.count) × Charges m.program at.instruction at.frame
+Raises m TooManyVariables at =
+    Overfills m.program m.engine.limits.variables at.instruction at.world
+Raises m StackOverflow at = (at.world.count < m.engine.limits.operations) ×
+    (m.engine.limits.levels ≤ at.world.level) × Calls m.program at.instruction
+Raises m (DataTooLarge t) at = (name : List ℕ) × (args : List Held) ×
+    Operates m (TooLarge t) name args at.instruction at.frame at.world
+Raises m (Malformed (kind.SlotPastScope i n)) at =
+    (n ≡ length at.world.scope) × (n ≤ i) × UsesEntry i at.instruction at.frame
+Raises m (Malformed (kind.UnwindPastScope t n)) at =
+    (n ≡ length at.world.scope) × (n < t) × Unwinds t at.instruction at.frame
+Raises m k at = ⊥
+
+-- where an instruction raises this fault, or a fault leaves the call that the instruction is
+abbrev pub Row : {S : Type 0} → Setup S → Problem → Spot S → Type 0
+Row m (Plain k p) at = Raises m k at
 Row m (InFunctionCall s source x p) at =
     (source ≡ []) × (catchable x ≡ true) ×
     ((g : Function) × (s ≡ name_of m.program g.name) ×
     Enters m g
     (λ body. Raised m body (at.world.level + 1) x
     (λ in_body. Row m x in_body ⊎ FromHost m x in_body)) at)
-Row m (AssignmentToConstant s p) at = AssignsConstant m.program s at.instruction at.frame at.world
-Row m (Arithmetic s p) at = (name : List ℕ) × (args : List Held) ×
-    Operates m (ArithmeticFault s) name args at.instruction at.frame at.world
-Row m (Runtime v p) at = (v ≡ (top at.frame.operands).value) × Throws at.instruction
-Row m (TooManyOperations p) at =
-    (m.engine.limits.operations ≤ at.world.count) × Charges m.program at.instruction at.frame
-Row m (TooManyVariables p) at =
-    Overfills m.program m.engine.limits.variables at.instruction at.world
-Row m (StackOverflow p) at = (at.world.count < m.engine.limits.operations) ×
-    (m.engine.limits.levels ≤ at.world.level) × Calls m.program at.instruction
-Row m (DataTooLarge t p) at = (name : List ℕ) × (args : List Held) ×
-    Operates m (TooLarge t) name args at.instruction at.frame at.world
-Row m (Malformed (kind.SlotPastScope i n) p) at =
-    (n ≡ length at.world.scope) × (n ≤ i) × UsesEntry i at.instruction at.frame
-Row m (Malformed (kind.UnwindPastScope t n) p) at =
-    (n ≡ length at.world.scope) × (n < t) × Unwinds t at.instruction at.frame
+Row m (InModule s x p) at = ⊥
+Row m (SystemError s e) at = ⊥
 Row m NoMemory at = ⊥
 
 -- an instruction raises the fault, or the host answered it

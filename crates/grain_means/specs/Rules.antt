@@ -17,7 +17,7 @@ use Rattle.grain_fault.specs.declared.faults.MalformedKind.TheVariants as kind
 use Rattle.grain_fault.specs.Classes.{catchable}
 use Rattle.grain_fault.specs.Exits.{exit_value}
 use Rattle.grain_fault.specs.Positions.{at_position, at_position_if_none}
-use Rattle.grain_fault.specs.Problems.{Problem, MismatchDataType, InFunctionCall, AssignmentToConstant, NonPureCall, Terminated, Arithmetic, Runtime, TooManyOperations, TooManyVariables, StackOverflow, DataTooLarge, Malformed, NoMemory}
+use Rattle.grain_fault.specs.Problems.{Problem, Plain, MismatchDataType, InFunctionCall, AssignmentToConstant, NonPureCall, Terminated, Arithmetic, Runtime, TooManyOperations, TooManyVariables, StackOverflow, DataTooLarge, Malformed, NoMemory}
 use Rattle.grain_program.specs.declared.code.parts.AssignOp.{AssignOp}
 use Rattle.grain_program.specs.declared.code.parts.Chunk.{Chunk}
 use Rattle.grain_program.specs.declared.code.functions.Function.{Function}
@@ -164,7 +164,7 @@ module _ {S : Type 0} (m : Setup S) where
   -- what the host says of the operations so far: the run goes on, or it is terminated
   abbrev pub on_verdict : Verdict → Position → Frame → World S → (World S → Act S) → Act S
   on_verdict GoOn p f w go = go w
-  on_verdict (Stop v) p f w go = raised f (Terminated v p) w
+  on_verdict (Stop v) p f w go = raised f (Plain (Terminated v) p) w
 
   -- the host hears how many operations there were, with a mark before and one after
   abbrev pub progressed : Position → Frame → World S → (World S → Act S) → Act S
@@ -178,7 +178,7 @@ module _ {S : Type 0} (m : Setup S) where
   charged p f w go =
       if nat_lt w.count m.engine.limits.operations then
       marked f w (λ w1. progressed p f (record w1 { count = w1.count + 1 }) go) else
-      raised f (TooManyOperations p) w
+      raised f (Plain TooManyOperations p) w
 
   -- The instruction is over, and the frame goes on as the second one. Where memory is out at this
   -- mark, all of the instruction is done, and the frame stops at the instruction's address.
@@ -210,7 +210,7 @@ module _ {S : Type 0} (m : Setup S) where
   -- a slot past the scope
   abbrev pub slot_past_scope : Frame → ℕ → World S → Act S
   slot_past_scope f i w =
-      raised f (Malformed (kind.SlotPastScope i (length w.scope)) (position f)) w
+      raised f (Plain (Malformed (kind.SlotPastScope i (length w.scope))) (position f)) w
 
   abbrev pub at_entry : Option Held → Frame → ℕ → World S → (Held → Act S) → Act S
   at_entry None f i w go = slot_past_scope f i w
@@ -242,7 +242,7 @@ module _ {S : Type 0} (m : Setup S) where
   abbrev pub native_called : Native → List ℕ → Option Receiver → List Held → Frame → World S →
       (Dynamic → World S → Act S) → (Problem → World S → Act S) → Act S
   native_called n name r args f w go fails =
-      if n.writes && first_is_read_only (given r args) then fails (NonPureCall name (position f)) w
+      if n.writes && first_is_read_only (given r args) then fails (Plain (NonPureCall name) (position f)) w
       else host_called n.key r args f w go fails
 
   abbrev pub native_found : Option Native → List ℕ → Option Receiver → List Held → Frame →
@@ -265,7 +265,7 @@ module _ {S : Type 0} (m : Setup S) where
   -- one entry more, which can only be read where the flag says so
   abbrev pub declare : Bool → List ℕ → ℕ → Frame → World S → Act S
   declare read_only name next f w =
-      if is_full m.engine.limits.variables w.scope then raised f (TooManyVariables (position f)) w
+      if is_full m.engine.limits.variables w.scope then raised f (Plain TooManyVariables (position f)) w
       else
       flattened (top f.operands) name f w
       (λ v. marked f w (λ w1. onward f (stepped f next (below f.operands)) (record w1 {
@@ -276,7 +276,7 @@ module _ {S : Type 0} (m : Setup S) where
   -- an assignment to an entry that can only be read
   abbrev pub assignment_to_constant : ℕ → Frame → World S → Act S
   assignment_to_constant n f w =
-      raised f (AssignmentToConstant (name_of m.program n) (position f)) w
+      raised f (Plain (AssignmentToConstant (name_of m.program n)) (position f)) w
 
   -- a value into the entry of a slot, with which the last operand is used up
   abbrev pub write_entry : Bool → ℕ → Held → Dynamic → ℕ → Frame → World S → Act S
@@ -325,8 +325,8 @@ module _ {S : Type 0} (m : Setup S) where
   store_outcome NotBuiltIn a h slot next f w = native_assigned a h slot next f w
   store_outcome (Gave v) a h slot next f w = write_entry h.read_only slot h v next f w
   store_outcome (ArithmeticFault text) a h slot next f w =
-      raised f (Arithmetic text (position f)) w
-  store_outcome (TooLarge what) a h slot next f w = raised f (DataTooLarge what (position f)) w
+      raised f (Plain (Arithmetic text) (position f)) w
+  store_outcome (TooLarge what) a h slot next f w = raised f (Plain (DataTooLarge what) (position f)) w
 
   abbrev pub assign_op : AssignOp → ℕ → ℕ → ℕ → Frame → World S → Act S
   assign_op a slot n next f w =
@@ -341,9 +341,9 @@ module _ {S : Type 0} (m : Setup S) where
       native name None args f w (λ v w1. pushed f next operands v w1) (raised f)
   push_outcome (Gave v) name args next operands f w = pushed f next operands v w
   push_outcome (ArithmeticFault text) name args next operands f w =
-      raised f (Arithmetic text (position f)) w
+      raised f (Plain (Arithmetic text) (position f)) w
   push_outcome (TooLarge what) name args next operands f w =
-      raised f (DataTooLarge what (position f)) w
+      raised f (Plain (DataTooLarge what) (position f)) w
 
   -- a transfer, or on to the next instruction, without the last operand
   abbrev pub branched : Bool → ℕ → ℕ → Frame → World S → Act S
@@ -353,7 +353,8 @@ module _ {S : Type 0} (m : Setup S) where
 
   -- a value that is no truth value
   abbrev pub not_a_bool : Dynamic → Frame → World S → Act S
-  not_a_bool v f w = raised f (MismatchDataType (codes "bool") (type_name_of v) (position f)) w
+  not_a_bool v f w = 
+      raised f (Plain (MismatchDataType (codes "bool") (type_name_of v)) (position f)) w
 
   abbrev pub tested : Bool → Option Bool → Dynamic → ℕ → ℕ → Frame → World S → Act S
   tested wanted (Some b) v target next f w = branched (agrees wanted b) target next f w
@@ -374,7 +375,7 @@ module _ {S : Type 0} (m : Setup S) where
   abbrev pub unwind : ℕ → ℕ → Frame → World S → Act S
   unwind n next f w =
       if nat_lt (length w.scope) n
-      then raised f (Malformed (kind.UnwindPastScope n (length w.scope)) (position f)) w else
+      then raised f (Plain (Malformed (kind.UnwindPastScope n (length w.scope))) (position f)) w else
       onward f (stepped f next f.operands) (record w { scope = take n w.scope })
 
   -- A fault that left the body of a function: one that a script may catch says which function it
@@ -396,9 +397,9 @@ module _ {S : Type 0} (m : Setup S) where
   -- its body on a scope of its own, one level up; afterwards the caller's scope and level are back.
   abbrev pub function_entered : Function → List Held → Frame → ℕ → World S → Act S
   function_entered g args f next w =
-      if nat_le m.engine.limits.levels w.level then raised f (StackOverflow (position f)) w else
+      if nat_le m.engine.limits.levels w.level then raised f (Plain StackOverflow (position f)) w else
       if nat_lt m.engine.limits.variables (length g.params)
-      then raised f (TooManyVariables (position f)) w else
+      then raised f (Plain TooManyVariables (position f)) w else
       marked f w (λ w1. Then (Go (InFrame (frame_at g.chunk 0 None)) (record w1 {
         scope = bound m.program g.params args;
         level = w1.level + 1;
@@ -444,7 +445,7 @@ module _ {S : Type 0} (m : Setup S) where
   instr op.Checkpoint next f w = onward f (record f { address = next; floor = length w.scope }) w
   instr (op.Statement depth) next f w = onward f (stepped f next f.operands) w
   instr op.Throw next f w =
-      flattened (top f.operands) [] f w (λ v. raised f (Runtime v (position f)) w)
+      flattened (top f.operands) [] f w (λ v. raised f (Plain (Runtime v) (position f)) w)
   instr op.Return next f w = marked f w (End (Came (top f.operands).value))
 
   -- an instruction begins

@@ -15,21 +15,7 @@ abbrev pub FailsSo : EvalAltResult → Outcome → Type 0
 FailsSo (fault.ErrorArithmetic s p) o = (p ≡ nowhere) × (o ≡ ArithmeticFault s)
 FailsSo (fault.ErrorDataTooLarge s p) o = (p ≡ nowhere) × (o ≡ TooLarge s)
 FailsSo fault.Memory o = Unit {0}
-FailsSo (fault.ErrorFunctionNotFound s p) o = ⊥
-FailsSo (fault.ErrorMismatchDataType r a p) o = ⊥
-FailsSo (fault.ErrorInFunctionCall' f s b x p) o = ⊥
-FailsSo (fault.ErrorAssignmentToConstant s p) o = ⊥
-FailsSo (fault.ErrorIndexingType t p) o = ⊥
-FailsSo (fault.ErrorNonPureMethodCallOnConstant f p) o = ⊥
-FailsSo (fault.ErrorDotExpr s p) o = ⊥
-FailsSo (fault.ErrorRuntime v p) o = ⊥
-FailsSo (fault.ErrorTooManyOperations p) o = ⊥
-FailsSo (fault.ErrorTooManyVariables p) o = ⊥
-FailsSo (fault.ErrorStackOverflow p) o = ⊥
-FailsSo (fault.ErrorTerminated v p) o = ⊥
-FailsSo (fault.Exit v p) o = ⊥
-FailsSo (fault.ErrorSystem s e) o = ⊥
-FailsSo (fault.Malformed k p) o = ⊥
+FailsSo x o = ⊥
 
 abbrev pub Answers : OpAnswer → Outcome → Type 0
 Answers answer.NotBuiltIn o = o ≡ NotBuiltIn

@@ -4,7 +4,7 @@ use Rattle.grain_value.specs.Looking.{integer_of, text_of}
 use Rattle.grain_value.specs.declared.values.Dynamic.{Dynamic}
 use Rattle.grain_value.specs.declared.values.Dynamic.TheVariants as dynamic
 use Rattle.grain_fault.specs.Places.{nowhere}
-use Rattle.grain_fault.specs.Problems.{Problem, Runtime, SystemError}
+use Rattle.grain_fault.specs.Problems.{Problem, Plain, Runtime, SystemError}
 use Rattle.grain_host.specs.Law.{Law, Reply, Done, Failed, GoOn, MayBeAnswered, IsLawful}
 use Rattle.grain_host.specs.Tables.{arguments}
 use Rattle.run_examples.specs.declared.prices.Line.{Line}
@@ -89,7 +89,7 @@ reason_text reason.OutOfRange = codes "out of range"
 
 abbrev pub problem : Reason → Problem
 problem reason.Unknown = SystemError [] (reason_text reason.Unknown)
-problem r = Runtime (dynamic.Text (reason_text r)) nowhere
+problem r = Plain (Runtime (dynamic.Text (reason_text r))) nowhere
 
 -- the answer to a call
 abbrev pub reply : Result ℤ Reason → Reply
