@@ -2,6 +2,7 @@
 
 ghost use Rattle.std.specs.Prelude.{ℕ, ◌≡◌, ◌<◌, ◌≤◌, ◌+◌, ◌-◌, ◌++◌, ◌∷◌, [], length, take, Ok, OnOk, OnErr, IfOk, List, MatchOption, nat_le, true, false};
 ghost use Rattle.grain_program.specs.Indices.{IsNamed};
+ghost use Rattle.grain_program.specs.View.{source_text};
 ghost use Rattle.grain_fault.specs.Problems.{problem_of};
 ghost use Rattle.grain_value.specs.Operands.{arguments, under};
 ghost use Rattle.grain_stack.specs.Views.{StackFrame, innermost, with_frame, without_frame};
@@ -16,8 +17,9 @@ use crate::runs::{FrameEnd, Progress, Run};
 use crate::steps::Steps;
 use grain_fault::EvalAltResult;
 use grain_host::Host;
-use grain_program::Function;
+use grain_program::{Function, Program};
 use grain_value::{OutOfMemory, Text};
+use std::alloc::Global;
 use std::sync::ledger::Ledger;
 
 impl<H: Host> Run<H> {
@@ -187,7 +189,7 @@ impl<H: Host> Run<H> {
             return Ok(self.depart(fault));
         }
         let name = context.program.name(function.name).copy(self.alloc)?;
-        let source = Text::new(self.alloc);
+        let source = source_of(self.alloc, context.program)?;
         let inner = Box::new(self.alloc, fault)?;
         let fault = EvalAltResult::ErrorInFunctionCall(name, source, inner, position);
         Ok(self.raise(steps, fault))
@@ -245,6 +247,16 @@ impl<H: Host> Run<H> {
                 Err(e)
             }
         }
+    }
+}
+
+// The name of the script that the program was made from, empty if it has none.
+fn source_of(alloc: Global, program: &Program) -> Result<Text, OutOfMemory>
+    ensures { IfOk result (λ text. text ≡ source_text program.now) }
+{
+    match program.source() {
+        Some(source) => source.copy(alloc),
+        None => Ok(Text::new(alloc)),
     }
 }
 

@@ -163,6 +163,7 @@ fn set_up(assembler: Assembler, assign_ops: AssignOps) -> Result<Setup, BadLine>
         tokens,
         assign_ops,
         positions,
+        source: None,
     };
     Ok(Setup {
         parts,

@@ -27,7 +27,7 @@ use Rattle.grain_program.specs.declared.code.instructions.Op.TheVariants as op
 use Rattle.grain_program.specs.Effects.{takes_of, gives_of, leads_of}
 use Rattle.grain_program.specs.Typing.{In, IsProgram}
 use Rattle.grain_program.specs.Reading.{op_at}
-use Rattle.grain_program.specs.View.{name_of, const_of, token_of, assign_op_of}
+use Rattle.grain_program.specs.View.{name_of, const_of, token_of, assign_op_of, source_text}
 use Rattle.grain_ops.specs.Outcomes.{Outcome, NotBuiltIn, Gave, ArithmeticFault, TooLarge}
 use Rattle.grain_means.specs.Worlds.{Act, Go, End, Then, Answer, Came, Failed, World, Setup, Frame, Todo, InFrame, Place}
 use Rattle.grain_means.specs.Signatures.{not_found, says_missing}
@@ -778,7 +778,8 @@ module _ {S : Type 0} (m : Setup S) where
           even_propagated : (r : ℕ) (x : Problem) (w : World S) → Steady r w →
               Caused m body inside (Failed x) w → Even r (propagate m g f x w)
           even_propagated r x w s cause =
-              let wrapped = InFunctionCall (name_of m.program g.name) [] x (position m f) in
+              let wrapped =
+              InFunctionCall (name_of m.program g.name) (source_text m.program) x (position m f) in
               by_test (Even r) (catchable x) (marked m f w (leave_by_fault m None f wrapped))
               (leave_by_fault m None f (at_position (position m f) x) w)
               (λ other. even_marked r w s (leave_by_fault m None f wrapped)

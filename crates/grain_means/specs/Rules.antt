@@ -24,7 +24,7 @@ use Rattle.grain_program.specs.declared.code.functions.Function.{Function}
 use Rattle.grain_program.specs.Lookups.{function_of}
 use Rattle.grain_program.specs.declared.code.instructions.Op.{Op}
 use Rattle.grain_program.specs.declared.code.instructions.Op.TheVariants as op
-use Rattle.grain_program.specs.View.{View, const_of, name_of, token_of, assign_op_of, position_of}
+use Rattle.grain_program.specs.View.{View, const_of, name_of, token_of, assign_op_of, position_of, source_text}
 use Rattle.grain_program.specs.Reading.{op_at}
 use Rattle.grain_global.specs.declared.engines.Engine.{Engine}
 use Rattle.grain_ops.specs.Outcomes.{Outcome, NotBuiltIn, Gave, ArithmeticFault, TooLarge}
@@ -353,7 +353,7 @@ module _ {S : Type 0} (m : Setup S) where
 
   -- a value that is no truth value
   abbrev pub not_a_bool : Dynamic → Frame → World S → Act S
-  not_a_bool v f w = 
+  not_a_bool v f w =
       raised f (Plain (MismatchDataType (codes "bool") (type_name_of v)) (position f)) w
 
   abbrev pub tested : Bool → Option Bool → Dynamic → ℕ → ℕ → Frame → World S → Act S
@@ -384,7 +384,8 @@ module _ {S : Type 0} (m : Setup S) where
   propagate g f x w =
       if catchable x then
       marked f w
-      (leave_by_fault None f (InFunctionCall (name_of m.program g.name) [] x (position f)))
+      (leave_by_fault None f
+      (InFunctionCall (name_of m.program g.name) (source_text m.program) x (position f)))
       else leave_by_fault None f (at_position (position f) x) w
 
   -- a called function is over, and the caller, whose frame is without the arguments, goes on with

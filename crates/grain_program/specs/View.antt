@@ -1,5 +1,5 @@
 -- A program, without where it lies in memory.
-use Rattle.std.specs.Prelude.{ℕ, List, [], ◌∷◌, slice_index_or, ◌==◌, if◌then◌else◌}
+use Rattle.std.specs.Prelude.{ℕ, List, [], ◌∷◌, Option, Some, None, slice_index_or, ◌==◌, if◌then◌else◌}
 use Rattle.grain_value.specs.declared.values.Dynamic.{Dynamic}
 use Rattle.grain_value.specs.Tree.{Tree, unit}
 use Rattle.grain_value.specs.Same.{value_of}
@@ -25,6 +25,7 @@ pub record View : Type 0 where
   pub tokens : List Token
   pub assign_ops : List AssignOp
   pub positions : List PositionEntry
+  pub source : Option (List ℕ)
 
 abbrev pub view_of : Parts → View
 view_of p = record {
@@ -37,6 +38,7 @@ view_of p = record {
   tokens = p.tokens;
   assign_ops = p.assign_ops;
   positions = p.positions;
+  source = p.source;
 }
 
 -- the entries of the pools; past a pool's end, where no valid program looks, there is a neutral one
@@ -62,3 +64,11 @@ position_in (e ∷ es) a = if e.address == a then e.position else position_in es
 
 abbrev pub position_of : View → ℕ → Position
 position_of v a = position_in v.positions a
+
+-- the program's source, empty if it has none
+abbrev pub or_empty : Option (List ℕ) → List ℕ
+or_empty None = []
+or_empty (Some s) = s
+
+abbrev pub source_text : View → List ℕ
+source_text v = or_empty v.source

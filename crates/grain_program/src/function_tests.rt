@@ -91,6 +91,7 @@ fn parts_of(
         tokens: Tokens::new(alloc),
         assign_ops: AssignOps::new(alloc),
         positions: Positions::new(alloc),
+        source: None,
     })
 }
 

@@ -1,6 +1,6 @@
 //! Programs: parts that break no rule.
 
-ghost use Rattle.std.specs.Prelude.{◌≡◌, ◌<◌, ◌^◌, ◌⊎◌, ℕ, List, length, slice_get, IfOk, IfErr, IfSome, Some};
+ghost use Rattle.std.specs.Prelude.{◌≡◌, ◌<◌, ◌^◌, ◌⊎◌, ℕ, List, length, slice_get, IfOk, IfErr, IfSome, Some, option_map};
 ghost use Rattle.grain_program.specs.View.{View, view_of, position_in, const_of, name_of, token_of, assign_op_of, position_of};
 ghost use Rattle.grain_program.specs.Reading.{op_at};
 ghost use Rattle.grain_program.specs.Typing.{IsProgram, IsRefusal};
@@ -135,6 +135,13 @@ impl Program {
             end: main.end,
             max_stack: bounded(main.max_stack),
         }
+    }
+
+    /// The name of the script that the program was made from, if it has one.
+    pub fn source(&self) -> Option<&Text>
+        ensures { option_map (λ t. t.now) result ≡ self.now.source }
+    {
+        self.parts.source.as_ref()
     }
 
     /// The functions, by number.

@@ -51,6 +51,7 @@ fn parts_of(alloc: Global, code: Blob, end: u32, max_stack: u16) -> Result<Parts
         tokens,
         assign_ops,
         positions: Positions::new(alloc),
+        source: None,
     })
 }
 

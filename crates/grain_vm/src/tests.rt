@@ -85,6 +85,7 @@ fn parts_of(alloc: Global, ops: &[Op], end: u32, further: &[u32]) -> Result<Part
         tokens: Tokens::new(alloc),
         assign_ops: AssignOps::new(alloc),
         positions: Positions::new(alloc),
+        source: None,
     })
 }
 
