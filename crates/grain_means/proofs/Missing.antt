@@ -5,7 +5,7 @@ use Rattle.std.specs.List.{starts_with}
 use Rattle.grain_value.specs.declared.values.Dynamic.{Dynamic}
 use Rattle.grain_fault.specs.Problems.{FaultKind, FunctionNotFound, DotExpr, IndexingType}
 use Rattle.grain_means.specs.Worlds.{Setup}
-use Rattle.grain_means.specs.Comes.{Spot}
+use Rattle.grain_means.specs.Comes.{ProgramPoint}
 use Rattle.grain_means.specs.Causes.{Raises, FindsNone}
 use Rattle.grain_means.specs.Signatures.{missing_kind}
 
@@ -26,7 +26,7 @@ of_each P name args f d i =
     (of_either P (bytes_eq name (codes "index$set$")) _ _ (i _) (f _))))
 
 -- why it is raised
-pub row_of_missing : {S : Type 0} (m : Setup S) (at : Spot S) (name : List ℕ)
+pub row_of_missing : {S : Type 0} (m : Setup S) (at : ProgramPoint S) (name : List ℕ)
     (args : List Dynamic) → FindsNone m (missing_kind name args) at →
     Raises m (missing_kind name args) at
 row_of_missing m at name args =

@@ -38,7 +38,7 @@ use Rattle.grain_means.proofs.Moving.{placed_twice, caught_anywhere, placed_if_n
 use Rattle.grain_means.proofs.Missing.{row_of_missing}
 use Rattle.grain_means.specs.Rules.{Receiver, lent, given, given_back, held_or, operator_assigned, op_assign_failed, native_assigned, kinds_in, trees_in, first_is_read_only, exit_of, on_verdict, progressed, answered, host_called, native_found, native, pushed, written, exited, without, bound, function_found, frame_at, held_at, stepped, is_full, is_stop, or_return, operated, op_assigned, agrees, leave_by_fault, marked, raised, charged, onward, jumped, slot_past_scope, at_slot, at_entry, load_local, declare, push_outcome, assignment_to_constant, write_entry, store_local, store_outcome, assign, assign_op, branched, tested, skip, unwind, propagate, resume_caller, enter_function, function_entered, call_function, instr, start_instruction, next, passing, closed, called, main_frame, position}
 use Rattle.grain_means.specs.Ends.{Ends, ended, went, joined}
-use Rattle.grain_means.specs.Comes.{Spot, Comes, here, further, within, behind, Meets, Stands}
+use Rattle.grain_means.specs.Comes.{ProgramPoint, Comes, here, further, within, behind, Meets, Stands}
 use Rattle.grain_means.specs.Leavings.{names, Keeps, AtCheckpoint, Cut, Cuts}
 use Rattle.grain_means.specs.Length.{run_length}
 use Rattle.grain_means.specs.Causes.{Question, native_asked, reply_to, asks_first, EndsWith, HasNoBuiltIn, AssignsByHost, AsksNative, FindsNone, FindsNative, HostAnswers, HasPosition, Why, Calls, Charges, Overfills, UsesEntry, Unwinds, Tests, Holds, AssignsConstant, Operates, CallsOn, Enters, LeftCall, Tells, Row, Cause, Caused}
@@ -106,7 +106,7 @@ agreed false false e = refl
 
 module _ {S : Type 0} (m : Setup S) where
   -- a fault that no script may catch has the same cause wherever it is
-  moved : (p : Position) (x : Problem) (s : Spot S) → catchable x ≡ false → Row m x s →
+  moved : (p : Position) (x : Problem) (s : ProgramPoint S) → catchable x ≡ false → Row m x s →
       Row m (at_position p x) s
   moved p (Plain k q) s passes row = row
   moved p (problem.InFunctionCall t u x q) s passes row = is_true passes
@@ -114,7 +114,7 @@ module _ {S : Type 0} (m : Setup S) where
   moved p (problem.SystemError t u) s passes row = absurd row
   moved p NoMemory s passes row = absurd row
 
-  moved_why : (p : Position) (x : Problem) (s : Spot S) → catchable x ≡ false → Why m x s →
+  moved_why : (p : Position) (x : Problem) (s : ProgramPoint S) → catchable x ≡ false → Why m x s →
       Why m (at_position p x) s
   moved_why p x s passes (inl row) = inl (moved p x s passes row)
   moved_why p x s passes (inr h) =
@@ -122,7 +122,7 @@ module _ {S : Type 0} (m : Setup S) where
 
   module _ (first root : Act S) (onto : Onto m first root) where
     -- what the first act meets, and why it ends so, as the second has it
-    meets : (s : Spot S) → Meets m s first → Meets m s root
+    meets : (s : ProgramPoint S) → Meets m s first → Meets m s root
     meets s h =
         record {
           comes = onto (InFrame s.frame) s.world h.comes;
@@ -131,7 +131,7 @@ module _ {S : Type 0} (m : Setup S) where
               h.stands;
         }
 
-    told : (level : ℕ) (at : Spot S) (x : Problem) → Tells m first level at x →
+    told : (level : ℕ) (at : ProgramPoint S) (x : Problem) → Tells m first level at x →
         Tells m root level at x
     told level at x (inl own) = inl own
     told level at x (inr (s, (p, l, has))) = inr (
@@ -157,21 +157,21 @@ module _ {S : Type 0} (m : Setup S) where
     caused level (Failed x) w v stops (inl s) = inl (s.0, stops s.1)
     caused level (Failed x) w v stops (inr c) =
         inr (record {
-          spot = c.spot;
-          met = meets c.spot c.met;
+          point = c.point;
+          met = meets c.point c.met;
           why = c.why;
           tells =
-              told level c.spot x c.tells;
+              told level c.point x c.tells;
         })
 
     -- a fault that no script may catch goes on at a call
     cause_at : (p : Position) (inside level : ℕ) (x : Problem) → catchable x ≡ false →
-        (c : Cause m first inside x) → LeftCall m root level c.spot p →
+        (c : Cause m first inside x) → LeftCall m root level c.point p →
         Cause m root level (at_position p x)
     cause_at p inside level x passes c call = record {
-      spot = c.spot;
-      met = meets c.spot c.met;
-      why = moved_why p x c.spot passes c.why;
+      point = c.point;
+      met = meets c.point c.met;
+      why = moved_why p x c.point passes c.why;
       tells = inr (caught_anywhere p x ∙ passes, (p, call, placed_twice p p x));
     }
 
@@ -293,23 +293,23 @@ module _ {S : Type 0} (m : Setup S) where
       behind_it = f.address + width
 
       -- where the run stands
-      abbrev spot : Spot S
-      spot = record { instruction = o; frame = f; world = now }
+      abbrev point : ProgramPoint S
+      point = record { instruction = o; frame = f; world = now }
 
-      met : Meets m spot root
+      met : Meets m point root
       met = record { comes = comes; width = width; stands = stands }
 
       -- why the instruction raises this fault
-      why : (x : Problem) → HasPosition (position m f) x → Row m x spot → Cause m root k.level x
-      why x p row = record { spot = spot; met = met; why = inl row; tells = inl (level, inl p) }
+      why : (x : Problem) → HasPosition (position m f) x → Row m x point → Cause m root k.level x
+      why x p row = record { point = point; met = met; why = inl row; tells = inl (level, inl p) }
 
       -- why the run ends in what the host answered
-      why_answered : (y : Problem) → HostAnswers m y spot →
+      why_answered : (y : Problem) → HostAnswers m y point →
           Cause m root k.level (at_position_if_none (position m f) y)
       why_answered y answers =
           let placed = placed_if_none (position m f) y in
           record {
-            spot = spot;
+            point = point;
             met = met;
             why = inr (y, placed.0, answers, placed.1);
             tells = inl (level, inr (y, answers, refl));
@@ -439,7 +439,7 @@ module _ {S : Type 0} (m : Setup S) where
       module _ (operands : List Held) (w : World S) (s : Steady (now.ran + 1) w) (name : List ℕ)
           (r : Option Receiver) (args : List Held)
           (asks : AsksNative m (record { host = w.host; name = name; lent = r; args = args })
-          spot) where
+          point) where
         abbrev asked : Question S
         asked = record { host = w.host; name = name; lent = r; args = args }
 
@@ -452,7 +452,7 @@ module _ {S : Type 0} (m : Setup S) where
         steady_after key =
             (s.0, s.1, s.2, keeps_given m.law w.host key (trees_in args) r w.scope s.3)
 
-        abbrev finds : (n : Native) → native_asked m asked ≡ Some n → FindsNative m name n spot
+        abbrev finds : (n : Native) → native_asked m asked ≡ Some n → FindsNative m name n point
         finds n e = record { question = asked; named = refl; asks = asks; found = e }
 
         -- the fault is raised
@@ -464,7 +464,7 @@ module _ {S : Type 0} (m : Setup S) where
             let all = values_in (given r args) in
             even_raised (now.ran + 1) (not_found name all p) w s
             (why (not_found name all p) refl
-            (row_of_missing m spot name all (asked, refl, asks, e)))
+            (row_of_missing m point name all (asked, refl, asks, e)))
 
         refused_raised : (n : Native) → native_asked m asked ≡ Some n → n.writes ≡ true →
             first_is_read_only (given r args) ≡ true →
@@ -540,7 +540,7 @@ module _ {S : Type 0} (m : Setup S) where
           Even (now.ran + 1) (push_outcome m outcome name args behind_it operands f start)
       even_pushed name args operands u NotBuiltIn says asks =
           let q : AsksNative m
-          (record { host = start.host; name = name; lent = None; args = args }) spot =
+          (record { host = start.host; name = name; lent = None; args = args }) point =
           inl (refl, refl, inr (asks refl)) in
           even_native f.operands start steady name None args q
           (λ v w1. pushed m f behind_it operands v w1)
@@ -608,7 +608,7 @@ module _ {S : Type 0} (m : Setup S) where
             let name = name_of m.program a.op_name in
             let args : List Held = g ∷ operand ∷ [] in
             let q : AsksNative m
-            (record { host = w.host; name = name; lent = None; args = args }) spot =
+            (record { host = w.host; name = name; lent = None; args = args }) point =
             inr (
               a,
               f.base + slot,
@@ -628,7 +628,7 @@ module _ {S : Type 0} (m : Setup S) where
             let r : Option Receiver = Some (record { index = f.base + slot; held = h }) in
             let args : List Held = operand ∷ [] in
             let q : AsksNative m
-            (record { host = start.host; name = name; lent = r; args = args }) spot =
+            (record { host = start.host; name = name; lent = r; args = args }) point =
             inr (a, f.base + slot, h, operand, by_host, inl refl) in
             let there = answered_by f.operands start steady name r args q in
             let steady_there = steady_after f.operands start steady name r args q in
@@ -751,7 +751,7 @@ module _ {S : Type 0} (m : Setup S) where
       module _ (g : Function) (is_call : Calls m.program o) where
         -- what came out of the body
         module _ (body : Act S) (onto : Onto m body root) (inside : ℕ) (up : inside ≡ now.level + 1)
-            (enters : (Runs : Act S → Type 0) → Runs body → Enters m g Runs spot) where
+            (enters : (Runs : Act S → Type 0) → Runs body → Enters m g Runs point) where
           -- a fault that no script may catch goes on at the call
           cause_on : (x : Problem) (w : World S) → catchable x ≡ false →
               Caused m body inside (Failed x) w →
@@ -760,12 +760,12 @@ module _ {S : Type 0} (m : Setup S) where
           cause_on x w system (inr c) =
               inr (cause_at body root onto (position m f) inside k.level x system c
               (record {
-                call = spot;
+                call = point;
                 met = met;
                 own = level;
                 function = g;
                 enters =
-                    enters (Meets m c.spot) c.met;
+                    enters (Meets m c.point) c.met;
                 position = refl;
               }))
 

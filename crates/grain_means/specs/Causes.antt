@@ -28,7 +28,7 @@ use Rattle.grain_host.specs.Law as reply
 use Rattle.grain_value.specs.declared.natives.Native.{Native}
 use Rattle.grain_means.specs.Rules.{Receiver, lent, given, given_back, held_or, kinds_in, trees_in, first_is_read_only, bound, frame_at, held_at, function_found, is_stop, position, main, operated, op_assigned}
 use Rattle.grain_means.specs.Means.{Begin, setup, first_world}
-use Rattle.grain_means.specs.Comes.{Spot, Comes, Meets}
+use Rattle.grain_means.specs.Comes.{ProgramPoint, Comes, Meets}
 
 -- a call of a function that exists
 abbrev pub Calls : View → Op → Type 0
@@ -177,7 +177,7 @@ asks_first m a i h v w = record {
 -- The question is the first of an op-assignment that no built-in does; or the second, for the
 -- operator on what the entry then holds, where the first ended with the fault that no function of
 -- its name is found.
-abbrev pub AsksToAssign : {S : Type 0} → Setup S → Question S → Spot S → Type 0
+abbrev pub AsksToAssign : {S : Type 0} → Setup S → Question S → ProgramPoint S → Type 0
 AsksToAssign {S = S} m q at =
     (a : AssignOp) × (i : ℕ) × (h : Held) × (v : Held) ×
     AssignsByHost m a i h v at.instruction at.frame at.world ×
@@ -194,7 +194,7 @@ AsksToAssign {S = S} m q at =
 
 -- it asks the host for a native: no function is found for a call, or no built-in for an operator or
 -- for an op-assignment
-abbrev pub AsksNative : {S : Type 0} → Setup S → Question S → Spot S → Type 0
+abbrev pub AsksNative : {S : Type 0} → Setup S → Question S → ProgramPoint S → Type 0
 AsksNative m q at =
     ((q.host ≡ at.world.host) × (q.lent ≡ None) ×
     (Misses m.program q.name q.args at.instruction at.frame
@@ -202,13 +202,13 @@ AsksNative m q at =
     ⊎ AsksToAssign m q at
 
 -- it asks for a native that is not there, and a fault of this kind says so
-abbrev pub FindsNone : {S : Type 0} → Setup S → FaultKind → Spot S → Type 0
+abbrev pub FindsNone : {S : Type 0} → Setup S → FaultKind → ProgramPoint S → Type 0
 FindsNone {S = S} m k at = (q : Question S)
     × (missing_kind q.name (values_in (all_args q)) ≡ k)
     × AsksNative m q at × (native_asked m q ≡ None)
 
 -- it asks for this native, which is there
-pub record FindsNative {S : Type 0} (m : Setup S) (name : List ℕ) (n : Native) (at : Spot S) :
+pub record FindsNative {S : Type 0} (m : Setup S) (name : List ℕ) (n : Native) (at : ProgramPoint S) :
     Type 0 where
   pub question : Question S
   pub named : name ≡ question.name
@@ -216,22 +216,22 @@ pub record FindsNative {S : Type 0} (m : Setup S) (name : List ℕ) (n : Native)
   pub found : native_asked m question ≡ Some n
 
 -- the native of this name writes its first argument, which can only be read
-abbrev pub WritesConstant : {S : Type 0} → Setup S → List ℕ → Spot S → Type 0
+abbrev pub WritesConstant : {S : Type 0} → Setup S → List ℕ → ProgramPoint S → Type 0
 WritesConstant m name at = (n : Native) × (c : FindsNative m name n at)
     × (n.writes ≡ true) × (first_is_read_only (all_args c.question) ≡ true)
 
 -- the host answers this fault to the call of a native
-abbrev pub HostAnswers : {S : Type 0} → Setup S → Problem → Spot S → Type 0
+abbrev pub HostAnswers : {S : Type 0} → Setup S → Problem → ProgramPoint S → Type 0
 HostAnswers m y at = (name : List ℕ) × (n : Native) × (c : FindsNative m name n at)
     × (reply_to m c.question n.key ≡ reply.Failed y)
 
 -- the host answered the fault, whatever its position
-abbrev pub FromHost : {S : Type 0} → Setup S → Problem → Spot S → Type 0
+abbrev pub FromHost : {S : Type 0} → Setup S → Problem → ProgramPoint S → Type 0
 FromHost m x at = (y : Problem) × (p : Position) × HostAnswers m y at × (x ≡ at_position p y)
 
 -- it costs an operation, of which the host hears, and the host says with this value that the run is
 -- to stop
-abbrev pub IsStopped : {S : Type 0} → Setup S → Dynamic → Spot S → Type 0
+abbrev pub IsStopped : {S : Type 0} → Setup S → Dynamic → ProgramPoint S → Type 0
 IsStopped m v at = (at.world.count < m.engine.limits.operations)
     × (m.law.progress_reply at.world.host (at.world.count + 1) ≡ Stop v)
     × Charges m.program at.instruction at.frame
@@ -242,9 +242,9 @@ CallsOn program g args (op.Call n k) f =
     (function_found program n k ≡ Some g) × (args ≡ arguments k f.operands)
 CallsOn program g args o f = ⊥
 
--- the instruction at the spot calls this function; its run comes to the function's body, on its
+-- the instruction at the point calls this function; its run comes to the function's body, on its
 -- arguments and one level up, and of the run of the body this holds
-pub record Enters {S : Type 0} (m : Setup S) (g : Function) (Runs : Act S → Type 0) (at : Spot S) :
+pub record Enters {S : Type 0} (m : Setup S) (g : Function) (Runs : Act S → Type 0) (at : ProgramPoint S) :
     Type 0 where
   pub arguments : List Held
   pub calls : CallsOn m.program g arguments at.instruction at.frame
@@ -255,10 +255,10 @@ pub record Enters {S : Type 0} (m : Setup S) (g : Function) (Runs : Act S → Ty
   pub runs : Runs (Go (InFrame (frame_at g.chunk 0 None)) inside)
 
 -- the run of an act comes to a call in a frame of this level, which has this position, and from the
--- call's body it comes to the spot
-pub record LeftCall {S : Type 0} (m : Setup S) (act : Act S) (level : ℕ) (inner : Spot S)
+-- call's body it comes to the point
+pub record LeftCall {S : Type 0} (m : Setup S) (act : Act S) (level : ℕ) (inner : ProgramPoint S)
     (p : Position) : Type 0 where
-  pub call : Spot S
+  pub call : ProgramPoint S
   pub met : Meets m call act
   pub own : call.world.level ≡ level
   pub function : Function
@@ -270,30 +270,30 @@ abbrev pub HasPosition : Position → Problem → Type 0
 HasPosition p x = at_position p x ≡ x
 
 -- the host answered the fault at this position, or without one, and then it has the instruction's
-abbrev pub AnsweredSo : {S : Type 0} → Setup S → Spot S → Problem → Type 0
+abbrev pub AnsweredSo : {S : Type 0} → Setup S → ProgramPoint S → Problem → Type 0
 AnsweredSo m at x =
     (y : Problem) × HostAnswers m y at × (x ≡ at_position_if_none (position m at.frame) y)
 
 -- The fault has the position of the instruction that raised it in a frame of this level, or the one
 -- that the host gave it there; or, if no script may catch it, that of a call there, through which
 -- it left.
-abbrev pub Tells : {S : Type 0} → Setup S → Act S → ℕ → Spot S → Problem → Type 0
+abbrev pub Tells : {S : Type 0} → Setup S → Act S → ℕ → ProgramPoint S → Problem → Type 0
 Tells m act level at x =
     ((at.world.level ≡ level) × (HasPosition (position m at.frame) x ⊎ AnsweredSo m at x))
     ⊎ ((catchable x ≡ false)
     × ((p : Position) × LeftCall m act level at p × HasPosition p x))
 
--- the run of an act comes to a spot where this holds, and the fault tells a position of a frame of
+-- the run of an act comes to a point where this holds, and the fault tells a position of a frame of
 -- this level
 pub record Raised {S : Type 0} (m : Setup S) (act : Act S) (level : ℕ) (x : Problem)
-    (Why : Spot S → Type 0) : Type 0 where
-  pub spot : Spot S
-  pub met : Meets m spot act
-  pub why : Why spot
-  pub tells : Tells m act level spot x
+    (Why : ProgramPoint S → Type 0) : Type 0 where
+  pub point : ProgramPoint S
+  pub met : Meets m point act
+  pub why : Why point
+  pub tells : Tells m act level point x
 
 -- where an instruction raises a fault of this kind; it raises no other kind than these
-abbrev pub Raises : {S : Type 0} → Setup S → FaultKind → Spot S → Type 0
+abbrev pub Raises : {S : Type 0} → Setup S → FaultKind → ProgramPoint S → Type 0
 Raises m (FunctionNotFound s) at = FindsNone m (FunctionNotFound s) at
 Raises m (IndexingType s) at = FindsNone m (IndexingType s) at
 Raises m (DotExpr s) at = FindsNone m (DotExpr s) at
@@ -322,7 +322,7 @@ Raises m (Malformed (kind.UnwindPastScope t n)) at =
 Raises m k at = ⊥
 
 -- where an instruction raises this fault, or a fault leaves the call that the instruction is
-abbrev pub Row : {S : Type 0} → Setup S → Problem → Spot S → Type 0
+abbrev pub Row : {S : Type 0} → Setup S → Problem → ProgramPoint S → Type 0
 Row m (Plain k p) at = Raises m k at
 Row m (InFunctionCall s source x p) at =
     (source ≡ source_text m.program) × (catchable x ≡ true) ×
@@ -335,7 +335,7 @@ Row m (SystemError s e) at = ⊥
 Row m NoMemory at = ⊥
 
 -- an instruction raises the fault, or the host answered it
-abbrev pub Why : {S : Type 0} → Setup S → Problem → Spot S → Type 0
+abbrev pub Why : {S : Type 0} → Setup S → Problem → ProgramPoint S → Type 0
 Why m x at = Row m x at ⊎ FromHost m x at
 
 -- why the run of an act, of this level, ends in this fault

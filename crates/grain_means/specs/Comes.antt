@@ -13,7 +13,7 @@ use Rattle.grain_means.specs.Ends.{Ends}
 use Rattle.grain_means.specs.Means.{Begin, setup, first_world}
 
 -- where a run stands: at an instruction of a frame, in a world
-pub record Spot (S : Type 0) : Type 0 where
+pub record ProgramPoint (S : Type 0) : Type 0 where
   pub instruction : Op
   pub frame : Frame
   pub world : World S
@@ -27,8 +27,8 @@ pub data Comes {S : Type 0} (m : Setup S) (t : Todo) (w : World S) : Act S → T
   behind : {first : Act S} {rest : Answer → World S → Act S} {a : Answer} {v : World S} →
       Ends m first a v → Comes m t w (rest a v) → Comes m t w (Then first rest)
 
--- the run of an act comes to the spot, where the instruction stands
-pub record Meets {S : Type 0} (m : Setup S) (s : Spot S) (act : Act S) : Type 0 where
+-- the run of an act comes to the point, where the instruction stands
+pub record Meets {S : Type 0} (m : Setup S) (s : ProgramPoint S) (act : Act S) : Type 0 where
   pub comes : Comes m (InFrame s.frame) s.world act
   pub width : ℕ
   pub stands : op_at m.program.code s.frame.address ≡ Some (s.instruction, width)
