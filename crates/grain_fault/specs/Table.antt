@@ -1,4 +1,5 @@
--- The table of faults: of each kind its name, its class, its fields and its text without a position.
+-- The table of faults: of each kind its name, its class, its fields and its text without a
+-- position.
 use Rattle.std.specs.Prelude.{ℕ, ℤ, pos, Bool, true, false, List, [], ◌∷◌, ◌++◌, drop, length, codes, ◌==◌, ◌^◌, ◌-◌, nat_lt, eqb, bytes_eq, if◌then◌else◌}
 use Rattle.std.specs.List.{starts_with}
 use Rattle.std.specs.Fmt.{decimal, signed_decimal}

@@ -235,7 +235,8 @@ fn write_message<W: fmt::Write>(fault: &EvalAltResult, f: &mut fmt::Formatter<W>
 /// Writes what a wrapper adds to the text of the fault that it wraps: where that happened, and what
 /// it left.
 fn write_wrapper<W: fmt::Write>(fault: &EvalAltResult, f: &mut fmt::Formatter<W>) -> fmt::Result
-    ensures { WritesOnOk W.write_str_gives f.old result (wrapper_text (problem_of fault.now)) f.new }
+    ensures { WritesOnOk W.write_str_gives f.old result
+        (wrapper_text (problem_of fault.now)) f.new }
 {
     match fault {
         EvalAltResult::ErrorInFunctionCall(function, source, inner, _) => {

@@ -32,7 +32,8 @@ impl<H: Host> Run<H> {
             ((host : H) → Stepped H.law context.entry.program.now context.entry.engine.now
             frame.old (answered self.old truth) (begun_one steps.old)
             (Ok Progress.Continues) frame.new self.new steps.new host host) }
-        ensures undone { OnFalse result (Unchanged frame.old self.old steps.old frame.new self.new steps.new) }
+        ensures undone { OnFalse result
+            (Unchanged frame.old self.old steps.old frame.new self.new steps.new) }
     {
         let address = frame.address;
         let depth = self.stacks.height() - 1;
@@ -73,7 +74,8 @@ impl<H: Host> Run<H> {
             (cond (nat_lt target next) (target ∷ next ∷ []) (next ∷ target ∷ []))
             (length (answered self.old truth).stacks.operands - 1 + 0) (Ok Progress.Continues)
             frame.new self.new steps.new host host) }
-        ensures undone { OnFalse result (Unchanged frame.old self.old steps.old frame.new self.new steps.new) }
+        ensures undone { OnFalse result
+            (Unchanged frame.old self.old steps.old frame.new self.new steps.new) }
     {
         let target = target as usize;
         if !agrees(wanted, truth) {

@@ -40,7 +40,8 @@ impl<H: Host> Run<H> {
             ((host : H) → Performs H.law context.entry.program.now context.entry.engine.now
             frame.old self.old steps.old (op.LoadConst constant) next (Ok Progress.Continues)
             frame.new self.new steps.new host host) }
-        ensures undone { OnFalse result (Unchanged frame.old self.old steps.old frame.new self.new steps.new) }
+        ensures undone { OnFalse result
+            (Unchanged frame.old self.old steps.old frame.new self.new steps.new) }
     {
         match context.program.constant(u32::from(constant)) {
             Dynamic::Int(integer) => {
@@ -70,7 +71,8 @@ impl<H: Host> Run<H> {
             ((host : H) → Performs H.law context.entry.program.now context.entry.engine.now
             frame.old self.old steps.old (op.LoadLocal slot) next (Ok Progress.Continues) frame.new
             self.new steps.new host host) }
-        ensures undone { OnFalse result (Unchanged frame.old self.old steps.old frame.new self.new steps.new) }
+        ensures undone { OnFalse result
+            (Unchanged frame.old self.old steps.old frame.new self.new steps.new) }
     {
         let _context = context;
         let index = self.slot_index(frame, slot);
@@ -109,7 +111,8 @@ impl<H: Host> Run<H> {
             ((host : H) → Performs H.law context.entry.program.now context.entry.engine.now
             frame.old self.old steps.old (op.AssignLocalOp slot name assign_op) next
             (Ok Progress.Continues) frame.new self.new steps.new host host) }
-        ensures undone { OnFalse result (Unchanged frame.old self.old steps.old frame.new self.new steps.new) }
+        ensures undone { OnFalse result
+            (Unchanged frame.old self.old steps.old frame.new self.new steps.new) }
     {
         let _name = name;
         let index = self.slot_index(frame, slot);
@@ -156,7 +159,8 @@ impl<H: Host> Run<H> {
             ((host : H) → PerformsOn H.law context.entry.program.now context.entry.engine.now
             frame.old self.old steps.old (op.CallOp name count token) (frame.old.address + width)
             frame.new self.new steps.new host) }
-        ensures undone { OnFalse result (Unchanged frame.old self.old steps.old frame.new self.new steps.new) }
+        ensures undone { OnFalse result
+            (Unchanged frame.old self.old steps.old frame.new self.new steps.new) }
     {
         let _name = name;
         match self.quick_operation(context, token, count) {
@@ -211,7 +215,8 @@ impl<H: Host> Run<H> {
             ((host : H) → Performs H.law context.entry.program.now context.entry.engine.now
             frame.old self.old steps.old (op.Jump target) next (Ok Progress.Continues) frame.new
             self.new steps.new host host) }
-        ensures undone { OnFalse result (Unchanged frame.old self.old steps.old frame.new self.new steps.new) }
+        ensures undone { OnFalse result
+            (Unchanged frame.old self.old steps.old frame.new self.new steps.new) }
     {
         let _next = next;
         let target = target as usize;
@@ -243,7 +248,8 @@ impl<H: Host> Run<H> {
             (cond (nat_lt target next) (target ∷ next ∷ []) (next ∷ target ∷ []))
             (length self.old.stacks.operands - 1 + 0) (Ok Progress.Continues) frame.new self.new
             steps.new host host) }
-        ensures undone { OnFalse result (Unchanged frame.old self.old steps.old frame.new self.new steps.new) }
+        ensures undone { OnFalse result
+            (Unchanged frame.old self.old steps.old frame.new self.new steps.new) }
     {
         let target = target as usize;
         match self.stacks.top().value.as_bool() {

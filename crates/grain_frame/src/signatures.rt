@@ -90,7 +90,8 @@ fn unwritable_property(
     property: &str,
     values: &Array,
 ) -> Result<Text, OutOfMemory>
-    ensures { IfOk result (λ text. text ≡ unwritable_property property.now (map value_of values.now)) }
+    ensures { IfOk result
+        (λ text. text ≡ unwritable_property property.now (map value_of values.now)) }
 {
     let mut text = Text::copy_of(alloc, "No writable property '")?;
     text.push_str(property)?;

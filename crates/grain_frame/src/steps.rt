@@ -31,8 +31,8 @@ impl<L: Ledger> Model for Steps<L> {
           s.passed.amount;
     } };
 
-    ghost invariant = { λ s. (1 < s.begun_before.parts) × (0 < s.begun.parts) × (1 < s.passed_before.parts) ×
-        (0 < s.passed.parts) };
+    ghost invariant = { λ s. (1 < s.begun_before.parts) × (0 < s.begun.parts) ×
+        (1 < s.passed_before.parts) × (0 < s.passed.parts) };
 }
 
 impl<L: Ledger> Steps<L> {

@@ -4,7 +4,8 @@ use Rattle.grain_fault.specs.Problems.{FaultKind, Parsing, VariableExists, Forbi
 
 -- whether only the machine itself may raise a fault of the kind: a limit of the run is reached, the
 -- run was terminated, a declaration or a use of `this` is refused, a result is not of the type that
--- the embedder asked for, the program is malformed, or it is how control leaves a loop or a function
+-- the embedder asked for, the program is malformed, or it is how control leaves a loop or a
+-- function
 abbrev pub kept_back : FaultKind → Bool
 kept_back (Parsing t) = false
 kept_back (VariableExists s) = true

@@ -1,5 +1,5 @@
--- What the contracts of this crate cite: the faults of hosts, the law of hosts, what an answer is by
--- that law, the tables of the host in memory, and that it is lawful.
+-- What the contracts of this crate cite: the faults of hosts, the law of hosts, what an answer is
+-- by that law, the tables of the host in memory, and that it is lawful.
 pub mod Faults
 pub mod Law
 pub mod Answers

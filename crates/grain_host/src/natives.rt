@@ -199,7 +199,8 @@ fn push(alloc: Global, args: &mut Args) -> Result<HostAnswer, OutOfMemory>
 
 // An array and a value: the array is dropped with the other arguments.
 fn push_values(alloc: Global, values: &Array) -> Result<HostAnswer, OutOfMemory>
-    ensures { IfOk result (λ a. reply_of a ≡ Some (push_reply (first_of_two (map value_of values.now)))) }
+    ensures { IfOk result
+        (λ a. reply_of a ≡ Some (push_reply (first_of_two (map value_of values.now)))) }
 {
     match first_of_two(values) {
         Some(Dynamic::Array(_)) => Ok(HostAnswer::Done(Dynamic::Unit)),
@@ -223,7 +224,9 @@ fn push_onto(alloc: Global, target: &mut Dynamic, values: &Array) -> Result<Host
     ensures reply { let given = first_of_two (target.old ∷ map value_of values.now) in
         IfOk result (λ a. reply_of a ≡ Some (push_reply given)) }
     ensures target { target.new
-        ≡ (if is_ok result then pushed target.old (sole (map value_of values.now)) else target.old) }
+        ≡ (if is_ok result
+        then pushed target.old (sole (map value_of values.now))
+        else target.old) }
 {
     match sole(values) {
         None => unknown(alloc),

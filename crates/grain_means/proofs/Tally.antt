@@ -737,8 +737,8 @@ module _ {S : Type 0} (m : Setup S) where
       even_unwound : (target : ℕ) → Sits m k (stepped f behind_it f.operands) → k.base ≤ target →
           Unwinds target o f → Even (now.ran + 1) (unwind m target behind_it f start)
       even_unwound target u le unwinds =
-          let x = Plain (problem.Malformed (kind.UnwindPastScope target (length now.scope))) (position m f)
-          in
+          let unwinding = problem.Malformed (kind.UnwindPastScope target (length now.scope)) in
+          let x = Plain unwinding (position m f) in
           by_test (Even (now.ran + 1)) (nat_lt (length now.scope) target) _ _
           (λ past. even_raised (now.ran + 1) x start steady
           (why x refl (refl, ltb-true (length now.scope) target past, unwinds)))

@@ -208,8 +208,8 @@ FindsNone {S = S} m k at = (q : Question S)
     × AsksNative m q at × (native_asked m q ≡ None)
 
 -- it asks for this native, which is there
-pub record FindsNative {S : Type 0} (m : Setup S) (name : List ℕ) (n : Native) (at : ProgramPoint S) :
-    Type 0 where
+pub record FindsNative {S : Type 0} (m : Setup S) (name : List ℕ) (n : Native)
+    (at : ProgramPoint S) : Type 0 where
   pub question : Question S
   pub named : name ≡ question.name
   pub asks : AsksNative m question at
@@ -244,8 +244,8 @@ CallsOn program g args o f = ⊥
 
 -- the instruction at the point calls this function; its run comes to the function's body, on its
 -- arguments and one level up, and of the run of the body this holds
-pub record Enters {S : Type 0} (m : Setup S) (g : Function) (Runs : Act S → Type 0) (at : ProgramPoint S) :
-    Type 0 where
+pub record Enters {S : Type 0} (m : Setup S) (g : Function) (Runs : Act S → Type 0)
+    (at : ProgramPoint S) : Type 0 where
   pub arguments : List Held
   pub calls : CallsOn m.program g arguments at.instruction at.frame
   pub inside : World S

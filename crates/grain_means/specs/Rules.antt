@@ -242,7 +242,8 @@ module _ {S : Type 0} (m : Setup S) where
   abbrev pub native_called : Native → List ℕ → Option Receiver → List Held → Frame → World S →
       (Dynamic → World S → Act S) → (Problem → World S → Act S) → Act S
   native_called n name r args f w go fails =
-      if n.writes && first_is_read_only (given r args) then fails (Plain (NonPureCall name) (position f)) w
+      if n.writes && first_is_read_only (given r args)
+      then fails (Plain (NonPureCall name) (position f)) w
       else host_called n.key r args f w go fails
 
   abbrev pub native_found : Option Native → List ℕ → Option Receiver → List Held → Frame →
@@ -265,7 +266,8 @@ module _ {S : Type 0} (m : Setup S) where
   -- one entry more, which can only be read where the flag says so
   abbrev pub declare : Bool → List ℕ → ℕ → Frame → World S → Act S
   declare read_only name next f w =
-      if is_full m.engine.limits.variables w.scope then raised f (Plain TooManyVariables (position f)) w
+      if is_full m.engine.limits.variables w.scope
+      then raised f (Plain TooManyVariables (position f)) w
       else
       flattened (top f.operands) name f w
       (λ v. marked f w (λ w1. onward f (stepped f next (below f.operands)) (record w1 {
@@ -326,7 +328,8 @@ module _ {S : Type 0} (m : Setup S) where
   store_outcome (Gave v) a h slot next f w = write_entry h.read_only slot h v next f w
   store_outcome (ArithmeticFault text) a h slot next f w =
       raised f (Plain (Arithmetic text) (position f)) w
-  store_outcome (TooLarge what) a h slot next f w = raised f (Plain (DataTooLarge what) (position f)) w
+  store_outcome (TooLarge what) a h slot next f w =
+      raised f (Plain (DataTooLarge what) (position f)) w
 
   abbrev pub assign_op : AssignOp → ℕ → ℕ → ℕ → Frame → World S → Act S
   assign_op a slot n next f w =
@@ -375,7 +378,8 @@ module _ {S : Type 0} (m : Setup S) where
   abbrev pub unwind : ℕ → ℕ → Frame → World S → Act S
   unwind n next f w =
       if nat_lt (length w.scope) n
-      then raised f (Plain (Malformed (kind.UnwindPastScope n (length w.scope))) (position f)) w else
+      then raised f (Plain (Malformed (kind.UnwindPastScope n (length w.scope))) (position f)) w
+      else
       onward f (stepped f next f.operands) (record w { scope = take n w.scope })
 
   -- A fault that left the body of a function: one that a script may catch says which function it
@@ -398,7 +402,8 @@ module _ {S : Type 0} (m : Setup S) where
   -- its body on a scope of its own, one level up; afterwards the caller's scope and level are back.
   abbrev pub function_entered : Function → List Held → Frame → ℕ → World S → Act S
   function_entered g args f next w =
-      if nat_le m.engine.limits.levels w.level then raised f (Plain StackOverflow (position f)) w else
+      if nat_le m.engine.limits.levels w.level
+      then raised f (Plain StackOverflow (position f)) w else
       if nat_lt m.engine.limits.variables (length g.params)
       then raised f (Plain TooManyVariables (position f)) w else
       marked f w (λ w1. Then (Go (InFrame (frame_at g.chunk 0 None)) (record w1 {

@@ -1,6 +1,6 @@
 -- How code is joined to the meaning: a stretch of code simulates a part of a run. An end that the
--- run has from behind the part is then an end that it has from before it, and the same of a run that
--- is stopped at a later mark.
+-- run has from behind the part is then an end that it has from before it, and the same of a run
+-- that is stopped at a later mark.
 use Rattle.std.specs.Prelude.{◌≡◌, ◌<◌, ◌≤◌, ℕ, List, [], Option, Some, None, Bool, true, false, slice_get, slice_set}
 use Rattle.grain_value.specs.declared.values.Held.{Held}
 use Rattle.grain_value.specs.declared.scopes.Entry.{Entry}

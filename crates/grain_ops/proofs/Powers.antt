@@ -54,7 +54,8 @@ pub of_minus_one_odd : (x : ℤ) (e : ℕ) → x ≡ negsuc 0 → (e % 2 == 0) �
 of_minus_one_odd x e is odd = rw (is, odd, one_power e) (refl, refl)
 
 -- what a comparison of the bits says
-pub is_number : (x : ℤ) (n : ℕ) → FitsSigned w64 x → n < 2 ^ 63 → cast_unsigned w64 x ≡ n → x ≡ pos n
+pub is_number : (x : ℤ) (n : ℕ) → FitsSigned w64 x → n < 2 ^ 63 → cast_unsigned w64 x ≡ n →
+    x ≡ pos n
 is_number (pos a) n fits small is = ap pos is
 is_number (negsuc a) n fits small is =
     let none : ⊥ = omega (arith, fits.sfits, small, is) in absurd none

@@ -1,5 +1,5 @@
--- Calculations on two integers: when there is a result that fits 64 bits, which one, and the text of
--- the fault where there is none.
+-- Calculations on two integers: when there is a result that fits 64 bits, which one, and the text
+-- of the fault where there is none.
 use Rattle.std.specs.Prelude.{ℤ, pos, negsuc, ◌^◌, ◌+ℤ◌, ◌-ℤ◌, ◌*ℤ◌, neg_ℤ, int_lt, int_div, int_rem, unsigned_abs, ℕ, Bool, not, List, ◌++◌, codes, ◌&&◌, if◌then◌else◌}
 use Rattle.std.specs.Int.{int_pow, is_negative}
 use Rattle.std.specs.Ordering.{int_eq}
@@ -67,7 +67,8 @@ fault_text c x y = lead c y ++ signed_decimal x ++ sign_between c ++ signed_deci
 
 abbrev pub calculated : Calculation → ℤ → ℤ → Outcome
 calculated c x y =
-    if has_result c x y then Gave (dynamic.Int (exact c x y)) else ArithmeticFault (fault_text c x y)
+    if has_result c x y then Gave (dynamic.Int (exact c x y))
+    else ArithmeticFault (fault_text c x y)
 
 -- the negation
 abbrev pub negated : ℤ → Outcome

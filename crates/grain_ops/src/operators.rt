@@ -78,8 +78,8 @@ pub fn assign(
     }
 }
 
-// An op-assignment to a text: `+` puts a text or a character at its end, and no other operator gives
-// a text.
+// An op-assignment to a text: `+` puts a text or a character at its end, and no other operator
+// gives a text.
 fn assign_text(
     alloc: Global,
     operator: Token,

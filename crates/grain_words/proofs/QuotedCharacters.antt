@@ -31,8 +31,9 @@ written : (c : ℕ) (a q b n r t : Bool) →
     encode_utf8_all (39 ∷ (cond a (92 ∷ 39 ∷ []) (cond q (92 ∷ 34 ∷ []) (cond b (92 ∷ 92 ∷ [])
     (cond n (92 ∷ 110 ∷ []) (cond r (92 ∷ 114 ∷ []) (cond t (92 ∷ 116 ∷ []) (c ∷ []))))))
     ++ 39 ∷ [])) ≡
-    39 ∷ (cond a (92 ∷ 39 ∷ []) (cond q (92 ∷ 34 ∷ []) (cond b (92 ∷ 92 ∷ []) (cond n (92 ∷ 110 ∷ [])
-    (cond r (92 ∷ 114 ∷ []) (cond t (92 ∷ 116 ∷ []) (encode_utf8 c)))))) ++ 39 ∷ [])
+    39 ∷ (cond a (92 ∷ 39 ∷ []) (cond q (92 ∷ 34 ∷ []) (cond b (92 ∷ 92 ∷ [])
+    (cond n (92 ∷ 110 ∷ []) (cond r (92 ∷ 114 ∷ []) (cond t (92 ∷ 116 ∷ []) (encode_utf8 c))))))
+    ++ 39 ∷ [])
 unfolding encode_utf8
 written c true q b n r t = refl
 written c false true b n r t = refl

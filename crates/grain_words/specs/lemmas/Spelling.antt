@@ -21,5 +21,6 @@ pub one_ascii : (c : ℕ) (cs bytes : List ℕ) → c < 128 → Spells cs bytes 
 one_ascii c cs bytes low s =
     let e : encode_utf8 c ++ bytes ≡ c ∷ bytes = ap (λ l. l ++ bytes) (encode_ascii c low) in
     let u : IsUtf8 (c ∷ bytes) =
-    subst IsUtf8 e (IsUtf8-append (encode_utf8 c) bytes (IsUtf8-encode c (low_scalar c (omega arith))) s.0) in
+    subst IsUtf8 e (IsUtf8-append (encode_utf8 c) bytes
+    (IsUtf8-encode c (low_scalar c (omega arith))) s.0) in
     (u, chars_past_char (c ∷ bytes) bytes c u (sym e) ∙ ap (λ l. c ∷ l) s.1)

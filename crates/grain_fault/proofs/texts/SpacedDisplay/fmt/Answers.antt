@@ -8,14 +8,18 @@ use Rattle.grain_fault.proofs.Spaced.{token_written, blank_before_next}
 use Rattle.grain_fault.proofs.texts.SpacedDisplay.fmt.Goals as goal
 
 pub loop-index-init : goal.loop-index-init
-loop-index-init g c = (([], (refl, refl)), refl, λ plain. record {
-  wrote = record {
-    parts = [];
-    calls = refl;
-    whole = refl;
-  };
-  plain = plain;
-})
+loop-index-init g c = (
+  ([], (refl, refl)),
+  refl,
+  λ plain. record {
+    wrote = record {
+      parts = [];
+      calls = refl;
+      whole = refl;
+    };
+    plain = plain;
+  },
+)
 
 pub loop-index-preserved : goal.loop-index-preserved
 unfolding lib.Utf8.encode
@@ -34,6 +38,7 @@ returns-clause-writes g c = λ plain ok.
     let ts : List Tree = c.args.self.now.0.now in
     let written = c.loop-index.invariant.2 plain in
     let all : take c.loop-index.index ts ≡ ts =
-    take_all c.loop-index.index ts (omega (arith, c.loop-index-test.false, c.len-index-end.ensures.value)) in
+    take_all c.loop-index.index ts
+    (omega (arith, c.loop-index-test.false, c.len-index-end.ensures.value)) in
     subst (λ us. HasWritten g.W.Write.write_str_gives c.args.f.now (spaced [] us) c.loop-index.f)
     all written
