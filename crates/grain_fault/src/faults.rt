@@ -1,6 +1,8 @@
 //! Faults: their kinds, classes, positions and texts.
 
-ghost use Rattle.std.specs.Prelude.{◌≡◌, IfOk};
+ghost use Rattle.std.specs.Prelude.{◌≡◌, Some, None, IfOk, IfErr};
+ghost use Rattle.grain_fault.specs.Exits.{exit_value};
+ghost use Rattle.grain_fault.specs.OperatorTexts.{operator_text};
 ghost use Rattle.grain_fault.specs.Places.{nowhere};
 ghost use Rattle.grain_fault.specs.Problems.{Plain, Runtime, problem_of};
 ghost use Rattle.grain_value.specs.declared.values.Dynamic.TheVariants as dynamic;
@@ -36,7 +38,6 @@ pub enum MalformedKind {
 }
 
 /// Why a run ended without a value.
-#[derive(Drop)]
 pub enum EvalAltResult {
     /// A failure of the host's own: what it is about, empty if it is about nothing, and the reason.
     ErrorSystem(Text, Text),
@@ -117,6 +118,54 @@ pub enum EvalAltResult {
     Memory,
 }
 
+/// Drops a fault and what it wraps, one after the other: how deep the wrappers are nested takes no
+/// room on the stack.
+impl Drop for EvalAltResult {
+    fn drop(mut self) {
+        loop {
+            match self {
+                EvalAltResult::ErrorInFunctionCall(_, _, inner, _) => self = Box::into_inner(inner),
+                EvalAltResult::ErrorInModule(_, inner, _) => self = Box::into_inner(inner),
+                EvalAltResult::ErrorSystem(_, _)
+                | EvalAltResult::ErrorParsing(_, _)
+                | EvalAltResult::ErrorVariableExists(_, _)
+                | EvalAltResult::ErrorForbiddenVariable(_, _)
+                | EvalAltResult::ErrorVariableNotFound(_, _)
+                | EvalAltResult::ErrorPropertyNotFound(_, _)
+                | EvalAltResult::ErrorIndexNotFound(_, _)
+                | EvalAltResult::ErrorFunctionNotFound(_, _)
+                | EvalAltResult::ErrorModuleNotFound(_, _)
+                | EvalAltResult::ErrorUnboundThis(_)
+                | EvalAltResult::ErrorMismatchDataType(_, _, _)
+                | EvalAltResult::ErrorMismatchOutputType(_, _, _)
+                | EvalAltResult::ErrorIndexingType(_, _)
+                | EvalAltResult::ErrorArrayBounds(_, _, _)
+                | EvalAltResult::ErrorStringBounds(_, _, _)
+                | EvalAltResult::ErrorBitFieldBounds(_, _, _)
+                | EvalAltResult::ErrorFor(_)
+                | EvalAltResult::ErrorDataRace(_, _)
+                | EvalAltResult::ErrorNonPureMethodCallOnConstant(_, _)
+                | EvalAltResult::ErrorAssignmentToConstant(_, _)
+                | EvalAltResult::ErrorDotExpr(_, _)
+                | EvalAltResult::ErrorArithmetic(_, _)
+                | EvalAltResult::ErrorTooManyOperations(_)
+                | EvalAltResult::ErrorTooManyVariables(_)
+                | EvalAltResult::ErrorTooManyModules(_)
+                | EvalAltResult::ErrorStackOverflow(_)
+                | EvalAltResult::ErrorDataTooLarge(_, _)
+                | EvalAltResult::ErrorTerminated(_, _)
+                | EvalAltResult::ErrorCustomSyntax(_, _, _)
+                | EvalAltResult::ErrorRuntime(_, _)
+                | EvalAltResult::LoopBreak(_, _, _)
+                | EvalAltResult::Return(_, _)
+                | EvalAltResult::Exit(_, _)
+                | EvalAltResult::Malformed(_, _)
+                | EvalAltResult::Memory => return,
+            }
+        }
+    }
+}
+
 impl EvalAltResult {
     /// The fault of a script that throws this text, without a position.
     pub fn from_text(alloc: Global, s: &str) -> Result<EvalAltResult, OutOfMemory>
@@ -124,5 +173,29 @@ impl EvalAltResult {
     {
         let text = Text::copy_of(alloc, s)?;
         Ok(EvalAltResult::ErrorRuntime(Dynamic::Text(text), Position::NONE))
+    }
+
+    /// The value of an exit, or else the fault as it is.
+    pub fn into_exit_value(self) -> Result<Dynamic, EvalAltResult>
+        ensures exit { IfOk result (λ v. exit_value (problem_of self) ≡ Some v) }
+        ensures same { IfErr result (λ f. f ≡ self) }
+        ensures none { IfErr result (λ _. exit_value (problem_of self) ≡ None) }
+    {
+        match self {
+            EvalAltResult::Exit(value, _) => Ok(value),
+            fault => Err(fault),
+        }
+    }
+
+    /// The text of a fault that operators raise: why `ErrorArithmetic` has no result, or what is
+    /// too large for `ErrorDataTooLarge`. Others give none.
+    pub fn into_operator_text(self) -> Option<Text>
+        ensures { result ≡ operator_text (problem_of self) }
+    {
+        match self {
+            EvalAltResult::ErrorArithmetic(text, _) => Some(text),
+            EvalAltResult::ErrorDataTooLarge(text, _) => Some(text),
+            _ => None,
+        }
     }
 }
