@@ -6,7 +6,7 @@ pub mod Problems
 pub mod Table
 pub mod Classes
 pub mod Exits
-pub mod OperatorTexts
+pub mod OperatorFaults
 pub mod Positions
 pub mod Texts
 pub mod Fields

@@ -11,6 +11,6 @@ mod tests;
 mod texts;
 mod traces;
 
-pub use faults::{EvalAltResult, MalformedKind, RhaiResult, RhaiResultOf};
+pub use faults::{EvalAltResult, MalformedKind, OperatorFault, RhaiResult, RhaiResultOf};
 pub use places::Position;
 pub use traces::{Fault, Faults};

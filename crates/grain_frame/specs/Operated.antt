@@ -1,17 +1,13 @@
 -- What the built-in operators give, as the frame goes on with it.
-use Rattle.std.specs.Prelude.{◌≡◌, ℕ, List, Option, Some, None, Result, Ok, Err}
+use Rattle.std.specs.Prelude.{◌≡◌, ℕ, List, Result, Ok, Err}
 use Rattle.grain_value.specs.declared.values.Dynamic.{Dynamic}
 use Rattle.grain_value.specs.declared.memory.OutOfMemory.{OutOfMemory}
 use Rattle.grain_value.specs.declared.values.Held.{Held}
 use Rattle.grain_value.specs.declared.scopes.Entry.{Entry}
 use Rattle.grain_value.specs.Scopes.{set_held}
-use Rattle.grain_fault.specs.declared.faults.EvalAltResult.{EvalAltResult}
-use Rattle.grain_fault.specs.declared.faults.EvalAltResult.TheVariants as fault
 use Rattle.grain_ops.specs.Outcomes.{Outcome, NotBuiltIn, Gave, ArithmeticFault, TooLarge}
 use Rattle.grain_frame.specs.declared.operated.Operated.{Operated}
 use Rattle.grain_frame.specs.declared.operated.Operated.TheVariants as operated
-use Rattle.grain_frame.specs.declared.operated.Failure.{Failure}
-use Rattle.grain_frame.specs.declared.operated.Failure.TheVariants as failure
 use Rattle.grain_frame.specs.declared.operated.OpAssigned.{OpAssigned}
 use Rattle.grain_frame.specs.declared.operated.OpAssigned.TheVariants as assigned
 
@@ -41,9 +37,3 @@ AssignedEntry (Ok (assigned.Arithmetic text)) o before after i h =
 AssignedEntry (Ok (assigned.TooLarge what)) o before after i h =
     (o ≡ TooLarge what) × (after ≡ before)
 AssignedEntry (Err e) o before after i h = after ≡ before
-
--- an operator's fault is of this outcome; none is named where memory was out
-abbrev pub IsFailure : EvalAltResult → Option Failure → Type 0
-IsFailure (fault.ErrorArithmetic s p) r = r ≡ Some (failure.Arithmetic s)
-IsFailure (fault.ErrorDataTooLarge s p) r = r ≡ Some (failure.TooLarge s)
-IsFailure x r = r ≡ None

@@ -18,7 +18,7 @@ use crate::activations::Activation;
 use crate::contexts::Context;
 use crate::runs::{FrameEnd, Progress, Run};
 use crate::steps::Steps;
-use grain_fault::{EvalAltResult, Fault, RhaiResult};
+use grain_fault::{Fault, RhaiResult};
 use grain_host::Host;
 use grain_program::{Chunk, Op};
 use grain_value::{Dynamic, OutOfMemory};
@@ -462,12 +462,16 @@ impl<H: Host> Run<H> {
         match back {
             Ok(done) => {
                 steps.mark();
-                match done {
-                    Err(EvalAltResult::Exit(value, _)) => {
+                let fault = match done {
+                    Ok(value) => return Ok(Ok(value)),
+                    Err(fault) => fault,
+                };
+                match fault.into_exit_value() {
+                    Ok(value) => {
                         self.stacks.cut_trace(0);
                         Ok(Ok(value))
                     }
-                    done => Ok(done),
+                    Err(fault) => Ok(Err(fault)),
                 }
             }
             Err(e) => Err(e),

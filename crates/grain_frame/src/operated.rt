@@ -9,9 +9,9 @@ ghost use Rattle.grain_value.specs.declared.values.Dynamic.{Dynamic};
 ghost use Rattle.grain_ops.specs.Outcomes.{Outcome, Gave};
 ghost use Rattle.grain_ops.specs.Operators.{operation, assignment};
 ghost use Rattle.grain_ops.specs.Answers.{Answers, Assigns};
-ghost use Rattle.grain_frame.specs.Operated.{outcome_of, Assigned, AssignedEntry, IsFailure};
+ghost use Rattle.grain_frame.specs.Operated.{outcome_of, Assigned, AssignedEntry};
 
-use grain_fault::EvalAltResult;
+use grain_fault::OperatorFault;
 use grain_global::Engine;
 use grain_ops::{AssignAnswer, OpAnswer, assign, binary, unary};
 use grain_value::{Dynamic, Held, OutOfMemory, Scope, Text, Token};
@@ -43,13 +43,6 @@ pub enum OpAssigned {
     TooLarge(Text),
 }
 
-/// Why an operator fails, where memory is not out.
-#[derive(Drop)]
-enum Failure {
-    Arithmetic(Text),
-    TooLarge(Text),
-}
-
 /// What an operator gives for these arguments.
 pub fn operate(
     alloc: Global,
@@ -73,9 +66,9 @@ fn operated_from(answer: OpAnswer) -> Result<Operated, OutOfMemory>
     match answer {
         OpAnswer::NotBuiltIn => Ok(Operated::NotBuiltIn),
         OpAnswer::Done(value) => Ok(Operated::Value(value)),
-        OpAnswer::Failed(fault) => match failure_of(fault) {
-            Some(Failure::Arithmetic(text)) => Ok(Operated::Arithmetic(text)),
-            Some(Failure::TooLarge(what)) => Ok(Operated::TooLarge(what)),
+        OpAnswer::Failed(fault) => match fault.into_operator_fault() {
+            Some(OperatorFault::Arithmetic(text)) => Ok(Operated::Arithmetic(text)),
+            Some(OperatorFault::DataTooLarge(what)) => Ok(Operated::TooLarge(what)),
             None => Err(OutOfMemory),
         },
     }
@@ -96,9 +89,9 @@ pub fn op_assigned(
     match assign(alloc, token, target, value, &engine.limits) {
         AssignAnswer::NotBuiltIn => Ok(OpAssigned::NotBuiltIn),
         AssignAnswer::Done => Ok(OpAssigned::Done),
-        AssignAnswer::Failed(fault) => match failure_of(fault) {
-            Some(Failure::Arithmetic(text)) => Ok(OpAssigned::Arithmetic(text)),
-            Some(Failure::TooLarge(what)) => Ok(OpAssigned::TooLarge(what)),
+        AssignAnswer::Failed(fault) => match fault.into_operator_fault() {
+            Some(OperatorFault::Arithmetic(text)) => Ok(OpAssigned::Arithmetic(text)),
+            Some(OperatorFault::DataTooLarge(what)) => Ok(OpAssigned::TooLarge(what)),
             None => Err(OutOfMemory),
         },
     }
@@ -125,18 +118,6 @@ pub fn assign_entry(
     match scope.get_mut(index) {
         Some(held) => op_assigned(alloc, engine, token, &mut held.value, value),
         None => unreachable!(),
-    }
-}
-
-// Why an operator failed, or none if memory was out.
-#[cold]
-fn failure_of(fault: EvalAltResult) -> Option<Failure>
-    ensures { IsFailure fault result }
-{
-    match fault {
-        EvalAltResult::ErrorArithmetic(text, _) => Some(Failure::Arithmetic(text)),
-        EvalAltResult::ErrorDataTooLarge(what, _) => Some(Failure::TooLarge(what)),
-        _ => None,
     }
 }
 
