@@ -9,5 +9,6 @@ pub mod Exits
 pub mod OperatorFaults
 pub mod Positions
 pub mod Texts
+pub mod Chains
 pub mod Fields
 pub mod FieldsView

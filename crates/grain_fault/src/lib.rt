@@ -1,6 +1,9 @@
 //! Faults: what ends a run without a value, where it was raised, and how it is printed.
 #![tactic(auto)]
 
+#[cfg(test)]
+mod chain_tests;
+mod chains;
 mod classes;
 mod faults;
 mod fields;

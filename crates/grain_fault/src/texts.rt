@@ -6,6 +6,7 @@ ghost use Rattle.grain_fault.specs.Problems.{problem_of};
 ghost use Rattle.grain_fault.specs.Table.{mismatch_text, size_text, after_unless_empty, spaced, kind_text, non_pure_text, thrown_value_text};
 ghost use Rattle.grain_fault.specs.Texts.{fault_name, fault_text, message, wrapper_text, line_and_column_text, location_text, call_text, origin_text, module_text};
 
+use crate::chains::{Unwrapped, unwrap_all};
 use crate::faults::{EvalAltResult, MalformedKind};
 use crate::places::Position;
 use grain_value::{Array, Dynamic, OutOfMemory, Text};
@@ -64,11 +65,18 @@ impl EvalAltResult {
         ensures { out.new
             ≡ (if is_ok result then out.old ++ fault_text (problem_of self.now) else out.old) }
     {
-        out.push_display(self)
+        let (wrappers, innermost) = unwrap_all(out.allocator(), self)?;
+        let unwrapped = Unwrapped {
+            innermost,
+            wrappers: &wrappers,
+            position: self.position(),
+        };
+        out.push_display(&unwrapped)
     }
 }
 
-/// What happened, and where: `Too many operations (line 2, position 7)`.
+/// What happened, and where: `Too many operations (line 2, position 7)`. Printing takes no memory,
+/// but a call within a call for each wrapper; `write_text` is for faults with very many of them.
 impl fmt::Display for EvalAltResult {
     ghost output = { λ f. Some (fault_text (problem_of f)) };
 
@@ -109,7 +117,10 @@ impl fmt::Display for MalformedKind {
 
 /// Writes what happened, without where: of a fault that left a call or a module, first what
 /// happened inside, and where.
-fn write_message<W: fmt::Write>(fault: &EvalAltResult, f: &mut fmt::Formatter<W>) -> fmt::Result
+pub(crate) fn write_message<W: fmt::Write>(
+    fault: &EvalAltResult,
+    f: &mut fmt::Formatter<W>,
+) -> fmt::Result
     ensures { WritesOnOk W.write_str_gives f.old result (message (problem_of fault.now)) f.new }
 {
     match fault {
@@ -234,7 +245,10 @@ fn write_message<W: fmt::Write>(fault: &EvalAltResult, f: &mut fmt::Formatter<W>
 
 /// Writes what a wrapper adds to the text of the fault that it wraps: where that happened, and what
 /// it left.
-fn write_wrapper<W: fmt::Write>(fault: &EvalAltResult, f: &mut fmt::Formatter<W>) -> fmt::Result
+pub(crate) fn write_wrapper<W: fmt::Write>(
+    fault: &EvalAltResult,
+    f: &mut fmt::Formatter<W>,
+) -> fmt::Result
     ensures { WritesOnOk W.write_str_gives f.old result
         (wrapper_text (problem_of fault.now)) f.new }
 {
@@ -456,9 +470,9 @@ impl fmt::Display for Callee<'_> {
 
 /// Where something happened: the source of the call, empty outside of all calls, and the position.
 #[derive(Drop)]
-struct Location<'a> {
-    source: &'a str,
-    position: Position,
+pub(crate) struct Location<'a> {
+    pub(crate) source: &'a str,
+    pub(crate) position: Position,
 }
 
 impl fmt::Display for Location<'_> {
