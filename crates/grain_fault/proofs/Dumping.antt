@@ -1,5 +1,5 @@
 -- Two fields, after the name of the variant.
-use Rattle.std.proofs.Common.{◌≡◌, ◌∙◌, List, [], ◌∷◌, codes, take, Result, Ok, Err, sym, ap}
+use Rattle.std.proofs.Common.{◌≡◌, ◌∙◌, [], ◌∷◌, codes, take, Result, Ok, Err, sym, ap}
 use Rattle.grain_value.specs.Maps.{Entries, put_entry}
 use Rattle.grain_value.specs.View.{tree}
 use Rattle.grain_value.specs.declared.memory.OutOfMemory.{OutOfMemory}
@@ -7,7 +7,7 @@ use Rattle.grain_value.specs.declared.values.Dynamic.TheVariants as dynamic
 use Rattle.grain_fault.specs.Problems.{Problem}
 use Rattle.grain_fault.specs.Table.{Field}
 use Rattle.grain_fault.specs.Texts.{fault_name}
-use Rattle.grain_fault.specs.Fields.{Dumps, Puts, own_fields, fields_of, put_fields}
+use Rattle.grain_fault.specs.Fields.{Dumps, Puts, own_fields, put_fields}
 
 abbrev with_field : Field → Entries → Entries
 with_field f es = put_entry f.0 (tree f.1) es

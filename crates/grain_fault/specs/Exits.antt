@@ -1,7 +1,7 @@
 -- Exits: how a script ends itself.
 use Rattle.std.specs.Prelude.{Option, Some, None}
 use Rattle.grain_value.specs.declared.values.Dynamic.{Dynamic}
-use Rattle.grain_fault.specs.Problems.{FaultKind, Parsing, VariableExists, ForbiddenVariable, VariableNotFound, PropertyNotFound, IndexNotFound, FunctionNotFound, ModuleNotFound, UnboundThis, MismatchDataType, MismatchOutputType, IndexingType, ArrayBounds, StringBounds, BitFieldBounds, For, DataRace, NonPureCall, AssignmentToConstant, DotExpr, Arithmetic, TooManyOperations, TooManyVariables, TooManyModules, StackOverflow, DataTooLarge, Terminated, CustomSyntax, Runtime, LoopBreak, Return, Exit, Malformed, Problem, Plain, InFunctionCall, InModule, SystemError, NoMemory}
+use Rattle.grain_fault.specs.Problems.{FaultKind, Exit, Problem, Plain, InFunctionCall, InModule, SystemError, NoMemory}
 
 -- the value with which a kind of fault ends a script
 abbrev pub exit_of_kind : FaultKind → Option Dynamic

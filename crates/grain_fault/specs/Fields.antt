@@ -1,9 +1,8 @@
 -- The fields of faults, as a script sees them.
-use Rattle.std.specs.Prelude.{◌≡◌, ℕ, List, [], ◌∷◌, take, length, codes, Result, Ok, Err, is_ok, if◌then◌else◌}
+use Rattle.std.specs.Prelude.{◌≡◌, ℕ, List, [], ◌∷◌, take, codes, Result, Ok, Err, is_ok, if◌then◌else◌}
 use Rattle.grain_value.specs.Maps.{Entries, put_entry}
 use Rattle.grain_value.specs.View.{tree}
 use Rattle.grain_value.specs.declared.memory.OutOfMemory.{OutOfMemory}
-use Rattle.grain_value.specs.declared.values.Dynamic.{Dynamic}
 use Rattle.grain_value.specs.declared.values.Dynamic.TheVariants as dynamic
 use Rattle.grain_fault.specs.Problems.{Problem, Plain, InFunctionCall, InModule, SystemError, NoMemory}
 use Rattle.grain_fault.specs.Table.{Field, row, text_field}

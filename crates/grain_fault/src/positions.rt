@@ -135,44 +135,13 @@ impl EvalAltResult {
         ensures inner { problem_of result.now ≡ inner_fault (problem_of self.now) }
         ensures again { inner_fault (problem_of result.now) ≡ problem_of result.now }
     {
-        match self {
-            EvalAltResult::ErrorInFunctionCall(_, _, inner, _) => inner.unwrap_inner(),
-            EvalAltResult::ErrorInModule(_, inner, _) => inner.unwrap_inner(),
-            EvalAltResult::ErrorSystem(..)
-            | EvalAltResult::ErrorParsing(..)
-            | EvalAltResult::ErrorVariableExists(..)
-            | EvalAltResult::ErrorForbiddenVariable(..)
-            | EvalAltResult::ErrorVariableNotFound(..)
-            | EvalAltResult::ErrorPropertyNotFound(..)
-            | EvalAltResult::ErrorIndexNotFound(..)
-            | EvalAltResult::ErrorFunctionNotFound(..)
-            | EvalAltResult::ErrorModuleNotFound(..)
-            | EvalAltResult::ErrorUnboundThis(..)
-            | EvalAltResult::ErrorMismatchDataType(..)
-            | EvalAltResult::ErrorMismatchOutputType(..)
-            | EvalAltResult::ErrorIndexingType(..)
-            | EvalAltResult::ErrorArrayBounds(..)
-            | EvalAltResult::ErrorStringBounds(..)
-            | EvalAltResult::ErrorBitFieldBounds(..)
-            | EvalAltResult::ErrorFor(..)
-            | EvalAltResult::ErrorDataRace(..)
-            | EvalAltResult::ErrorNonPureMethodCallOnConstant(..)
-            | EvalAltResult::ErrorAssignmentToConstant(..)
-            | EvalAltResult::ErrorDotExpr(..)
-            | EvalAltResult::ErrorArithmetic(..)
-            | EvalAltResult::ErrorTooManyOperations(..)
-            | EvalAltResult::ErrorTooManyVariables(..)
-            | EvalAltResult::ErrorTooManyModules(..)
-            | EvalAltResult::ErrorStackOverflow(..)
-            | EvalAltResult::ErrorDataTooLarge(..)
-            | EvalAltResult::ErrorTerminated(..)
-            | EvalAltResult::ErrorCustomSyntax(..)
-            | EvalAltResult::ErrorRuntime(..)
-            | EvalAltResult::LoopBreak(..)
-            | EvalAltResult::Return(..)
-            | EvalAltResult::Exit(..)
-            | EvalAltResult::Malformed(..)
-            | EvalAltResult::Memory => self,
+        let mut fault = self;
+        loop {
+            match fault {
+                EvalAltResult::ErrorInFunctionCall(_, _, inner, _)
+                | EvalAltResult::ErrorInModule(_, inner, _) => fault = inner,
+                _ => return fault,
+            }
         }
     }
 }

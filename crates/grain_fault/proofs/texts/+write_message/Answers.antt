@@ -1,5 +1,5 @@
 -- An index of an array, which is told by its own text.
-use Rattle.std.proofs.Common.{◌≡◌, sym, ap}
+use Rattle.std.proofs.Common.{sym, ap}
 use Rattle.std.proofs.Output.{has_written_of_eq}
 use Rattle.grain_fault.specs.Problems.{problem_of}
 use Rattle.grain_fault.specs.Texts.{message}

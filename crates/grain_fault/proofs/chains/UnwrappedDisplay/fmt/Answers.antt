@@ -1,10 +1,9 @@
 -- The innermost fault's message, what all wrappers add, and where the outermost one is.
-use Rattle.std.proofs.Common.{◌≡◌, ◌++◌, flat_map, ap, refl, []}
-use Rattle.std.specs.Fmt.{HasWritten}
+use Rattle.std.proofs.Common.{◌++◌, flat_map, ap, refl, []}
 use Rattle.std.proofs.Output.{has_written_append, has_written_of_eq}
 use Rattle.std.proofs.lemmas.Iterator.Adapters.{YieldsList-from_rev_slice}
 use Rattle.std.proofs.lemmas.Iterator.Consumers.{YieldsList-end}
-use Rattle.grain_fault.specs.Chains.{added, added_by}
+use Rattle.grain_fault.specs.Chains.{added_by}
 use Rattle.grain_fault.specs.Problems.{problem_of}
 use Rattle.grain_fault.specs.Texts.{message, location_text}
 use Rattle.grain_fault.proofs.chains.UnwrappedDisplay.fmt.Goals as goal

@@ -1,7 +1,7 @@
 -- Two fields, after the name of the variant.
-use Rattle.std.proofs.Common.{◌≡◌, ◌∙◌, ap, rules}
+use Rattle.std.proofs.Common.{rules}
 use Rattle.grain_fault.specs.Problems.{problem_of}
-use Rattle.grain_fault.specs.FieldsView.{fields_in, field_of}
+use Rattle.grain_fault.specs.FieldsView.{field_of}
 use Rattle.grain_fault.proofs.Dumping.{two_dumped}
 use Rattle.grain_fault.proofs.faults.EvalAltResult.dump_fields.Goals as goal
 

@@ -1,5 +1,5 @@
 -- A token is written behind the ones before it.
-use Rattle.std.proofs.Common.{◌≡◌, ◌∙◌, ℕ, [], ◌∷◌, List, refl, take, length, arith, subst, ap, sym}
+use Rattle.std.proofs.Common.{◌≡◌, [], ◌∷◌, List, refl, take, arith, subst}
 use Rattle.std.specs.Fmt.{HasWritten}
 use Rattle.std.proofs.lemmas.List.{take_all}
 use Rattle.grain_value.specs.Tree.{Tree}
