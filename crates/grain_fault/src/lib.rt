@@ -2,9 +2,13 @@
 #![tactic(auto)]
 
 #[cfg(test)]
+mod catchable_tests;
+#[cfg(test)]
 mod chain_tests;
 mod chains;
 mod classes;
+#[cfg(test)]
+mod ending_tests;
 mod faults;
 mod fields;
 mod places;

@@ -1,24 +1,83 @@
-//! The texts and classes of faults, and each call that takes memory, once with enough of it.
+//! Where faults are, wrapped faults, and each call that takes memory, once with enough of it.
 
-use crate::{EvalAltResult, Fault, Faults, MalformedKind, Position};
-use grain_value::{Array, Dynamic, OutOfMemory, Text};
+use crate::{EvalAltResult, Fault, Faults, Position};
+use grain_value::{Dynamic, Map, OutOfMemory, Text};
 use std::alloc::Global;
 use std::process::Abort;
 
 const NONE: Position = Position::NONE;
 
-/// Compares a fault's name and text, and its text at line 2, column 7, and at the start of line 3.
-fn check_texts(
+/// A text with these characters.
+pub(crate) fn text(alloc: Global, s: &str) -> Result<Text, OutOfMemory> {
+    Text::copy_of(alloc, s)
+}
+
+/// Compares a fault's name, its text and its dumped fields.
+fn check_row(
+    rt: &impl Abort,
+    alloc: Global,
+    fault: &EvalAltResult,
+    [name, text, fields]: [&str; 3],
+) -> Result<(), OutOfMemory> {
+    assert_eq!(rt; fault.name(), name);
+    let mut out = Text::new(alloc);
+    fault.write_text(&mut out)?;
+    assert_eq!(rt; out.as_str(), text);
+    let mut map = Map::new(alloc);
+    fault.dump_fields(&mut map)?;
+    let mut dumped = Text::new(alloc);
+    Dynamic::Map(map).write_quoted(&mut dumped)?;
+    assert_eq!(rt; dumped.as_str(), fields);
+    Ok(())
+}
+
+/// Compares a fault that a script may catch.
+pub(crate) fn check_catchable(
+    rt: &impl Abort,
+    alloc: Global,
+    fault: &EvalAltResult,
+    row: [&str; 3],
+) -> Result<(), OutOfMemory> {
+    assert!(rt; fault.is_catchable());
+    assert!(rt; !fault.is_pseudo_error());
+    assert!(rt; !fault.is_system_exception());
+    check_row(rt, alloc, fault, row)
+}
+
+/// Compares a fault that ends the run.
+pub(crate) fn check_system(
+    rt: &impl Abort,
+    alloc: Global,
+    fault: &EvalAltResult,
+    row: [&str; 3],
+) -> Result<(), OutOfMemory> {
+    assert!(rt; fault.is_system_exception());
+    assert!(rt; !fault.is_pseudo_error());
+    assert!(rt; !fault.is_catchable());
+    check_row(rt, alloc, fault, row)
+}
+
+/// Compares what is no fault.
+pub(crate) fn check_pseudo(
+    rt: &impl Abort,
+    alloc: Global,
+    fault: &EvalAltResult,
+    row: [&str; 3],
+) -> Result<(), OutOfMemory> {
+    assert!(rt; fault.is_pseudo_error());
+    assert!(rt; !fault.is_catchable());
+    assert!(rt; !fault.is_system_exception());
+    check_row(rt, alloc, fault, row)
+}
+
+/// Compares a fault's text without a position, at line 2, column 7, and at the start of line 3.
+fn check_places(
     rt: &impl Abort,
     alloc: Global,
     fault: &mut EvalAltResult,
-    name: &str,
     [plain, placed, at_start]: [&str; 3],
 ) -> Result<(), OutOfMemory> {
-    let mut out = Text::new(alloc);
-    fault.write_text(&mut out)?;
-    assert_eq!(rt; fault.name(), name);
-    assert_eq!(rt; out.as_str(), plain);
+    assert_eq!(rt; fault.to_string(alloc)?.as_str(), plain);
     fault.set_position(Position::new(2, 7));
     assert_eq!(rt; fault.to_string(alloc)?.as_str(), placed);
     fault.set_position(Position::new(3, 0));
@@ -26,285 +85,144 @@ fn check_texts(
     Ok(())
 }
 
-fn mismatch(alloc: Global, requested: &str, actual: &str) -> Result<EvalAltResult, OutOfMemory> {
-    let requested = Text::copy_of(alloc, requested)?;
-    let actual = Text::copy_of(alloc, actual)?;
-    Ok(EvalAltResult::ErrorMismatchDataType(requested, actual, NONE))
-}
-
 #[test]
-fn function_not_found(rt: HostRuntime) -> Result<(), OutOfMemory> {
-    let function = Text::copy_of(rt.alloc(), "f (i64)")?;
+fn function_not_found_at_places(rt: HostRuntime) -> Result<(), OutOfMemory> {
+    let function = text(rt.alloc(), "f (i64)")?;
     let mut fault = EvalAltResult::ErrorFunctionNotFound(function, NONE);
     let texts = [
         "Function not found: f (i64)",
         "Function not found: f (i64) (line 2, position 7)",
         "Function not found: f (i64) (line 3)",
     ];
-    check_texts(&rt, rt.alloc(), &mut fault, "ErrorFunctionNotFound", texts)
+    check_places(&rt, rt.alloc(), &mut fault, texts)
 }
 
 #[test]
-fn assignment_to_constant(rt: HostRuntime) -> Result<(), OutOfMemory> {
-    let variable = Text::copy_of(rt.alloc(), "x")?;
-    let mut fault = EvalAltResult::ErrorAssignmentToConstant(variable, NONE);
+fn mismatch_at_places(rt: HostRuntime) -> Result<(), OutOfMemory> {
+    let requested = text(rt.alloc(), "bool")?;
+    let actual = text(rt.alloc(), "i64")?;
+    let mut fault = EvalAltResult::ErrorMismatchOutputType(requested, actual, NONE);
     let texts = [
-        "Cannot modify constant x",
-        "Cannot modify constant x (line 2, position 7)",
-        "Cannot modify constant x (line 3)",
+        "Output type incorrect: i64 (expecting bool)",
+        "Output type incorrect: i64 (expecting bool) (line 2, position 7)",
+        "Output type incorrect: i64 (expecting bool) (line 3)",
     ];
-    check_texts(
-        &rt,
-        rt.alloc(),
-        &mut fault,
-        "ErrorAssignmentToConstant",
-        texts,
-    )
+    check_places(&rt, rt.alloc(), &mut fault, texts)
 }
 
 #[test]
-fn mismatch_of_types(rt: HostRuntime) -> Result<(), OutOfMemory> {
-    let name = "ErrorMismatchDataType";
-    let mut fault = mismatch(rt.alloc(), "bool", "")?;
-    let texts = [
-        "Data type incorrect, expecting bool",
-        "Data type incorrect, expecting bool (line 2, position 7)",
-        "Data type incorrect, expecting bool (line 3)",
-    ];
-    check_texts(&rt, rt.alloc(), &mut fault, name, texts)?;
-    let mut fault = mismatch(rt.alloc(), "", "i64")?;
-    let texts = [
-        "Data type incorrect: i64",
-        "Data type incorrect: i64 (line 2, position 7)",
-        "Data type incorrect: i64 (line 3)",
-    ];
-    check_texts(&rt, rt.alloc(), &mut fault, name, texts)?;
-    let mut fault = mismatch(rt.alloc(), "bool", "i64")?;
-    let texts = [
-        "Data type incorrect: i64 (expecting bool)",
-        "Data type incorrect: i64 (expecting bool) (line 2, position 7)",
-        "Data type incorrect: i64 (expecting bool) (line 3)",
-    ];
-    check_texts(&rt, rt.alloc(), &mut fault, name, texts)
-}
-
-#[test]
-fn arithmetic_without_a_text(rt: HostRuntime) -> Result<(), OutOfMemory> {
+fn empty_arithmetic_at_places(rt: HostRuntime) -> Result<(), OutOfMemory> {
     let mut fault = EvalAltResult::ErrorArithmetic(Text::new(rt.alloc()), NONE);
     let texts = [
         "Arithmetic error",
         "Arithmetic error (line 2, position 7)",
         "Arithmetic error (line 3)",
     ];
-    check_texts(&rt, rt.alloc(), &mut fault, "ErrorArithmetic", texts)
+    check_places(&rt, rt.alloc(), &mut fault, texts)
 }
 
 #[test]
-fn arithmetic(rt: HostRuntime) -> Result<(), OutOfMemory> {
-    let reason = Text::copy_of(rt.alloc(), "Addition overflow: 1 + 2")?;
+fn array_bounds_at_places(rt: HostRuntime) -> Result<(), OutOfMemory> {
+    let mut fault = EvalAltResult::ErrorArrayBounds(1, 4, NONE);
     let texts = [
-        "Addition overflow: 1 + 2",
-        "Addition overflow: 1 + 2 (line 2, position 7)",
-        "Addition overflow: 1 + 2 (line 3)",
+        "Array index 4 out of bounds: only 1 element in array",
+        "Array index 4 out of bounds: only 1 element in array (line 2, position 7)",
+        "Array index 4 out of bounds: only 1 element in array (line 3)",
     ];
-    let mut fault = EvalAltResult::ErrorArithmetic(reason, NONE);
-    check_texts(&rt, rt.alloc(), &mut fault, "ErrorArithmetic", texts)
+    check_places(&rt, rt.alloc(), &mut fault, texts)
 }
 
 #[test]
-fn too_many_operations(rt: HostRuntime) -> Result<(), OutOfMemory> {
+fn break_at_places(rt: HostRuntime) -> Result<(), OutOfMemory> {
+    let mut fault = EvalAltResult::LoopBreak(true, Dynamic::Unit, NONE);
+    let texts = [
+        "'break' must be within a loop",
+        "'break' must be within a loop (line 2, position 7)",
+        "'break' must be within a loop (line 3)",
+    ];
+    check_places(&rt, rt.alloc(), &mut fault, texts)
+}
+
+#[test]
+fn operations_at_places(rt: HostRuntime) -> Result<(), OutOfMemory> {
     let mut fault = EvalAltResult::ErrorTooManyOperations(NONE);
     let texts = [
         "Too many operations",
         "Too many operations (line 2, position 7)",
         "Too many operations (line 3)",
     ];
-    check_texts(&rt, rt.alloc(), &mut fault, "ErrorTooManyOperations", texts)
+    check_places(&rt, rt.alloc(), &mut fault, texts)
 }
 
 #[test]
-fn too_many_variables(rt: HostRuntime) -> Result<(), OutOfMemory> {
-    let mut fault = EvalAltResult::ErrorTooManyVariables(NONE);
+fn system_has_no_place(rt: HostRuntime) -> Result<(), OutOfMemory> {
+    let about = text(rt.alloc(), "log")?;
+    let reason = text(rt.alloc(), "disk is full")?;
+    let mut fault = EvalAltResult::ErrorSystem(about, reason);
     let texts = [
-        "Too many variables defined",
-        "Too many variables defined (line 2, position 7)",
-        "Too many variables defined (line 3)",
+        "log: disk is full",
+        "log: disk is full",
+        "log: disk is full",
     ];
-    check_texts(&rt, rt.alloc(), &mut fault, "ErrorTooManyVariables", texts)
-}
-
-#[test]
-fn stack_overflow(rt: HostRuntime) -> Result<(), OutOfMemory> {
-    let mut fault = EvalAltResult::ErrorStackOverflow(NONE);
-    let texts = [
-        "Stack overflow",
-        "Stack overflow (line 2, position 7)",
-        "Stack overflow (line 3)",
-    ];
-    check_texts(&rt, rt.alloc(), &mut fault, "ErrorStackOverflow", texts)
-}
-
-/// Compares a fault's text without a position.
-fn check_text(
-    rt: &impl Abort,
-    alloc: Global,
-    fault: &EvalAltResult,
-    text: &str,
-) -> Result<(), OutOfMemory> {
-    assert_eq!(rt; fault.to_string(alloc)?.as_str(), text);
+    check_places(&rt, rt.alloc(), &mut fault, texts)?;
+    assert!(rt; fault.position() == NONE);
+    assert!(rt; fault.take_position() == NONE);
+    assert!(rt; fault.fill_position(Position::new(2, 7)).position() == NONE);
     Ok(())
 }
 
 #[test]
-fn faults_of_natives(rt: HostRuntime) -> Result<(), OutOfMemory> {
-    let alloc = rt.alloc();
-    let texts = [
-        (
-            "get$p",
-            "Non-pure property p cannot be accessed on constant",
-        ),
-        ("set$p", "Cannot modify property 'p' of constant"),
-        (
-            "index$get$",
-            "Non-pure indexer cannot be accessed on constant",
-        ),
-        ("index$set$", "Cannot assign to indexer of constant"),
-        ("get", "Non-pure method 'get' cannot be called on constant"),
-    ];
-    for (function, text) in texts {
-        let function = Text::copy_of(alloc, function)?;
-        let fault = EvalAltResult::ErrorNonPureMethodCallOnConstant(function, NONE);
-        check_class(&rt, &fault, true);
-        check_text(&rt, alloc, &fault, text)?;
-    }
-    let types = Text::copy_of(alloc, "i64 [bool]")?;
-    let fault = EvalAltResult::ErrorIndexingType(types, NONE);
-    check_class(&rt, &fault, true);
-    check_text(&rt, alloc, &fault, "Indexer unavailable: i64 [bool]")?;
-    let fault = EvalAltResult::ErrorDotExpr(Text::new(alloc), NONE);
-    check_class(&rt, &fault, true);
-    check_text(&rt, alloc, &fault, "Malformed dot expression")?;
-    let reason = Text::copy_of(alloc, "Unknown property 'p' for 'i64'")?;
-    let fault = EvalAltResult::ErrorDotExpr(reason, NONE);
-    check_text(&rt, alloc, &fault, "Unknown property 'p' for 'i64'")
-}
-
-#[test]
-fn ends_by_the_host(rt: HostRuntime) -> Result<(), OutOfMemory> {
-    let alloc = rt.alloc();
-    let mut fault = EvalAltResult::ErrorTerminated(Dynamic::Int(1), NONE);
-    let texts = [
-        "Script terminated",
-        "Script terminated (line 2, position 7)",
-        "Script terminated (line 3)",
-    ];
-    check_class(&rt, &fault, false);
-    check_texts(&rt, alloc, &mut fault, "ErrorTerminated", texts)?;
-    let reason = Text::copy_of(alloc, "disk is full")?;
-    let mut fault = EvalAltResult::ErrorSystem(Text::new(alloc), reason);
-    let texts = ["disk is full", "disk is full", "disk is full"];
-    check_class(&rt, &fault, false);
-    check_texts(&rt, alloc, &mut fault, "ErrorSystem", texts)?;
-    let about = Text::copy_of(alloc, "log")?;
-    let reason = Text::copy_of(alloc, "disk is full")?;
-    let fault = EvalAltResult::ErrorSystem(about, reason);
-    check_text(&rt, alloc, &fault, "log: disk is full")?;
-    let mut fault = EvalAltResult::Exit(Dynamic::Unit, NONE);
-    let texts = [
-        "NOT AN ERROR - exit value",
-        "NOT AN ERROR - exit value (line 2, position 7)",
-        "NOT AN ERROR - exit value (line 3)",
-    ];
-    assert!(rt; fault.is_pseudo_error());
-    assert!(rt; !fault.is_catchable());
-    assert!(rt; !fault.is_system_exception());
-    check_texts(&rt, alloc, &mut fault, "Exit", texts)
-}
-
-#[test]
-fn data_too_large(rt: HostRuntime) -> Result<(), OutOfMemory> {
-    let what = Text::copy_of(rt.alloc(), "Length of string")?;
-    let mut fault = EvalAltResult::ErrorDataTooLarge(what, NONE);
-    let texts = [
-        "Length of string too large",
-        "Length of string too large (line 2, position 7)",
-        "Length of string too large (line 3)",
-    ];
-    check_class(&rt, &fault, false);
-    check_texts(&rt, rt.alloc(), &mut fault, "ErrorDataTooLarge", texts)
-}
-
-#[test]
-fn thrown_values(rt: HostRuntime) -> Result<(), OutOfMemory> {
-    let name = "ErrorRuntime";
-    let mut fault = EvalAltResult::ErrorRuntime(Dynamic::Unit, NONE);
-    let texts = [
-        "Runtime error",
-        "Runtime error (line 2, position 7)",
-        "Runtime error (line 3)",
-    ];
-    check_texts(&rt, rt.alloc(), &mut fault, name, texts)?;
-    let mut fault = EvalAltResult::from_text(rt.alloc(), "")?;
-    check_texts(&rt, rt.alloc(), &mut fault, name, texts)?;
-    let mut fault = EvalAltResult::from_text(rt.alloc(), "boom")?;
-    let texts = [
-        "Runtime error: boom",
-        "Runtime error: boom (line 2, position 7)",
-        "Runtime error: boom (line 3)",
-    ];
-    check_texts(&rt, rt.alloc(), &mut fault, name, texts)?;
-    let mut fault = EvalAltResult::ErrorRuntime(Dynamic::Int(7), NONE);
-    let texts = [
-        "Runtime error: 7",
-        "Runtime error: 7 (line 2, position 7)",
-        "Runtime error: 7 (line 3)",
-    ];
-    check_texts(&rt, rt.alloc(), &mut fault, name, texts)?;
-    let fault = EvalAltResult::ErrorRuntime(Dynamic::Array(Array::new(rt.alloc())), NONE);
-    check_text(&rt, rt.alloc(), &fault, "Runtime error: []")
-}
-
-/// Compares whether a script may catch the fault, and whether it ends the run.
-fn check_class(rt: &impl Abort, fault: &EvalAltResult, catchable: bool) {
-    assert!(rt; !fault.is_pseudo_error());
-    assert_eq!(rt; fault.is_catchable(), catchable);
-    assert_eq!(rt; fault.is_system_exception(), !catchable);
-}
-
-#[test]
-fn classes(rt: HostRuntime) -> Result<(), OutOfMemory> {
-    let slot = MalformedKind::SlotPastScope {
-        index: 0,
-        length: 0,
-    };
-    let thrown = EvalAltResult::from_text(rt.alloc(), "boom")?;
-    check_class(&rt, &thrown, true);
-    check_class(
-        &rt,
-        &in_call(rt.alloc(), "f", "", EvalAltResult::Memory)?,
-        true,
-    );
-    check_class(&rt, &mismatch(rt.alloc(), "bool", "i64")?, true);
-    let empty = Text::new(rt.alloc());
-    check_class(
-        &rt,
-        &EvalAltResult::ErrorFunctionNotFound(empty, NONE),
-        true,
-    );
-    let empty = Text::new(rt.alloc());
-    check_class(
-        &rt,
-        &EvalAltResult::ErrorAssignmentToConstant(empty, NONE),
-        true,
-    );
-    let empty = Text::new(rt.alloc());
-    check_class(&rt, &EvalAltResult::ErrorArithmetic(empty, NONE), true);
-    check_class(&rt, &EvalAltResult::ErrorTooManyOperations(NONE), false);
-    check_class(&rt, &EvalAltResult::ErrorTooManyVariables(NONE), false);
-    check_class(&rt, &EvalAltResult::ErrorStackOverflow(NONE), false);
-    check_class(&rt, &EvalAltResult::Malformed(slot, NONE), false);
-    check_class(&rt, &EvalAltResult::Memory, false);
+fn memory_has_no_place(rt: HostRuntime) -> Result<(), OutOfMemory> {
+    let mut fault = EvalAltResult::Memory;
+    let texts = ["Out of memory", "Out of memory", "Out of memory"];
+    check_places(&rt, rt.alloc(), &mut fault, texts)?;
+    assert!(rt; fault.position() == NONE);
+    assert!(rt; fault.take_position() == NONE);
+    assert!(rt; fault.fill_position(Position::new(2, 7)).position() == NONE);
     Ok(())
+}
+
+#[test]
+fn positions_are_taken(rt: HostRuntime) {
+    let place = Position::new(2, 7);
+    let mut fault = EvalAltResult::ErrorFor(place);
+    assert!(rt; fault.position() == place);
+    assert!(rt; fault.take_position() == place);
+    assert!(rt; fault.position() == NONE);
+    assert!(rt; fault.take_position() == NONE);
+    fault.set_position(Position::new(3, 0));
+    assert!(rt; fault.position() == Position::new(3, 0));
+    fault.clear_position();
+    assert!(rt; fault.position() == NONE);
+}
+
+#[test]
+fn positions_are_filled(rt: HostRuntime) {
+    let place = Position::new(2, 7);
+    let fault = EvalAltResult::ErrorUnboundThis(NONE).fill_position(place);
+    assert!(rt; fault.position() == place);
+    let fault = fault.fill_position(Position::new(3, 0));
+    assert!(rt; fault.position() == place);
+}
+
+#[test]
+fn positions(rt: HostRuntime) {
+    assert!(rt; NONE.is_none());
+    assert_eq!(rt; NONE.line(), None);
+    assert_eq!(rt; NONE.position(), None);
+    let place = Position::new(2, 7);
+    assert!(rt; !place.is_none());
+    assert_eq!(rt; place.line(), Some(2));
+    assert_eq!(rt; place.position(), Some(7));
+    let start = Position::new(3, 0);
+    assert!(rt; !start.is_none());
+    assert_eq!(rt; start.line(), Some(3));
+    assert_eq!(rt; start.position(), None);
+}
+
+/// The number 7, thrown at line 9, column 2.
+fn thrown() -> EvalAltResult {
+    EvalAltResult::ErrorRuntime(Dynamic::Int(7), Position::new(9, 2))
 }
 
 /// A fault that left a call of the function, whose program has this source.
@@ -313,44 +231,138 @@ fn in_call(
     function: &str,
     source: &str,
     inner: EvalAltResult,
+    position: Position,
 ) -> Result<EvalAltResult, OutOfMemory> {
-    let function = Text::copy_of(alloc, function)?;
-    let source = Text::copy_of(alloc, source)?;
+    let function = text(alloc, function)?;
+    let source = text(alloc, source)?;
     let inner = Box::new(alloc, inner)?;
-    Ok(EvalAltResult::ErrorInFunctionCall(function, source, inner, NONE))
+    Ok(EvalAltResult::ErrorInFunctionCall(function, source, inner, position))
+}
+
+/// A fault that left a module of this name.
+fn in_module(
+    alloc: Global,
+    module: &str,
+    inner: EvalAltResult,
+    position: Position,
+) -> Result<EvalAltResult, OutOfMemory> {
+    let module = text(alloc, module)?;
+    let inner = Box::new(alloc, inner)?;
+    Ok(EvalAltResult::ErrorInModule(module, inner, position))
 }
 
 #[test]
-fn fault_in_a_call(rt: HostRuntime) -> Result<(), OutOfMemory> {
-    let thrown = EvalAltResult::ErrorRuntime(Dynamic::Int(7), Position::new(9, 2));
-    let mut fault = in_call(rt.alloc(), "f", "", thrown)?;
-    let texts = [
+fn in_a_call(rt: HostRuntime) -> Result<(), OutOfMemory> {
+    let row = [
+        "ErrorInFunctionCall",
         "Runtime error: 7 (line 9, position 2)\nin call to function 'f'",
-        "Runtime error: 7 (line 9, position 2)\nin call to function 'f' (line 2, position 7)",
-        "Runtime error: 7 (line 9, position 2)\nin call to function 'f' (line 3)",
+        r#"#{"error": "ErrorInFunctionCall", "function": "f", "source": ""}"#,
     ];
-    check_texts(&rt, rt.alloc(), &mut fault, "ErrorInFunctionCall", texts)
-}
-
-fn in_two_calls(alloc: Global) -> Result<EvalAltResult, OutOfMemory> {
-    let overflow = EvalAltResult::ErrorStackOverflow(NONE);
-    let inner = in_call(alloc, "anon$1", "a", overflow)?;
-    in_call(alloc, "g", "b", inner)
+    check_catchable(
+        &rt,
+        rt.alloc(),
+        &in_call(rt.alloc(), "f", "", thrown(), NONE)?,
+        row,
+    )
 }
 
 #[test]
-fn innermost_fault(rt: HostRuntime) -> Result<(), OutOfMemory> {
-    let fault = in_two_calls(rt.alloc())?;
-    assert!(rt; fault.is_catchable());
-    let inside = fault.unwrap_inner();
-    assert_eq!(rt; inside.name(), "ErrorStackOverflow");
-    assert!(rt; inside.is_system_exception());
+fn in_a_call_of_a_source(rt: HostRuntime) -> Result<(), OutOfMemory> {
+    let row = [
+        "ErrorInFunctionCall",
+        "Runtime error: 7 @ 'a' (line 9, position 2)\nin call to function 'f' (from 'a')",
+        r#"#{"error": "ErrorInFunctionCall", "function": "f", "source": "a"}"#,
+    ];
+    check_catchable(
+        &rt,
+        rt.alloc(),
+        &in_call(rt.alloc(), "f", "a", thrown(), NONE)?,
+        row,
+    )
+}
+
+#[test]
+fn in_a_closure(rt: HostRuntime) -> Result<(), OutOfMemory> {
+    let row = [
+        "ErrorInFunctionCall",
+        "Out of memory @ 'a'\nin closure call (from 'a') (line 4)",
+        r#"#{"error": "ErrorInFunctionCall", "function": "anon$1", "source": "a"}"#,
+    ];
+    let fault = in_call(
+        rt.alloc(),
+        "anon$1",
+        "a",
+        EvalAltResult::Memory,
+        Position::new(4, 0),
+    )?;
+    check_catchable(&rt, rt.alloc(), &fault, row)
+}
+
+#[test]
+fn in_a_module(rt: HostRuntime) -> Result<(), OutOfMemory> {
+    let row = [
+        "ErrorInModule",
+        "Runtime error: 7 (line 9, position 2)\nin module 'm' (line 4, position 1)",
+        r#"#{"error": "ErrorInModule", "module": "m"}"#,
+    ];
+    let fault = in_module(rt.alloc(), "m", thrown(), Position::new(4, 1))?;
+    check_catchable(&rt, rt.alloc(), &fault, row)
+}
+
+#[test]
+fn in_a_module_without_a_name(rt: HostRuntime) -> Result<(), OutOfMemory> {
+    let row = [
+        "ErrorInModule",
+        "Runtime error: 7 (line 9, position 2)\nin module",
+        r#"#{"error": "ErrorInModule", "module": ""}"#,
+    ];
+    check_catchable(
+        &rt,
+        rt.alloc(),
+        &in_module(rt.alloc(), "", thrown(), NONE)?,
+        row,
+    )
+}
+
+#[test]
+fn in_a_module_in_a_call(rt: HostRuntime) -> Result<(), OutOfMemory> {
+    let row = [
+        "ErrorInFunctionCall",
+        "Runtime error: 7 (line 9, position 2)\n\
+         in module 'm' @ 'a' (line 4, position 1)\n\
+         in call to function 'f' (from 'a')",
+        r#"#{"error": "ErrorInFunctionCall", "function": "f", "source": "a"}"#,
+    ];
+    let inner = in_module(rt.alloc(), "m", thrown(), Position::new(4, 1))?;
+    let fault = in_call(rt.alloc(), "f", "a", inner, NONE)?;
+    check_catchable(&rt, rt.alloc(), &fault, row)?;
+    assert!(rt; fault.unwrap_inner().position() == Position::new(9, 2));
+    assert_eq!(rt; fault.unwrap_inner().name(), "ErrorRuntime");
     Ok(())
 }
 
 #[test]
-fn fault_in_two_calls(rt: HostRuntime) -> Result<(), OutOfMemory> {
-    let mut fault = in_two_calls(rt.alloc())?;
+fn in_a_call_in_a_module(rt: HostRuntime) -> Result<(), OutOfMemory> {
+    let row = [
+        "ErrorInModule",
+        "Runtime error: 7 @ 'a' (line 9, position 2)\n\
+         in call to function 'f' (from 'a') (line 4, position 1)\n\
+         in module 'm'",
+        r#"#{"error": "ErrorInModule", "module": "m"}"#,
+    ];
+    let inner = in_call(rt.alloc(), "f", "a", thrown(), Position::new(4, 1))?;
+    let fault = in_module(rt.alloc(), "m", inner, NONE)?;
+    check_catchable(&rt, rt.alloc(), &fault, row)?;
+    assert!(rt; fault.unwrap_inner().position() == Position::new(9, 2));
+    assert_eq!(rt; fault.unwrap_inner().name(), "ErrorRuntime");
+    Ok(())
+}
+
+#[test]
+fn in_two_calls(rt: HostRuntime) -> Result<(), OutOfMemory> {
+    let overflow = EvalAltResult::ErrorStackOverflow(NONE);
+    let inner = in_call(rt.alloc(), "anon$1", "a", overflow, NONE)?;
+    let mut fault = in_call(rt.alloc(), "g", "b", inner, NONE)?;
     let texts = [
         "Stack overflow @ 'a'\nin closure call (from 'a') @ 'b'\n\
          in call to function 'g' (from 'b')",
@@ -359,40 +371,53 @@ fn fault_in_two_calls(rt: HostRuntime) -> Result<(), OutOfMemory> {
         "Stack overflow @ 'a'\nin closure call (from 'a') @ 'b'\n\
          in call to function 'g' (from 'b') (line 3)",
     ];
-    check_texts(&rt, rt.alloc(), &mut fault, "ErrorInFunctionCall", texts)
+    check_places(&rt, rt.alloc(), &mut fault, texts)?;
+    assert!(rt; fault.is_catchable());
+    assert!(rt; fault.unwrap_inner().is_system_exception());
+    Ok(())
 }
 
 #[test]
-fn malformed_and_memory(rt: HostRuntime) -> Result<(), OutOfMemory> {
-    let slot = MalformedKind::SlotPastScope {
-        index: 4,
-        length: 3,
-    };
-    let texts = [
-        "Malformed program: slot 4 past a scope of 3",
-        "Malformed program: slot 4 past a scope of 3 (line 2, position 7)",
-        "Malformed program: slot 4 past a scope of 3 (line 3)",
-    ];
-    check_texts(
-        &rt,
-        rt.alloc(),
-        &mut EvalAltResult::Malformed(slot, NONE),
-        "Malformed",
-        texts,
-    )?;
-    let unwind = MalformedKind::UnwindPastScope {
-        target: 4,
-        length: 3,
-    };
-    let texts = [
-        "Malformed program: unwind to 4 past a scope of 3",
-        "Malformed program: unwind to 4 past a scope of 3 (line 2, position 7)",
-        "Malformed program: unwind to 4 past a scope of 3 (line 3)",
-    ];
-    let mut fault = EvalAltResult::Malformed(unwind, NONE);
-    check_texts(&rt, rt.alloc(), &mut fault, "Malformed", texts)?;
-    let texts = ["Out of memory", "Out of memory", "Out of memory"];
-    check_texts(&rt, rt.alloc(), &mut EvalAltResult::Memory, "Memory", texts)
+fn a_wrapper_has_its_own_place(rt: HostRuntime) -> Result<(), OutOfMemory> {
+    let fault = in_call(rt.alloc(), "f", "", thrown(), NONE)?;
+    assert!(rt; fault.position() == NONE);
+    let mut fault = fault.fill_position(Position::new(2, 7));
+    assert!(rt; fault.position() == Position::new(2, 7));
+    assert!(rt; fault.unwrap_inner().position() == Position::new(9, 2));
+    assert!(rt; fault.take_position() == Position::new(2, 7));
+    assert!(rt; fault.position() == NONE);
+    assert!(rt; fault.unwrap_inner().position() == Position::new(9, 2));
+    Ok(())
+}
+
+#[test]
+fn an_inner_fault_is_itself(rt: HostRuntime) {
+    let fault = thrown();
+    assert_eq!(rt; fault.unwrap_inner().name(), "ErrorRuntime");
+    assert!(rt; fault.unwrap_inner().position() == Position::new(9, 2));
+}
+
+#[test]
+fn a_text_is_put_at_the_end(rt: HostRuntime) -> Result<(), OutOfMemory> {
+    let fault = EvalAltResult::from_text(rt.alloc(), "boom")?;
+    let mut out = text(rt.alloc(), "At once: ")?;
+    fault.write_text(&mut out)?;
+    assert_eq!(rt; out.as_str(), "At once: Runtime error: boom");
+    Ok(())
+}
+
+#[test]
+fn fields_are_put_beside_others(rt: HostRuntime) -> Result<(), OutOfMemory> {
+    let mut map = Map::new(rt.alloc());
+    for (key, integer) in [("error", 1), ("x", 2)] {
+        let key = text(rt.alloc(), key)?;
+        drop(map.insert(key, Dynamic::Int(integer))?);
+    }
+    EvalAltResult::ErrorFor(NONE).dump_fields(&mut map)?;
+    let mut dumped = Text::new(rt.alloc());
+    Dynamic::Map(map).write_quoted(&mut dumped)?;
+    assert_eq!(rt; dumped.as_str(), r#"#{"error": "ErrorFor", "x": 2}"#);
+    Ok(())
 }
 
 #[test]
