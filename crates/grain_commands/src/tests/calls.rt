@@ -78,6 +78,32 @@ fn faults_have_both_positions(rt: HostRuntime) -> Result<(), OutOfMemory> {
 }
 
 #[test]
+fn faults_name_the_source(rt: HostRuntime) -> Result<(), OutOfMemory> {
+    let calls = "const 7\nname \"f\"\nname \"g\"\nmain 1\ncall 1 0 @3:4\nreturn\nend\n\
+         fn 0 1\nload_const 0\nthrow @9:2\nend\nfn 1 1\ncall 0 0 @5:0\nreturn\nend\n";
+    let rows = [
+        (
+            "grain 1\nsource \"a.rhai\"\n",
+            "fault ErrorInFunctionCall\nRuntime error: 7 @ 'a.rhai' (line 9, position 2)\n\
+             in call to function 'f' (from 'a.rhai') @ 'a.rhai' (line 5)\n\
+             in call to function 'g' (from 'a.rhai') (line 3, position 4)\ntrace 8 9 0\n",
+        ),
+        (
+            "grain 1\nsource \"\"\n",
+            "fault ErrorInFunctionCall\nRuntime error: 7 (line 9, position 2)\n\
+             in call to function 'f' (line 5)\n\
+             in call to function 'g' (line 3, position 4)\ntrace 8 9 0\n",
+        ),
+    ];
+    for (lines, text) in rows {
+        let mut listing = Text::copy_of(rt.alloc(), lines)?;
+        listing.push_str(calls)?;
+        check(&rt, rt.alloc(), "run", listing.as_str(), 1, text)?;
+    }
+    Ok(())
+}
+
+#[test]
 fn calls_are_refused_before_they_are_entered(rt: HostRuntime) -> Result<(), OutOfMemory> {
     let rows = [
         (
