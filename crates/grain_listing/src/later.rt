@@ -7,8 +7,8 @@ use grain_words::is_word;
 
 /// Lines and blocks.
 const LINES: [&str; 15] = [
-    "chain", "step", "switch", "case", "range", "range=", "site", "input", "fragment",
-    "module", "item", "var", "answer", "forbid", "chunk",
+    "chain", "step", "switch", "case", "range", "range=", "site", "input", "fragment", "module",
+    "item", "var", "answer", "forbid", "chunk",
 ];
 
 /// Instructions that read and write variables.

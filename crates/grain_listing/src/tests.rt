@@ -381,7 +381,10 @@ fn check_source(
 fn sources(rt: HostRuntime) -> Result<(), OutOfMemory> {
     let rows = [
         ("grain 1\nsource \"a \\\"b\\\"\"\nmain 1\nend\n", "a \"b\""),
-        ("grain 1\nconst 1\n\tsource  \"\" ; none\ncaps\nmain 1\nend\n", ""),
+        (
+            "grain 1\nconst 1\n\tsource  \"\" ; none\ncaps\nmain 1\nend\n",
+            "",
+        ),
     ];
     for (listing, expected) in rows {
         check_source(&rt, rt.alloc(), listing, expected)?;
@@ -400,10 +403,22 @@ fn faults_of_sources(rt: HostRuntime) -> Result<(), OutOfMemory> {
         ("grain 1\nsource \"a\"b\n", 2, Reason::BadValue),
         ("grain 1\nsource \"a\" 1\n", 2, Reason::BadOperand),
         ("grain 1\nsource \"a\" \"b\"\n", 2, Reason::BadOperand),
-        ("grain 1\nsource \"a\"\nsource \"a\"\n", 3, Reason::OutOfPlace),
-        ("grain 1\nsource \"\"\nconst 1\nsource x\n", 4, Reason::OutOfPlace),
+        (
+            "grain 1\nsource \"a\"\nsource \"a\"\n",
+            3,
+            Reason::OutOfPlace,
+        ),
+        (
+            "grain 1\nsource \"\"\nconst 1\nsource x\n",
+            4,
+            Reason::OutOfPlace,
+        ),
         ("grain 1\nmain 1\nsource \"a\"\n", 3, Reason::OutOfPlace),
-        ("grain 1\nmain 1\nend\nsource \"a\"\n", 4, Reason::OutOfPlace),
+        (
+            "grain 1\nmain 1\nend\nsource \"a\"\n",
+            4,
+            Reason::OutOfPlace,
+        ),
     ];
     for (listing, line, reason) in rows {
         check(&rt, rt.alloc(), listing, line, reason)?;
