@@ -10,7 +10,7 @@ use Rattle.grain_listing.specs.Steps.{and_then, present}
 use Rattle.grain_listing.specs.Values.{made, value}
 use Rattle.grain_listing.specs.Operands.{alone, after_name}
 use Rattle.grain_listing.specs.declared.reasons.Reason.{Reason}
-use Rattle.grain_listing.specs.declared.reasons.Reason.TheVariants.{BadValue, BadOperand, NotBuilt}
+use Rattle.grain_listing.specs.declared.reasons.Reason.TheVariants.{BadValue, BadOperand}
 
 -- a value and what follows it
 abbrev pub Valued : Type 0
