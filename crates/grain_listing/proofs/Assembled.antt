@@ -1,7 +1,7 @@
 -- What an assembler has after lines that have said this.
 use Rattle.std.proofs.Common.{◌≡◌, ℕ, ◌+◌, List, [], ◌∷◌, ◌++◌, length, refl, sym, ap, ◌∙◌, arith, append_assoc, append-nil, length-append}
 use Rattle.grain_words.specs.Labels.{Addresses, with_label}
-use Rattle.grain_listing.specs.Statements.{Piece, Byte, Goto, Statement, code_line, label_line, section, caps, limits, flags, host, consts, names, tokens, assigns, scope, pieces, width, address, positions, open_block, main_chunk, functions}
+use Rattle.grain_listing.specs.Statements.{Piece, Byte, Goto, Statement, code_line, label_line, section, caps, source, limits, flags, host, consts, names, tokens, assigns, scope, pieces, width, address, positions, open_block, main_chunk, functions}
 use Rattle.grain_listing.specs.LineMeanings.{bytes}
 use Rattle.grain_listing.specs.views.Assembling.{AssemblerView}
 use Rattle.grain_listing.specs.declared.assembler.Fixup.{Fixup}
@@ -42,6 +42,7 @@ assembled line said =
       line = line;
       section = section said;
       caps = caps said;
+      source = source said;
       limits = limits said;
       flags = flags said;
       host = host said;

@@ -17,7 +17,7 @@ use Rattle.grain_listing.specs.HostLines.{fail_of, stop_of}
 use Rattle.grain_listing.specs.Headers.{stack_of, assign_of, header_of, is_crowded}
 use Rattle.grain_listing.specs.Instructions.{kinds_of}
 use Rattle.grain_listing.specs.Table.{line_of, stands, is_block}
-use Rattle.grain_listing.specs.Statements.{Piece, Byte, Goto, Statement, blank, header, caps_line, limit_line, flag_line, fail_line, stop_line, const_line, name_line, op_line, assign_line, scope_line, main_line, fn_line, end_line, code_line, label_line, section, caps, limits, consts, names, tokens, assigns, functions, labels, label_address, pieces, width, address}
+use Rattle.grain_listing.specs.Statements.{Piece, Byte, Goto, Statement, blank, header, caps_line, source_line, limit_line, flag_line, fail_line, stop_line, const_line, name_line, op_line, assign_line, scope_line, main_line, fn_line, end_line, code_line, label_line, section, caps, source, limits, consts, names, tokens, assigns, functions, labels, label_address, pieces, width, address}
 use Rattle.grain_listing.specs.LineMeanings.{bytes, operand, code_operand, operands, limit_set, statement, before_colon, labelled, known, header_end, header_number, begun_by, in_section, says}
 use Rattle.grain_listing.specs.declared.table.Line.{Line}
 use Rattle.grain_listing.specs.declared.table.Line.TheVariants as lines
@@ -155,6 +155,10 @@ line_narrow lines.Capabilities n cs before =
     either_narrow (is_some (caps before)) (Err OutOfPlace)
     (and_then (capabilities capability_bits cs) (λ bits. Ok (caps_line bits))) tt
     (step_narrow (capabilities capability_bits cs) (λ bits. caps_line bits) (λ x e. tt))
+line_narrow lines.Source n cs before =
+    either_narrow (is_some (source before)) (Err OutOfPlace)
+    (and_then (text_of cs) (λ t. Ok (source_line t))) tt
+    (step_narrow (text_of cs) (λ t. source_line t) (λ x e. tt))
 line_narrow lines.Limit n cs before =
     step_narrow (limit_set cs (limits before)) (λ l. limit_line l) (λ x e. tt)
 line_narrow lines.Constant n cs before =

@@ -19,7 +19,7 @@ use Rattle.grain_program.specs.declared.code.instructions.Op.{Op}
 use Rattle.grain_program.specs.InstructionSet.{tag_of, fields_of}
 use Rattle.grain_listing.specs.Instructions.{kinds_of}
 use Rattle.grain_listing.specs.Table.{line_of, stands, is_block}
-use Rattle.grain_listing.specs.Statements.{Piece, Byte, Goto, Statement, blank, header, caps_line, limit_line, flag_line, fail_line, stop_line, const_line, name_line, op_line, assign_line, scope_line, main_line, fn_line, end_line, code_line, label_line, section, caps, limits, flags, host, consts, names, tokens, assigns, functions, labels, label_address, address, open_block}
+use Rattle.grain_listing.specs.Statements.{Piece, Byte, Goto, Statement, blank, header, caps_line, source_line, limit_line, flag_line, fail_line, stop_line, const_line, name_line, op_line, assign_line, scope_line, main_line, fn_line, end_line, code_line, label_line, section, caps, source, limits, flags, host, consts, names, tokens, assigns, functions, labels, label_address, address, open_block}
 use Rattle.grain_listing.specs.LineMeanings.{bytes, operand, code_operand, operands, in_list, limit_set, statement, before_colon, label_said, labelled, known, header_end, header_number, header_said, begun_by, in_section, says}
 use Rattle.grain_listing.specs.views.Assembling
 use Rattle.grain_listing.specs.views.Assembling.{AssemblerView, with_code, with_fixup, with_position, put_operand_word, put_operand, put_operands, closed, opened, put_line, put_label, known_line, with_header, is_start, after_header, take_line}
@@ -239,6 +239,12 @@ line_said lines.Capabilities n cs said =
     (step n said (capabilities capability_bits cs)
     (λ bits. record (assembled n said) { caps = Some bits })
     (λ bits. caps_line bits) (λ bits. refl))
+line_said lines.Source n cs said =
+    if_not n said (is_some (source said)) OutOfPlace
+    (and_then (text_of cs) (λ t. Ok (record (assembled n said) { source = Some t })))
+    (and_then (text_of cs) (λ t. Ok (source_line t)))
+    (step n said (text_of cs) (λ t. record (assembled n said) { source = Some t })
+    (λ t. source_line t) (λ t. refl))
 line_said lines.Limit n cs said =
     step n said (limit_set cs (limits said))
     (λ l. record (assembled n said) { limits = limits said ++ l ∷ [] }) (λ l. limit_line l)

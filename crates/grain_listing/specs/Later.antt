@@ -8,7 +8,7 @@ is_among (t ∷ ts) w = bytes_eq w t || is_among ts w
 -- lines and blocks
 abbrev pub later_lines : List (List ℕ)
 later_lines =
-    codes "source" ∷ codes "chain" ∷ codes "step" ∷ codes "switch" ∷ codes "case" ∷
+    codes "chain" ∷ codes "step" ∷ codes "switch" ∷ codes "case" ∷
     codes "range" ∷ codes "range=" ∷ codes "site" ∷ codes "input" ∷
     codes "fragment" ∷ codes "module" ∷ codes "item" ∷ codes "var" ∷ codes "answer" ∷
     codes "forbid" ∷ codes "chunk" ∷ []

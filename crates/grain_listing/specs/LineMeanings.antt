@@ -16,7 +16,7 @@ use Rattle.grain_listing.specs.Headers.{stack_of, assign_of, header_of, is_crowd
 use Rattle.grain_program.specs.InstructionSet.{tag_of, fields_of}
 use Rattle.grain_listing.specs.Instructions.{kinds_of}
 use Rattle.grain_listing.specs.Table.{line_of, stands, is_block}
-use Rattle.grain_listing.specs.Statements.{Piece, Byte, Goto, Statement, blank, header, caps_line, limit_line, flag_line, fail_line, stop_line, const_line, name_line, op_line, assign_line, scope_line, main_line, fn_line, end_line, code_line, label_line, section, caps, limits, consts, names, tokens, assigns, functions, labels, label_address, bad_line}
+use Rattle.grain_listing.specs.Statements.{Piece, Byte, Goto, Statement, blank, header, caps_line, source_line, limit_line, flag_line, fail_line, stop_line, const_line, name_line, op_line, assign_line, scope_line, main_line, fn_line, end_line, code_line, label_line, section, caps, source, limits, consts, names, tokens, assigns, functions, labels, label_address, bad_line}
 use Rattle.grain_listing.specs.declared.table.Line.{Line}
 use Rattle.grain_listing.specs.declared.table.Line.TheVariants as lines
 use Rattle.grain_listing.specs.declared.table.OperandKind.{OperandKind}
@@ -78,6 +78,9 @@ statement lines.Header n cs before = Err OutOfPlace
 statement lines.Capabilities n cs before =
     if is_some (caps before) then Err OutOfPlace else
     and_then (capabilities capability_bits cs) (λ bits. Ok (caps_line bits))
+statement lines.Source n cs before =
+    if is_some (source before) then Err OutOfPlace else
+    and_then (text_of cs) (λ t. Ok (source_line t))
 statement lines.Limit n cs before = and_then (limit_set cs (limits before)) (λ l. Ok (limit_line l))
 statement lines.Constant n cs before =
     in_pool (consts before) (and_then (constant_of cs) (λ v. Ok (const_line v)))

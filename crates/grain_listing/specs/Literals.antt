@@ -10,7 +10,7 @@ use Rattle.grain_listing.specs.Steps.{and_then, present}
 use Rattle.grain_listing.specs.Values.{made, value}
 use Rattle.grain_listing.specs.Operands.{alone, after_name}
 use Rattle.grain_listing.specs.declared.reasons.Reason.{Reason}
-use Rattle.grain_listing.specs.declared.reasons.Reason.TheVariants.{BadValue, BadOperand, NotBuilt}
+use Rattle.grain_listing.specs.declared.reasons.Reason.TheVariants.{BadValue, BadOperand}
 
 -- a value and what follows it
 abbrev pub Valued : Type 0
@@ -35,7 +35,7 @@ text_operand cs = present BadValue (next_text cs)
 abbrev pub constant_of : List ℕ → Result Dynamic Reason
 constant_of cs = and_then (value_operand cs) (λ a. alone a.1 a.0)
 
--- after `name`: a text
+-- after `name` or `source`: a text
 abbrev pub text_of : List ℕ → Result (List ℕ) Reason
 text_of cs = and_then (text_operand cs) (λ a. alone a.1 a.0)
 

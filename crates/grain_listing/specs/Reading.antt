@@ -90,6 +90,7 @@ set_up said assign_ops code =
         tokens = Statements.tokens said;
         assign_ops = assign_ops;
         positions = positions said;
+        source = Statements.source said;
       };
       limits = limits_of (limits said);
       fast_operators = is_on (codes "operators") (flags said);

@@ -35,8 +35,10 @@ pub data Statement : Type 0 where
   -- an empty line, and the header
   blank : Statement
   header : Statement
-  -- the bits of the capabilities, and a limit's name with its number
+  -- the bits of the capabilities, the name of the script that the program was made from, and a
+  -- limit's name with its number
   caps_line : ℕ → Statement
+  source_line : List ℕ → Statement
   limit_line : List ℕ × ℕ → Statement
   -- the name of a flag that is turned, the number of a call that is to fail, and a number of
   -- operations at which the run is to end, with its token
@@ -66,11 +68,16 @@ section (fn_line h ∷ before) = sections.Block
 section (end_line ∷ before) = sections.After
 section (s ∷ before) = section before
 
--- the capabilities, the limits and the entries of the pools and of the starting scope
+-- the capabilities, the source, the limits and the entries of the pools and of the starting scope
 abbrev pub caps : List Statement → Option ℕ
 caps [] = None
 caps (caps_line bits ∷ before) = Some bits
 caps (s ∷ before) = caps before
+
+abbrev pub source : List Statement → Option (List ℕ)
+source [] = None
+source (source_line t ∷ before) = Some t
+source (s ∷ before) = source before
 
 abbrev pub limits : List Statement → List (List ℕ × ℕ)
 limits [] = []

@@ -13,6 +13,7 @@ unfoldable pub own_line : List ℕ → Option Line
 own_line w =
     if bytes_eq w (codes "grain") then Some lines.Header
     else (if bytes_eq w (codes "caps") then Some lines.Capabilities
+    else (if bytes_eq w (codes "source") then Some lines.Source
     else (if bytes_eq w (codes "limit") then Some lines.Limit
     else (if bytes_eq w (codes "const") then Some lines.Constant
     else (if bytes_eq w (codes "name") then Some lines.Name
@@ -26,7 +27,7 @@ own_line w =
     else (if bytes_eq w (codes "fn") then Some lines.Function
     else (if bytes_eq w (codes "byte") then Some lines.Byte
     else (if bytes_eq w (codes "end") then Some lines.End
-    else None))))))))))))))
+    else None)))))))))))))))
 
 -- an instruction's line
 abbrev pub instruction_line_of : Option Op → Option Line
@@ -69,6 +70,7 @@ is_after sections.After = true
 abbrev pub stands : Line → Section → Bool
 stands lines.Header s = false
 stands lines.Capabilities s = is_pools s
+stands lines.Source s = is_pools s
 stands lines.Limit s = is_pools s
 stands lines.Constant s = is_pools s
 stands lines.Name s = is_pools s

@@ -51,6 +51,7 @@ impl Assembler {
         match line {
             Line::Header => Ok(Err(Reason::OutOfPlace)),
             Line::Capabilities => Ok(self.put_capabilities(rest)),
+            Line::Source => self.put_source(alloc, rest),
             Line::Limit => self.put_limit(rest),
             Line::Constant => self.put_constant(alloc, rest),
             Line::Name => self.put_name(alloc, rest),

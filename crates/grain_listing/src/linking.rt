@@ -136,6 +136,7 @@ fn set_up(assembler: Assembler, assign_ops: AssignOps) -> Result<Setup, BadLine>
         line: _,
         section: _,
         caps,
+        source,
         limits,
         flags,
         host,
@@ -163,7 +164,7 @@ fn set_up(assembler: Assembler, assign_ops: AssignOps) -> Result<Setup, BadLine>
         tokens,
         assign_ops,
         positions,
-        source: None,
+        source,
     };
     Ok(Setup {
         parts,

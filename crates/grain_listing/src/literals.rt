@@ -78,7 +78,7 @@ fn text_operand(
     }
 }
 
-/// The text after `name`.
+/// The text after `name` or `source`.
 pub fn text_of(alloc: Global, line: &[char]) -> Result<Result<Text, Reason>, OutOfMemory>
     ensures { IfOk result (λ r. r ≡ text_of line.now) }
 {

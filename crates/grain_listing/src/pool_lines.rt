@@ -1,4 +1,5 @@
-//! The lines before the blocks: capabilities, limits, flags, pools and the starting scope.
+//! The lines before the blocks: capabilities, the source, limits, flags, pools and the starting
+//! scope.
 
 ghost use Rattle.std.specs.Prelude.{◌≡◌, IfOk};
 ghost use Rattle.grain_listing.specs.declared.table.Line.TheVariants as lines;
@@ -81,6 +82,27 @@ impl Assembler {
         let bits = capabilities(rest)?;
         self.caps = Some(bits);
         Ok(())
+    }
+
+    /// The name of the script that the program was made from.
+    pub fn put_source(
+        &mut self,
+        alloc: Global,
+        rest: &[char],
+    ) -> Result<Result<(), Reason>, OutOfMemory>
+        ensures { IfOk result (λ r. result_view r (assembler_view self.new) ≡
+            put_line lines.Source rest.now (assembler_view self.old)) }
+    {
+        if self.source.is_some() {
+            return Ok(Err(Reason::OutOfPlace));
+        }
+        match text_of(alloc, rest)? {
+            Err(reason) => Ok(Err(reason)),
+            Ok(text) => {
+                self.source = Some(text);
+                Ok(Ok(()))
+            }
+        }
     }
 
     /// A constant.

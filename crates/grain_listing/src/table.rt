@@ -39,6 +39,7 @@ pub enum OperandKind {
 pub enum Line {
     Header,
     Capabilities,
+    Source,
     Limit,
     Constant,
     Name,
@@ -136,6 +137,8 @@ fn own_line(word: &[char]) -> Option<Line>
         Some(Line::Header)
     } else if is_word(word, "caps") {
         Some(Line::Capabilities)
+    } else if is_word(word, "source") {
+        Some(Line::Source)
     } else if is_word(word, "limit") {
         Some(Line::Limit)
     } else if is_word(word, "const") {
@@ -220,6 +223,7 @@ pub fn stands(line: Line, section: Section) -> bool
     match line {
         Line::Header => false,
         Line::Capabilities
+        | Line::Source
         | Line::Limit
         | Line::Constant
         | Line::Name

@@ -158,7 +158,7 @@ fn operands_of_blocks(rt: HostRuntime) -> Result<(), OutOfMemory> {
 #[test]
 fn what_comes_later(rt: HostRuntime) -> Result<(), OutOfMemory> {
     let rows = [
-        ("grain 1\nsource \"x\"\n", 2),
+        ("grain 1\nchain \"x\"\n", 2),
         ("grain 1\nmain 1\nchunk 1\n", 3),
         ("grain 1\niter_next 0\n", 2),
         ("grain 1\nlimit modules 1\n", 2),
@@ -358,6 +358,70 @@ fn capabilities(rt: HostRuntime) -> Result<(), OutOfMemory> {
     for (listing, bits) in rows {
         let setup = set_up(&rt, rt.alloc(), listing)?;
         assert_eq!(rt; setup.parts.caps.bits(), bits);
+    }
+    Ok(())
+}
+
+/// Compares the name of the script that a listing without a fault was made from.
+fn check_source(
+    rt: &impl Abort,
+    alloc: Global,
+    listing: &str,
+    expected: &str,
+) -> Result<(), OutOfMemory> {
+    let setup = set_up(rt, alloc, listing)?;
+    match &setup.parts.source {
+        Some(source) => assert_eq!(rt; source.as_str(), expected),
+        None => assert!(rt; false),
+    }
+    Ok(())
+}
+
+#[test]
+fn sources(rt: HostRuntime) -> Result<(), OutOfMemory> {
+    let rows = [
+        ("grain 1\nsource \"a \\\"b\\\"\"\nmain 1\nend\n", "a \"b\""),
+        (
+            "grain 1\nconst 1\n\tsource  \"\" ; none\ncaps\nmain 1\nend\n",
+            "",
+        ),
+    ];
+    for (listing, expected) in rows {
+        check_source(&rt, rt.alloc(), listing, expected)?;
+    }
+    let setup = set_up(&rt, rt.alloc(), "grain 1\nname \"x\"\nmain 1\nend\n")?;
+    assert!(rt; setup.parts.source.is_none());
+    Ok(())
+}
+
+#[test]
+fn faults_of_sources(rt: HostRuntime) -> Result<(), OutOfMemory> {
+    let rows = [
+        ("source \"x\"\n", 1, Reason::MissingHeader),
+        ("grain 1\nsource x\n", 2, Reason::BadValue),
+        ("grain 1\nsource\n", 2, Reason::BadValue),
+        ("grain 1\nsource \"a\"b\n", 2, Reason::BadValue),
+        ("grain 1\nsource \"a\" 1\n", 2, Reason::BadOperand),
+        ("grain 1\nsource \"a\" \"b\"\n", 2, Reason::BadOperand),
+        (
+            "grain 1\nsource \"a\"\nsource \"a\"\n",
+            3,
+            Reason::OutOfPlace,
+        ),
+        (
+            "grain 1\nsource \"\"\nconst 1\nsource x\n",
+            4,
+            Reason::OutOfPlace,
+        ),
+        ("grain 1\nmain 1\nsource \"a\"\n", 3, Reason::OutOfPlace),
+        (
+            "grain 1\nmain 1\nend\nsource \"a\"\n",
+            4,
+            Reason::OutOfPlace,
+        ),
+    ];
+    for (listing, line, reason) in rows {
+        check(&rt, rt.alloc(), listing, line, reason)?;
     }
     Ok(())
 }

@@ -33,8 +33,8 @@ fn not_built(
 #[test]
 fn later_lines(rt: HostRuntime) -> Result<(), OutOfMemory> {
     let words = [
-        "source", "chain", "step", "switch", "case", "range", "range=", "site", "input",
-        "fragment", "module", "item", "var", "answer", "forbid", "chunk",
+        "chain", "step", "switch", "case", "range", "range=", "site", "input", "fragment",
+        "module", "item", "var", "answer", "forbid", "chunk",
     ];
     not_built(&rt, rt.alloc(), "", words.as_slice(), "\n")
 }

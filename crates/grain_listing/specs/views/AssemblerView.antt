@@ -13,6 +13,7 @@ assembler_view a =
       line = a.line;
       section = a.section;
       caps = a.caps;
+      source = a.source;
       limits = limits_view a.limits.items;
       flags = names_view a.flags.items;
       host = a.host;

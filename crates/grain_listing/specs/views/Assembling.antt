@@ -47,6 +47,7 @@ pub record AssemblerView : Type 0 where
   pub line : ℕ
   pub section : Section
   pub caps : Option ℕ
+  pub source : Option (List ℕ)
   pub limits : List (List ℕ × ℕ)
   pub flags : List (List ℕ)
   pub host : TableHost
@@ -69,6 +70,7 @@ empty =
       line = 0;
       section = sections.Start;
       caps = None;
+      source = None;
       limits = [];
       flags = [];
       host = host_tables.blank;
@@ -166,6 +168,9 @@ put_line lines.Header cs v = Err OutOfPlace
 put_line lines.Capabilities cs v =
     if is_some v.caps then Err OutOfPlace else
     and_then (capabilities capability_bits cs) (λ bits. Ok (record v { caps = Some bits }))
+put_line lines.Source cs v =
+    if is_some v.source then Err OutOfPlace else
+    and_then (text_of cs) (λ t. Ok (record v { source = Some t }))
 put_line lines.Limit cs v = and_then (limit_line cs v)
     (λ l. Ok (record v { limits = v.limits ++ l ∷ [] }))
 put_line lines.Constant cs v = in_pool v.consts

@@ -1,5 +1,5 @@
 -- Flags and the lines that turn them, as names.
-use Rattle.std.specs.Prelude.{ℕ, List, map, Option, Some, None, Result, Ok, Err}
+use Rattle.std.specs.Prelude.{ℕ, List, map, Result, Ok, Err}
 use Rattle.std.specs.Borrow.{Bor}
 use Rattle.grain_listing.specs.declared.flags.Flag.{Flag}
 use Rattle.grain_listing.specs.declared.reasons.Reason.{Reason}

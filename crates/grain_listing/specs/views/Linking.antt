@@ -41,6 +41,7 @@ set_up v assign_ops code =
         tokens = v.tokens;
         assign_ops = assign_ops;
         positions = v.positions;
+        source = v.source;
       };
       limits = limits_of v.limits;
       fast_operators = is_on (codes "operators") v.flags;
