@@ -110,7 +110,8 @@ text_left (t ∷ ts) (c ∷ cs) h =
 
 gaps_left : (cs : List ℕ) → scalars cs ≡ true → scalars (skip_gaps cs) ≡ true
 gaps_left [] h = h
-gaps_left (c ∷ cs) h = list_cond (is_gap c) (skip_gaps cs) (c ∷ cs) (gaps_left cs (rest_of c cs h)) h
+gaps_left (c ∷ cs) h =
+    list_cond (is_gap c) (skip_gaps cs) (c ∷ cs) (gaps_left cs (rest_of c cs h)) h
 
 gap_left : (cs : List ℕ) → scalars cs ≡ true → Left (after_gap cs)
 gap_left [] h = tt
@@ -268,8 +269,8 @@ one_gives [] h = tt
 one_gives (c ∷ cs) h =
     let more : scalars cs ≡ true = rest_of c cs h in
     in_cond IsScalar (c == 39) None _ tt
-    (in_cond IsScalar (c == 92) (character_escape cs) (Some (c, cs)) (character_escape_gives cs more)
-    (first c cs h, more))
+    (in_cond IsScalar (c == 92) (character_escape cs) (Some (c, cs))
+    (character_escape_gives cs more) (first c cs h, more))
 
 character_gives : Gives IsScalar characters.character
 character_gives cs h =
@@ -342,7 +343,8 @@ kind_gives cs h =
 
 range_gives : (levels : ℕ) (inclusive : Bool) → Gives (IsListed levels) (range_here inclusive)
 range_gives levels inclusive cs h =
-    in_made AreLong (IsListed levels) (λ b. range b.0 b.1 inclusive) (closed (codes ")") (bounds cs))
+    in_made AreLong (IsListed levels) (λ b. range b.0 b.1 inclusive)
+    (closed (codes ")") (bounds cs))
     (closed_gives AreLong (codes ")") (bounds cs) (bounds_give cs h)) (λ b p. p)
 
 foreign_gives : (levels : ℕ) → Gives (IsListed levels) foreign_here
@@ -460,8 +462,8 @@ nesting_gives levels read gives cs h =
     (in_behind P (after_text (codes "#{") cs) (dict_here read) _ (text_left (codes "#{") cs h)
     (λ r l. in_made (AllByRecursion (IsEntry levels)) P (λ es. dict (pack_fields (put_all [] es)))
     (listed (codes "}") (entry_here read) r)
-    (listed_gives (IsEntry levels) (codes "}") (entry_here read) (entry_gives levels read gives) r l)
-    (map_listed levels))
+    (listed_gives (IsEntry levels) (codes "}") (entry_here read)
+    (entry_gives levels read gives) r l) (map_listed levels))
     (in_behind P (after_text (codes "fn(") cs) (pointer_here read) _
     (text_left (codes "fn(") cs h)
     (λ r l. in_then IsUtf8 P (λ name. made (λ ts. pointer name.0 (pack ts))

@@ -10,7 +10,8 @@ use Rattle.grain_listing.proofs.Shorter.{Within, Left, Keeps, in_made, in_cond, 
 closed_keeps : {A : Type 0} (n : ℕ) (end : List ℕ) (o : Found A) → Within n o →
     Within n (closed end o)
 closed_keeps n end o w =
-    in_then n (λ a. option_map (λ rest. (a.0, rest)) (after_text end a.1)) o w (λ a l. in_pair n a.0 (after_text end a.1) (text_left n end a.1 l))
+    in_then n (λ a. option_map (λ rest. (a.0, rest)) (after_text end a.1)) o w
+    (λ a l. in_pair n a.0 (after_text end a.1) (text_left n end a.1 l))
 
 bounds_keep : Keeps bounds
 bounds_keep n cs h =

@@ -84,7 +84,8 @@ no_gaps (c ∷ cs) h =
 pub not_trimmed : (cs : List ℕ) → opens cs ≡ true → trim_start cs ≡ cs
 not_trimmed [] h = absurd cc
 not_trimmed (c ∷ cs) h =
-    let gap = not_true (is_gap c) (first_true (not (is_gap c)) (not (c == 59) && not (c == 93)) h) in
+    let gap =
+    not_true (is_gap c) (first_true (not (is_gap c)) (not (c == 59) && not (c == 93)) h) in
     let more = second_true (not (is_gap c)) (not (c == 59) && not (c == 93)) h in
     rw (gap, not_true (c == 59) (first_true (not (c == 59)) (not (c == 93)) more)) refl
 

@@ -1,40 +1,12 @@
 //! Lines that turn flags, and lines of the host's tables.
 
+use crate::listing_tests::{check_refused, read_lines};
 use crate::reasons::Reason;
 use crate::{Setup, read};
 use grain_host::{Args, Host, HostAnswer, ProgressAnswer, TableHost};
 use grain_value::{Array, Dynamic, OutOfMemory};
 use std::alloc::Global;
 use std::process::Abort;
-
-/// Compares the refusal of a listing that has this line behind its header.
-fn refused(rt: &impl Abort, alloc: Global, line: &str, reason: Reason) -> Result<(), OutOfMemory> {
-    let mut listing = String::from_str(alloc, "grain 1\n")?;
-    listing.push_str(line)?;
-    listing.push_str("\nmain 1\nend\n")?;
-    match read(alloc, listing.as_str().as_bytes())? {
-        Ok(_) => assert!(rt; false),
-        Err(bad) => {
-            assert_eq!(rt; bad.line, 2);
-            assert_eq!(rt; bad.reason, reason);
-        }
-    }
-    Ok(())
-}
-
-/// What is read of a listing that has these lines behind its header.
-fn set_up(rt: &impl Abort, alloc: Global, lines: &str) -> Result<Setup, OutOfMemory> {
-    let mut listing = String::from_str(alloc, "grain 1\n")?;
-    listing.push_str(lines)?;
-    listing.push_str("main 1\nend\n")?;
-    match read(alloc, listing.as_str().as_bytes())? {
-        Ok(setup) => Ok(setup),
-        Err(_) => {
-            assert!(rt; false);
-            Err(OutOfMemory)
-        }
-    }
-}
 
 /// Whether the next call of the host fails, which prints.
 fn fails(rt: &impl Abort, alloc: Global, host: &mut TableHost) -> Result<bool, OutOfMemory> {
@@ -60,7 +32,7 @@ fn flags_are_turned(rt: HostRuntime) -> Result<(), OutOfMemory> {
         ("flag\toperators  off ; twice\nflag operators off\n", false),
     ];
     for (lines, fast_operators) in rows {
-        let setup = set_up(&rt, rt.alloc(), lines)?;
+        let setup = read_lines(&rt, rt.alloc(), lines)?;
         assert_eq!(rt; setup.fast_operators, fast_operators);
     }
     Ok(())
@@ -70,7 +42,7 @@ fn flags_are_turned(rt: HostRuntime) -> Result<(), OutOfMemory> {
 fn calls_fail(rt: HostRuntime) -> Result<(), OutOfMemory> {
     let alloc = rt.alloc();
     let lines = "fail 3\nfail 0\nfail 1\nfail 18446744073709551615\n";
-    let Setup { mut host, .. } = set_up(&rt, alloc, lines)?;
+    let Setup { mut host, .. } = read_lines(&rt, alloc, lines)?;
     for expected in [true, false, true, false] {
         assert_eq!(rt; fails(&rt, alloc, &mut host)?, expected);
     }
@@ -81,7 +53,7 @@ fn calls_fail(rt: HostRuntime) -> Result<(), OutOfMemory> {
 fn runs_stop(rt: HostRuntime) -> Result<(), OutOfMemory> {
     let alloc = rt.alloc();
     let lines = "stop 3 8\nstop 2 \"s\"\nfail 4\nstop 3 9\n";
-    let Setup { mut host, .. } = set_up(&rt, alloc, lines)?;
+    let Setup { mut host, .. } = read_lines(&rt, alloc, lines)?;
     assert!(rt; matches!(host.progress(alloc, 1), ProgressAnswer::GoOn));
     assert!(rt;
         matches!(
@@ -119,7 +91,7 @@ fn bad_operands(rt: HostRuntime) -> Result<(), OutOfMemory> {
         "stop 1 1 1",
     ];
     for line in rows {
-        refused(&rt, rt.alloc(), line, Reason::BadOperand)?;
+        check_refused(&rt, rt.alloc(), line, Reason::BadOperand)?;
     }
     Ok(())
 }
@@ -134,7 +106,7 @@ fn other_refusals(rt: HostRuntime) -> Result<(), OutOfMemory> {
         ("flag strict on on", Reason::NotBuilt),
     ];
     for (line, reason) in rows {
-        refused(&rt, rt.alloc(), line, reason)?;
+        check_refused(&rt, rt.alloc(), line, reason)?;
     }
     Ok(())
 }

@@ -15,6 +15,8 @@ mod laws;
 mod limits;
 mod line_rules;
 mod linking;
+#[cfg(test)]
+mod listing_tests;
 mod literals;
 #[cfg(test)]
 mod operand_tests;

@@ -1,38 +1,11 @@
 //! How operands are read from a line: where each ends, and what may follow the last.
 
+use crate::listing_tests::{check_refused, read_lines};
+use crate::read;
 use crate::reasons::Reason;
-use crate::{Setup, read};
 use grain_value::{Dynamic, OutOfMemory};
 use std::alloc::Global;
 use std::process::Abort;
-
-/// What is read of a listing with these lines before its main block.
-fn set_up(rt: &impl Abort, alloc: Global, lines: &str) -> Result<Setup, OutOfMemory> {
-    let mut listing = String::from_str(alloc, "grain 1\n")?;
-    listing.push_str(lines)?;
-    listing.push_str("\nmain 1\nend\n")?;
-    match read(alloc, listing.as_str().as_bytes())? {
-        Ok(setup) => Ok(setup),
-        Err(_) => {
-            assert!(rt; false);
-            Err(OutOfMemory)
-        }
-    }
-}
-
-/// Compares the reason for which the second line of a listing is refused.
-fn check(rt: &impl Abort, alloc: Global, line: &str, reason: Reason) -> Result<(), OutOfMemory> {
-    let mut listing = String::from_str(alloc, "grain 1\n")?;
-    listing.push_str(line)?;
-    match read(alloc, listing.as_str().as_bytes())? {
-        Ok(_) => assert!(rt; false),
-        Err(bad) => {
-            assert_eq!(rt; bad.line, 2);
-            assert_eq!(rt; bad.reason, reason);
-        }
-    }
-    Ok(())
-}
 
 #[test]
 fn values_end_with_their_word(rt: HostRuntime) -> Result<(), OutOfMemory> {
@@ -55,7 +28,7 @@ fn values_end_with_their_word(rt: HostRuntime) -> Result<(), OutOfMemory> {
         "const \"\\u0041\"",
     ];
     for line in rows {
-        check(&rt, rt.alloc(), line, Reason::BadValue)?;
+        check_refused(&rt, rt.alloc(), line, Reason::BadValue)?;
     }
     Ok(())
 }
@@ -79,14 +52,14 @@ fn the_first_wrong_word_decides(rt: HostRuntime) -> Result<(), OutOfMemory> {
         ("main '1'", Reason::BadOperand),
     ];
     for (line, reason) in rows {
-        check(&rt, rt.alloc(), line, reason)?;
+        check_refused(&rt, rt.alloc(), line, reason)?;
     }
     Ok(())
 }
 
 #[test]
 fn what_ends_a_value(rt: HostRuntime) -> Result<(), OutOfMemory> {
-    let setup = set_up(
+    let setup = read_lines(
         &rt,
         rt.alloc(),
         "const -0;\nconst\t();x\nconst \"; \\\"\\u{1F600}\";\"\nconst  -9223372036854775808 ",
@@ -122,7 +95,7 @@ fn check_surplus(
     for _ in 0..1_000_000u32 {
         long.push_str(" 1")?;
     }
-    check(rt, alloc, long.as_str(), reason)
+    check_refused(rt, alloc, long.as_str(), reason)
 }
 
 #[test]
