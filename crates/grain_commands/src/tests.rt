@@ -173,7 +173,7 @@ fn no_listings(rt: HostRuntime) -> Result<(), OutOfMemory> {
             "grain 1\nmain 1\njump a\nend\n",
             "listing line 3: unknown label\n",
         ),
-        ("grain 1\nsource \"x\"\n", "listing line 2: not built\n"),
+        ("grain 1\nchain 1\n", "listing line 2: not built\n"),
     ];
     for (listing, text) in rows {
         check(&rt, rt.alloc(), "run", listing, 3, text)?;

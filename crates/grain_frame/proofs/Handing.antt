@@ -1,5 +1,5 @@
 -- What a native gave, as the frame goes on with it.
-use Rattle.std.proofs.Common.{◌≡◌, ◌∙◌, ◌<◌, ◌≤◌, ◌+◌, ◌-◌, ℕ, List, [], ◌∷◌, Option, Some, true, false, take, drop, inl, inr, Result, Ok, Err, length, refl, ap, arith}
+use Rattle.std.proofs.Common.{◌≡◌, ◌<◌, ◌≤◌, ◌+◌, ◌-◌, ℕ, List, [], ◌∷◌, Option, Some, true, false, take, drop, inl, inr, Result, Ok, Err, length, refl, ap, arith}
 use Rattle.std.proofs.lemmas.List.{length-take-le, length-drop, take_all}
 use Rattle.grain_value.specs.declared.values.Dynamic.{Dynamic}
 use Rattle.grain_value.specs.declared.values.Held.{Held}

@@ -19,7 +19,7 @@ use Rattle.grain_host.specs.Answers.{Answers, Replies, reply_of}
 use Rattle.grain_host.specs.declared.answers.Args.{Args}
 use Rattle.grain_host.specs.declared.answers.HostAnswer.{HostAnswer}
 use Rattle.grain_global.specs.declared.engines.Engine.{Engine}
-use Rattle.grain_means.specs.Worlds.{Frame, Place, Setup, World}
+use Rattle.grain_means.specs.Worlds.{Frame, Setup, World}
 use Rattle.grain_means.specs.Signatures.{says_missing}
 use Rattle.grain_means.specs.Rules.{held_at, native, native_assigned, onward, op_assign_failed, operator_assigned, stepped}
 use Rattle.grain_means.specs.Simulation.{Computation, SimulatesExactly}
@@ -28,7 +28,7 @@ use Rattle.grain_means.specs.lemmas.Stretches.{then_exactly}
 use Rattle.grain_frame.specs.Counts.{Counts}
 use Rattle.grain_frame.specs.Abstraction.{abstraction, frame_in, continuation, KeepsFrame, Implements}
 use Rattle.grain_frame.specs.Following.{moved, marked_once}
-use Rattle.grain_frame.specs.Natives.{EndsBy, Serves, served_run}
+use Rattle.grain_frame.specs.Natives.{EndsBy, Serves}
 use Rattle.grain_frame.specs.declared.activations.Activation.{Activation}
 use Rattle.grain_frame.specs.declared.natives.NativeEnd.{NativeEnd}
 use Rattle.grain_frame.specs.declared.natives.NativeEnd.TheVariants as native_end

@@ -1,5 +1,5 @@
 -- A native is sought, and the host is called.
-use Rattle.std.proofs.Common.{◌≡◌, ◌∙◌, ◌<◌, ◌≤◌, ◌+◌, ◌-◌, ◌++◌, ℕ, List, [], ◌∷◌, Option, None, Some, Bool, true, false, inl, inr, Result, Ok, Err, length, map, refl, ap, subst, arith}
+use Rattle.std.proofs.Common.{◌≡◌, ◌∙◌, ◌≤◌, ◌+◌, ℕ, List, [], ◌∷◌, Option, None, Some, true, false, inl, inr, Result, Ok, Err, length, map, refl, ap, subst, arith}
 use Rattle.grain_value.specs.Tree.{Tree}
 use Rattle.grain_value.specs.declared.values.Dynamic.{Dynamic}
 use Rattle.grain_value.specs.declared.values.Held.{Held}
@@ -9,18 +9,15 @@ use Rattle.grain_value.specs.Operands.{values_in}
 use Rattle.grain_fault.specs.declared.places.Position.{Position}
 use Rattle.grain_fault.specs.declared.faults.EvalAltResult.{EvalAltResult}
 use Rattle.grain_fault.specs.Problems.{Problem, problem_of}
-use Rattle.grain_fault.specs.Positions.{at_position_if_none}
-use Rattle.grain_program.specs.Typing.{In}
 use Rattle.grain_program.specs.View.{View, position_of}
 use Rattle.grain_host.specs.Law.{Law, native_of}
-use Rattle.grain_host.specs.Law as reply
 use Rattle.grain_global.specs.declared.engines.Engine.{Engine}
 use Rattle.grain_means.specs.Worlds.{Act, Frame, Place, Setup, World}
-use Rattle.grain_means.specs.Rules.{Receiver, given, native, kinds_in, trees_in, raised}
+use Rattle.grain_means.specs.Rules.{Receiver, native, kinds_in, trees_in, raised}
 use Rattle.grain_means.specs.Signatures.{not_found}
 use Rattle.grain_value.specs.Same.{value_of, value_of-tree}
 use Rattle.grain_frame.specs.declared.natives.Arguments.{Arguments}
-use Rattle.grain_means.specs.Simulation.{Computation, Environment, SimulatesExactly, stopped, world}
+use Rattle.grain_means.specs.Simulation.{Computation, SimulatesExactly}
 use Rattle.grain_means.specs.Means.{setup}
 use Rattle.grain_means.specs.lemmas.Stretches.{then_exactly}
 use Rattle.grain_frame.specs.Counts.{Counts}

@@ -1,5 +1,5 @@
 -- What a native is given, and what was found for it.
-use Rattle.std.specs.Prelude.{◌≡◌, ◌⊎◌, ◌+◌, ℕ, List, Option, None, Some, Bool, true, false, ◌&&◌, Result, Ok, Err}
+use Rattle.std.specs.Prelude.{◌≡◌, ◌⊎◌, ◌+◌, ℕ, List, Option, None, Some, true, false, ◌&&◌, Result, Ok, Err}
 use Rattle.grain_value.specs.Tree.{Tree}
 use Rattle.grain_value.specs.Operands.{values_in}
 use Rattle.grain_value.specs.declared.values.Held.{Held}

@@ -153,7 +153,7 @@ fn exits_and_unknown_calls(rt: HostRuntime) -> Result<(), OutOfMemory> {
     let HostAnswer::Failed(fault) = host.call(alloc, 5, &mut args) else {
         panic!(&rt; "no exit");
     };
-    assert!(&rt; matches!(fault.into_fault(), EvalAltResult::Exit(Dynamic::Int(7), _)));
+    assert!(&rt; matches!(&fault.into_fault(), EvalAltResult::Exit(Dynamic::Int(7), _)));
     // No such key, another kind, another number of arguments.
     for key in [0, 3] {
         let mut args = one(alloc, Dynamic::Int(7))?;
@@ -215,6 +215,8 @@ fn limits_are_handed_back(rt: HostRuntime) {
     check_passes(&rt, EvalAltResult::ErrorTooManyOperations(NONE), false);
     check_passes(&rt, EvalAltResult::ErrorTooManyVariables(NONE), false);
     check_passes(&rt, EvalAltResult::ErrorStackOverflow(NONE), false);
+    check_passes(&rt, EvalAltResult::ErrorTooManyModules(NONE), false);
+    check_passes(&rt, EvalAltResult::ErrorUnboundThis(NONE), false);
     check_passes(&rt, EvalAltResult::Memory, false);
 }
 

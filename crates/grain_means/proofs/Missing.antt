@@ -1,5 +1,5 @@
 -- The kinds of faults that say that a native is not found.
-use Rattle.std.proofs.Common.{◌≡◌, ℕ, List, Bool, true, false, if◌then◌else◌, refl, eqb, bytes_eq}
+use Rattle.std.proofs.Common.{ℕ, List, Bool, true, false, if◌then◌else◌, eqb, bytes_eq}
 use Rattle.std.specs.Prelude.{codes}
 use Rattle.std.specs.List.{starts_with}
 use Rattle.grain_value.specs.declared.values.Dynamic.{Dynamic}

@@ -1,5 +1,5 @@
 -- A fault at another position.
-use Rattle.std.proofs.Common.{◌≡◌, Bool, true, false, if◌then◌else◌, refl, sym, ◌∙◌, ap}
+use Rattle.std.proofs.Common.{◌≡◌, Bool, true, false, if◌then◌else◌, refl, sym}
 use Rattle.grain_fault.specs.Classes.{catchable}
 use Rattle.grain_fault.specs.Places.{is_nowhere}
 use Rattle.grain_fault.specs.Positions.{at_position, at_position_if_none, position_of_problem}

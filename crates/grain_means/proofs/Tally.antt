@@ -2,7 +2,7 @@
 -- begun, the tokens that are out are those that were, the level is what it was, the entries below
 -- the base keep their names, a fault cuts the scope, each fault has its cause, and in a valid
 -- program an instruction with its operands stands at each frame.
-use Rattle.std.proofs.Common.{◌≡◌, ◌≤◌, ◌<◌, ◌⊎◌, ℕ, ◌+◌, ◌-◌, List, [], ◌∷◌, ◌++◌, Option, Some, None, Bool, true, false, refl, sym, subst, ap, ◌∙◌, inl, inr, arith, length, take, if◌then◌else◌, ◌&&◌, nat_lt, nat_le}
+use Rattle.std.proofs.Common.{◌≡◌, ◌≤◌, ◌<◌, ◌⊎◌, ℕ, ◌+◌, ◌-◌, List, [], ◌∷◌, ◌++◌, Option, Some, None, Bool, true, false, refl, subst, ap, ◌∙◌, inl, inr, arith, length, take, if◌then◌else◌, ◌&&◌, nat_lt, nat_le}
 use Rattle.std.specs.Prelude.{codes}
 use Rattle.std.proofs.lemmas.Bool.{ltb-true, ltb-false, leb-true}
 use Rattle.grain_value.specs.declared.values.Dynamic.{Dynamic}
@@ -27,7 +27,7 @@ use Rattle.grain_program.specs.declared.code.instructions.Op.TheVariants as op
 use Rattle.grain_program.specs.Effects.{takes_of, gives_of, leads_of}
 use Rattle.grain_program.specs.Typing.{In, IsProgram}
 use Rattle.grain_program.specs.Reading.{op_at}
-use Rattle.grain_program.specs.View.{name_of, const_of, token_of, assign_op_of, source_text}
+use Rattle.grain_program.specs.View.{name_of, const_of, assign_op_of, source_text}
 use Rattle.grain_ops.specs.Outcomes.{Outcome, NotBuiltIn, Gave, ArithmeticFault, TooLarge}
 use Rattle.grain_means.specs.Worlds.{Act, Go, End, Then, Answer, Came, Failed, World, Setup, Frame, Todo, InFrame, Place}
 use Rattle.grain_means.specs.Signatures.{not_found, says_missing}
@@ -36,12 +36,12 @@ use Rattle.grain_host.specs.Law as reply
 use Rattle.grain_value.specs.declared.natives.Native.{Native}
 use Rattle.grain_means.proofs.Moving.{placed_twice, caught_anywhere, placed_if_none}
 use Rattle.grain_means.proofs.Missing.{row_of_missing}
-use Rattle.grain_means.specs.Rules.{Receiver, lent, given, given_back, held_or, operator_assigned, op_assign_failed, native_assigned, kinds_in, trees_in, first_is_read_only, exit_of, on_verdict, progressed, answered, host_called, native_found, native, pushed, written, exited, without, bound, function_found, frame_at, held_at, stepped, is_full, is_stop, or_return, operated, op_assigned, agrees, leave_by_fault, marked, raised, charged, onward, jumped, slot_past_scope, at_slot, at_entry, load_local, declare, push_outcome, assignment_to_constant, write_entry, store_local, store_outcome, assign, assign_op, branched, tested, skip, unwind, propagate, resume_caller, enter_function, function_entered, call_function, instr, start_instruction, next, passing, closed, called, main_frame, position}
+use Rattle.grain_means.specs.Rules.{Receiver, lent, given, given_back, held_or, operator_assigned, op_assign_failed, native_assigned, trees_in, first_is_read_only, exit_of, on_verdict, progressed, answered, host_called, native_found, native, pushed, written, exited, without, bound, function_found, frame_at, held_at, stepped, is_full, is_stop, or_return, operated, op_assigned, agrees, leave_by_fault, marked, raised, charged, onward, jumped, at_entry, declare, push_outcome, assignment_to_constant, write_entry, store_outcome, branched, tested, skip, unwind, propagate, resume_caller, enter_function, function_entered, call_function, instr, start_instruction, next, passing, closed, called, main_frame, position}
 use Rattle.grain_means.specs.Ends.{Ends, ended, went, joined}
 use Rattle.grain_means.specs.Comes.{ProgramPoint, Comes, here, further, within, behind, Meets, Stands}
 use Rattle.grain_means.specs.Leavings.{names, Keeps, AtCheckpoint, Cut, Cuts}
 use Rattle.grain_means.specs.Length.{run_length}
-use Rattle.grain_means.specs.Causes.{Question, native_asked, reply_to, asks_first, EndsWith, HasNoBuiltIn, AssignsByHost, AsksNative, FindsNone, FindsNative, HostAnswers, HasPosition, Why, Calls, Charges, Overfills, UsesEntry, Unwinds, Tests, Holds, AssignsConstant, Operates, CallsOn, Enters, LeftCall, Tells, Row, Cause, Caused}
+use Rattle.grain_means.specs.Causes.{Question, native_asked, reply_to, asks_first, EndsWith, HasNoBuiltIn, AssignsByHost, AsksNative, FindsNative, HostAnswers, HasPosition, Why, Calls, Charges, Overfills, UsesEntry, Unwinds, Tests, Holds, AssignsConstant, Operates, CallsOn, Enters, LeftCall, Tells, Row, Cause, Caused}
 use Rattle.grain_means.specs.lemmas.Branches.{of_two}
 use Rattle.grain_means.proofs.Kept.{keeps_all, keeps_nothing, keeps_cut, keeps_push, keeps_set, keeps_given}
 use Rattle.grain_means.proofs.Lengths.{past_scope, cut_short, length_under, length_pushed, length_rotated}

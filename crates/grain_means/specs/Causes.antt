@@ -18,7 +18,7 @@ use Rattle.grain_program.specs.declared.code.instructions.Op.{Op}
 use Rattle.grain_program.specs.declared.code.instructions.Op.TheVariants as op
 use Rattle.grain_program.specs.declared.code.functions.Function.{Function}
 use Rattle.grain_program.specs.declared.code.parts.AssignOp.{AssignOp}
-use Rattle.grain_program.specs.View.{View, name_of, token_of, assign_op_of, source_text}
+use Rattle.grain_program.specs.View.{View, name_of, assign_op_of, source_text}
 use Rattle.grain_global.specs.declared.engines.Engine.{Engine}
 use Rattle.grain_ops.specs.Outcomes.{Outcome, NotBuiltIn, ArithmeticFault, TooLarge}
 use Rattle.grain_means.specs.Worlds.{Act, Go, Answer, Came, Failed, World, Setup, Frame, InFrame}

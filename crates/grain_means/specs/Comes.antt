@@ -1,5 +1,5 @@
 -- The frames to which a run comes, and what a valid program has there.
-use Rattle.std.specs.Prelude.{◌≡◌, ◌≤◌, ℕ, Option, Some, length}
+use Rattle.std.specs.Prelude.{◌≡◌, ◌≤◌, ℕ, Some, length}
 use Rattle.grain_program.specs.declared.code.instructions.Op.{Op}
 use Rattle.grain_program.specs.Effects.{takes_of}
 use Rattle.grain_program.specs.Indices.{InPools}

@@ -1,12 +1,12 @@
 -- The meaning of the machine: what one instruction does. Every rule is a definition by cases.
-use Rattle.std.specs.Prelude.{ℕ, ◌+◌, ◌-◌, not, List, [], ◌∷◌, ◌++◌, Option, Some, None, Bool, true, false, if◌then◌else◌, nat_lt, nat_le, nat_eq, ◌&&◌, length, take, drop, map, option_map, slice_get, codes}
+use Rattle.std.specs.Prelude.{ℕ, ◌+◌, not, List, [], ◌∷◌, ◌++◌, Option, Some, None, Bool, true, false, if◌then◌else◌, nat_lt, nat_le, nat_eq, ◌&&◌, length, take, map, option_map, slice_get, codes}
 use Rattle.grain_value.specs.declared.values.Dynamic.{Dynamic}
 use Rattle.grain_value.specs.declared.values.Dynamic.TheVariants as dynamic
 use Rattle.grain_value.specs.declared.values.Held.{Held}
 use Rattle.grain_value.specs.declared.scopes.Entry.{Entry}
 use Rattle.grain_value.specs.Scopes.{held_of, set_held}
 use Rattle.grain_value.specs.Looking.{truth_of, is_unit}
-use Rattle.grain_value.specs.Operands.{top, below, under, arguments, rotated, read_write, value_in, values_in, bound_entries}
+use Rattle.grain_value.specs.Operands.{top, below, under, arguments, rotated, read_write, values_in, bound_entries}
 use Rattle.grain_value.specs.Tree.{Tree}
 use Rattle.grain_value.specs.View.{tree}
 use Rattle.grain_value.specs.declared.natives.Native.{Native}

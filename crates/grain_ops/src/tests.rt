@@ -72,7 +72,7 @@ fn check_arithmetic(rt: &impl Abort, answer: OpAnswer, text: &str) {
 }
 
 fn check_arithmetic_fault(rt: &impl Abort, fault: EvalAltResult, text: &str) {
-    match fault {
+    match &fault {
         EvalAltResult::ErrorArithmetic(found, position) => {
             assert_eq!(rt; found.as_str(), text);
             assert!(rt; position.is_none());
@@ -83,7 +83,7 @@ fn check_arithmetic_fault(rt: &impl Abort, fault: EvalAltResult, text: &str) {
 
 /// The fault says that a text is too long, and has no position.
 fn check_too_long(rt: &impl Abort, fault: EvalAltResult) {
-    match fault {
+    match &fault {
         EvalAltResult::ErrorDataTooLarge(what, position) => {
             assert_eq!(rt; what.as_str(), "Length of string");
             assert!(rt; position.is_none());

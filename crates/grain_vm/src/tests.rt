@@ -166,7 +166,7 @@ fn a_jump_to_itself_stops_at_the_limit(rt: HostRuntime) -> Result<(), Fail> {
     let ended = end_of::<Brand>(rt.alloc(), Blank::new(6), &program, LIMITS)?;
     assert!(rt;
         matches!(
-            ended.answer,
+            &ended.answer,
             Err(EvalAltResult::ErrorTooManyOperations(Position::NONE))
         )
     );
@@ -217,7 +217,7 @@ fn a_call_without_a_level_overflows(rt: HostRuntime) -> Result<(), Fail> {
     let ended = end_of::<Brand>(rt.alloc(), Blank::new(6), &program, limits)?;
     assert!(rt;
         matches!(
-            ended.answer,
+            &ended.answer,
             Err(EvalAltResult::ErrorStackOverflow(Position::NONE))
         )
     );

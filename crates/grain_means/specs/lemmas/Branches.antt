@@ -1,5 +1,5 @@
 -- Where a branch leads.
-use Rattle.std.proofs.Common.{◌≡◌, ◌⊎◌, ℕ, List, [], ◌∷◌, Bool, true, false, cond, nat_lt, inl, inr}
+use Rattle.std.proofs.Common.{◌≡◌, ◌⊎◌, ℕ, [], ◌∷◌, Bool, true, false, cond, nat_lt, inl, inr}
 use Rattle.grain_program.specs.Typing.{In}
 
 -- the two addresses that a branch leads to

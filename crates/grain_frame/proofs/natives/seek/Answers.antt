@@ -1,4 +1,4 @@
-use Rattle.std.proofs.Common.{◌≡◌, ◌∙◌, None, rules, sym}
+use Rattle.std.proofs.Common.{◌≡◌, ◌∙◌, None, sym}
 use Rattle.grain_host.specs.Law.{native_of}
 use Rattle.grain_frame.proofs.Serving.{seeks_none}
 use Rattle.grain_frame.proofs.natives.seek.Goals as goal

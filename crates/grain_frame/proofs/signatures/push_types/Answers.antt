@@ -1,4 +1,4 @@
-use Rattle.std.proofs.Common.{◌≡◌, ◌∙◌, ◌∷◌, [], ◌++◌, refl, ap}
+use Rattle.std.proofs.Common.{◌∙◌, ◌∷◌, [], ◌++◌, refl, ap}
 use Rattle.grain_frame.proofs.Signing.{next_type}
 use Rattle.grain_frame.proofs.signatures.push_types.Goals as goal
 

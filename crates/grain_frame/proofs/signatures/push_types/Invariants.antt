@@ -1,4 +1,4 @@
-use Rattle.std.proofs.Common.{◌≡◌, ◌≤◌, ◌++◌, [], length, map, drop}
+use Rattle.std.proofs.Common.{◌≡◌, ◌++◌, [], map, drop}
 use denote.Text.{Utf8}
 use denote.Shadow.{shadow}
 use Rattle.grain_value.specs.Same.{value_of}

@@ -1,4 +1,3 @@
-use Rattle.std.proofs.Common.{◌≡◌, ◌∙◌, rules}
 use Rattle.std.proofs.lemmas.Str.Pattern.{starts_text}
 use Rattle.grain_frame.proofs.signatures.says_missing.Goals as goal
 

@@ -7,8 +7,7 @@ use Rattle.grain_frame.specs.declared.activations.Activation.{Activation}
 use Rattle.grain_frame.specs.declared.runs.Progress.{Progress}
 use Rattle.grain_frame.specs.declared.runs.Run.{Run}
 use Rattle.grain_frame.specs.declared.loops.Pending.{Pending}
-use Rattle.grain_program.specs.declared.code.instructions.Op.TheVariants as op
-use Rattle.grain_frame.proofs.Arms.{call_stepped, stood}
+use Rattle.grain_frame.proofs.Arms.{call_stepped}
 use Rattle.grain_frame.proofs.Calling.{call_over, call_ran, has_begun, not_begun, entered_with, found_is, params_are, there_is, outer_is}
 use Rattle.grain_frame.proofs.Measure.{falls}
 use Rattle.grain_frame.proofs.Turns.{moved_back, turn, flowed, left_out, next_runs, taken_back}

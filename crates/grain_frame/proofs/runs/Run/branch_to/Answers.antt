@@ -1,5 +1,5 @@
 -- Each way on is what the rule of the branch says.
-use Rattle.std.proofs.Common.{rules, ◌≡◌, ◌≤◌, ◌<◌, ◌+◌, true, false}
+use Rattle.std.proofs.Common.{rules, ◌≡◌, ◌<◌, true, false}
 use Rattle.grain_means.specs.Rules.{agrees}
 use Rattle.grain_frame.proofs.Branching.{falls, jumps}
 use Rattle.grain_frame.proofs.runs.Run.branch_to.Goals as goal

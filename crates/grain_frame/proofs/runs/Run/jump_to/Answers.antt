@@ -1,5 +1,4 @@
 use Rattle.std.proofs.Common.{rules, refl, inl, ◌≡◌, ◌≤◌, true, false}
-use Rattle.grain_means.specs.Worlds.{Setup, Place}
 use Rattle.grain_means.specs.Rules.{onward, stepped}
 use Rattle.grain_means.specs.Means.{setup}
 use Rattle.grain_means.specs.Simulation.{stopped, world}

@@ -1,5 +1,4 @@
 use Rattle.std.proofs.Common.{◌≡◌, ◌∙◌, Some, refl, sym}
-use Rattle.grain_value.specs.declared.values.Held.{Held}
 use Rattle.grain_means.specs.Rules.{held_at}
 use Rattle.grain_frame.proofs.Handing.{one_held}
 use Rattle.grain_frame.proofs.Lending.{lends}

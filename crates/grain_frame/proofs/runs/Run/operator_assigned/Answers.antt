@@ -1,8 +1,6 @@
-use Rattle.std.proofs.Common.{◌≡◌, ◌∷◌, [], Option, None, Some, true, refl, sym, rules}
+use Rattle.std.proofs.Common.{◌≡◌, ◌∷◌, [], None, Some, true, refl, sym, rules}
 use Rattle.grain_program.specs.View.{name_of}
 use Rattle.grain_value.specs.Operands.{top}
-use Rattle.grain_fault.specs.Problems.{Problem}
-use Rattle.grain_means.specs.Worlds.{Place, Setup, World}
 use Rattle.grain_means.specs.Rules.{held_at, raised, write_entry}
 use Rattle.grain_means.specs.Means.{setup}
 use Rattle.grain_frame.specs.Abstraction.{frame_in, is_out}
