@@ -29,7 +29,7 @@ RefusedOnce = (p : View) (r s : Refusal) → IsRefusal p r → IsRefusal p s →
 same_set_up : (said : Result SetUp BadLine) (s t : SetUp) → said ≡ Ok s → said ≡ Ok t → t ≡ s
 same_set_up said s t one other = cc
 
--- the end that is told is the end that the program means
+-- the end that is reported is the end that the program means
 same_report : MeansOne → (s : SetUp) (end : Finish TableHost) (n status : ℕ) (text : List ℕ) →
     Means table_law s.parts (engine_of s.limits s.fast_operators) (start s.scope s.host) end n →
     Reported s.parts (engine_of s.limits s.fast_operators) (start s.scope s.host) status text →

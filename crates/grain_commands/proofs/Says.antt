@@ -14,7 +14,7 @@ use Rattle.grain_commands.specs.Statuses.{RunEnds, IsRefused, Says, Beside}
 use Rattle.grain_commands.specs.Streams.{added}
 use Rattle.grain_listing.specs.declared.reasons.BadLine.{BadLine}
 
--- what is said of the bytes, where they are told
+-- what is said of the bytes, where they are reported
 where_told : (input : Option (List ℕ)) (P Q : List ℕ → Type 0) →
     ((bytes : List ℕ) → P bytes → Q bytes) → IfSome input P → IfSome input Q
 where_told None P Q f h = tt

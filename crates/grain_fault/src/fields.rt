@@ -44,7 +44,7 @@ fn text<'a>(name: &'static str, text: &'a Text) -> Field<'a>
     }
 }
 
-/// The fields of an index that is out of bounds. A length past the integers of scripts is told as
+/// The fields of an index that is out of bounds. A length past the integers of scripts is put as
 /// the greatest of them.
 fn bounds<'a>(length: usize, index: i64) -> Fields<'a>
     ensures { fields_in result ≡ bounds_fields length index }

@@ -33,7 +33,7 @@ is_on cs = is_some (after_name (codes "on") cs)
 abbrev pub has_parameter : List ℕ → Bool
 has_parameter cs = not (is_over cs) && not (is_on cs)
 
--- there are more than so many parameters, whatever their words are
+-- there are more than n parameters, whatever their words are
 unfoldable pub has_more : ℕ → List ℕ → Bool
 has_more zero cs = has_parameter cs
 has_more (suc n) cs = has_parameter cs && has_more n (after_word cs)
@@ -42,7 +42,7 @@ has_more (suc n) cs = has_parameter cs && has_more n (after_word cs)
 abbrev pub parameter : List ℕ → Result (ℕ × List ℕ) Reason
 parameter cs = if is_on cs then Err NotBuilt else index cs
 
--- at most so many parameters
+-- at most n parameters
 unfoldable pub parameters_of : ℕ → List ℕ → Result (List ℕ) Reason
 parameters_of zero cs = if is_over cs then Ok [] else and_then (parameter cs) (λ a. Err TooMany)
 parameters_of (suc n) cs =

@@ -7,7 +7,7 @@ use Rattle.grain_value.specs.Tree.{Tree, Trees, Fields, unit, boolean, integer, 
 use Rattle.grain_value.specs.Maps.{IsAscending}
 use Rattle.grain_words.specs.Spelled.{IsLong}
 
--- The value has at most so many arrays, maps and pointers inside one another. Texts, keys and names
+-- The value has at most n arrays, maps and pointers inside one another. Texts, keys and names
 -- are UTF-8, characters are scalar values, integers have 64 bits, bytes have 8, a host's kind has
 -- 32 bits and is 16 or more, its number has 64 bits, and the keys of a map ascend.
 abbrev mutual

@@ -126,7 +126,7 @@ nesting read cs =
     (behind (after_text (codes "fn(") cs) (pointer_here read)
     (flat cs)))
 
--- the value that begins here, in which at most so many arrays, maps and pointers stand inside one
+-- the value that begins here, in which at most n arrays, maps and pointers stand inside one
 -- another
 unfoldable pub value : ℕ → List ℕ → Found Tree
 value zero cs = flat cs

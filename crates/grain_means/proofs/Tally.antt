@@ -64,7 +64,7 @@ Onto {S = S} m first act = (t : Todo) (w : World S) → Comes m t w first → Co
 abbrev Sits : {S : Type 0} → Setup S → Footing → Frame → Type 0
 Sits m k f = (f.base ≡ k.base) × (k.base ≤ f.floor) × (IsProgram m.program → Fitting m.program f)
 
--- what is left to do of a run, and of its instruction, begins after so many instructions, keeps its
+-- what is left to do of a run, and of its instruction, begins after n instructions, keeps its
 -- footing, and ends with a cause and the scope cut
 abbrev Tally : {S : Type 0} → Setup S → Act S → Act S → ℕ → Footing → Act S → Type 0
 Tally {S = S} m root turn r k (Go (InFrame f) w) = (w.ran ≡ r) × (w.tokens ≡ k.tokens) ×

@@ -20,7 +20,7 @@ pub struct First {
 /// The first function of each name, by the name's index.
 pub type FirstFunctions = Vec<Option<First>>;
 
-/// The first function of each of so many names.
+/// The first function of each of the first `names` names.
 pub fn first_functions(
     alloc: Global,
     functions: &[Function],

@@ -34,7 +34,7 @@ innermost s = record { operands = s.operands; room = s.room; noted = s.noted }
 abbrev pub counted_up : ℕ → ℕ
 counted_up n = if nat_lt n (2 ^ 64 - 1) then n + 1 else n
 
--- a frame more, which may have so many operands
+-- a frame more, which may have n operands
 abbrev pub with_frame : ℕ → StacksView → StacksView
 with_frame room s = record s {
   operands = [];

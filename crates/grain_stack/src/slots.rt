@@ -62,7 +62,7 @@ impl Slots {
         &self.slots[..self.height]
     }
 
-    /// Makes slots for so many more operands. After want of memory the operands are as they were.
+    /// Makes slots for `more` further operands. After want of memory the operands are as they were.
     #[inline(always)]
     pub fn reserve(&mut self, more: usize) -> Result<(), OutOfMemory>
         ensures operands { self.new.operands ≡ self.old.operands }
@@ -75,7 +75,7 @@ impl Slots {
         Ok(())
     }
 
-    // Makes so many more slots.
+    // Makes `more` further slots.
     #[cold]
     #[inline(never)]
     fn make(&mut self, more: usize) -> Result<(), OutOfMemory>

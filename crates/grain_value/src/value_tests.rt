@@ -118,7 +118,7 @@ fn characters_are_written(rt: HostRuntime) -> Result<(), OutOfMemory> {
     Ok(())
 }
 
-// A value within so many arrays.
+// A value within `levels` arrays.
 fn nested(alloc: Global, levels: usize) -> Result<Dynamic, OutOfMemory> {
     let mut value = Dynamic::Unit;
     for _ in 0..levels {

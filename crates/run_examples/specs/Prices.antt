@@ -35,7 +35,7 @@ abbrev pub hundredth : Result ℤ Reason → Result ℤ Reason
 hundredth (Ok n) = Ok (int_div n (pos 100))
 hundredth (Err r) = Err r
 
--- an amount less so many percent of it
+-- an amount less n percent of it
 abbrev pub discount : ℤ → ℤ → Result ℤ Reason
 discount amount percent =
     if int_lt percent (pos 0) || int_lt (pos 100) percent then Err reason.OutOfRange

@@ -128,7 +128,7 @@ impl PriceList {
     }
 }
 
-// The native `discount`: an amount less so many percent of it, rounded towards zero.
+// The native `discount`: an amount less `percent` percent of it, rounded towards zero.
 fn discount(amount: i64, percent: i64) -> Result<i64, Reason>
     ensures { result ≡ discount amount percent }
 {

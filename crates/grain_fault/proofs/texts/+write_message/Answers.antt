@@ -1,4 +1,4 @@
--- An index of an array, which is told by its own text.
+-- An index of an array, which has a text of its own.
 use Rattle.std.proofs.Common.{sym, ap}
 use Rattle.std.proofs.Output.{has_written_of_eq}
 use Rattle.grain_fault.specs.Problems.{problem_of}
