@@ -36,6 +36,8 @@ refusal_name (refusals.FallsOff a) = codes "FallsOff"
 refusal_name (refusals.HeightDisagrees a) = codes "HeightDisagrees"
 refusal_name (refusals.TooDeep a) = codes "TooDeep"
 refusal_name (refusals.Underflow a) = codes "Underflow"
+refusal_name (refusals.HandlerDisagrees a) = codes "HandlerDisagrees"
+refusal_name (refusals.UnderTry a) = codes "UnderTry"
 refusal_name (refusals.Capability a) = codes "Capability"
 refusal_name refusals.Memory = codes "Memory"
 

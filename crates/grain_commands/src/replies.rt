@@ -85,6 +85,8 @@ fn refusal_name(refusal: Refusal) -> &'static str
         Refusal::HeightDisagrees(_) => "HeightDisagrees",
         Refusal::TooDeep(_) => "TooDeep",
         Refusal::Underflow(_) => "Underflow",
+        Refusal::HandlerDisagrees(_) => "HandlerDisagrees",
+        Refusal::UnderTry(_) => "UnderTry",
         Refusal::Capability(_) => "Capability",
         Refusal::Memory => "Memory",
     }

@@ -13,10 +13,14 @@ use Rattle.grain_program.specs.declared.code.instructions.Op.{Op}
 use Rattle.grain_program.specs.declared.code.instructions.Op.TheVariants as op
 use Rattle.grain_frame.specs.declared.loops.Attempt.{Attempt}
 use Rattle.grain_frame.specs.declared.loops.Attempt.TheVariants as attempt
-use Rattle.grain_program.specs.Effects.{takes_of, gives_of, leads_of}
+use Rattle.grain_program.specs.declared.code.effects.Handling.{Handling}
+use Rattle.grain_program.specs.declared.code.effects.Handling.TheVariants as handling
+use Rattle.grain_program.specs.Effects.{takes_of, gives_of, leads_of, handling_of}
+use Rattle.grain_program.specs.Shapes.{TryHandler, handled}
 use Rattle.grain_program.specs.laws.TypedAt.{IsTypedAt, Verified}
 use Rattle.grain_program.specs.Reading.{op_at}
 use Rattle.grain_program.specs.View.{View}
+use Rattle.grain_stack.specs.declared.handlers.Handler.{Handler}
 use Rattle.grain_host.specs.Law.{Law}
 use Rattle.grain_global.specs.declared.engines.Engine.{Engine}
 use Rattle.grain_means.specs.Worlds.{Setup, Place}
@@ -27,13 +31,23 @@ use Rattle.grain_means.specs.lemmas.Stretches.{same, exactly}
 use Rattle.grain_means.specs.lemmas.Branches.{of_two}
 use Rattle.grain_means.specs.lemmas.Scopes.{length_set_held}
 use Rattle.grain_frame.specs.Counts.{Counts}
-use Rattle.grain_frame.specs.Abstraction.{abstraction, frame_in, is_out, continuation, KeepsFrame, ContinuesAt, Ready, Runs, Implements, Performs, Raises, StaysTyped, Stepped, OnTrue, OnFalse, Unchanged, Attempted, CallsNothing, StandsAt, StandsAtJump, attempt_of, attempt_or}
+use Rattle.grain_frame.specs.Abstraction.{abstraction, frame_in, tries_in, Above, is_out, continuation, KeepsFrame, ContinuesAt, Ready, Runs, Implements, Performs, Raises, StaysTyped, Stepped, OnTrue, OnFalse, Unchanged, Attempted, CallsNothing, StandsAt, StandsAtJump, attempt_of, attempt_or}
 use Rattle.grain_frame.specs.declared.activations.Activation.{Activation}
 use Rattle.grain_frame.specs.declared.runs.Progress.{Progress}
 use Rattle.grain_frame.specs.declared.runs.Progress.TheVariants as progress
 use Rattle.grain_frame.specs.declared.runs.Run.{Run}
 use Rattle.grain_frame.specs.Following.{PerformsOn}
 use Rattle.grain_frame.proofs.Turns.{performs, both}
+
+-- a frame that runs is typed with its handlers
+pub typed_with : {H : Type 0} (p : View) (f : Activation) (s : Run H) (depth : ℕ) →
+    depth ≡ length s.stacks.operands → Runs p f s →
+    (hs : List TryHandler) × IsTypedAt p f.chunk f.address depth hs
+typed_with p f s depth deep runs = (
+  tries_in s.stacks.handlers,
+  subst (λ (k : ℕ). IsTypedAt p f.chunk f.address k (tries_in s.stacks.handlers)) (sym deep)
+      runs.typed,
+)
 
 -- what follows from what a try did
 pub tried : {X Y : Type 0} (b : Bool) → OnTrue b X → (X → Y) → OnTrue b Y
@@ -49,76 +63,144 @@ pub attempted : {H : Type 0} (law : Law H) (p : View) (engine : Engine) (f f' : 
 attempted law p engine f f' s s' n n' true does undone calls = does
 attempted law p engine f f' s s' n n' false does undone calls = (undone, calls)
 
+-- an instruction at which a frame stands, by what was verified of it
+module _ {H : Type 0} (law : Law H) (p : View) (engine : Engine) (f : Activation) (s : Run H)
+    (o : Op) (width : ℕ) (runs : Runs p f s)
+    (here : Verified p f.chunk f.address (length s.stacks.operands) (tries_in s.stacks.handlers) o
+    width) where
+  -- the operands that it leaves
+  abbrev left : ℕ
+  left = length s.stacks.operands - takes_of o + gives_of o
+
+  -- the frame goes on with other handlers
+  module _ (handlers : List Handler)
+      (become : tries_in handlers ≡ handled (handling_of o) left (tries_in s.stacks.handlers))
+      (above : Above f.base handlers) (f' : Activation) (s' : Run H) where
+    stays : (r : Result Progress OutOfMemory) → KeepsFrame f s f' s' →
+        ContinuesAt engine s f s' f' (leads_of o (f.address + width)) (takes_of o) (gives_of o)
+        handlers r → StaysTyped p engine s f s' f' r
+    stays (Ok progress.Continues) kept lands =
+        let hs = tries_in s.stacks.handlers in
+        let same : handled (handling_of o) left hs ≡ tries_in s'.stacks.handlers =
+        sym become ∙ ap tries_in (sym lands.2) in
+        let inside = here.inside in
+        let wide = here.wide in (
+          subst (λ (c : Chunk). IsTypedAt p c f'.address (length s'.stacks.operands)
+              (tries_in s'.stacks.handlers)) (sym kept.chunk)
+              (subst (λ (ts : List TryHandler).
+              IsTypedAt p f.chunk f'.address (length s'.stacks.operands) ts) same
+              (subst (λ (k : ℕ). IsTypedAt p f.chunk f'.address k
+              (handled (handling_of o) left hs)) (sym lands.1) (here.goes f'.address lands.0))),
+          lands.3,
+          omega (arith, inside, wide),
+          rw (kept.base, lands.2) above,
+        )
+    stays (Ok progress.Returned) kept lands = tt
+    stays (Ok progress.Failed) kept lands = (
+      length s.stacks.operands - takes_of o,
+      lands.0,
+      rw (kept.chunk, lands.1) here.covered,
+      rw (kept.base, lands.1) runs.above,
+    )
+    stays (Err e) kept lands = tt
+
+    -- the instruction was done
+    pub done_with : op_at p.code f.address ≡ Some (o, width) → (n n' : Counts) (host host' : H)
+        {r : Result Progress OutOfMemory} →
+        Simulates (setup law p engine) (abstraction s n host)
+        (λ m place w. instr m o (f.address + width) (frame_in f s place) w) (is_out r)
+        (abstraction s' n' host') (continuation r s'.fault (frame_in f' s')) →
+        KeepsFrame f s f' s' →
+        ContinuesAt engine s f s' f' (leads_of o (f.address + width)) (takes_of o) (gives_of o)
+        handlers r → n'.before ≡ n.before → Stepped law p engine f s n r f' s' n' host host'
+    done_with read n n' host host' {r} goes kept lands before = record {
+      goes = performs (frame_in f s) o f.address width (λ place. refl) read goes;
+      kept = kept;
+      stays = stays r kept lands;
+      before = before;
+    }
+
+  -- the instruction was done, which keeps the handlers
+  pub done : handling_of o ≡ handling.Keep → op_at p.code f.address ≡ Some (o, width) →
+      (n : Counts) (f' : Activation) (s' : Run H) (n' : Counts) (host host' : H)
+      {r : Result Progress OutOfMemory} →
+      Simulates (setup law p engine) (abstraction s n host)
+      (λ m place w. instr m o (f.address + width) (frame_in f s place) w) (is_out r)
+      (abstraction s' n' host') (continuation r s'.fault (frame_in f' s')) →
+      KeepsFrame f s f' s' →
+      ContinuesAt engine s f s' f' (leads_of o (f.address + width)) (takes_of o) (gives_of o)
+      s.stacks.handlers r → n'.before ≡ n.before → Stepped law p engine f s n r f' s' n' host host'
+  done keeps read n f' s' n' host host' goes kept lands before =
+      done_with s.stacks.handlers
+      (ap (λ (h : Handling). handled h left (tries_in s.stacks.handlers)) (sym keeps)) runs.above
+      f' s' read n n' host host' goes kept lands before
+
+-- an instruction that was read in the code
 module _ {H : Type 0} (law : Law H) (p : View) (engine : Engine) (f : Activation) (s : Run H)
     (said o : Op) (width depth : ℕ) (is : said ≡ o) (deep : depth ≡ length s.stacks.operands)
-    (runs : Runs p f s) (seen : Verified p f.chunk f.address depth said width) where
+    (runs : Runs p f s)
+    (seen : (hs : List TryHandler) → IsTypedAt p f.chunk f.address depth hs →
+    Verified p f.chunk f.address depth hs said width) where
+  -- what was verified of it
+  pub here : Verified p f.chunk f.address (length s.stacks.operands) (tries_in s.stacks.handlers) o
+      width
+  here =
+      let hs = tries_in s.stacks.handlers in
+      let typed : IsTypedAt p f.chunk f.address depth hs =
+      subst (λ (k : ℕ). IsTypedAt p f.chunk f.address k hs) (sym deep) runs.typed in
+      subst (λ (q : Op). Verified p f.chunk f.address (length s.stacks.operands) hs q width) is
+      (subst (λ (k : ℕ). Verified p f.chunk f.address k hs said width) deep (seen hs typed))
+
+  there : op_at p.code f.address ≡ Some (said, width) → op_at p.code f.address ≡ Some (o, width)
+  there read = read ∙ ap (λ (q : Op). Some (q, width)) is
+
   -- the instruction can begin
   pub ready : Ready f s o (f.address + width)
-  ready =
-      let at : Verified p f.chunk f.address depth o width =
-      subst (λ (q : Op). Verified p f.chunk f.address depth q width) is seen in
-      let room : length s.stacks.operands - takes_of o + gives_of o ≤ f.chunk.max_stack =
-      subst (λ (k : ℕ). k - takes_of o + gives_of o ≤ f.chunk.max_stack) deep at.room in
-      record {
-        inside = runs.inside;
-        operands = omega (arith, at.enough, deep);
-        room =
-            omega (arith, room, runs.room);
-        ahead = omega (arith, at.wide);
-      }
+  ready = record {
+    inside = runs.inside;
+    operands = here.enough;
+    room = omega (arith, here.room, runs.room);
+    ahead = omega (arith, here.wide);
+  }
 
   -- the frame stands at the instruction
   pub stands : op_at p.code f.address ≡ Some (said, width) →
       StandsAt p f s o (f.address + width)
-  stands read = record {
-    width = width;
-    read = read ∙ ap (λ (q : Op). Some (q, width)) is;
-    next_is = refl;
-    seen = subst (λ (k : ℕ). Verified p f.chunk f.address k o width) deep
-        (subst (λ (q : Op). Verified p f.chunk f.address depth q width) is seen);
-  }
+  stands read = record { width = width; read = there read; next_is = refl; seen = here }
 
   -- where the instruction leads, the typing knows the frame
-  pub leads_typed : (b : ℕ) → In b (leads_of o (f.address + width)) →
+  pub leads_typed : handling_of o ≡ handling.Keep → (b : ℕ) →
+      In b (leads_of o (f.address + width)) →
       IsTypedAt p f.chunk b (length s.stacks.operands - takes_of o + gives_of o)
-  leads_typed b leads =
-      let at : Verified p f.chunk f.address depth o width =
-      subst (λ (q : Op). Verified p f.chunk f.address depth q width) is seen in
-      subst (λ (k : ℕ). IsTypedAt p f.chunk b (k - takes_of o + gives_of o)) deep (at.goes b leads)
+      (tries_in s.stacks.handlers)
+  leads_typed keeps b leads =
+      let left : ℕ = length s.stacks.operands - takes_of o + gives_of o in
+      subst (λ (h : Handling). IsTypedAt p f.chunk b left
+      (handled h left (tries_in s.stacks.handlers))) keeps (here.goes b leads)
 
-  module _ (read : op_at p.code f.address ≡ Some (said, width)) (n : Counts) (f' : Activation)
-      (s' : Run H) (n' : Counts) where
-    stays : (r : Result Progress OutOfMemory) → KeepsFrame f s f' s' →
-        ContinuesAt engine s f s' f' (leads_of o (f.address + width))
-        (length s.stacks.operands - takes_of o + gives_of o) r → StaysTyped p engine s f s' f' r
-    stays (Ok progress.Continues) kept lands =
-        let at : Verified p f.chunk f.address depth o width =
-        subst (λ (q : Op). Verified p f.chunk f.address depth q width) is seen in
-        let fits = at.goes f'.address lands.0 in
-        let height : depth - takes_of o + gives_of o ≡ length s'.stacks.operands =
-        ap (λ (k : ℕ). k - takes_of o + gives_of o) deep ∙ sym lands.1 in
-        let inside = at.inside in
-        let wide = at.wide in (
-          subst (λ (c : Chunk). IsTypedAt p c f'.address (length s'.stacks.operands))
-              (sym kept.chunk) (subst (λ (k : ℕ). IsTypedAt p f.chunk f'.address k) height fits),
-          lands.2,
-          omega (arith, inside, wide),
-        )
-    stays (Ok progress.Returned) kept lands = tt
-    stays (Ok progress.Failed) kept lands = tt
-    stays (Err e) kept lands = tt
+  -- the instruction was done, and the frame goes on with other handlers
+  pub stepped_with : (handlers : List Handler) → tries_in handlers
+      ≡ handled (handling_of o) (length s.stacks.operands - takes_of o + gives_of o)
+      (tries_in s.stacks.handlers) → Above f.base handlers → (f' : Activation) (s' : Run H) →
+      op_at p.code f.address ≡ Some (said, width) → (n n' : Counts) (host host' : H)
+      {r : Result Progress OutOfMemory} → Implements law p engine f s n
+      (λ m place w. instr m o (f.address + width) (frame_in f s place) w)
+      (leads_of o (f.address + width)) (takes_of o) (gives_of o) handlers r f' s' n' host host' →
+      Stepped law p engine f s n r f' s' n' host host'
+  stepped_with handlers become above f' s' read n n' host host' does =
+      done_with law p engine f s o width runs here handlers become above f' s' (there read) n n'
+      host host' (same does.same) does.kept does.lands does.before
 
-    -- the instruction was done
+  module _ (read : op_at p.code f.address ≡ Some (said, width))
+      (keeps : handling_of o ≡ handling.Keep) (n : Counts) (f' : Activation) (s' : Run H)
+      (n' : Counts) where
+    -- the instruction was done, which keeps the handlers
     pub stepped : (host host' : H) {r : Result Progress OutOfMemory} →
         Performs law p engine f s n o (f.address + width) r f' s' n' host host' →
         Stepped law p engine f s n r f' s' n' host host'
-    stepped host host' {r} does = record {
-      goes = performs (frame_in f s) o f.address width (λ place. refl)
-          (read ∙ ap (λ (q : Op). Some (q, width)) is) (same does.same);
-      kept = does.kept;
-      stays = stays r does.kept does.lands;
-      before = does.before;
-    }
+    stepped host host' does =
+        done law p engine f s o width runs here keeps (there read) n f' s' n' host host'
+        (same does.same) does.kept does.lands does.before
 
     -- the instruction was tried, and it is no call
     pub tried_out : (b : Bool) (a : Attempt) → a ≡ attempt_of b →
@@ -142,30 +224,14 @@ module _ {H : Type 0} (law : Law H) (p : View) (engine : Engine) (f : Activation
     tried_or true target a e does undone at = rw e (λ host. stepped host host (does host))
     tried_or false target a e does undone at = rw e (undone, at)
 
-    -- an instruction that reaches the host was done
-    pub stepped_on : (host host' : H) {r : Result Progress OutOfMemory} →
-        Simulates (setup law p engine) (abstraction s n host)
-        (λ m place w. instr m o (f.address + width) (frame_in f s place) w) (is_out r)
-        (abstraction s' n' host') (continuation r s'.fault (frame_in f' s')) →
-        KeepsFrame f s f' s' →
-        ContinuesAt engine s f s' f' (leads_of o (f.address + width))
-        (length s.stacks.operands - takes_of o + gives_of o) r → n'.before ≡ n.before →
-        Stepped law p engine f s n r f' s' n' host host'
-    stepped_on host host' {r} goes kept lands before = record {
-      goes = performs (frame_in f s) o f.address width (λ place. refl)
-          (read ∙ ap (λ (q : Op). Some (q, width)) is) goes;
-      kept = kept;
-      stays = stays r kept lands;
-      before = before;
-    }
-
   -- an instruction was tried, perhaps with the one after it, and it is no call
-  pub tried_on : (read : op_at p.code f.address ≡ Some (said, width)) (n : Counts) (f' : Activation)
+  pub tried_on : (read : op_at p.code f.address ≡ Some (said, width))
+      (keeps : handling_of o ≡ handling.Keep) (n : Counts) (f' : Activation)
       (s' : Run H) (n' : Counts) (b : Bool) (a : Attempt) → a ≡ attempt_of b →
       OnTrue b ((host : H) → PerformsOn law p engine f s n o (f.address + width) f' s' n' host) →
       OnFalse b (Unchanged f s n f' s' n') → ((name count : ℕ) → o ≡ op.Call name count → ⊥) →
       Attempted law p engine f s n f' s' n' a
-  tried_on read n f' s' n' b a e does undone other =
+  tried_on read keeps n f' s' n' b a e does undone other =
       let calls : CallsNothing p f = λ name count w at.
       let same : Some (said, width) ≡ Some (op.Call name count, w) = sym read ∙ at in
       let call : o ≡ op.Call name count =
@@ -175,10 +241,10 @@ module _ {H : Type 0} (law : Law H) (p : View) (engine : Engine) (f : Activation
       undone calls) where
         on : (host : H) → PerformsOn law p engine f s n o (f.address + width) f' s' n' host →
             Stepped law p engine f s n (Ok progress.Continues) f' s' n' host host
-        on host (inl does) = stepped read n f' s' n' host host does
+        on host (inl does) = stepped read keeps n f' s' n' host host does
         on host (inr two) =
             both law p engine f two.frame f' s two.run s' n two.counts n' host
-            (stepped read n two.frame two.run two.counts host host two.first) two.second
+            (stepped read keeps n two.frame two.run two.counts host host two.first) two.second
 
 -- a call was done, by what was known of it before
 pub call_stepped : {H : Type 0} (law : Law H) (p : View) (engine : Engine) (f : Activation)
@@ -188,30 +254,31 @@ pub call_stepped : {H : Type 0} (law : Law H) (p : View) (engine : Engine) (f : 
     (λ m place w. instr m (op.Call name count) next (frame_in f s place) w) (is_out r)
     (abstraction s' n' host') (continuation r s'.fault (frame_in f' s')) →
     KeepsFrame f s f' s' →
-    ContinuesAt engine s f s' f' (next ∷ []) (length s.stacks.operands - count + 1) r →
+    ContinuesAt engine s f s' f' (next ∷ []) count 1 s.stacks.handlers r →
     n'.before ≡ n.before → Stepped law p engine f s n r f' s' n' host host'
 call_stepped law p engine f s name count next at runs n f' s' n' host host' {r} goes kept lands
     before =
-    stepped_on law p engine f s (op.Call name count) (op.Call name count) at.width
-    (length s.stacks.operands) refl refl runs at.seen at.read n f' s' n' host host'
+    done law p engine f s (op.Call name count) at.width runs at.seen refl at.read n f' s' n' host
+    host'
     (subst (λ (k : ℕ). Simulates (setup law p engine) (abstraction s n host)
     (λ m place w. instr m (op.Call name count) k (frame_in f s place) w) (is_out r)
     (abstraction s' n' host') (continuation r s'.fault (frame_in f' s'))) at.next_is goes)
     kept (subst
-    (λ (k : ℕ). ContinuesAt engine s f s' f' (k ∷ []) (length s.stacks.operands - count + 1) r)
+    (λ (k : ℕ). ContinuesAt engine s f s' f' (k ∷ []) count 1 s.stacks.handlers r)
     at.next_is lands) before
 
--- an instruction at which the frame stood was done
+-- an instruction at which the frame stood, and which keeps the handlers, was done
 pub stood : {H : Type 0} (law : Law H) (p : View) (engine : Engine) (f : Activation)
-    (s : Run H) (o : Op) (next : ℕ) → StandsAt p f s o next → Runs p f s →
-    (n : Counts) (f' : Activation) (s' : Run H) (n' : Counts) (host host' : H)
+    (s : Run H) (o : Op) (next : ℕ) → handling_of o ≡ handling.Keep → StandsAt p f s o next →
+    Runs p f s → (n : Counts) (f' : Activation) (s' : Run H) (n' : Counts) (host host' : H)
     {r : Result Progress OutOfMemory} →
     Performs law p engine f s n o next r f' s' n' host host' →
     Stepped law p engine f s n r f' s' n' host host'
-stood law p engine f s o next at runs n f' s' n' host host' {r} does =
-    stepped law p engine f s o o at.width (length s.stacks.operands) refl refl runs at.seen at.read
-    n f' s' n' host host'
-    (subst (λ (k : ℕ). Performs law p engine f s n o k r f' s' n' host host') at.next_is does)
+stood law p engine f s o next keeps at runs n f' s' n' host host' {r} does =
+    let here : Performs law p engine f s n o (f.address + at.width) r f' s' n' host host' =
+    subst (λ (k : ℕ). Performs law p engine f s n o k r f' s' n' host host') at.next_is does in
+    done law p engine f s o at.width runs at.seen keeps at.read n f' s' n' host host'
+    (same here.same) here.kept here.lands here.before
 
 -- where a branch leads
 pub to_target : (t next b : ℕ) → In b (t ∷ []) →
@@ -226,28 +293,36 @@ to_next t next b (inr i) = absurd i
 
 -- the same from a state with other operands
 lands_on : {H : Type 0} (engine : Engine) (s s' : Run H) (v : StacksView) (f f' : Activation)
-    (ts us : List ℕ) (h k : ℕ) (r : Result Progress OutOfMemory) → h ≡ k →
-    ((b : ℕ) → In b ts → In b us) → ContinuesAt engine (record s { stacks = v }) f s' f' ts h r →
-    ContinuesAt engine s f s' f' us k r
-lands_on engine s s' v f f' ts us h k (Ok progress.Continues) e among l =
-    (among f'.address l.0, l.1 ∙ e, l.2)
-lands_on engine s s' v f f' ts us h k (Ok progress.Returned) e among l = tt
-lands_on engine s s' v f f' ts us h k (Ok progress.Failed) e among l = tt
-lands_on engine s s' v f f' ts us h k (Err x) e among l = tt
+    (ts us : List ℕ) (takes gives more adds : ℕ) (hs : List Handler)
+    (r : Result Progress OutOfMemory) →
+    length v.operands - takes + gives ≡ length s.stacks.operands - more + adds →
+    length s.stacks.operands - more ≤ length v.operands - takes → v.handlers ≡ s.stacks.handlers → ((b : ℕ) → In b ts → In b us) →
+    ContinuesAt engine (record s { stacks = v }) f s' f' ts takes gives v.handlers r →
+    ContinuesAt engine s f s' f' us more adds s.stacks.handlers r
+lands_on engine s s' v f f' ts us takes gives more adds hs (Ok progress.Continues) e g eh among l =
+    (among f'.address l.0, l.1 ∙ e, l.2 ∙ eh, l.3)
+lands_on engine s s' v f f' ts us takes gives more adds hs (Ok progress.Returned) e g eh among l =
+    tt
+lands_on engine s s' v f f' ts us takes gives more adds hs (Ok progress.Failed) e g eh among l =
+    (omega (arith, l.0, g), l.1 ∙ eh)
+lands_on engine s s' v f f' ts us takes gives more adds hs (Err x) e g eh among l = tt
 
 -- what a method did from a state with other operands, for the instruction of which it is a part
 pub implements_after : {H : Type 0} (law : Law H) (p : View) (engine : Engine) (f f' : Activation)
     (s s' : Run H) (n n' : Counts) (v : StacksView) (ops : List Held) {first rule : Computation H}
-    {ts us : List ℕ} {h k : ℕ} {r : Result Progress OutOfMemory} (host host' : H) →
+    {ts us : List ℕ} {takes gives more adds : ℕ} {r : Result Progress OutOfMemory}
+    (host host' : H) →
     v ≡ record s.stacks { operands = ops } → Implements law p engine f (record s { stacks = v }) n
-    first ts h r f' s' n' host host' →
+    first ts takes gives v.handlers r f' s' n' host host' →
     ((stop : Option ℕ) (u : Environment) (place : Option Place) →
     rule (stopped (setup law p engine) stop) place (world (abstraction s n host) u) ≡
     first (stopped (setup law p engine) stop) place (world (abstraction s n host) u)) →
-    ((b : ℕ) → In b ts → In b us) → h ≡ k → Implements law p engine f s n rule us k r f' s' n'
-    host host'
-implements_after {H = H} law p engine f f' s s' n n' v ops {first} {rule} {ts} {us} {h} {k} {r} host
-    host' rest does alike among height = record {
+    ((b : ℕ) → In b ts → In b us) →
+    length ops - takes + gives ≡ length s.stacks.operands - more + adds →
+    length s.stacks.operands - more ≤ length ops - takes →
+    Implements law p engine f s n rule us more adds s.stacks.handlers r f' s' n' host host'
+implements_after {H = H} law p engine f f' s s' n n' v ops {first} {rule} {ts} {us} {takes} {gives}
+    {more} {adds} {r} host host' rest does alike among height low = record {
       same = exactly (abstract_alike v ops rest) alike does.same;
       kept = record {
         chunk = does.kept.chunk;
@@ -260,7 +335,10 @@ implements_after {H = H} law p engine f f' s s' n n' v ops {first} {rule} {ts} {
         level = does.kept.level;
         later = does.kept.later;
       };
-      lands = lands_on engine s s' v f f' ts us h k r height among does.lands;
+      lands = lands_on engine s s' v f f' ts us takes gives more adds v.handlers r
+          (omega (arith, height, ap (λ (q : StacksView). length q.operands) rest))
+          (omega (arith, low, ap (λ (q : StacksView). length q.operands) rest))
+          (ap (λ (q : StacksView). q.handlers) rest) among does.lands;
       before = does.before;
     } where
       abstract_alike : (v : StacksView) (ops : List Held) → v ≡ record s.stacks { operands = ops } →
@@ -270,18 +348,18 @@ implements_after {H = H} law p engine f f' s s' n n' v ops {first} {rule} {ts} {
 -- what a method did from a state that is equal to this one, for the instruction of which it is a
 -- part
 pub implements_as : {H : Type 0} (law : Law H) (p : View) (engine : Engine) (f f' : Activation)
-    (s t s' : Run H) (n n' : Counts) {first rule : Computation H} {ts : List ℕ} {h : ℕ}
-    {r : Result Progress OutOfMemory} (host host' : H) → t ≡ s →
-    Implements law p engine f t n first ts h r f' s' n' host host' →
+    (s t s' : Run H) (n n' : Counts) {first rule : Computation H} {ts : List ℕ} {takes gives : ℕ}
+    {hs : List Handler} {r : Result Progress OutOfMemory} (host host' : H) → t ≡ s →
+    Implements law p engine f t n first ts takes gives hs r f' s' n' host host' →
     ((stop : Option ℕ) (u : Environment) (place : Option Place) →
     rule (stopped (setup law p engine) stop) place (world (abstraction s n host) u)
     ≡ first (stopped (setup law p engine) stop) place (world (abstraction s n host) u)) →
-    Implements law p engine f s n rule ts h r f' s' n' host host'
-implements_as {H = H} law p engine f f' s t s' n n' {first} {rule} {ts} {h} {r} host host' same does
-    alike =
-    let here : Implements law p engine f s n first ts h r f' s' n' host host' =
-    subst (λ (q : Run H). Implements law p engine f q n first ts h r f' s' n' host host') same does
-    in
+    Implements law p engine f s n rule ts takes gives hs r f' s' n' host host'
+implements_as {H = H} law p engine f f' s t s' n n' {first} {rule} {ts} {takes} {gives} {hs} {r}
+    host host' same does alike =
+    let here : Implements law p engine f s n first ts takes gives hs r f' s' n' host host' =
+    subst (λ (q : Run H). Implements law p engine f q n first ts takes gives hs r f' s' n' host
+    host') same does in
     record {
       same = exactly refl alike here.same;
       kept = here.kept;

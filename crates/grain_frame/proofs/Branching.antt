@@ -13,7 +13,7 @@ use Rattle.grain_global.specs.declared.engines.Engine.{Engine}
 use Rattle.grain_ops.specs.Outcomes.{Gave}
 use Rattle.grain_means.specs.Rules.{operated, jump_if, agrees}
 use Rattle.grain_frame.specs.Counts.{Counts}
-use Rattle.grain_frame.specs.Abstraction.{frame_in, KeepsFrame, Ready, Runs, Implements, Performs}
+use Rattle.grain_frame.specs.Abstraction.{frame_in, tries_in, KeepsFrame, Ready, Runs, Implements, Performs}
 use Rattle.grain_frame.specs.Following.{moved, answered, without_two, marked_once, begun_one}
 use Rattle.grain_frame.specs.declared.activations.Activation.{Activation}
 use Rattle.grain_frame.specs.declared.runs.Progress.TheVariants as progress
@@ -95,13 +95,14 @@ module _ {H : Type 0} (law : Law H) (p : View) (engine : Engine) (f : Activation
 
   -- the frame would run on behind the comparison
   pub answered_runs : (next count : ℕ) → Runs p f s → count ≡ 2 → 2 ≤ length s.stacks.operands →
-      IsTypedAt p f.chunk next (length s.stacks.operands - count + 1) →
-      Runs p (moved f next) (answered s truth)
+      IsTypedAt p f.chunk next (length s.stacks.operands - count + 1)
+      (tries_in s.stacks.handlers) → Runs p (moved f next) (answered s truth)
   answered_runs next count runs is two typed =
       let long : length s.stacks.operands - count + 1 ≡ length (answered s truth).stacks.operands =
       omega (arith, is, two, length_answered two) in
       next_runs p f (moved f next) s (answered s truth) runs (answered_kept next runs.inside)
-      (subst (λ (k : ℕ). IsTypedAt p f.chunk next k) long typed)
+      (subst (λ (k : ℕ). IsTypedAt p f.chunk next k (tries_in s.stacks.handlers)) long typed)
+      runs.above
 
   -- the comparison does what its rule says
   pub answers : (name count token next : ℕ) (n : Counts) (host : H) →
@@ -117,7 +118,12 @@ module _ {H : Type 0} (law : Law H) (p : View) (engine : Engine) (f : Activation
           refl;
     };
     kept = answered_kept next ready.inside;
-    lands = (inl refl, omega (arith, is, two, length_answered two), inr (omega arith, ready.ahead));
+    lands = (
+      inl refl,
+      omega (arith, is, two, length_answered two),
+      refl,
+      inr (omega arith, ready.ahead),
+    );
     before = refl;
   }
 
@@ -127,8 +133,7 @@ module _ {H : Type 0} (law : Law H) (p : View) (engine : Engine) (f : Activation
     Branches f' s' n' = Implements law p engine f (answered s truth) (begun_one n)
         (λ m place w. jump_if m wanted target next (frame_in f (answered s truth) place) w)
         (cond (nat_lt target next) (target ∷ next ∷ []) (next ∷ target ∷ []))
-        (length (answered s truth).stacks.operands - 1 + 0) (Ok progress.Continues) f' s' n'
-        host host
+        1 0 s.stacks.handlers (Ok progress.Continues) f' s' n' host host
 
     height : length (under 2 s.stacks.operands) ≡ length (answered s truth).stacks.operands - 1 + 0
     height = omega (
@@ -155,7 +160,7 @@ module _ {H : Type 0} (law : Law H) (p : View) (engine : Engine) (f : Activation
             ) refl;
       };
       kept = written_kept next inside s.count (omega arith);
-      lands = (to_next target next next (inl refl), height, inr (omega arith, ahead));
+      lands = (to_next target next next (inl refl), height, refl, inr (omega arith, ahead));
       before = refl;
     }
 
@@ -178,6 +183,6 @@ module _ {H : Type 0} (law : Law H) (p : View) (engine : Engine) (f : Activation
                 ) refl;
           };
           kept = written_kept target inside s.count (omega arith);
-          lands = (to_target target next target (inl refl), height, inr (omega arith, ahead));
+          lands = (to_target target next target (inl refl), height, refl, inr (omega arith, ahead));
           before = refl;
         }

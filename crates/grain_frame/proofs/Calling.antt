@@ -5,19 +5,21 @@ use Rattle.std.specs.Prelude.{slice_get, slice_index_or}
 use Rattle.grain_value.specs.declared.values.Held.{Held}
 use Rattle.grain_value.specs.declared.scopes.Entry.{Entry}
 use Rattle.grain_value.specs.declared.memory.OutOfMemory.{OutOfMemory}
-use Rattle.grain_value.specs.Operands.{arguments, under}
+use Rattle.grain_value.specs.Operands.{under}
+use Rattle.grain_fault.specs.Problems.{NoMemory, problem_of}
 use Rattle.grain_program.specs.View.{View}
 use Rattle.grain_program.specs.Lookups.{function_of, Called}
 use Rattle.grain_program.specs.declared.code.functions.Function.{Function}
 use Rattle.grain_program.specs.declared.code.instructions.Op.TheVariants as op
 use Rattle.grain_global.specs.declared.engines.Engine.{Engine}
 use Rattle.grain_stack.specs.Views.{StackFrame, StacksView, innermost, without_frame}
-use Rattle.grain_means.specs.Worlds.{Go, End, Then, Answer, Setup, Frame, InFrame, Place}
-use Rattle.grain_means.specs.Rules.{without, frame_at, function_numbered, function_found, instr, enter_function, resume_caller}
-use Rattle.grain_means.specs.Simulation.{LocalState, Computation, Simulates, SimulatesExactly, StopPersists}
+use Rattle.grain_means.specs.Worlds.{Go, End, Then, Answer, Failed, Setup, Frame, InFrame, Place}
+use Rattle.grain_means.specs.Rules.{leave_by_fault, offered, without, frame_at, function_numbered, function_found, instr, enter_function, resume_caller}
+use Rattle.grain_means.specs.Simulation.{LocalState, Computation, Simulates, SimulatesExactly, StopPersists, stopped, world}
 use Rattle.grain_means.specs.lemmas.Stretches.{same, compose, continued, alone}
 use Rattle.grain_frame.specs.Counts.{Counts}
-use Rattle.grain_frame.specs.Abstraction.{abstraction, frame_in, caller_of, call_continuation, KeepsFrame, ContinuesAt, CallEntered, CallNotEntered, EnterResult, CallReturned}
+use Rattle.grain_frame.specs.Abstraction.{abstraction, frame_in, handlers_in, continuation, caller_of, call_continuation, KeepsFrame, ContinuesAt, CallEntered, CallRefused, EnterResult, CallReturned}
+use Rattle.grain_frame.proofs.Offering.{memory_leaves}
 use Rattle.grain_frame.specs.declared.activations.Activation.{Activation}
 use Rattle.grain_frame.specs.declared.runs.Run.{Run}
 use Rattle.grain_frame.specs.declared.runs.Progress.{Progress}
@@ -28,8 +30,7 @@ module _ {H : Type 0} {m : Setup H} (f : Option Place → Frame) (n k next : ℕ
   -- the function is found
   finds : (old : LocalState H) →
       Simulates m old (λ p place w. instr p (op.Call n k) next (f place) w) false old
-      (λ p place w. enter_function p g (arguments k (f place).operands) (without k (f place)) next
-      w)
+      (λ p place w. enter_function p g k (f place) next w)
   finds old =
       same (record {
         this = refl;
@@ -41,27 +42,24 @@ module _ {H : Type 0} {m : Setup H} (f : Option Place → Frame) (n k next : ℕ
   -- the call did not come to its body
   pub call_over : {old new : LocalState H} {l : ℕ} {out : Bool} {last : Computation H} → l ≡ k →
       SimulatesExactly m old
-      (λ p place w. enter_function p g (arguments l (f place).operands) (without l (f place))
-      next w) out new last →
+      (λ p place w. enter_function p g l (f place) next w) out new last →
       Simulates m old (λ p place w. instr p (op.Call n k) next (f place) w) out new last
   call_over {old} {new} {out = out} {last} all h =
       compose (finds old)
       (same (subst
       (λ (q : ℕ).
       SimulatesExactly m old
-      (λ p place w. enter_function p g (arguments q (f place).operands) (without q (f place))
-      next w) out new last) all h)) tt
+      (λ p place w. enter_function p g q (f place) next w) out new last) all h)) tt
 
   -- the body was run, and the caller goes on
   pub call_ran : {old mid after there new : LocalState H} {inner outer : Option Place → Frame}
       (scope : List Entry) (level : ℕ) {l : ℕ} {b : Answer} {one two : Bool}
       {last : Computation H} → l ≡ k →
       SimulatesExactly m old
-      (λ p place w. enter_function p g (arguments l (f place).operands) (without l (f place))
-      next w) false mid
+      (λ p place w. enter_function p g l (f place) next w) false mid
       (λ p place w. Then (Go (InFrame (frame_at g.chunk 0 None)) w)
-      (λ a w2. resume_caller p g (without l (f place)) next a
-      (record w2 { scope = scope; level = level }))) →
+      (λ a w2. resume_caller p g (without (length g.params) (f place)) next a
+      (record w2 { scope = scope; level = level }))) → length g.params ≡ k →
       ((place : Option Place) → inner place ≡ frame_at g.chunk 0 place) → mid.this ≡ None →
       Simulates m mid (λ p place w. Go (InFrame (inner place)) w) one after
       (λ p place w. End b w) →
@@ -71,7 +69,7 @@ module _ {H : Type 0} {m : Setup H} (f : Option Place → Frame) (n k next : ℕ
       last → StopPersists one after.passed two new.passed →
       Simulates m old (λ p place w. instr p (op.Call n k) next (f place) w) two new last
   call_ran {old} {mid} {after} {there} {new} {inner} {outer} scope level {b = b} {one} {two} {last}
-      all begins at none ran is rest resumes persists =
+      all begins params at none ran is rest resumes persists =
       let body : Simulates m mid (λ p place w. Go (InFrame (frame_at g.chunk 0 None)) w) one after
       (λ p place w. End b w) =
       alone {first = λ p place w. Go (InFrame (frame_at g.chunk 0 place)) w} none (by_frame at ran)
@@ -85,15 +83,29 @@ module _ {H : Type 0} {m : Setup H} (f : Option Place → Frame) (n k next : ℕ
       (compose (same
       (subst (λ (q : ℕ).
       SimulatesExactly m old
-      (λ p place w. enter_function p g (arguments q (f place).operands) (without q (f place))
-      next w) false mid
+      (λ p place w. enter_function p g q (f place) next w) false mid
       (λ p place w. Then (Go (InFrame (frame_at g.chunk 0 None)) w)
-      (λ a w2. resume_caller p g (without q (f place)) next a
-      (record w2 { scope = scope; level = level })))) all begins))
+      (λ a w2. resume_caller p g (without k (f place)) next a
+      (record w2 { scope = scope; level = level })))) all (with_params params begins)))
       (compose (continued
       (λ p place a w2. resume_caller p g (without k (f place)) next a
       (record w2 { scope = scope; level = level })) body) (same (goes_on here rest)) persists)
       tt) tt where
+        with_params : {first : Computation H} → length g.params ≡ k →
+            SimulatesExactly m old first false mid
+            (λ p place w. Then (Go (InFrame (frame_at g.chunk 0 None)) w)
+            (λ a w2. resume_caller p g (without (length g.params) (f place)) next a
+            (record w2 { scope = scope; level = level }))) →
+            SimulatesExactly m old first false mid
+            (λ p place w. Then (Go (InFrame (frame_at g.chunk 0 None)) w)
+            (λ a w2. resume_caller p g (without k (f place)) next a
+            (record w2 { scope = scope; level = level })))
+        with_params {first} e h =
+            subst (λ (q : ℕ). SimulatesExactly m old first false mid
+            (λ p place w. Then (Go (InFrame (frame_at g.chunk 0 None)) w)
+            (λ a w2. resume_caller p g (without q (f place)) next a
+            (record w2 { scope = scope; level = level })))) e h
+
         by_frame : ((place : Option Place) → inner place ≡ frame_at g.chunk 0 place) →
             Simulates m mid (λ p place w. Go (InFrame (inner place)) w) one after
             (λ p place w. End b w) →
@@ -141,6 +153,35 @@ not_begun {m = m} {old} {new} {start} b s s1 g f next e h =
     subst (λ (q : Bool). SimulatesExactly m old start false new
     (call_continuation (Ok q) s s1 g f next)) e h
 
+-- the fault is raised in the frame as it stands
+pub refused_here : {H : Type 0} {m : Setup H} {old new : LocalState H} {start : Computation H}
+    (f : Activation) (s s1 : Run H) → CallRefused s s1 →
+    SimulatesExactly m old start false new
+    (λ m place w. offered m (frame_in f s place) (problem_of s1.fault) w) →
+    SimulatesExactly m old start false new
+    (continuation (Ok progress.Failed) s1.fault (frame_in f s1))
+refused_here f s s1 kept h = record {
+  this = h.this;
+  order = h.order;
+  equal = λ stop clear halts u place. h.equal stop clear halts u place ∙ rw (kept.1, kept.2) refl;
+}
+
+-- want of memory in a body leaves the caller too, whatever its handlers are
+pub memory_passes : {H : Type 0} {m : Setup H} (f : Activation) (s t : Run H) (g : Function)
+    (next : ℕ) (n : Counts) (host : H) → abstraction t n host ≡ abstraction s n host →
+    SimulatesExactly m (abstraction s n host)
+    (λ k place w. resume_caller k g (frame_in f s place) next (Failed NoMemory) w) true
+    (abstraction t n host) (λ k place w. leave_by_fault k None (frame_in f t place) NoMemory w)
+memory_passes {H = H} {m = m} f s t g next n host e = record {
+  this = refl;
+  order = omega arith;
+  equal = λ stop clear halts u place.
+      memory_leaves (stopped m stop) (handlers_in s.stacks.handlers) (frame_in f s place)
+      (world (abstraction s n host) u)
+      ∙ ap (λ (q : LocalState H). leave_by_fault (stopped m stop) None (frame_in f s place) NoMemory
+      (world q u)) (sym e);
+}
+
 -- the function that the code found is the meaning's
 pub found_is : (p : View) (name count name' count' number : ℕ) (g : Function) → name' ≡ name →
     count' ≡ count → Some number ≡ function_of p name' count' → slice_get p.functions number ≡
@@ -165,7 +206,7 @@ entered_with engine g s s1 true e h = h
 entered_with engine g s s1 false e h = absurd cc
 
 pub kept_with : {H : Type 0} (engine : Engine) (g : Function) (s s1 : Run H) (b : Bool) →
-    b ≡ false → EnterResult engine g s s1 (Ok b) → CallNotEntered s s1
+    b ≡ false → EnterResult engine g s s1 (Ok b) → CallRefused s s1
 kept_with engine g s s1 true e h = absurd cc
 kept_with engine g s s1 false e h = h
 
@@ -201,12 +242,16 @@ module _ {H : Type 0} (engine : Engine) (f f' : Activation) (s s1 s2 s' : Run H)
         operands = under (length g.params) s.stacks.operands;
         room = s.stacks.room;
         noted = s.stacks.noted;
+        handlers = s.stacks.handlers;
         outer = s.stacks.outer;
       }
   stacks_back = ap (λ (fs : List StackFrame). without_frame fs s2.stacks) frames
 
   operands_back : (caller_of s2).stacks.operands ≡ under (length g.params) s.stacks.operands
   operands_back = ap (λ (v : StacksView). v.operands) stacks_back
+
+  handlers_back : (caller_of s2).stacks.handlers ≡ s.stacks.handlers
+  handlers_back = ap (λ (v : StacksView). v.handlers) stacks_back
 
   one_less : length s2.saved - 1 ≡ length s.saved
   one_less =
@@ -235,7 +280,7 @@ module _ {H : Type 0} (engine : Engine) (f f' : Activation) (s s1 s2 s' : Run H)
   -- the caller's frame is without the arguments
   pub outer_is : length g.params ≡ k → (place : Option Place) → frame_in f (caller_of s2) place ≡
       without k (frame_in f s place)
-  outer_is all place = rw (operands_back, all) refl
+  outer_is all place = rw (operands_back, handlers_back, all) refl
 
   kept3 : f.base ≤ length s.scope → s1.count ≤ s2.count → KeepsFrame f s f (caller_of s2)
   kept3 base later = record {
@@ -289,7 +334,7 @@ module _ {H : Type 0} (engine : Engine) (f f' : Activation) (s s1 s2 s' : Run H)
   -- the caller goes on after the call, with one operand in the place of the arguments
   pub call_lands : (r : Result Progress OutOfMemory) → length g.params ≡ k → s1.count ≤ s2.count →
       CallReturned f (caller_of s2) f' s' next r →
-      ContinuesAt engine s f s' f' (next ∷ []) (length s.stacks.operands - k + 1) r
+      ContinuesAt engine s f s' f' (next ∷ []) k 1 s.stacks.handlers r
   call_lands (Ok progress.Continues) all later h = (
     inl (ap (λ (a : Activation). a.address) h.0),
     omega (
@@ -299,10 +344,20 @@ module _ {H : Type 0} (engine : Engine) (f f' : Activation) (s s1 s2 s' : Run H)
       length-take (length s.stacks.operands - length g.params) s.stacks.operands,
       all,
     ),
+    ap (λ (q : Run H). q.stacks.handlers) h.2 ∙ handlers_back,
     inl (omega (arith, ap (λ (q : Run H). q.count) h.2, later, entered.count), entered.allowed),
   )
   call_lands (Ok progress.Returned) all later h = tt
-  call_lands (Ok progress.Failed) all later h = tt
+  call_lands (Ok progress.Failed) all later h = (
+    omega (
+      arith,
+      ap (λ (q : Run H). length q.stacks.operands) h.1,
+      ap (λ (xs : List Held). length xs) operands_back,
+      length-take (length s.stacks.operands - length g.params) s.stacks.operands,
+      all,
+    ),
+    ap (λ (q : Run H). q.stacks.handlers) h.1 ∙ handlers_back,
+  )
   call_lands (Err e) all later h = tt
 
   -- the caller waits, with room for what the call gives

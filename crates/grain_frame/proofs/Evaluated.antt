@@ -27,10 +27,10 @@ use Rattle.grain_frame.specs.Machines.{answered}
 abbrev Counted : (H : Type 0) → Type 0
 Counted H =
     (m : Setup H) (this : Option Place) (w v : World H) (a : Answer)
-    (run : Ends m (called m this w) a v) →
+    (run : Ends m (called m this w) a v) → w.trace ≡ [] →
     (v.ran ≡ w.ran + run_length run) × (v.tokens ≡ w.tokens) × (v.level ≡ w.level) ×
     Keeps (length w.scope) (names w.scope) v.scope ×
-    Cuts m (called m this w) w.level (length w.scope) w.trace a v ×
+    Cuts m (called m this w) w.level (length w.scope) a v ×
     Caused m (called m this w) w.level a v
 
 module _ {H : Type 0} (counted : Counted H) (law : Law H) (p : View) (e : Engine) (b : Begin H)
@@ -103,11 +103,11 @@ module _ {H : Type 0} (counted : Counted H) (law : Law H) (p : View) (e : Engine
       ((world at_last no_environment).tokens ≡ (world at_first no_environment).tokens) ×
       (level ≡ b.global.level) × Keeps (length b.scope) (names b.scope) scope ×
       Cuts (stopped_at stop) (called (stopped_at stop) None (world at_first no_environment))
-      b.global.level (length b.scope) [] a (world at_last no_environment) ×
+      b.global.level (length b.scope) a (world at_last no_environment) ×
       Caused (stopped_at stop) (called (stopped_at stop) None (world at_first no_environment))
       b.global.level a (world at_last no_environment)
   counts stop a run = counted (stopped_at stop) None (world at_first no_environment)
-      (world at_last no_environment) a run
+      (world at_last no_environment) a run refl
 
   runs : (back : Result (Result Dynamic EvalAltResult) OutOfMemory) → Whole back →
       (stop : Option ℕ) → NoStopWithin stop 0 passed → StopsHere (is_out back) stop passed →

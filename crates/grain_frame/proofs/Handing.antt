@@ -1,5 +1,5 @@
 -- What a native gave, as the frame goes on with it.
-use Rattle.std.proofs.Common.{◌≡◌, ◌<◌, ◌≤◌, ◌+◌, ◌-◌, ℕ, List, [], ◌∷◌, Option, Some, true, false, take, drop, inl, inr, Result, Ok, Err, length, refl, ap, arith}
+use Rattle.std.proofs.Common.{◌≡◌, ◌<◌, ◌≤◌, ◌+◌, ◌-◌, ℕ, List, [], ◌∷◌, Option, Some, true, false, take, drop, inl, inr, Result, Ok, Err, length, refl, ap, subst, arith}
 use Rattle.std.proofs.lemmas.List.{length-take-le, length-drop, take_all}
 use Rattle.grain_value.specs.declared.values.Dynamic.{Dynamic}
 use Rattle.grain_value.specs.declared.values.Held.{Held}
@@ -9,6 +9,7 @@ use Rattle.grain_value.specs.Operands.{arguments, below}
 use Rattle.grain_value.specs.Scopes.{set_held}
 use Rattle.grain_program.specs.View.{View}
 use Rattle.grain_stack.specs.Views.{StacksView}
+use Rattle.grain_stack.specs.declared.handlers.Handler.{Handler}
 use Rattle.grain_host.specs.Law.{Law}
 use Rattle.grain_global.specs.declared.engines.Engine.{Engine}
 use Rattle.grain_means.specs.Worlds.{Act, Place, Setup, World}
@@ -40,7 +41,7 @@ last_ones n xs = take_all (length xs - (length xs - n)) (drop (length xs - n) xs
 
 -- memory is out before the host is called
 pub native_short : {H : Type 0} (law : Law H) (p : View) (engine : Engine) (f : Activation)
-    (s : Run H) (n : Counts) (host : H) {ts : List ℕ} {h : ℕ} (name : List ℕ)
+    (s : Run H) (n : Counts) (host : H) {ts : List ℕ} {takes gives : ℕ} {hs : List Handler} (name : List ℕ)
     (lend : Option Receiver) (args : List Held)
     (go : Setup H → Option Place → Dynamic → World H → Act H)
     (fails : Setup H → Option Place → Problem → World H → Act H)
@@ -48,8 +49,8 @@ pub native_short : {H : Type 0} (law : Law H) (p : View) (engine : Engine) (f : 
     ((m : Setup H) (place : Option Place) (w : World H) → is_stop m.stop w.passed ≡ true →
     StopsAtMark m (frame_in f s place) w (fails m place)) →
     Implements law p engine f s n
-    (λ m place w. native m name lend args (frame_in f s place) w (go m place) (fails m place)) ts h
-    r f s n host host
+    (λ m place w. native m name lend args (frame_in f s place) w (go m place) (fails m place)) ts
+    takes gives hs r f s n host host
 native_short law p engine f s n host name lend args go fails (Ok y) er inside stops = absurd cc
 native_short law p engine f s n host name lend args go fails (Err y) er inside stops = record {
   same = record {
@@ -79,21 +80,27 @@ module _ {H : Type 0} (law : Law H) (p : View) (engine : Engine) (f : Activation
     (n k : Counts) (host mid : H) {rule : Computation H} (run : t ≡ s)
     (before : k.before ≡ n.before) (inside : f.base ≤ length s.scope) where
   -- its value is the last operand, in the place of the arguments
-  pub native_pushed : (f' : Activation) (s' : Run H) (n' : Counts) (v : Dynamic) (next h : ℕ)
+  pub native_pushed : (f' : Activation) (s' : Run H) (n' : Counts) (v : Dynamic) (next takes : ℕ)
       (ops : List Held) (cut : StacksView) {r : Result Progress OutOfMemory} →
       SimulatesExactly (setup law p engine) (abstraction s n host) rule false
       (abstraction t k mid) (λ m place w. pushed m (frame_in f s place) next ops v w) →
       cut ≡ record t.stacks { operands = ops } →
       Implements law p engine f (record t { stacks = cut }) k
       (λ m place w. pushed m (frame_in f (record t { stacks = cut }) place) next cut.operands v w)
-      (next ∷ []) (length cut.operands - 0 + 1) r f' s' n' mid mid → length ops + 1 ≡ h →
-      Implements law p engine f s n rule (next ∷ []) h r f' s' n' host mid
-  native_pushed f' s' n' v next h ops cut does cut_is pushes height =
+      (next ∷ []) 0 1 cut.handlers r f' s' n' mid mid →
+      length ops ≡ length s.stacks.operands - takes →
+      Implements law p engine f s n rule (next ∷ []) takes 1 s.stacks.handlers r f' s' n' host mid
+  native_pushed f' s' n' v next takes ops cut {r} does cut_is pushes height =
       implements_then law p engine f s t n k host mid f' s' n' mid does
-      (scope_kept law p engine f s t n k host mid s.scope run refl inside) before
+      (scope_kept law p engine f s t n k host mid s.scope run refl inside)
+      (ap (λ (q : Run H). q.stacks) run) before
+      (subst (λ (hs : List Handler). Implements law p engine f t k
+      (λ m place w. pushed m (frame_in f s place) next ops v w) (next ∷ []) takes 1 hs r f' s' n'
+      mid mid) (ap (λ (q : Run H). q.stacks.handlers) run)
       (implements_after law p engine f f' t s' k n' cut ops mid mid cut_is pushes
-      (λ stop u place. rw (ap (λ (q : StacksView). q.operands) cut_is) refl) (λ b i. i)
-      (omega (arith, height, ap (λ (q : StacksView). length q.operands) cut_is)))
+      (λ stop u place. rw (cut_is, run) refl) (λ b i. i)
+      (omega (arith, height, ap (λ (q : Run H). length q.stacks.operands) run))
+      (omega (arith, height, ap (λ (q : Run H). length q.stacks.operands) run))))
 
   -- its value is written into the entry
   pub native_written : (h : Held) (slot index next : ℕ) (v : Dynamic) (stacks : StacksView)
@@ -103,13 +110,13 @@ module _ {H : Type 0} (law : Law H) (p : View) (engine : Engine) (f : Activation
       stacks ≡ record t.stacks { operands = below t.stacks.operands } →
       scope ≡ set_held t.scope index (record { value = v; read_only = h.read_only }) →
       f.base + slot ≡ index → f.address < next →
-      Implements law p engine f s n rule (next ∷ []) (length s.stacks.operands - 1 + 0)
-      (Ok progress.Continues) (moved f next) (record t { stacks = stacks; scope = scope })
+      Implements law p engine f s n rule (next ∷ []) 1 0 s.stacks.handlers (Ok progress.Continues)
+      (moved f next) (record t { stacks = stacks; scope = scope })
       (marked_once (marked_once k)) host mid
   native_written h slot index next v stacks scope does es ec ei ahead = record {
     same = then_exactly does second;
     kept = keeps;
-    lands = (inl refl, rw (es, run) long, inr (rw run (omega arith), ahead));
+    lands = (inl refl, rw (es, run) long, rw (es, run) refl, inr (rw run (omega arith), ahead));
     before = before;
   } where
     written : Held

@@ -1,34 +1,15 @@
 -- A transfer does not look at the operands of the frame in which it begins.
-use Rattle.std.proofs.Common.{◌≡◌, ◌∙◌, ◌+◌, ℕ, List, Option, Some, Bool, true, false, if◌then◌else◌, nat_le, refl, ap}
+use Rattle.std.proofs.Common.{◌≡◌, ℕ, List, Option, Some, Bool, true, false, if◌then◌else◌, nat_le, refl, ap}
 use Rattle.std.proofs.Math.Path.{fun_ext}
 use Rattle.grain_value.specs.declared.values.Held.{Held}
 use Rattle.grain_value.specs.Operands.{top, below}
 use Rattle.grain_value.specs.Looking.{truth_of}
 use Rattle.grain_stack.specs.Views.{StacksView}
 use Rattle.grain_means.specs.Worlds.{Act, Frame, Place, Setup, World}
-use Rattle.grain_means.specs.Rules.{agrees, charged, jump_if, jumped, on_verdict, onward, position, stepped}
-use Rattle.grain_fault.specs.declared.places.Position.{Position}
-use Rattle.grain_host.specs.Law.{Verdict, GoOn, Stop}
+use Rattle.grain_means.specs.Rules.{agrees, charged, jump_if, jumped, onward, stepped}
 use Rattle.grain_frame.specs.Abstraction.{frame_in}
 use Rattle.grain_frame.specs.declared.activations.Activation.{Activation}
 use Rattle.grain_frame.specs.declared.runs.Run.{Run}
-
-verdict_alike : {S : Type 0} (m : Setup S) (v : Verdict) (p : Position) (f : Frame)
-    (ops : List Held) (w : World S) (go : World S → Act S) →
-    on_verdict m v p f w go ≡ on_verdict m v p (record f { operands = ops }) w go
-verdict_alike m GoOn p f ops w go = refl
-verdict_alike m (Stop t) p f ops w go = refl
-
-charge_alike : {S : Type 0} (m : Setup S) (p : Position) (f : Frame) (ops : List Held)
-    (w : World S) (go : World S → Act S) →
-    charged m p f w go ≡ charged m p (record f { operands = ops }) w go
-charge_alike m p f ops w go =
-    let after : World _ = record w {
-      passed = w.passed + 1 + 1 + 1;
-      count = w.count + 1;
-      host = m.law.progress_after w.host (w.count + 1);
-    } in
-    rw (verdict_alike m (m.law.progress_reply w.host (w.count + 1)) p f ops after go) refl
 
 jump_alike : {S : Type 0} (m : Setup S) (f g : Frame) (ops : List Held) (w : World S) →
     jumped m f g w ≡ jumped m (record f { operands = ops }) g w
@@ -37,21 +18,22 @@ jump_alike {S = S} m f g ops w = at (nat_le g.address f.address) where
   goes_on = fun_ext (λ w. refl)
 
   at : (b : Bool) →
-      (if b then charged m (position m f) f w (onward m f g) else onward m f g w)
-      ≡ (if b then charged m (position m f) (record f { operands = ops }) w
+      (if b then charged m (record g { address = f.address }) w (onward m f g)
+      else onward m f g w)
+      ≡ (if b then charged m (record g { address = f.address }) w
       (onward m (record f { operands = ops }) g) else onward m (record f { operands = ops }) g w)
-  at true = ap (λ (go : World S → Act S). charged m (position m f) f w go) goes_on
-      ∙ charge_alike m (position m f) f ops w (onward m (record f { operands = ops }) g)
+  at true =
+      ap (λ (go : World S → Act S). charged m (record g { address = f.address }) w go) goes_on
   at false = refl
 
 -- a branch whose truth value is the wanted one is a transfer without it
 pub if_jumps : {H : Type 0} (m : Setup H) (f : Activation) (s : Run H) (v : StacksView)
     (wanted : Bool) (target next : ℕ) (b : Bool) (place : Option Place) (w : World H) →
     truth_of (top s.stacks.operands).value ≡ Some b → agrees wanted b ≡ true →
-    v.operands ≡ below s.stacks.operands →
+    v ≡ record s.stacks { operands = below s.stacks.operands } →
     jump_if m wanted target next (frame_in f s place) w
     ≡ jumped m (frame_in f (record s { stacks = v }) place)
     (stepped (frame_in f (record s { stacks = v }) place) target v.operands) w
-if_jumps m f s v wanted target next b place w truth agreed ops =
-    rw (truth, agreed, ops) (jump_alike m (frame_in f s place)
+if_jumps m f s v wanted target next b place w truth agreed rest =
+    rw (truth, agreed, rest) (jump_alike m (frame_in f s place)
     (stepped (frame_in f s place) target (below s.stacks.operands)) (below s.stacks.operands) w)

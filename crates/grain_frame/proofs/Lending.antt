@@ -13,6 +13,7 @@ use Rattle.grain_fault.specs.Problems.{problem_of}
 use Rattle.grain_program.specs.declared.code.parts.AssignOp.{AssignOp}
 use Rattle.grain_program.specs.View.{View, name_of}
 use Rattle.grain_stack.specs.Views.{StacksView}
+use Rattle.grain_stack.specs.declared.handlers.Handler.{Handler}
 use Rattle.grain_host.specs.Law.{Law, Reply, written}
 use Rattle.grain_host.specs.Law as reply
 use Rattle.grain_host.specs.Answers.{Answers, Replies, reply_of}
@@ -133,12 +134,12 @@ module _ {H : Type 0} (law : Law H) (p : View) (engine : Engine) (f : Activation
       (λ m place w. onward m (frame_in f s place)
       (stepped (frame_in f s place) next (below s.stacks.operands)) w) →
       stacks ≡ record t.stacks { operands = below t.stacks.operands } → f.address < next →
-      Implements law p engine f s n rule (next ∷ []) (length s.stacks.operands - 1 + 0)
-      (Ok progress.Continues) (moved f next) (record t { stacks = stacks }) (marked_once k) host mid
+      Implements law p engine f s n rule (next ∷ []) 1 0 s.stacks.handlers (Ok progress.Continues)
+      (moved f next) (record t { stacks = stacks }) (marked_once k) host mid
   native_used next stacks does es ahead = record {
     same = then_exactly does second;
     kept = keeps;
-    lands = (inl refl, rw (es, run) height, inr (rw run (omega arith), ahead));
+    lands = (inl refl, rw (es, run) height, rw (es, run) refl, inr (rw run (omega arith), ahead));
     before = before;
   } where
     height : length (below s.stacks.operands) ≡ length s.stacks.operands - 1 + 0
@@ -180,33 +181,34 @@ module _ {H : Type 0} (law : Law H) (p : View) (engine : Engine) (f : Activation
       Implements law p engine f t k
       (λ m place w. operator_assigned m (name_of m.program a.op_name) g slot next
       (frame_in f t place) w)
-      (next ∷ []) (length t.stacks.operands - 1 + 0) r f' s' n' mid host' →
-      Implements law p engine f s n rule (next ∷ []) (length s.stacks.operands - 1 + 0) r f' s' n'
-      host host'
+      (next ∷ []) 1 0 t.stacks.handlers r f' s' n' mid host' →
+      Implements law p engine f s n rule (next ∷ []) 1 0 s.stacks.handlers r f' s' n' host host'
   native_missing a h g slot index next x f' s' n' host' {r} does missing there at second =
       implements_then law p engine f s t n k host mid f' s' n' host' does
-      (scope_kept law p engine f s t n k host mid scope run long inside) before
-      (subst (λ (many : ℕ). Implements law p engine f t k
+      (scope_kept law p engine f s t n k host mid scope run long inside)
+      (ap (λ (q : Run H). q.stacks) run) before
+      (subst (λ (hs : List Handler). Implements law p engine f t k
       (λ m place w. op_assign_failed m a h slot next (frame_in f s place) (problem_of x) w)
-      (next ∷ []) many r f' s' n' mid host')
-      (ap (λ (q : Run H). length q.stacks.operands - 1 + 0) run)
+      (next ∷ []) 1 0 hs r f' s' n' mid host')
+      (ap (λ (q : Run H). q.stacks.handlers) run)
       (implements_as law p engine f f' t t s' k n' mid host' refl second
       (λ stop u place. rw (missing, at, there, run) refl)))
 
   -- the fault says something else, and it is raised
   pub native_unmissed : (a : AssignOp) (h : Held) (slot next : ℕ) (x : EvalAltResult) (s' : Run H)
-      (n' : Counts) {ts : List ℕ} {many : ℕ} →
+      (n' : Counts) {ts : List ℕ} {takes gives : ℕ} {hs : List Handler} →
       SimulatesExactly (setup law p engine) (abstraction s n host) rule false (abstraction t k mid)
       (λ m place w. op_assign_failed m a h slot next (frame_in f s place) (problem_of x) w) →
       says_missing (name_of p a.op_assign_name) (problem_of x) ≡ false →
       s' ≡ record t { fault = x } → n' ≡ record k { passed = k.passed + 1 } →
-      Implements law p engine f s n rule ts many (Ok progress.Failed) f s' n' host mid
-  native_unmissed a h slot next x s' n' {ts} {many} does other es en =
+      Implements law p engine f s n rule ts takes gives hs (Ok progress.Failed) f s' n' host mid
+  native_unmissed a h slot next x s' n' {ts} {takes} {gives} {hs} does other es en =
       implements_then law p engine f s t n k host mid f s' n' mid does
-      (scope_kept law p engine f s t n k host mid scope run long inside) before second where
+      (scope_kept law p engine f s t n k host mid scope run long inside)
+      (ap (λ (q : Run H). q.stacks) run) before second where
         second : Implements law p engine f t k
             (λ m place w. op_assign_failed m a h slot next (frame_in f s place) (problem_of x) w)
-            ts many (Ok progress.Failed) f s' n' mid mid
+            ts takes gives hs (Ok progress.Failed) f s' n' mid mid
         second = rw (es, en, run) (record {
           same = record {
             this = refl;
@@ -225,6 +227,6 @@ module _ {H : Type 0} (law : Law H) (p : View) (engine : Engine) (f : Activation
             level = refl;
             later = omega arith;
           };
-          lands = tt;
+          lands = (omega arith, refl);
           before = refl;
         })

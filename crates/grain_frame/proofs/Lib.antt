@@ -14,3 +14,6 @@ pub mod Signing
 pub mod Jumping
 pub mod Handing
 pub mod Lending
+pub mod Handled
+pub mod Offering
+pub mod CatchSteps

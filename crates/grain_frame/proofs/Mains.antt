@@ -63,6 +63,7 @@ pub main_runs : {H : Type 0} (p : View) → IsProgram p → (s : Run H) (chunk :
 main_runs p valid s chunk v a size ec ev en ea = rw (ea, ev, ec, en) (record {
   inside = omega arith;
   typed = begins p valid;
+  above = tt;
   room = refl;
   unnoted = refl;
   entered = omega arith;

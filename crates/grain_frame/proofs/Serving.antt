@@ -1,5 +1,5 @@
 -- A native is sought, and the host is called.
-use Rattle.std.proofs.Common.{◌≡◌, ◌∙◌, ◌≤◌, ◌+◌, ℕ, List, [], ◌∷◌, Option, None, Some, true, false, inl, inr, Result, Ok, Err, length, map, refl, ap, subst, arith}
+use Rattle.std.proofs.Common.{◌≡◌, ◌∙◌, ◌≤◌, ◌+◌, ◌-◌, ℕ, List, [], ◌∷◌, Option, None, Some, true, false, inl, inr, Result, Ok, Err, length, map, refl, ap, subst, arith}
 use Rattle.grain_value.specs.Tree.{Tree}
 use Rattle.grain_value.specs.declared.values.Dynamic.{Dynamic}
 use Rattle.grain_value.specs.declared.values.Held.{Held}
@@ -10,8 +10,10 @@ use Rattle.grain_fault.specs.declared.places.Position.{Position}
 use Rattle.grain_fault.specs.declared.faults.EvalAltResult.{EvalAltResult}
 use Rattle.grain_fault.specs.Problems.{Problem, problem_of}
 use Rattle.grain_program.specs.View.{View, position_of}
+use Rattle.grain_stack.specs.Views.{StacksView}
 use Rattle.grain_host.specs.Law.{Law, native_of}
 use Rattle.grain_global.specs.declared.engines.Engine.{Engine}
+use Rattle.grain_stack.specs.declared.handlers.Handler.{Handler}
 use Rattle.grain_means.specs.Worlds.{Act, Frame, Place, Setup, World}
 use Rattle.grain_means.specs.Rules.{Receiver, native, kinds_in, trees_in, raised}
 use Rattle.grain_means.specs.Signatures.{not_found}
@@ -147,31 +149,43 @@ kept_on f g h s t u one two = record {
 }
 
 later_lands : {H : Type 0} (engine : Engine) (f f' : Activation) (s t s' : Run H) (ts : List ℕ)
-    (h : ℕ) (r : Result Progress OutOfMemory) → s.count ≤ t.count →
-    ContinuesAt engine t f s' f' ts h r → ContinuesAt engine s f s' f' ts h r
-later_lands engine f f' s t s' ts h (Ok progress.Continues) le l = (l.0, l.1, at l.2) where
+    (takes gives : ℕ) (hs : List Handler) (r : Result Progress OutOfMemory) → s.count ≤ t.count →
+    t.stacks ≡ s.stacks → ContinuesAt engine t f s' f' ts takes gives hs r →
+    ContinuesAt engine s f s' f' ts takes gives hs r
+later_lands engine f f' s t s' ts takes gives hs (Ok progress.Continues) le es l = (
+  l.0,
+  l.1 ∙ ap (λ (q : StacksView). length q.operands - takes + gives) es,
+  l.2,
+  at l.3,
+) where
   at : Progresses engine t f s' f' → Progresses engine s f s' f'
   at (inl a) = inl (omega (arith, a.0, le), omega (arith, a.1, le))
   at (inr a) = inr (omega (arith, a.0, le), a.1)
-later_lands engine f f' s t s' ts h (Ok progress.Returned) le l = tt
-later_lands engine f f' s t s' ts h (Ok progress.Failed) le l = tt
-later_lands engine f f' s t s' ts h (Err e) le l = tt
+later_lands engine f f' s t s' ts takes gives hs (Ok progress.Returned) le es l = tt
+later_lands engine f f' s t s' ts takes gives hs (Ok progress.Failed) le es l = (
+  omega (arith, l.0, ap (λ (q : StacksView). length q.operands) es),
+  l.1 ∙ ap (λ (q : StacksView). q.handlers) es,
+)
+later_lands engine f f' s t s' ts takes gives hs (Err e) le es l = tt
 
 module _ {H : Type 0} (law : Law H) (p : View) (engine : Engine) (f : Activation) (s t : Run H)
     (n k : Counts) (host mid : H) where
   -- a rule that begins with a stretch at which the frame stays
   pub implements_then : (f' : Activation) (s' : Run H) (n' : Counts) (host' : H)
-      {rule via : Computation H} {ts : List ℕ} {h : ℕ} {r : Result Progress OutOfMemory} →
+      {rule via : Computation H} {ts : List ℕ} {takes gives : ℕ} {hs : List Handler}
+      {r : Result Progress OutOfMemory} →
       SimulatesExactly (setup law p engine) (abstraction s n host) rule false
-      (abstraction t k mid) via → KeepsFrame f s f t → k.before ≡ n.before →
-      Implements law p engine f t k via ts h r f' s' n' mid host' →
-      Implements law p engine f s n rule ts h r f' s' n' host host'
-  implements_then f' s' n' host' {rule} {via} {ts} {h} {r} first kept before does = record {
-    same = then_exactly first does.same;
-    kept = kept_on f f f' s t s' kept does.kept;
-    lands = later_lands engine f f' s t s' ts h r kept.later does.lands;
-    before = does.before ∙ before;
-  }
+      (abstraction t k mid) via → KeepsFrame f s f t → t.stacks ≡ s.stacks →
+      k.before ≡ n.before →
+      Implements law p engine f t k via ts takes gives hs r f' s' n' mid host' →
+      Implements law p engine f s n rule ts takes gives hs r f' s' n' host host'
+  implements_then f' s' n' host' {rule} {via} {ts} {takes} {gives} {hs} {r} first kept stacks before
+      does = record {
+        same = then_exactly first does.same;
+        kept = kept_on f f f' s t s' kept does.kept;
+        lands = later_lands engine f f' s t s' ts takes gives hs r kept.later stacks does.lands;
+        before = does.before ∙ before;
+      }
 
   -- the frame stays where only the scope differs, which is as long
   pub scope_kept : (scope : List Entry) → t ≡ record s { scope = scope } →
@@ -188,7 +202,7 @@ module _ {H : Type 0} (law : Law H) (p : View) (engine : Engine) (f : Activation
     later = omega arith;
   })
 
-  module _ {rule : Computation H} {ts : List ℕ} {h : ℕ}
+  module _ {rule : Computation H} {ts : List ℕ} {takes gives : ℕ} {hs : List Handler}
       (go : Setup H → Option Place → Dynamic → World H → Act H)
       (fails : Setup H → Option Place → Problem → World H → Act H) (scope : List Entry)
       (run : t ≡ record s { scope = scope }) (long : length scope ≡ length s.scope)
@@ -197,7 +211,7 @@ module _ {H : Type 0} (law : Law H) (p : View) (engine : Engine) (f : Activation
     pub native_wants : (e : OutOfMemory) (r : Result Progress OutOfMemory) → is_out r ≡ true →
         SimulatesExactly (setup law p engine) (abstraction s n host) rule true
         (abstraction t k mid) (native_continuation (Err e) (frame_in f s) go fails) →
-        Implements law p engine f s n rule ts h r f t k host mid
+        Implements law p engine f s n rule ts takes gives hs r f t k host mid
     native_wants e (Ok y) er does = absurd cc
     native_wants e (Err y) er does = record {
       same = rw run (record {
@@ -215,7 +229,7 @@ module _ {H : Type 0} (law : Law H) (p : View) (engine : Engine) (f : Activation
         SimulatesExactly (setup law p engine) (abstraction s n host) rule false
         (abstraction t k mid) (λ m place w. raised m (frame_in f s place) (problem_of x) w) →
         s' ≡ record t { fault = x } → n' ≡ record k { passed = k.passed + 1 } →
-        Implements law p engine f s n rule ts h (Ok progress.Failed) f s' n' host mid
+        Implements law p engine f s n rule ts takes gives hs (Ok progress.Failed) f s' n' host mid
     native_raised x s' n' does es en = record {
       same = then_exactly does second;
       kept = kept_on f f f s t s' (scope_kept scope run long inside) (rw (es, run) (record {
@@ -229,7 +243,7 @@ module _ {H : Type 0} (law : Law H) (p : View) (engine : Engine) (f : Activation
         level = refl;
         later = omega arith;
       }));
-      lands = tt;
+      lands = rw (es, run) (omega arith, refl);
       before = rw en before;
     } where
       second : SimulatesExactly (setup law p engine) (abstraction t k mid)

@@ -15,7 +15,7 @@ use Rattle.grain_means.specs.Simulation.{LocalState, Computation, Simulates, Sim
 use Rattle.grain_means.specs.lemmas.Stretches.{same, compose, before}
 use Rattle.grain_host.specs.Law.{Law}
 use Rattle.grain_global.specs.declared.engines.Engine.{Engine}
-use Rattle.grain_frame.specs.Abstraction.{abstraction, instruction_here, continuation, KeepsFrame, Progresses, Runs, Stepped, Unchanged}
+use Rattle.grain_frame.specs.Abstraction.{abstraction, tries_in, Above, instruction_here, continuation, KeepsFrame, Progresses, Runs, Stepped, Unchanged}
 use Rattle.grain_frame.specs.Following.{begun_one}
 use Rattle.grain_frame.specs.declared.runs.Progress.{Progress}
 use Rattle.grain_frame.specs.declared.runs.Progress.TheVariants as progress
@@ -126,11 +126,13 @@ taken_back f g chunk base = rw (← chunk, ← base) refl
 
 -- the frame runs on
 pub next_runs : {H : Type 0} (p : View) (f f' : Activation) (s s' : Run H) → Runs p f s →
-    KeepsFrame f s f' s' → IsTypedAt p f'.chunk f'.address (length s'.stacks.operands) →
-    Runs p f' s'
-next_runs p f f' s s' runs kept typed = record {
+    KeepsFrame f s f' s' →
+    IsTypedAt p f'.chunk f'.address (length s'.stacks.operands) (tries_in s'.stacks.handlers) →
+    Above f'.base s'.stacks.handlers → Runs p f' s'
+next_runs p f f' s s' runs kept typed above = record {
   inside = omega (arith, kept.base, kept.scope);
   typed = typed;
+  above = above;
   room = ap (λ (c : Chunk). c.max_stack) kept.chunk ∙ (runs.room ∙ sym kept.room);
   unnoted = kept.noted ∙ runs.unnoted;
   entered = omega (arith, runs.entered, ap (λ (fs : List StackFrame). length fs) kept.outer);
@@ -168,6 +170,7 @@ both law p engine f g h s t u n k l host one two = record {
     two.stays.0,
     progresses_on engine s t u f g h one.stays.1 two.stays.1 two.kept.later,
     one.stays.2,
+    two.stays.3,
   );
   before = two.before ∙ one.before;
 }

@@ -1,5 +1,6 @@
 -- What the code has of a world, and where a stretch of it led.
-use Rattle.std.specs.Prelude.{◌≡◌, ◌⊎◌, ◌<◌, ◌≤◌, ◌+◌, ◌-◌, ℕ, List, [], ◌∷◌, ◌++◌, Bool, true, false, Option, Some, None, Result, Ok, Err, length, take, slice_index_or}
+use Rattle.std.specs.Prelude.{◌≡◌, ◌⊎◌, ◌<◌, ◌≤◌, ◌+◌, ◌-◌, ℕ, List, [], ◌∷◌, ◌++◌, Bool, true, false, Option, Some, None, Result, Ok, Err, length, take, map, option_map, slice_index_or}
+use Rattle.std.specs.List.{AllByRecursion}
 use Rattle.grain_value.specs.declared.values.Dynamic.{Dynamic}
 use Rattle.grain_value.specs.declared.memory.OutOfMemory.{OutOfMemory}
 use Rattle.grain_value.specs.Operands.{top, under}
@@ -10,15 +11,18 @@ use Rattle.grain_program.specs.declared.code.instructions.Op.TheVariants as op
 use Rattle.grain_program.specs.declared.code.functions.Function.{Function}
 use Rattle.grain_program.specs.declared.code.parts.Chunk.{Chunk}
 use Rattle.grain_program.specs.Effects.{takes_of, gives_of, leads_of}
-use Rattle.grain_program.specs.TypedAt.{IsTypedAt, Verified}
+use Rattle.grain_program.specs.Shapes.{TryHandler}
+use Rattle.grain_program.specs.TypedAt.{IsTypedAt, IsCovered, Verified}
 use Rattle.grain_program.specs.Reading.{op_at}
 use Rattle.grain_program.specs.Typing.{In}
 use Rattle.grain_program.specs.View.{View}
 use Rattle.grain_host.specs.Law.{Law}
 use Rattle.grain_global.specs.declared.engines.Engine.{Engine}
 use Rattle.grain_stack.specs.Views.{innermost, without_frame}
+use Rattle.grain_stack.specs.declared.handlers.Handler.{Handler}
 use Rattle.grain_means.specs.Worlds.{Act, Go, End, Then, Answer, Came, Failed, Frame, InFrame, Place, Setup, World}
-use Rattle.grain_means.specs.Rules.{leave_by_fault, instr, or_return, frame_at, resume_caller}
+use Rattle.grain_means.specs.Worlds as worlds
+use Rattle.grain_means.specs.Rules.{leave_by_fault, offered, instr, or_return, without, frame_at, resume_caller}
 use Rattle.grain_means.specs.Simulation.{LocalState, Computation, Simulates, SimulatesExactly}
 use Rattle.grain_means.specs.Means.{setup}
 use Rattle.grain_frame.specs.Counts.{Counts}
@@ -49,12 +53,37 @@ abstraction s n host = record {
   passed = n.passed;
 }
 
+-- a handler of the meaning, and a frame's handlers
+abbrev pub handler_in : Handler → worlds.Handler
+handler_in h = record {
+  target = h.target;
+  variable = h.variable;
+  operands = h.operands;
+  scope = h.scope;
+  caught = option_map problem_of h.caught;
+}
+
+abbrev pub handlers_in : List Handler → List worlds.Handler
+handlers_in hs = map handler_in hs
+
+-- a frame's handlers as a typing has them
+abbrev pub try_in : Handler → TryHandler
+try_in h = record { target = h.target; variable = h.variable; height = h.operands }
+
+abbrev pub tries_in : List Handler → List TryHandler
+tries_in hs = map try_in hs
+
+-- where each of the handlers was pushed, there were as many entries of the scope as this, or more
+abbrev pub Above : ℕ → List Handler → Type 0
+Above base hs = AllByRecursion (λ h. base ≤ h.scope) hs
+
 -- the frame of the meaning, by the place of its `this`
 abbrev pub frame_in : {H : Type 0} → Activation → Run H → Option Place → Frame
 frame_in a s place =
     record {
       address = a.address;
       operands = s.stacks.operands;
+      handlers = handlers_in s.stacks.handlers;
       base = a.base;
       floor = a.floor;
       this = place;
@@ -69,14 +98,13 @@ is_out (Err e) = true
 abbrev pub entry_of : Chunk → ℕ → Activation
 entry_of c size = record { chunk = c; address = c.entry; base = size; floor = size }
 
--- Where an instruction led. The value of a frame that is over is its last operand, and a fault lies
--- in the run.
+-- Where an instruction led. The value of a frame that is over is its last operand. A fault lies in
+-- the run, and is offered to the frame's handlers.
 abbrev pub continuation : {H : Type 0} → Result Progress OutOfMemory → EvalAltResult →
     (Option Place → Frame) → Computation H
 continuation (Ok progress.Continues) x f m place w = Go (InFrame (f place)) w
 continuation (Ok progress.Returned) x f m place w = End (Came (top (f place).operands).value) w
-continuation (Ok progress.Failed) x f m place w =
-    leave_by_fault m None (f place) (problem_of x) w
+continuation (Ok progress.Failed) x f m place w = offered m (f place) (problem_of x) w
 continuation (Err e) x f m place w = leave_by_fault m None (f place) NoMemory w
 
 -- what a frame that is over gave
@@ -127,15 +155,20 @@ Progresses engine s f s' f' =
     ((s.count < s'.count) × (s.count < engine.limits.operations)) ⊎
     ((s.count ≤ s'.count) × (f.address < f'.address))
 
--- the frame goes on at one of these addresses with this number of operands; it takes an operation
--- or lies further on
+-- What was done takes and then gives these numbers of operands. If the frame goes on, it does at one
+-- of these addresses, with these handlers, and an operation was taken or the address lies further
+-- on. After a fault the frame has its handlers, and no operand is gone but those that are taken.
 abbrev pub ContinuesAt : {H : Type 0} → Engine → Run H → Activation → Run H → Activation →
-    List ℕ → ℕ → Result Progress OutOfMemory → Type 0
-ContinuesAt engine s f s' f' targets height (Ok progress.Continues) =
-    In f'.address targets × (length s'.stacks.operands ≡ height) × Progresses engine s f s' f'
-ContinuesAt engine s f s' f' targets height (Ok progress.Returned) = Unit {0}
-ContinuesAt engine s f s' f' targets height (Ok progress.Failed) = Unit {0}
-ContinuesAt engine s f s' f' targets height (Err e) = Unit {0}
+    List ℕ → (takes gives : ℕ) → List Handler → Result Progress OutOfMemory → Type 0
+ContinuesAt engine s f s' f' targets takes gives handlers (Ok progress.Continues) =
+    In f'.address targets
+    × (length s'.stacks.operands ≡ length s.stacks.operands - takes + gives)
+    × (s'.stacks.handlers ≡ handlers) × Progresses engine s f s' f'
+ContinuesAt engine s f s' f' targets takes gives handlers (Ok progress.Returned) = Unit {0}
+ContinuesAt engine s f s' f' targets takes gives handlers (Ok progress.Failed) =
+    (length s.stacks.operands - takes ≤ length s'.stacks.operands)
+    × (s'.stacks.handlers ≡ s.stacks.handlers)
+ContinuesAt engine s f s' f' targets takes gives handlers (Err e) = Unit {0}
 
 -- the frame is the same but for its address and its floor, the frames around it are as they were,
 -- with their scopes, and the level is the same
@@ -158,44 +191,53 @@ pub record Ready {H : Type 0} (f : Activation) (s : Run H) (o : Op) (next : ℕ)
   pub room : length s.stacks.operands - takes_of o + gives_of o ≤ s.stacks.room
   pub ahead : f.address < next
 
--- The code did what a rule says: it goes on at one of the targets with this number of operands, or
--- the frame is over. The host may have been reached.
+-- The code did what a rule says: it takes and gives these numbers of operands, and goes on at one of
+-- the targets with these handlers, or a fault is raised, or the frame is over. The host may have
+-- been reached.
 pub record Implements {H : Type 0} (law : Law H) (program : View) (engine : Engine)
-    (f : Activation) (s : Run H) (n : Counts) (rule : Computation H) (targets : List ℕ) (height : ℕ)
-    (result : Result Progress OutOfMemory) (f' : Activation) (s' : Run H) (n' : Counts)
+    (f : Activation) (s : Run H) (n : Counts) (rule : Computation H) (targets : List ℕ)
+    (takes gives : ℕ) (handlers : List Handler) (result : Result Progress OutOfMemory) (f' : Activation) (s' : Run H) (n' : Counts)
     (host host' : H) : Type 0 where
   pub same : SimulatesExactly (setup law program engine) (abstraction s n host) rule
       (is_out result) (abstraction s' n' host') (continuation result s'.fault (frame_in f' s'))
   pub kept : KeepsFrame f s f' s'
-  pub lands : ContinuesAt engine s f s' f' targets height result
+  pub lands : ContinuesAt engine s f s' f' targets takes gives handlers result
   pub before : n'.before ≡ n.before
 
--- the code did the instruction, and goes on where its row says, with as many operands as its row
--- leaves
+-- the code did the instruction, which leaves the handlers, and goes on where its row says, with as
+-- many operands as its row leaves
 abbrev pub Performs : {H : Type 0} → Law H → View → Engine → Activation → Run H → Counts →
     Op →
     ℕ → Result Progress OutOfMemory → Activation → Run H → Counts → (host host' : H) → Type 0
 Performs law program engine f s n o next result f' s' n' host host' =
     Implements law program engine f s n (λ m place w. instr m o next (frame_in f s place) w)
-    (leads_of o next) (length s.stacks.operands - takes_of o + gives_of o) result f' s' n'
-    host host'
+    (leads_of o next) (takes_of o) (gives_of o) s.stacks.handlers result f' s' n' host host'
 
--- a frame runs: it stands where the typing of its chunk knows it, and has noted no fault
+-- a frame runs: it stands where the typing of its chunk knows it and its handlers, and has noted no
+-- fault
 pub record Runs {H : Type 0} (program : View) (f : Activation) (s : Run H) : Type 0 where
   pub inside : f.base ≤ length s.scope
   pub typed : IsTypedAt program f.chunk f.address (length s.stacks.operands)
+      (tries_in s.stacks.handlers)
+  pub above : Above f.base s.stacks.handlers
   pub room : f.chunk.max_stack ≡ s.stacks.room
   pub unnoted : s.stacks.noted ≡ false
   pub entered : 0 < length s.stacks.outer
 
--- if the frame goes on, it stands where the typing knows it
+-- the frame's handlers can catch: they stand in a typing with operands that are there
+abbrev pub CanCatch : {H : Type 0} → View → Activation → Run H → Type 0
+CanCatch p f s = (depth : ℕ) × (depth ≤ length s.stacks.operands)
+    × IsCovered p f.chunk depth (tries_in s.stacks.handlers) × Above f.base s.stacks.handlers
+
+-- if the frame goes on, it stands where the typing knows it, and after a fault its handlers can
+-- catch
 abbrev pub StaysTyped : {H : Type 0} → View → Engine → Run H → Activation → Run H → Activation →
     Result Progress OutOfMemory → Type 0
 StaysTyped p engine s f s' f' (Ok progress.Continues) =
-    IsTypedAt p f'.chunk f'.address (length s'.stacks.operands) × Progresses engine s f s' f' ×
-    (f.address < 16777216)
+    IsTypedAt p f'.chunk f'.address (length s'.stacks.operands) (tries_in s'.stacks.handlers)
+    × Progresses engine s f s' f' × (f.address < 16777216) × Above f'.base s'.stacks.handlers
 StaysTyped p engine s f s' f' (Ok progress.Returned) = Unit {0}
-StaysTyped p engine s f s' f' (Ok progress.Failed) = Unit {0}
+StaysTyped p engine s f s' f' (Ok progress.Failed) = CanCatch p f' s'
 StaysTyped p engine s f s' f' (Err e) = Unit {0}
 
 -- nothing of a call has begun: the scopes, the level and the frames are as they were, but for the
@@ -217,10 +259,16 @@ pub record CallEntered {H : Type 0} (engine : Engine) (g : Function) (s s' : Run
       ≡ record (innermost s.stacks) { operands = under (length g.params) s.stacks.operands }
       ∷ s.stacks.outer
   pub operands : s'.stacks.operands ≡ []
+  pub handlers : s'.stacks.handlers ≡ []
   pub room : s'.stacks.room ≡ g.chunk.max_stack
   pub unnoted : s'.stacks.noted ≡ false
   pub count : s'.count ≡ s.count + 1
   pub allowed : s.count < engine.limits.operations
+
+-- a fault is raised before the call has begun: all operands and handlers are there
+abbrev pub CallRefused : {H : Type 0} → Run H → Run H → Type 0
+CallRefused s s' = CallNotEntered s s' × (s'.stacks.operands ≡ s.stacks.operands)
+    × (s'.stacks.handlers ≡ s.stacks.handlers)
 
 -- the frame of a function whose operation is taken is entered, or the run is as it was but for the
 -- arguments and a fault
@@ -229,35 +277,37 @@ FrameEntered g s s' (Ok true) = (s'.saved ≡ s.saved ++ s.scope ∷ []) × (s'.
     × (s'.stacks.outer
     ≡ record (innermost s.stacks) { operands = under (length g.params) s.stacks.operands }
     ∷ s.stacks.outer)
-    × (s'.stacks.operands ≡ []) × (s'.stacks.room ≡ g.chunk.max_stack)
+    × (s'.stacks.operands ≡ []) × (s'.stacks.handlers ≡ [])
+    × (s'.stacks.room ≡ g.chunk.max_stack)
     × (s'.stacks.noted ≡ false) × (s'.count ≡ s.count)
-FrameEntered g s s' (Ok false) = CallNotEntered s s' × (s'.count ≡ s.count)
+FrameEntered g s s' (Ok false) = CallRefused s s' × (s'.count ≡ s.count)
 FrameEntered g s s' (Err e) = CallNotEntered s s' × (s'.count ≡ s.count)
 
 abbrev pub EnterResult : {H : Type 0} → Engine → Function → Run H → Run H →
     Result Bool OutOfMemory → Type 0
 EnterResult engine g s s' (Ok true) = CallEntered engine g s s'
-EnterResult engine g s s' (Ok false) = CallNotEntered s s'
+EnterResult engine g s s' (Ok false) = CallRefused s s'
 EnterResult engine g s s' (Err e) = CallNotEntered s s'
 
 -- What is to be done once a call has begun, from the states before and after: the body, and then
--- the caller with its answer; or a fault left the frame.
+-- the caller, without the arguments, with its answer; or a fault is offered to the frame's handlers.
 abbrev pub call_continuation : {H : Type 0} → Result Bool OutOfMemory → (old new : Run H) →
     Function → (Option Place → Frame) → ℕ → Computation H
 call_continuation (Ok true) s s' g f next m place w =
     Then (Go (InFrame (frame_at g.chunk 0 None)) w)
-    (λ a w2. resume_caller m g (f place) next a (record w2 { scope = s.scope; level = s.level }))
-call_continuation (Ok false) s s' g f next m place w =
-    leave_by_fault m None (f place) (problem_of s'.fault) w
+    (λ a w2. resume_caller m g (without (length g.params) (f place)) next a
+    (record w2 { scope = s.scope; level = s.level }))
+call_continuation (Ok false) s s' g f next m place w = offered m (f place) (problem_of s'.fault) w
 call_continuation (Err e) s s' g f next m place w = leave_by_fault m None (f place) NoMemory w
 
--- What is to be done once an operation was asked for: what follows it, or a fault left the frame.
+-- What is to be done once an operation was asked for: what follows it, or what follows from the
+-- fault; where memory is out, a fault left the frame.
 abbrev pub charge_continuation : {H : Type 0} → Result Bool OutOfMemory → EvalAltResult →
-    (Option Place → Frame) → (Setup H → Option Place → World H → Act H) → Computation H
-charge_continuation (Ok true) x f go m place w = go m place w
-charge_continuation (Ok false) x f go m place w =
-    leave_by_fault m None (f place) (problem_of x) w
-charge_continuation (Err e) x f go m place w = leave_by_fault m None (f place) NoMemory w
+    (Option Place → Frame) → (Setup H → Option Place → World H → Act H) →
+    (Setup H → Option Place → Problem → World H → Act H) → Computation H
+charge_continuation (Ok true) x f go fails m place w = go m place w
+charge_continuation (Ok false) x f go fails m place w = fails m place (problem_of x) w
+charge_continuation (Err e) x f go fails m place w = leave_by_fault m None (f place) NoMemory w
 
 -- an operation is taken if the frame goes on; else a fault lies in the run, and perhaps an
 -- operation is taken
@@ -320,7 +370,8 @@ pub record StandsAt {H : Type 0} (program : View) (f : Activation) (s : Run H) (
   pub width : ℕ
   pub read : op_at program.code f.address ≡ Some (o, width)
   pub next_is : next ≡ f.address + width
-  pub seen : Verified program f.chunk f.address (length s.stacks.operands) o width
+  pub seen : Verified program f.chunk f.address (length s.stacks.operands)
+      (tries_in s.stacks.handlers) o width
 
 -- the instruction at which the frame stands is no call
 abbrev pub CallsNothing : View → Activation → Type 0

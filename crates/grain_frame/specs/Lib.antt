@@ -4,6 +4,7 @@ pub mod Counts
 pub mod MachineView
 pub mod Machines
 pub mod Abstraction
+pub mod Catching
 pub mod Following
 pub mod Operated
 pub mod Natives

@@ -177,7 +177,7 @@ impl<H: Host> Run<H> {
             context.entry.program.now context.entry.engine.now frame.old self.old steps.old
             (λ m place w. native_assigned m assign_op.now h slot next
             (frame_in frame.old self.old place) w)
-            (next ∷ []) (length self.old.stacks.operands - 1 + 0) result
+            (next ∷ []) 1 0 self.old.stacks.handlers result
             frame.new self.new steps.new host.old host.new }
     {
         let held = match self.scope.get(index) {
@@ -229,7 +229,7 @@ impl<H: Host> Run<H> {
             context.entry.program.now context.entry.engine.now frame.old self.old steps.old
             (λ m place w. operator_assigned m (name_of m.program name) h slot next
             (frame_in frame.old self.old place) w)
-            (next ∷ []) (length self.old.stacks.operands - 1 + 0) result
+            (next ∷ []) 1 0 self.old.stacks.handlers result
             frame.new self.new steps.new host.old host.new }
     {
         let held = match self.scope.get(index) {

@@ -72,7 +72,7 @@ impl<H: Host> Run<H> {
             (λ m place w.
             jump_if m wanted target next (frame_in frame.old (answered self.old truth) place) w)
             (cond (nat_lt target next) (target ∷ next ∷ []) (next ∷ target ∷ []))
-            (length (answered self.old truth).stacks.operands - 1 + 0) (Ok Progress.Continues)
+            1 0 self.old.stacks.handlers (Ok Progress.Continues)
             frame.new self.new steps.new host host) }
         ensures undone { OnFalse result
             (Unchanged frame.old self.old steps.old frame.new self.new steps.new) }

@@ -6,7 +6,7 @@ ghost use Rattle.grain_program.specs.View.{source_text};
 ghost use Rattle.grain_fault.specs.Problems.{problem_of};
 ghost use Rattle.grain_value.specs.Operands.{arguments, under};
 ghost use Rattle.grain_stack.specs.Views.{StackFrame, innermost, with_frame, without_frame};
-ghost use Rattle.grain_means.specs.Rules.{without, bound, enter_function, function_entered, resume_caller, propagate};
+ghost use Rattle.grain_means.specs.Rules.{bound, enter_function, function_entered, resume_caller, propagate};
 ghost use Rattle.grain_means.specs.Simulation.{SimulatesExactly, StopPersists};
 ghost use Rattle.grain_means.specs.Means.{setup};
 ghost use Rattle.grain_frame.specs.Abstraction.{abstraction, frame_in, is_out, continuation, frame_answer, call_continuation, caller_of, EnterResult, FrameEntered, CallReturned};
@@ -25,7 +25,7 @@ use std::sync::ledger::Ledger;
 impl<H: Host> Run<H> {
     // Begins a call: an operation is taken, the level and the variables are tested, the arguments
     // become the entries of a new scope, and the function's frame is entered. It says whether the
-    // frame is entered; if not, a fault leaves the caller's.
+    // frame is entered; if not, a fault is raised in the caller's.
     #[inline(always)]
     pub(crate) fn begin<L: Ledger>(
         &mut self,
@@ -40,12 +40,10 @@ impl<H: Host> Run<H> {
         ensures same { (next : ℕ) → SimulatesExactly
             (setup H.law context.entry.program.now context.entry.engine.now)
             (abstraction self.old steps.old host.old)
-            (λ m place w. enter_function m function.now
-            (arguments (length function.now.params) self.old.stacks.operands)
-            (without (length function.now.params) (frame_in frame.now self.old place)) next w)
+            (λ m place w. enter_function m function.now (length function.now.params)
+            (frame_in frame.now self.old place) next w)
             (is_out result) (abstraction self.new steps.new host.new)
-            (call_continuation result self.old self.new function.now
-            (λ place. without (length function.now.params) (frame_in frame.now self.old place))
+            (call_continuation result self.old self.new function.now (frame_in frame.now self.old)
             next) }
         ensures enters { EnterResult context.entry.engine.now function.now self.old self.new
             result }
@@ -78,12 +76,10 @@ impl<H: Host> Run<H> {
         ensures same { (next : ℕ) (host : H) → SimulatesExactly
             (setup H.law context.entry.program.now context.entry.engine.now)
             (abstraction self.old steps.old host)
-            (λ m place w. function_entered m function.now
-            (arguments (length function.now.params) self.old.stacks.operands)
-            (without (length function.now.params) (frame_in frame.now self.old place)) next w)
+            (λ m place w. function_entered m function.now (length function.now.params)
+            (frame_in frame.now self.old place) next w)
             (is_out result) (abstraction self.new steps.new host)
-            (call_continuation result self.old self.new function.now
-            (λ place. without (length function.now.params) (frame_in frame.now self.old place))
+            (call_continuation result self.old self.new function.now (frame_in frame.now self.old)
             next) }
         ensures enters { FrameEntered function.now self.old self.new result }
         ensures before { steps.new.before ≡ steps.old.before }

@@ -3,9 +3,10 @@
 ghost use Rattle.std.specs.Prelude.{◌≡◌, Ok};
 ghost use Rattle.grain_program.specs.View.{position_of};
 ghost use Rattle.grain_fault.specs.declared.faults.EvalAltResult.TheVariants as fault;
+ghost use Rattle.grain_fault.specs.Problems.{Problem};
 ghost use Rattle.grain_value.specs.declared.values.Dynamic.{Dynamic};
 ghost use Rattle.grain_means.specs.Worlds.{Setup, Frame, Place, World, Act};
-ghost use Rattle.grain_means.specs.Rules.{charged};
+ghost use Rattle.grain_means.specs.Rules.{charged_or};
 ghost use Rattle.grain_means.specs.Simulation.{SimulatesExactly};
 ghost use Rattle.grain_means.specs.Means.{setup};
 ghost use Rattle.std.specs.Prelude.{Option};
@@ -20,8 +21,8 @@ use grain_value::{Dynamic, OutOfMemory};
 use std::sync::ledger::Ledger;
 
 impl<H: Host> Run<H> {
-    // Takes an operation, of which the host hears. It says whether the frame, which stands at the
-    // address, goes on; if not, a fault leaves it.
+    // Takes an operation, of which the host hears, at the position of the address. It says whether
+    // the frame goes on; if not, a fault is raised.
     #[inline(always)]
     pub(crate) fn charge<L: Ledger>(
         &mut self,
@@ -31,12 +32,14 @@ impl<H: Host> Run<H> {
         address: usize,
     ) -> Result<bool, OutOfMemory>
         ensures same { (f : Option Place → Frame)
-            (go : Setup H → Option Place → World H → Act H) → SimulatesExactly
+            (go : Setup H → Option Place → World H → Act H)
+            (fails : Setup H → Option Place → Problem → World H → Act H) → SimulatesExactly
             (setup H.law context.entry.program.now context.entry.engine.now)
             (abstraction self.old steps.old host.old)
-            (λ m place w. charged m (position_of m.program address) (f place) w (go m place))
+            (λ m place w. charged_or m (position_of m.program address) (f place) (fails m place) w
+            (go m place))
             (is_out result) (abstraction self.new steps.new host.new)
-            (charge_continuation result self.new.fault f go) }
+            (charge_continuation result self.new.fault f go fails) }
         ensures run { ChargeResult context.entry.engine.now self.old self.new result }
         ensures before { steps.new.before ≡ steps.old.before }
     {

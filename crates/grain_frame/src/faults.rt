@@ -40,6 +40,28 @@ impl<H: Host> Run<H> {
         self.raise(steps, fault)
     }
 
+    // A scope that is shorter than where the handler was pushed that is to catch a fault.
+    #[cold]
+    #[inline(never)]
+    pub(crate) fn try_floor_broken<L: Ledger>(
+        &mut self,
+        context: Context<'_>,
+        steps: &mut Steps<L>,
+        address: usize,
+        wanted: usize,
+    ) -> Progress
+        ensures { Raises self.old steps.old
+            (fault.Malformed (kind.TryFloorBroken wanted (length self.old.scope))
+            (position_of context.entry.program.now address)) (Ok result) self.new steps.new }
+    {
+        let kind = MalformedKind::TryFloorBroken {
+            wanted,
+            length: self.scope.len(),
+        };
+        let fault = EvalAltResult::Malformed(kind, context.program.position(address));
+        self.raise(steps, fault)
+    }
+
     // An operation too many.
     #[cold]
     #[inline(never)]

@@ -63,13 +63,13 @@ impl<H: Host> Run<H> {
         ensures implements { (host : H) → Implements H.law context.entry.program.now
             context.entry.engine.now frame.old self.old steps.old
             (λ m place w. store_local m read_only slot next (frame_in frame.old self.old place) w)
-            (next ∷ []) (length self.old.stacks.operands - 1 + 0) (Ok result) frame.new self.new
+            (next ∷ []) 1 0 self.old.stacks.handlers (Ok result) frame.new self.new
             steps.new host host }
     {
         let index = self.slot_index(frame, slot);
-        let value = self.stacks.pop().value;
         match self.scope.get(index) {
             Some(_) => {
+                let value = self.stacks.pop().value;
                 self.scope.set(index, Held { value, read_only });
                 steps.mark();
                 frame.address = next;
@@ -97,7 +97,7 @@ impl<H: Host> Run<H> {
             context.entry.engine.now frame.old self.old steps.old
             (λ m place w. declare m read_only (name_of m.program name) next
             (frame_in frame.old self.old place) w)
-            (next ∷ []) (length self.old.stacks.operands - 1 + 0) result frame.new self.new
+            (next ∷ []) 1 0 self.old.stacks.handlers result frame.new self.new
             steps.new host host }
     {
         if self.scope.len() >= context.engine.limits.variables {

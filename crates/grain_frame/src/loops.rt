@@ -12,6 +12,7 @@ ghost use Rattle.grain_means.specs.Worlds.{Go, InFrame, Setup};
 ghost use Rattle.grain_means.specs.Rules.{called, closed, instr};
 ghost use Rattle.grain_means.specs.Simulation.{Simulates, SimulatesExactly, StopPersists};
 ghost use Rattle.grain_means.specs.Means.{setup};
+ghost use Rattle.grain_frame.specs.Catching.{standing, stop_continuation, StopsSo};
 ghost use Rattle.grain_frame.specs.Abstraction.{abstraction, frame_in, is_out, finished_with, frame_over, frame_answer, answer_of, continuation, entry_of, KeepsFrame, ContinuesAt, Ready, Runs, Stepped, Attempted, CallsNothing, IsPending, StandsAtJump, attempt_of, attempt_or};
 
 use crate::activations::Activation;
@@ -35,6 +36,15 @@ pub enum Attempt {
     Jump(u32),
     /// Nothing was done.
     Pending(Pending),
+}
+
+/// How far a frame was run.
+#[derive(Clone, Copy, Debug, PartialEq, Eq)]
+pub enum Stop {
+    /// To its end, with a value, which is its last operand, or unit if it has none.
+    Value,
+    /// A fault was raised, which lies in the run, at this address. The frame then has this floor.
+    Fault(usize, usize),
 }
 
 /// An instruction that is still to be done.
@@ -197,6 +207,14 @@ impl<H: Host> Run<H> {
             (Op::Tick, width) => self.tick(context, host, steps, frame, address + width),
             (Op::Checkpoint, width) => Ok(self.checkpoint(steps, frame, address + width)),
             (Op::Statement(_), width) => Ok(self.go_on(steps, frame, address + width)),
+            (Op::PushHandler(target), width) => {
+                self.push_handler(steps, frame, target, None, address + width)
+            }
+            (Op::PushHandlerVar(target, name), width) => {
+                let variable = Some(u32::from(name));
+                self.push_handler(steps, frame, target, variable, address + width)
+            }
+            (Op::PopHandler, width) => Ok(self.pop_handler(steps, frame, address + width)),
             (Op::Throw, width) => Ok(self.throw(context, steps, frame, address + width)),
             (Op::Return, width) => Ok(self.return_value(steps, frame, address + width)),
         }
@@ -242,7 +260,7 @@ impl<H: Host> Run<H> {
             (continuation result self.new.fault (frame_in frame.new self.new)) }
         ensures kept { KeepsFrame frame.old self.old frame.new self.new }
         ensures lands { ContinuesAt context.entry.engine.now self.old frame.old self.new frame.new
-            (next ∷ []) (length self.old.stacks.operands - count + 1) result }
+            (next ∷ []) count 1 self.old.stacks.handlers result }
         ensures before { steps.new.before ≡ steps.old.before }
     {
         let count = usize::from(count);
@@ -298,7 +316,7 @@ impl<H: Host> Run<H> {
     // Leaves a frame by a fault: the scope is cut, and the trace notes where the frame stopped.
     #[cold]
     #[inline(never)]
-    fn leave_by_fault(&mut self, address: usize, floor: usize)
+    pub(crate) fn leave_by_fault(&mut self, address: usize, floor: usize)
         requires entered { 0 < length self.old.stacks.outer }
         requires unnoted { self.old.stacks.noted ≡ false }
         ensures { self.new ≡ record self.old {
@@ -316,9 +334,10 @@ impl<H: Host> Run<H> {
         });
     }
 
-    // Runs a frame to its end.
+    // Runs a frame to its end: its instructions, and after a fault that one of its handlers catches,
+    // those of the catch block.
     #[cycle(run)]
-    #[inline(never)]
+    #[inline(always)]
     fn run_frame<L: Ledger>(
         &mut self,
         context: Context<'_>,
@@ -339,13 +358,69 @@ impl<H: Host> Run<H> {
         ensures later { self.old.count ≤ self.new.count }
         ensures before { steps.new.before ≡ steps.old.before }
     {
-        let mut frame = Activation::new(*chunk, base);
+        let mut address = chunk.entry as usize;
+        let mut floor = base;
+        'frame: loop {
+            match self.run_from(context, host, steps, chunk, base, address, floor) {
+                Err(e) => return Err(e),
+                Ok(stop) => match stop {
+                    Stop::Value => return Ok(FrameEnd::Value),
+                    Stop::Fault(at, low) => match self.catch(context, host, steps, at, low) {
+                        Err(e) => return Err(e),
+                        Ok(caught) => match caught {
+                            Some(target) => {
+                                address = target as usize;
+                                floor = low;
+                            }
+                            None => return Ok(FrameEnd::Fault),
+                        },
+                    },
+                },
+            }
+        }
+    }
+
+    // Runs a frame from an address on, until it is over or a fault is raised in it. Catching is not
+    // done here, so that the loop has one way back to its beginning.
+    #[cycle(run)]
+    #[inline(never)]
+    fn run_from<L: Ledger>(
+        &mut self,
+        context: Context<'_>,
+        host: &mut H,
+        steps: &mut Steps<L>,
+        chunk: &Chunk,
+        base: usize,
+        address: usize,
+        floor: usize,
+    ) -> Result<Stop, OutOfMemory>
+        requires runs { Runs context.program.now (standing chunk.now base address floor) self.old }
+        ensures goes { Simulates (setup H.law context.entry.program.now context.entry.engine.now)
+            (abstraction self.old steps.old host.old)
+            (λ m place w. Go (InFrame
+            (frame_in (standing chunk.now base address floor) self.old place)) w)
+            (is_out result) (abstraction self.new steps.new host.new)
+            (stop_continuation result chunk.now base self.new) }
+        ensures catches { StopsSo context.entry.program.now chunk.now base self.new result }
+        ensures outer { self.new.stacks.outer ≡ self.old.stacks.outer }
+        ensures room { self.new.stacks.room ≡ self.old.stacks.room }
+        ensures saved { self.new.saved ≡ self.old.saved }
+        ensures level { self.new.level ≡ self.old.level }
+        ensures later { self.old.count ≤ self.new.count }
+        ensures before { steps.new.before ≡ steps.old.before }
+    {
+        let mut frame = Activation {
+            chunk: *chunk,
+            address,
+            base,
+            floor,
+        };
         'turn: loop {
             steps.tick();
             steps.mark();
             let pending = match self.quick(context, steps, &mut frame) {
                 Attempt::Done => continue 'turn,
-                Attempt::Returned => return Ok(FrameEnd::Value),
+                Attempt::Returned => return Ok(Stop::Value),
                 Attempt::Jump(target) => {
                     match self.jump(context, host, steps, &mut frame, target) {
                         Err(e) => {
@@ -354,10 +429,9 @@ impl<H: Host> Run<H> {
                         }
                         Ok(progress) => match progress {
                             Progress::Continues => continue 'turn,
-                            Progress::Returned => return Ok(FrameEnd::Value),
+                            Progress::Returned => return Ok(Stop::Value),
                             Progress::Failed => {
-                                self.leave_by_fault(frame.address, frame.floor);
-                                return Ok(FrameEnd::Fault);
+                                return Ok(Stop::Fault(frame.address, frame.floor));
                             }
                         },
                     }
@@ -371,11 +445,8 @@ impl<H: Host> Run<H> {
                 }
                 Ok(progress) => match progress {
                     Progress::Continues => {}
-                    Progress::Returned => return Ok(FrameEnd::Value),
-                    Progress::Failed => {
-                        self.leave_by_fault(frame.address, frame.floor);
-                        return Ok(FrameEnd::Fault);
-                    }
+                    Progress::Returned => return Ok(Stop::Value),
+                    Progress::Failed => return Ok(Stop::Fault(frame.address, frame.floor)),
                 },
             }
         }

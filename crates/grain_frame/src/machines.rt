@@ -36,10 +36,11 @@ impl<'e> Model for Machine<'e> {
     ghost use Rattle.grain_frame.specs.MachineView.{MachineView};
     ghost use Rattle.std.specs.Coded.{codes};
     ghost use Rattle.grain_value.specs.TreeCode.{coded_tree};
+    ghost use Rattle.grain_fault.specs.contracts.faults.EvalAltResult as row;
 
     ghost Value = { MachineView };
 
-    ghost coded = { Prim.hlevel (codes, coded_tree) };
+    ghost coded = { Prim.hlevel (codes, coded_tree, row.the_row.coded) };
 
     ghost view = { λ m. record { engine = m.engine.now; stacks = m.stacks } };
 }

@@ -39,7 +39,7 @@ impl<H: Host> Run<H> {
             Implements H.law program engine frame.old self.old steps.old
             (λ m place w. pushed m (frame_in frame.old self.old place) next self.old.stacks.operands
             value w)
-            (next ∷ []) (length self.old.stacks.operands - 0 + 1) (Ok result) frame.new self.new
+            (next ∷ []) 0 1 self.old.stacks.handlers (Ok result) frame.new self.new
             steps.new host host }
     {
         self.stacks.push(Held::read_write(value));
@@ -168,7 +168,7 @@ impl<H: Host> Run<H> {
             (λ v w1. pushed m (frame_in frame.old self.old place) next
             (under count self.old.stacks.operands) v w1)
             (raised m (frame_in frame.old self.old place)))
-            (next ∷ []) (length self.old.stacks.operands - count + 1) result
+            (next ∷ []) count 1 self.old.stacks.handlers result
             frame.new self.new steps.new host.old host.new }
     {
         let operands = self.stacks.frame_operands();
@@ -210,7 +210,7 @@ impl<H: Host> Run<H> {
             (λ v w1. pushed m (frame_in frame.old self.old place) next
             (under count self.old.stacks.operands) v w1)
             (raised m (frame_in frame.old self.old place)))
-            (next ∷ []) (length self.old.stacks.operands - count + 1) result
+            (next ∷ []) count 1 self.old.stacks.handlers result
             frame.new self.new steps.new host.old host.new }
     {
         let mut copy = *frame;

@@ -9,7 +9,7 @@ ghost use Rattle.grain_program.specs.declared.code.instructions.Op.TheVariants a
 ghost use Rattle.grain_value.specs.Operands.{arguments};
 ghost use Rattle.grain_ops.specs.Agreement.{Agrees, IsGiven};
 ghost use Rattle.grain_means.specs.Rules.{jumped, stepped, jump_if, operated};
-ghost use Rattle.grain_frame.specs.Abstraction.{frame_in, Implements, Performs, Ready, Runs, Unchanged, OnTrue, OnFalse};
+ghost use Rattle.grain_frame.specs.Abstraction.{frame_in, tries_in, Implements, Performs, Ready, Runs, Unchanged, OnTrue, OnFalse};
 ghost use Rattle.grain_frame.specs.Following.{PerformsOn};
 
 use crate::activations::Activation;
@@ -154,7 +154,7 @@ impl<H: Host> Run<H> {
         requires fits { frame.old.address + width ≤ 16777216 }
         requires runs { Runs context.program.now frame.old self.old }
         requires typed { IsTypedAt context.program.now frame.old.chunk (frame.old.address + width)
-            (length self.old.stacks.operands - count + 1) }
+            (length self.old.stacks.operands - count + 1) (tries_in self.old.stacks.handlers) }
         ensures performs { OnTrue result
             ((host : H) → PerformsOn H.law context.entry.program.now context.entry.engine.now
             frame.old self.old steps.old (op.CallOp name count token) (frame.old.address + width)
@@ -246,7 +246,7 @@ impl<H: Host> Run<H> {
             frame.old self.old steps.old
             (λ m place w. jump_if m wanted target next (frame_in frame.old self.old place) w)
             (cond (nat_lt target next) (target ∷ next ∷ []) (next ∷ target ∷ []))
-            (length self.old.stacks.operands - 1 + 0) (Ok Progress.Continues) frame.new self.new
+            1 0 self.old.stacks.handlers (Ok Progress.Continues) frame.new self.new
             steps.new host host) }
         ensures undone { OnFalse result
             (Unchanged frame.old self.old steps.old frame.new self.new steps.new) }

@@ -17,7 +17,7 @@ use std::sync::ledger::Ledger;
 
 /// What a run has, but for its frame: where it takes memory from, the stacks, the scope of the
 /// running frame and those of the frames that wait for it, the cells, the operations and the level,
-/// and the fault that leaves a frame, until it is taken up. The host, of type `H`, is lent to those
+/// and the fault that was raised in a frame, until it is taken up. The host, of type `H`, is lent to those
 /// functions alone that reach it.
 #[derive(Drop)]
 pub struct Run<H> {
@@ -40,7 +40,7 @@ pub enum Progress {
     Continues,
     /// The frame is over, and gives its last operand, or unit if it has none.
     Returned,
-    /// A fault leaves the frame.
+    /// A fault is raised in the frame. It lies in the run.
     Failed,
 }
 
@@ -70,7 +70,7 @@ impl<H: Host> Run<H> {
         }
     }
 
-    /// A fault leaves the frame.
+    /// A fault is raised in the frame.
     #[cold]
     pub fn depart(&mut self, fault: EvalAltResult) -> Progress
         ensures progress { result ≡ Progress.Failed }
@@ -80,7 +80,7 @@ impl<H: Host> Run<H> {
         Progress::Failed
     }
 
-    /// A fault is raised in the frame, and leaves it.
+    /// A fault is raised in the frame, behind a mark.
     #[cold]
     pub fn raise<L: Ledger>(&mut self, steps: &mut Steps<L>, fault: EvalAltResult) -> Progress
         ensures progress { result ≡ Progress.Failed }

@@ -31,7 +31,7 @@ impl<H: Host> Run<H> {
             Implements H.law program engine frame.old self.old steps.old
             (λ m place w. onward m (frame_in frame.old self.old place)
             (stepped (frame_in frame.old self.old place) next self.old.stacks.operands) w)
-            (next ∷ []) (length self.old.stacks.operands - 0 + 0) (Ok result) frame.new self.new
+            (next ∷ []) 0 0 self.old.stacks.handlers (Ok result) frame.new self.new
             steps.new host host }
     {
         frame.address = next;
@@ -54,7 +54,7 @@ impl<H: Host> Run<H> {
             frame.old self.old steps.old
             (λ m place w. jumped m (frame_in frame.old self.old place)
             (stepped (frame_in frame.old self.old place) target self.old.stacks.operands) w)
-            (target ∷ []) (length self.old.stacks.operands - 0 + 0) result frame.new self.new
+            (target ∷ []) 0 0 self.old.stacks.handlers result frame.new self.new
             steps.new host.old host.new }
     {
         if target > frame.address {
@@ -110,7 +110,7 @@ impl<H: Host> Run<H> {
             frame.old self.old steps.old
             (λ m place w. jump_if m wanted target next (frame_in frame.old self.old place) w)
             (cond (nat_lt target next) (target ∷ next ∷ []) (next ∷ target ∷ []))
-            (length self.old.stacks.operands - 1 + 0) result frame.new self.new steps.new host.old
+            1 0 self.old.stacks.handlers result frame.new self.new steps.new host.old
             host.new }
     {
         match self.stacks.top().value.as_bool() {

@@ -37,8 +37,7 @@ abbrev pub later_others : List (List ℕ)
 later_others =
     codes "make_array" ∷ codes "make_map" ∷ codes "check_array_size" ∷ codes "check_map_size" ∷
     codes "interpolate_start" ∷
-    codes "interpolate_append" ∷ codes "interpolate_end" ∷ codes "push_handler" ∷
-    codes "push_handler_var" ∷ codes "pop_handler" ∷
+    codes "interpolate_append" ∷ codes "interpolate_end" ∷
     codes "iter_init" ∷ codes "iter_drop" ∷ codes "iter_next" ∷ codes "iter_next_indexed" ∷
     codes "export_local" ∷ codes "export_named" ∷
     codes "import" ∷ codes "custom_syntax" ∷ codes "eval_ast" ∷ codes "eval_ast_keep" ∷ []

@@ -47,7 +47,7 @@ const CALLS: [&str; 12] = [
 ];
 
 /// The other instructions.
-const OTHERS: [&str; 20] = [
+const OTHERS: [&str; 17] = [
     "make_array",
     "make_map",
     "check_array_size",
@@ -55,9 +55,6 @@ const OTHERS: [&str; 20] = [
     "interpolate_start",
     "interpolate_append",
     "interpolate_end",
-    "push_handler",
-    "push_handler_var",
-    "pop_handler",
     "iter_init",
     "iter_drop",
     "iter_next",

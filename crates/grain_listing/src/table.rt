@@ -76,8 +76,8 @@ const VALUES: [(&str, Op); 13] = [
     ("rotate", Op::Rotate(0)),
 ];
 
-/// The instructions that go elsewhere, call, count or cut, by their words.
-const FLOW: [(&str, Op); 12] = [
+/// The instructions that go elsewhere, call, count, cut or catch, by their words.
+const FLOW: [(&str, Op); 15] = [
     ("jump", Op::Jump(0)),
     ("jump_if_false", Op::JumpIfFalse(0)),
     ("jump_if_true", Op::JumpIfTrue(0)),
@@ -88,6 +88,9 @@ const FLOW: [(&str, Op); 12] = [
     ("tick", Op::Tick),
     ("checkpoint", Op::Checkpoint),
     ("statement", Op::Statement(0)),
+    ("push_handler", Op::PushHandler(0)),
+    ("push_handler_var", Op::PushHandlerVar(0, 0)),
+    ("pop_handler", Op::PopHandler),
     ("throw", Op::Throw),
     ("return", Op::Return),
 ];

@@ -90,9 +90,6 @@ fn later_instructions(rt: HostRuntime) -> Result<(), OutOfMemory> {
         "interpolate_start",
         "interpolate_append",
         "interpolate_end",
-        "push_handler",
-        "push_handler_var",
-        "pop_handler",
         "iter_init",
         "iter_drop",
         "iter_next",
@@ -186,6 +183,19 @@ fn codes_of_flow(rt: HostRuntime) -> Result<(), OutOfMemory> {
     check_code(&rt, alloc, "tick", [0x39].as_slice())?;
     check_code(&rt, alloc, "checkpoint", [0x3a].as_slice())?;
     check_code(&rt, alloc, "statement 513", [0x3b, 1, 2].as_slice())?;
+    check_code(
+        &rt,
+        alloc,
+        "push_handler 67305985",
+        [0x3c, 1, 2, 3, 4].as_slice(),
+    )?;
+    check_code(
+        &rt,
+        alloc,
+        "push_handler_var 67305985 1541",
+        [0x3d, 1, 2, 3, 4, 5, 6].as_slice(),
+    )?;
+    check_code(&rt, alloc, "pop_handler", [0x3e].as_slice())?;
     check_code(&rt, alloc, "throw", [0x49].as_slice())?;
     check_code(&rt, alloc, "return", [0x4a].as_slice())
 }

@@ -2,6 +2,9 @@ pub mod Determined
 pub mod Kept
 pub mod Lengths
 pub mod Standing
+pub mod Footing
+pub mod Catching
 pub mod Tally
+pub mod Called
 pub mod Moving
 pub mod Missing

@@ -8,7 +8,7 @@ use Rattle.grain_value.specs.Looking.{truth_of, is_unit}
 use Rattle.grain_value.specs.Operands.{top, arguments, values_in}
 use Rattle.grain_value.specs.Writing.{type_name_of}
 use Rattle.grain_fault.specs.Classes.{catchable}
-use Rattle.grain_fault.specs.Positions.{at_position, at_position_if_none}
+use Rattle.grain_fault.specs.Positions.{at_position, at_position_if_none, position_of_problem}
 use Rattle.grain_fault.specs.declared.places.Position.{Position}
 use Rattle.grain_fault.specs.declared.faults.MalformedKind.TheVariants as kind
 use Rattle.grain_fault.specs.declared.faults.EvalAltResult.{EvalAltResult}
@@ -18,7 +18,7 @@ use Rattle.grain_program.specs.declared.code.instructions.Op.{Op}
 use Rattle.grain_program.specs.declared.code.instructions.Op.TheVariants as op
 use Rattle.grain_program.specs.declared.code.functions.Function.{Function}
 use Rattle.grain_program.specs.declared.code.parts.AssignOp.{AssignOp}
-use Rattle.grain_program.specs.View.{View, name_of, assign_op_of, source_text}
+use Rattle.grain_program.specs.View.{View, name_of, assign_op_of, position_of, source_text}
 use Rattle.grain_global.specs.declared.engines.Engine.{Engine}
 use Rattle.grain_ops.specs.Outcomes.{Outcome, NotBuiltIn, ArithmeticFault, TooLarge}
 use Rattle.grain_means.specs.Worlds.{Act, Go, Answer, Came, Failed, World, Setup, Frame, InFrame}
@@ -26,9 +26,9 @@ use Rattle.grain_means.specs.Signatures.{missing_kind, not_found, says_missing}
 use Rattle.grain_host.specs.Law.{Law, Reply, Stop, native_of}
 use Rattle.grain_host.specs.Law as reply
 use Rattle.grain_value.specs.declared.natives.Native.{Native}
-use Rattle.grain_means.specs.Rules.{Receiver, lent, given, given_back, held_or, kinds_in, trees_in, first_is_read_only, bound, frame_at, held_at, function_found, is_stop, position, main, operated, op_assigned}
+use Rattle.grain_means.specs.Rules.{Receiver, lent, given, given_back, held_or, kinds_in, trees_in, first_is_read_only, throws_unit, bound, frame_at, held_at, function_found, is_stop, position, main, operated, op_assigned}
 use Rattle.grain_means.specs.Means.{Begin, setup, first_world}
-use Rattle.grain_means.specs.Comes.{ProgramPoint, Comes, Meets}
+use Rattle.grain_means.specs.Comes.{ProgramPoint, CatchPoint, Comes, ComesToCatch, Meets}
 
 -- a call of a function that exists
 abbrev pub Calls : View → Op → Type 0
@@ -254,15 +254,15 @@ pub record Enters {S : Type 0} (m : Setup S) (g : Function) (Runs : Act S → Ty
   pub level : inside.level ≡ at.world.level + 1
   pub runs : Runs (Go (InFrame (frame_at g.chunk 0 None)) inside)
 
--- the run of an act comes to a call in a frame of this level, which has this position, and from the
--- call's body it comes to the point
-pub record LeftCall {S : Type 0} (m : Setup S) (act : Act S) (level : ℕ) (inner : ProgramPoint S)
+-- the run of an act comes to a call in a frame of this level, which has this position, and of the
+-- run of the call's body this holds
+pub record LeftCall {S : Type 0} (m : Setup S) (act : Act S) (level : ℕ) (Runs : Act S → Type 0)
     (p : Position) : Type 0 where
   pub call : ProgramPoint S
   pub met : Meets m call act
   pub own : call.world.level ≡ level
   pub function : Function
-  pub enters : Enters m function (Meets m inner) call
+  pub enters : Enters m function Runs call
   pub position : p ≡ position m call.frame
 
 -- the fault has this position, or none ever
@@ -274,14 +274,43 @@ abbrev pub AnsweredSo : {S : Type 0} → Setup S → ProgramPoint S → Problem 
 AnsweredSo m at x =
     (y : Problem) × HostAnswers m y at × (x ≡ at_position_if_none (position m at.frame) y)
 
+-- the fault was raised in a frame of this level, and has the position of the instruction that raised
+-- it, or the one that the host gave it there
+abbrev pub TellsHere : {S : Type 0} → Setup S → ℕ → ProgramPoint S → Problem → Type 0
+TellsHere m level at x = (at.world.level ≡ level)
+    × (HasPosition (position m at.frame) x ⊎ AnsweredSo m at x)
+
+-- the run of an act comes to a frame of this level in which unit is thrown, at this position: by the
+-- instruction, or by the host
+pub record ThrowsUnit {S : Type 0} (m : Setup S) (act : Act S) (level : ℕ) (p : Position) : Type 0
+  where
+    pub point : ProgramPoint S
+    pub met : Meets m point act
+    pub own : point.world.level ≡ level
+    pub how : (Throws point.instruction × (is_unit (top point.frame.operands).value ≡ true) ×
+        (p ≡ position m point.frame))
+        ⊎ ((z : Problem) × (throws_unit z ≡ true) × AnsweredSo m point z ×
+        (p ≡ position_of_problem z))
+
+-- in a frame of this level a handler caught a fault, then unit was thrown, and with the position of
+-- that throw this is the fault that was caught
+pub record ThrownAnew {S : Type 0} (m : Setup S) (act : Act S) (level : ℕ) (x : Problem) : Type 0
+  where
+    pub caught : CatchPoint S
+    pub comes : ComesToCatch m caught act
+    pub own : caught.world.level ≡ level
+    pub position : Position
+    pub throw : ThrowsUnit m act level position
+    pub is : x ≡ at_position position caught.fault
+
 -- The fault has the position of the instruction that raised it in a frame of this level, or the one
 -- that the host gave it there; or, if no script may catch it, that of a call there, through which
--- it left.
+-- it left; or it was caught in a frame of this level and thrown anew.
 abbrev pub Tells : {S : Type 0} → Setup S → Act S → ℕ → ProgramPoint S → Problem → Type 0
-Tells m act level at x =
-    ((at.world.level ≡ level) × (HasPosition (position m at.frame) x ⊎ AnsweredSo m at x))
-    ⊎ ((catchable x ≡ false)
-    × ((p : Position) × LeftCall m act level at p × HasPosition p x))
+Tells m act level at x = TellsHere m level at x
+    ⊎ (((catchable x ≡ false)
+    × ((p : Position) × LeftCall m act level (Meets m at) p × HasPosition p x))
+    ⊎ ((at.world.level ≡ level) × ThrownAnew m act level x))
 
 -- the run of an act comes to a point where this holds, and the fault tells a position of a frame of
 -- this level
@@ -338,9 +367,53 @@ Row m NoMemory at = ⊥
 abbrev pub Why : {S : Type 0} → Setup S → Problem → ProgramPoint S → Type 0
 Why m x at = Row m x at ⊎ FromHost m x at
 
+-- a fault of this kind is raised while a handler catches: the scope is shorter than at its push; or
+-- the handler has a variable, and the scope is full; or no operation is left for the charge at the
+-- target; or the host, which hears of it, says with this value that the run is to stop
+abbrev pub FailsToCatch : {S : Type 0} → Setup S → FaultKind → CatchPoint S → Type 0
+FailsToCatch m (Malformed (kind.TryFloorBroken wanted n)) at = (wanted ≡ at.handler.scope) ×
+    (n ≡ length at.world.scope) × (n < wanted)
+FailsToCatch m TooManyVariables at = (n : ℕ) × (at.handler.variable ≡ Some n) ×
+    (m.engine.limits.variables ≤ at.handler.scope) × (at.handler.scope ≤ length at.world.scope)
+FailsToCatch m TooManyOperations at = m.engine.limits.operations ≤ at.world.count
+FailsToCatch m (Terminated v) at = (at.world.count < m.engine.limits.operations)
+    × (m.law.progress_reply at.world.host (at.world.count + 1) ≡ Stop v)
+FailsToCatch m k at = ⊥
+
+abbrev pub CatchRow : {S : Type 0} → Setup S → Problem → CatchPoint S → Type 0
+CatchRow m (Plain k p) at = FailsToCatch m k at
+CatchRow m (InFunctionCall s source x p) at = ⊥
+CatchRow m (InModule s x p) at = ⊥
+CatchRow m (SystemError s e) at = ⊥
+CatchRow m NoMemory at = ⊥
+
+-- where a fault is raised while a handler catches: at its target, but a scope that is too short where
+-- the fault that is to be caught was raised
+abbrev pub kind_raised_at : {S : Type 0} → FaultKind → CatchPoint S → ℕ
+kind_raised_at (Malformed k) at = at.frame.address
+kind_raised_at k at = at.handler.target
+
+abbrev pub raised_at : {S : Type 0} → Problem → CatchPoint S → ℕ
+raised_at (Plain k p) at = kind_raised_at k at
+raised_at (InFunctionCall s source x p) at = at.frame.address
+raised_at (InModule s x p) at = at.frame.address
+raised_at (SystemError s e) at = at.frame.address
+raised_at NoMemory at = at.frame.address
+
+-- The run of an act comes to a handler that catches, and catching raises this fault, in a frame of
+-- this level, or else it left a call there and has the call's position.
+pub record RaisedByCatch {S : Type 0} (m : Setup S) (act : Act S) (level : ℕ) (x : Problem) :
+    Type 0 where
+  pub point : CatchPoint S
+  pub comes : ComesToCatch m point act
+  pub why : CatchRow m x point
+  pub tells : ((point.world.level ≡ level)
+      × HasPosition (position_of m.program (raised_at x point)) x)
+      ⊎ ((p : Position) × LeftCall m act level (ComesToCatch m point) p × HasPosition p x)
+
 -- why the run of an act, of this level, ends in this fault
 abbrev pub Cause : {S : Type 0} → Setup S → Act S → ℕ → Problem → Type 0
-Cause m act level x = Raised m act level x (Why m x)
+Cause m act level x = Raised m act level x (Why m x) ⊎ RaisedByCatch m act level x
 
 -- why a run ends so: memory is out only where it is stopped, and any other fault has its cause
 abbrev pub Caused : {S : Type 0} → Setup S → Act S → ℕ → Answer → World S → Type 0

@@ -1,13 +1,15 @@
 -- The frames to which a run comes, and what a valid program has there.
-use Rattle.std.specs.Prelude.{◌≡◌, ◌≤◌, ℕ, Some, length}
+use Rattle.std.specs.Prelude.{◌≡◌, ◌≤◌, ℕ, List, Some, false, length, map}
+use Rattle.grain_fault.specs.Problems.{Problem}
 use Rattle.grain_program.specs.declared.code.instructions.Op.{Op}
-use Rattle.grain_program.specs.Effects.{takes_of}
+use Rattle.grain_program.specs.Effects.{takes_of, handling_of}
+use Rattle.grain_program.specs.Shapes.{TryHandler, lacks_handler}
 use Rattle.grain_program.specs.Indices.{InPools}
 use Rattle.grain_program.specs.Reading.{op_at}
 use Rattle.grain_program.specs.View.{View}
 use Rattle.grain_host.specs.Law.{Law}
 use Rattle.grain_global.specs.declared.engines.Engine.{Engine}
-use Rattle.grain_means.specs.Worlds.{Act, Go, Then, Answer, World, Setup, Frame, Todo, InFrame}
+use Rattle.grain_means.specs.Worlds.{Act, Go, Then, Answer, World, Setup, Frame, Handler, Todo, InFrame, InCatch}
 use Rattle.grain_means.specs.Rules.{next, main}
 use Rattle.grain_means.specs.Ends.{Ends}
 use Rattle.grain_means.specs.Means.{Begin, setup, first_world}
@@ -16,6 +18,13 @@ use Rattle.grain_means.specs.Means.{Begin, setup, first_world}
 pub record ProgramPoint (S : Type 0) : Type 0 where
   pub instruction : Op
   pub frame : Frame
+  pub world : World S
+
+-- where a handler of a frame, which has the handlers around it, catches a fault, in a world
+pub record CatchPoint (S : Type 0) : Type 0 where
+  pub frame : Frame
+  pub handler : Handler
+  pub fault : Problem
   pub world : World S
 
 -- the run of an act comes to this in this world
@@ -33,13 +42,25 @@ pub record Meets {S : Type 0} (m : Setup S) (s : ProgramPoint S) (act : Act S) :
   pub width : ℕ
   pub stands : op_at m.program.code s.frame.address ≡ Some (s.instruction, width)
 
--- an instruction stands where the frame does, and its operands and its entries of the pools are
--- there
+-- the run of an act comes to the point, where a handler catches
+abbrev pub ComesToCatch : {S : Type 0} → Setup S → CatchPoint S → Act S → Type 0
+ComesToCatch m c act = Comes m (InCatch c.frame c.handler c.fault) c.world act
+
+-- handlers as a typing has them
+abbrev pub try_of : Handler → TryHandler
+try_of h = record { target = h.target; variable = h.variable; height = h.operands }
+
+abbrev pub tries : List Handler → List TryHandler
+tries hs = map try_of hs
+
+-- an instruction stands where the frame does, and its operands, its handler and its entries of the
+-- pools are there
 pub record Stands (program : View) (f : Frame) : Type 0 where
   pub instruction : Op
   pub width : ℕ
   pub stands : op_at program.code f.address ≡ Some (instruction, width)
   pub operands : takes_of instruction ≤ length f.operands
+  pub handler : lacks_handler (handling_of instruction) (tries f.handlers) ≡ false
   pub pools : InPools program instruction
 
 -- an instruction stands at each frame to which the program's run comes

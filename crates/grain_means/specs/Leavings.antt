@@ -47,13 +47,12 @@ pub record Cut {S : Type 0} (m : Setup S) (act : Act S) (level base : ℕ) (scop
   pub short : (length scope ≤ frame.floor) ⊎
       (AtCheckpoint m.program frame × (length scope ≤ length world.scope))
 
--- a value leaves the trace as it was, and a fault cuts the scope, unless memory is out where no
--- frame is left
-abbrev pub Cuts : {S : Type 0} → Setup S → Act S → ℕ → ℕ → List Fault → Answer → World S →
-    Type 0
-Cuts m act level base trace (Came v) w = w.trace ≡ trace
-Cuts m act level base trace (Failed x) w =
-    Cut m act level base w.scope w.trace ⊎ ((x ≡ NoMemory) × (w.trace ≡ trace))
+-- with a value the trace is empty, and a fault cuts the scope, unless memory is out where no frame
+-- is left
+abbrev pub Cuts : {S : Type 0} → Setup S → Act S → ℕ → ℕ → Answer → World S → Type 0
+Cuts m act level base (Came v) w = w.trace ≡ []
+Cuts m act level base (Failed x) w =
+    Cut m act level base w.scope w.trace ⊎ ((x ≡ NoMemory) × (w.trace ≡ []))
 
 -- After a fault of a call: its scope is no longer than main's floor, or memory is out and no frame
 -- was left. Only where memory is out is the run stopped.

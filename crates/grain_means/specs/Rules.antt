@@ -16,8 +16,8 @@ use Rattle.grain_fault.specs.declared.traces.Fault.{Fault}
 use Rattle.grain_fault.specs.declared.faults.MalformedKind.TheVariants as kind
 use Rattle.grain_fault.specs.Classes.{catchable}
 use Rattle.grain_fault.specs.Exits.{exit_value}
-use Rattle.grain_fault.specs.Positions.{at_position, at_position_if_none}
-use Rattle.grain_fault.specs.Problems.{Problem, Plain, MismatchDataType, InFunctionCall, AssignmentToConstant, NonPureCall, Terminated, Arithmetic, Runtime, TooManyOperations, TooManyVariables, StackOverflow, DataTooLarge, Malformed, NoMemory}
+use Rattle.grain_fault.specs.Positions.{at_position, at_position_if_none, position_of_problem}
+use Rattle.grain_fault.specs.Problems.{FaultKind, Problem, Plain, InModule, SystemError, MismatchDataType, InFunctionCall, AssignmentToConstant, NonPureCall, Terminated, Arithmetic, Runtime, TooManyOperations, TooManyVariables, StackOverflow, DataTooLarge, Malformed, NoMemory}
 use Rattle.grain_program.specs.declared.code.parts.AssignOp.{AssignOp}
 use Rattle.grain_program.specs.declared.code.parts.Chunk.{Chunk}
 use Rattle.grain_program.specs.declared.code.functions.Function.{Function}
@@ -29,7 +29,8 @@ use Rattle.grain_program.specs.Reading.{op_at}
 use Rattle.grain_global.specs.declared.engines.Engine.{Engine}
 use Rattle.grain_ops.specs.Outcomes.{Outcome, NotBuiltIn, Gave, ArithmeticFault, TooLarge}
 use Rattle.grain_ops.specs.Operators.{operation, assignment}
-use Rattle.grain_means.specs.Worlds.{Answer, Came, Failed, Place, Frame, World, Todo, InFrame, Act, Go, End, Then, Setup}
+use Rattle.grain_means.specs.Worlds.{Answer, Came, Failed, Place, Handler, Frame, World, Todo, InFrame, InCatch, Act, Go, End, Then, Setup}
+use Rattle.grain_means.specs.CatchValues.{caught_value}
 use Rattle.grain_means.specs.Signatures.{not_found, says_missing}
 use Rattle.grain_host.specs.Law.{Law, Reply, Verdict, GoOn, Stop, native_of}
 use Rattle.grain_host.specs.Law as reply
@@ -63,7 +64,14 @@ without n f = record f { operands = under n f.operands }
 -- a frame at a chunk's entry, on a scope of this length, under a `this`
 abbrev pub frame_at : Chunk → ℕ → Option Place → Frame
 frame_at c size this =
-    record { address = c.entry; operands = []; base = size; floor = size; this = this }
+    record {
+      address = c.entry;
+      operands = [];
+      handlers = [];
+      base = size;
+      floor = size;
+      this = this;
+    }
 
 -- what the entry at an index of a scope holds, if any
 abbrev pub held_at : List Entry → ℕ → Option Held
@@ -133,6 +141,34 @@ abbrev pub held_or : Held → Option Held → Held
 held_or h None = h
 held_or h (Some g) = g
 
+-- whether a fault of this kind is a throw of unit; no other kind is
+abbrev pub kind_throws_unit : FaultKind → Bool
+kind_throws_unit (Runtime v) = is_unit v
+kind_throws_unit k = false
+
+abbrev pub throws_unit : Problem → Bool
+throws_unit (Plain k p) = kind_throws_unit k
+throws_unit (InFunctionCall f s x p) = false
+throws_unit (InModule n x p) = false
+throws_unit (SystemError s e) = false
+throws_unit NoMemory = false
+
+-- what was caught, at the position of the throw, where unit is thrown; and else the fault
+abbrev pub thrown_anew : Problem → Problem → Problem
+thrown_anew y x = if throws_unit x then at_position (position_of_problem x) y else x
+
+-- a frame in which a handler has caught a fault, with the operands that there were at its push
+abbrev pub catching : Frame → Handler → Problem → Frame
+catching f h x = record f {
+  operands = take h.operands f.operands;
+  handlers = record h { caught = Some x } ∷ f.handlers;
+}
+
+-- the handlers around the innermost one
+abbrev pub outer_handlers : List Handler → List Handler
+outer_handlers [] = []
+outer_handlers (h ∷ hs) = hs
+
 -- the value with which an exit ends a run
 abbrev pub exit_of : Answer → Option Dynamic
 exit_of (Came v) = None
@@ -157,28 +193,89 @@ module _ {S : Type 0} (m : Setup S) where
       if is_stop m.stop w.passed then leave_by_fault None f NoMemory w
       else go (record w { passed = w.passed + 1 })
 
+  -- of a handler, what follows if it is armed, and what follows from the fault that it has caught
+  abbrev pub if_armed : Option Problem → Act S → (Problem → Act S) → Act S
+  if_armed None armed left = armed
+  if_armed (Some y) armed left = left y
+
+  -- A fault is offered to handlers, the innermost first. One that has caught is left, and where unit
+  -- is thrown in its catch block, what it caught is thrown anew. An armed one catches what a script
+  -- may catch.
+  abbrev pub offered_to : List Handler → Frame → Problem → World S → Act S
+  offered_to [] f x w = leave_by_fault None f x w
+  offered_to (h ∷ hs) f x w =
+      if_armed h.caught
+      (if catchable x then Go (InCatch (record f { handlers = hs }) h x) w
+      else leave_by_fault None f x w)
+      (λ y. offered_to hs f (thrown_anew y x) w)
+
+  -- a fault in a frame is offered to the frame's own handlers
+  abbrev pub offered : Frame → Problem → World S → Act S
+  offered f x w = offered_to f.handlers f x w
+
   -- a fault is raised
   abbrev pub raised : Frame → Problem → World S → Act S
-  raised f x w = marked f w (leave_by_fault None f x)
+  raised f x w = marked f w (offered f x)
 
-  -- what the host says of the operations so far: the run goes on, or it is terminated
-  abbrev pub on_verdict : Verdict → Position → Frame → World S → (World S → Act S) → Act S
-  on_verdict GoOn p f w go = go w
-  on_verdict (Stop v) p f w go = raised f (Plain (Terminated v) p) w
+  -- what the host says of the operations so far: the run goes on, or it is terminated, and then
+  -- what follows from that fault
+  abbrev pub on_verdict : Verdict → Position → Frame → (Problem → World S → Act S) → World S →
+      (World S → Act S) → Act S
+  on_verdict GoOn p f fails w go = go w
+  on_verdict (Stop v) p f fails w go = marked f w (fails (Plain (Terminated v) p))
 
   -- the host hears how many operations there were, with a mark before and one after
-  abbrev pub progressed : Position → Frame → World S → (World S → Act S) → Act S
-  progressed p f w go =
+  abbrev pub progressed : Position → Frame → (Problem → World S → Act S) → World S →
+      (World S → Act S) → Act S
+  progressed p f fails w go =
       marked f w (λ w1. marked f (record w1 { host = m.law.progress_after w1.host w1.count }) (λ w2.
-      on_verdict (m.law.progress_reply w1.host w1.count) p f w2 go))
+      on_verdict (m.law.progress_reply w1.host w1.count) p f fails w2 go))
 
   -- one operation more, of which the host hears, or the fault at this position that there are too
-  -- many
-  abbrev pub charged : Position → Frame → World S → (World S → Act S) → Act S
-  charged p f w go =
+  -- many, and then what follows from the fault
+  abbrev pub charged_or : Position → Frame → (Problem → World S → Act S) → World S →
+      (World S → Act S) → Act S
+  charged_or p f fails w go =
       if nat_lt w.count m.engine.limits.operations then
-      marked f w (λ w1. progressed p f (record w1 { count = w1.count + 1 }) go) else
-      raised f (Plain TooManyOperations p) w
+      marked f w (λ w1. progressed p f fails (record w1 { count = w1.count + 1 }) go) else
+      marked f w (fails (Plain TooManyOperations p))
+
+  -- an instruction costs an operation
+  abbrev pub charged : Frame → World S → (World S → Act S) → Act S
+  charged f w go = charged_or (position f) f (offered f) w go
+
+  -- what is raised while a handler catches leaves the frame, and is offered to no handler
+  abbrev pub escaped : Frame → Problem → World S → Act S
+  escaped f x w = marked f w (leave_by_fault None f x)
+
+  -- the variable of a catch, if the handler has one; a full scope is a fault at the target's
+  -- position
+  abbrev pub bind_caught : Option ℕ → Position → Frame → Problem → World S →
+      (World S → Act S) → Act S
+  bind_caught None p g x w go = go w
+  bind_caught (Some n) p g x w go =
+      if is_full m.engine.limits.variables w.scope then escaped g (Plain TooManyVariables p) w
+      else marked g w (λ w1. go (record w1 {
+        scope = w1.scope ++ record {
+          name = name_of m.program n;
+          held = read_write (caught_value m.program.source x);
+        } ∷ [];
+      }))
+
+  -- A handler of a frame catches, which has the handlers around it: the operands and the scope are
+  -- cut, the variable is bound, an operation is charged at the target's position, and the frame
+  -- goes on there.
+  abbrev pub caught : Frame → Handler → Problem → World S → Act S
+  caught f h x w =
+      let p = position_of m.program h.target in
+      let g = catching f h x in
+      if nat_lt (length w.scope) h.scope
+      then escaped f
+      (Plain (Malformed (kind.TryFloorBroken h.scope (length w.scope))) (position f)) w
+      else
+      bind_caught h.variable p g x (record w { scope = take h.scope w.scope; trace = [] }) (λ w1.
+      charged_or p g (leave_by_fault None g) w1
+      (Go (InFrame (record g { address = h.target }))))
 
   -- The instruction is over, and the frame goes on as the second one. Where memory is out at this
   -- mark, all of the instruction is done, and the frame stops at the instruction's address.
@@ -188,7 +285,8 @@ module _ {S : Type 0} (m : Setup S) where
   -- a transfer: to a target that does not lie ahead it costs an operation
   abbrev pub jumped : Frame → Frame → World S → Act S
   jumped f g w =
-      if nat_le g.address f.address then charged (position f) f w (onward f g) else onward f g w
+      if nat_le g.address f.address
+      then charged (record g { address = f.address }) w (onward f g) else onward f g w
 
   -- the instruction gives a value
   abbrev pub pushed : Frame → ℕ → List Held → Dynamic → World S → Act S
@@ -387,10 +485,8 @@ module _ {S : Type 0} (m : Setup S) where
   abbrev pub propagate : Function → Frame → Problem → World S → Act S
   propagate g f x w =
       if catchable x then
-      marked f w
-      (leave_by_fault None f
-      (InFunctionCall (name_of m.program g.name) (source_text m.program) x (position f)))
-      else leave_by_fault None f (at_position (position f) x) w
+      raised f (InFunctionCall (name_of m.program g.name) (source_text m.program) x (position f)) w
+      else offered f (at_position (position f) x) w
 
   -- a called function is over, and the caller, whose frame is without the arguments, goes on with
   -- its answer
@@ -398,28 +494,45 @@ module _ {S : Type 0} (m : Setup S) where
   resume_caller g f next (Came v) w = pushed f next f.operands v w
   resume_caller g f next (Failed x) w = propagate g f x w
 
-  -- A function on these arguments, once its operation is taken: the level, the variables, and then
-  -- its body on a scope of its own, one level up; afterwards the caller's scope and level are back.
-  abbrev pub function_entered : Function → List Held → Frame → ℕ → World S → Act S
-  function_entered g args f next w =
+  -- A function on the last operands, once its operation is taken: the level, the variables, and then
+  -- its body on a scope of its own, one level up; afterwards the caller's scope and level are back,
+  -- and its frame is without the arguments.
+  abbrev pub function_entered : Function → ℕ → Frame → ℕ → World S → Act S
+  function_entered g count f next w =
       if nat_le m.engine.limits.levels w.level
       then raised f (Plain StackOverflow (position f)) w else
       if nat_lt m.engine.limits.variables (length g.params)
       then raised f (Plain TooManyVariables (position f)) w else
       marked f w (λ w1. Then (Go (InFrame (frame_at g.chunk 0 None)) (record w1 {
-        scope = bound m.program g.params args;
+        scope = bound m.program g.params (arguments count f.operands);
         level = w1.level + 1;
-      })) (λ a w2. resume_caller g f next a (record w2 { scope = w.scope; level = w.level })))
+      })) (λ a w2. resume_caller g (without count f) next a
+      (record w2 { scope = w.scope; level = w.level })))
 
-  -- a function on these arguments costs an operation
-  abbrev pub enter_function : Function → List Held → Frame → ℕ → World S → Act S
-  enter_function g args f next w = charged (position f) f w (function_entered g args f next)
+  -- a function on the last operands costs an operation
+  abbrev pub enter_function : Function → ℕ → Frame → ℕ → World S → Act S
+  enter_function g count f next w = charged f w (function_entered g count f next)
 
-  abbrev pub call_function : Option Function → List ℕ → List Held → Frame → ℕ → World S →
-      Act S
-  call_function None name args f next w =
-      native name None args f w (λ v w1. pushed f next f.operands v w1) (raised f)
-  call_function (Some g) name args f next w = enter_function g args f next w
+  -- the function on the last operands, if there is one, and else a native
+  abbrev pub call_function : Option Function → List ℕ → ℕ → Frame → ℕ → World S → Act S
+  call_function None name count f next w =
+      native name None (arguments count f.operands) f w
+      (λ v w1. pushed f next (under count f.operands) v w1) (raised f)
+  call_function (Some g) name count f next w = enter_function g count f next w
+
+  -- an armed handler more, with as many operands and entries of the scope as there are
+  abbrev pub push_handler : ℕ → Option ℕ → ℕ → Frame → World S → Act S
+  push_handler target variable next f w =
+      onward f (record f {
+        address = next;
+        handlers = record {
+          target = target;
+          variable = variable;
+          operands = length f.operands;
+          scope = length w.scope;
+          caught = None;
+        } ∷ f.handlers;
+      }) w
 
   -- an instruction, and the address after it
   abbrev pub instr : Op → ℕ → Frame → World S → Act S
@@ -441,17 +554,20 @@ module _ {S : Type 0} (m : Setup S) where
   instr (op.JumpIfTrue target) next f w = jump_if true target next f w
   instr (op.SkipIfNotUnit target) next f w = skip (is_unit (top f.operands).value) target next f w
   instr (op.Call n count) next f w =
-      call_function (function_found m.program n count) (name_of m.program n)
-      (arguments count f.operands) (without count f) next w
+      call_function (function_found m.program n count) (name_of m.program n) count f next w
   instr (op.CallOp n count o) next f w =
       push_outcome (operated m.program m.engine o (arguments count f.operands))
       (name_of m.program n) (arguments count f.operands) next (under count f.operands) f w
   instr (op.UnwindTo depth) next f w = unwind (f.base + depth) next f w
-  instr op.Tick next f w = charged (position f) f w (onward f (stepped f next f.operands))
+  instr op.Tick next f w = charged f w (onward f (stepped f next f.operands))
   instr op.Checkpoint next f w = onward f (record f { address = next; floor = length w.scope }) w
   instr (op.Statement depth) next f w = onward f (stepped f next f.operands) w
+  instr (op.PushHandler t) next f w = push_handler t None next f w
+  instr (op.PushHandlerVar t n) next f w = push_handler t (Some n) next f w
+  instr op.PopHandler next f w =
+      onward f (record f { address = next; handlers = outer_handlers f.handlers }) w
   instr op.Throw next f w =
-      flattened (top f.operands) [] f w (λ v. raised f (Plain (Runtime v) (position f)) w)
+      flattened (top f.operands) [] f w (λ v. raised (without 1 f) (Plain (Runtime v) (position f)) w)
   instr op.Return next f w = marked f w (End (Came (top f.operands).value))
 
   -- an instruction begins
@@ -462,6 +578,7 @@ module _ {S : Type 0} (m : Setup S) where
   abbrev pub next : Todo → World S → Act S
   next (InFrame f) w = start_instruction (or_return (op_at m.program.code f.address)) f
       (record w { ran = w.ran + 1 })
+  next (InCatch f h x) w = caught f h x w
 
   -- a mark outside of all frames
   abbrev pub passing : World S → (World S → Act S) → Act S

@@ -19,12 +19,23 @@ pub data Answer : Type 0 where
 pub record Place : Type 0 where
   pub root : ℕ
 
--- A frame: the address of its instruction, its own operands, the scope's length at its entry, from
--- which its slots count, the length to which a fault cuts the scope, and the place of its `this`,
--- if any.
+-- A handler of a frame: where the frame goes on after a catch, the index of the name of its
+-- variable, if it has one, how many operands and how many entries of the scope there were where it
+-- was pushed, and the fault that it has caught: it is armed until it has caught one.
+pub record Handler : Type 0 where
+  pub target : ℕ
+  pub variable : Option ℕ
+  pub operands : ℕ
+  pub scope : ℕ
+  pub caught : Option Problem
+
+-- A frame: the address of its instruction, its own operands, its own handlers, the innermost first,
+-- the scope's length at its entry, from which its slots count, the length to which a fault cuts the
+-- scope, and the place of its `this`, if any.
 pub record Frame : Type 0 where
   pub address : ℕ
   pub operands : List Held
+  pub handlers : List Handler
   pub base : ℕ
   pub floor : ℕ
   pub this : Option Place
@@ -48,9 +59,12 @@ pub record World (S : Type 0) : Type 0 where
   -- had not given
   pub tokens : Option (List ℕ)
 
--- what a run can stand at: an instruction of a frame
+-- what a run can stand at
 pub data Todo : Type 0 where
+  -- an instruction of a frame
   InFrame : Frame → Todo
+  -- a fault in a frame, which this armed handler catches; the frame has the handlers around it
+  InCatch : Frame → Handler → Problem → Todo
 
 -- a run: go on with something, end, or do one run and then another with its answer
 pub data Act (S : Type 0) : Type 0 where

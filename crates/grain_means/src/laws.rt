@@ -1,10 +1,11 @@
 //! Laws of the meaning alone. Each is a function that does nothing, whose contract is the law.
 
-ghost use Rattle.std.specs.Prelude.{◌≡◌, ◌+◌, length, ℕ, Option, Some};
+ghost use Rattle.std.specs.Prelude.{◌≡◌, ◌+◌, [], length, ℕ, Option, Some};
 ghost use Rattle.grain_means.specs.Worlds.{Act, Answer, World, Setup, Place, Frame, InFrame};
+ghost use Rattle.grain_means.specs.CatchBlocks.{Catches};
 ghost use Rattle.grain_means.specs.Rules.{called};
 ghost use Rattle.grain_means.specs.Causes.{Caused};
-ghost use Rattle.grain_means.specs.Comes.{Comes, Stands};
+ghost use Rattle.grain_means.specs.Comes.{CatchPoint, Comes, ComesToCatch, Stands};
 ghost use Rattle.grain_means.specs.Ends.{Ends};
 ghost use Rattle.grain_means.specs.Leavings.{names, Keeps, Cuts};
 ghost use Rattle.grain_means.specs.Length.{run_length};
@@ -26,22 +27,32 @@ pub fn slow_end<S>()
         Ends m act e.answer e.world }
 {}
 
-/// A call counts exactly the instructions that it begins, leaves the tokens that were out, the
-/// level and the entries of its scope, which a fault cuts to their number, and ends with a cause.
+/// A call that begins without a trace counts exactly the instructions that it begins, leaves the
+/// tokens that were out, the level and the entries of its scope, which a fault cuts to their number,
+/// and ends with a cause.
 pub fn counted<S>()
     ensures { (m : Setup S) (this : Option Place) (w v : World S) (a : Answer)
-        (run : Ends m (called m this w) a v) →
+        (run : Ends m (called m this w) a v) → w.trace ≡ [] →
         (v.ran ≡ w.ran + run_length run) × (v.tokens ≡ w.tokens) × (v.level ≡ w.level) ×
         Keeps (length w.scope) (names w.scope) v.scope ×
-        Cuts m (called m this w) w.level (length w.scope) w.trace a v ×
+        Cuts m (called m this w) w.level (length w.scope) a v ×
         Caused m (called m this w) w.level a v }
 {}
 
-/// Where the run of a valid program comes to a frame, an instruction stands there, and its operands
-/// and its entries of the pools are there.
+/// Where the run of a valid program, which began without a trace, comes to a frame, an instruction
+/// stands there, and its operands, its handler and its entries of the pools are there.
 pub fn provided<S>()
     ensures { (m : Setup S) (this : Option Place) (w v : World S) (f : Frame) →
-        IsProgram m.program → Comes m (InFrame f) v (called m this w) → Stands m.program f }
+        IsProgram m.program → w.trace ≡ [] → Comes m (InFrame f) v (called m this w) →
+        Stands m.program f }
+{}
+
+/// Where the run of a valid program, which began without a trace, comes to a handler that catches,
+/// either the catch fails with a fault that no script may catch, or the catch block begins, with
+/// exactly as many operands and entries of the scope as there were at the handler's push.
+pub fn catches<S>()
+    ensures { (m : Setup S) (this : Option Place) (w : World S) (at : CatchPoint S) →
+        IsProgram m.program → w.trace ≡ [] → ComesToCatch m at (called m this w) → Catches m at }
 {}
 
 /// A program has at most one meaning at a beginning: one end, after one number of instructions.

@@ -1,23 +1,31 @@
--- Shapes as numbers, and how many addresses have none.
+-- Shapes in the places of a table, and how many addresses have none.
 use Rattle.std.proofs.Common.{◌≡◌, ℕ, zero, suc, ◌+◌, ◌<◌, List, [], ◌∷◌, length, map, replicate, get_or, Option, Some, None, refl, ap, ◌∙◌, add-one, arith}
 use Rattle.std.proofs.Math.ListN.{set}
 use Rattle.std.proofs.lemmas.List.{map-set}
-use Rattle.grain_program.specs.declared.verifier.shapes.Shape.{Shape}
-use Rattle.grain_program.specs.Shapes.{shape_in}
+use Rattle.grain_program.specs.declared.verifier.shapes.NumberedShape.{NumberedShape}
+use Rattle.grain_program.specs.declared.verifier.shapes.Cell.{Cell}
+use Rattle.grain_program.specs.Shapes.{Shape}
+use Rattle.grain_program.specs.Numbered.{numbered_shape, shape_in}
 
-pub cells_none : (n : ℕ) → map shape_in (replicate n 0) ≡ replicate n None
+abbrev empty : Cell
+empty = record { height = 0; list = 0 }
+
+cells_none : (n : ℕ) → map shape_in (replicate n empty) ≡ replicate n None
 cells_none zero = refl
-cells_none (suc n) = ap (λ (l : List (Option Shape)). None ∷ l) (cells_none n)
+cells_none (suc n) = ap (λ (l : List (Option NumberedShape)). None ∷ l) (cells_none n)
 
-pub cells_new : (n : ℕ) (xs : List ℕ) → xs ≡ replicate n 0 → map shape_in xs ≡ replicate n None
+pub cells_new : (n : ℕ) (xs : List Cell) → xs ≡ replicate n (record { height = 0; list = 0 })
+    → map shape_in xs ≡ replicate n None
 cells_new n xs e = ap (map shape_in) e ∙ cells_none n
 
-pub cells_put : (xs : List ℕ) (ys : List (Option Shape)) (i : ℕ) (s : Shape) → map shape_in xs ≡ ys
-    → map shape_in (set xs i (s.height + 1)) ≡ set ys i (Some s)
+pub cells_put : (xs : List Cell) (ys : List (Option NumberedShape)) (i : ℕ) (s : NumberedShape)
+    → map shape_in xs ≡ ys
+    → map shape_in (set xs i (record { height = s.height + 1; list = s.list }))
+    ≡ set ys i (Some s)
 cells_put xs ys i s e =
-    ap (λ n. map shape_in (set xs i n)) (add-one s.height)
-    ∙ map-set shape_in xs i (suc s.height)
-    ∙ ap (λ (l : List (Option Shape)). set l i (Some s)) e
+    map-set shape_in xs i (record { height = s.height + 1; list = s.list })
+    ∙ ap (λ (n : ℕ). set (map shape_in xs) i (numbered_shape n s.list)) (add-one s.height)
+    ∙ ap (λ (l : List (Option NumberedShape)). set l i (Some s)) e
 
 -- how many addresses have no shape
 abbrev pub free : List (Option Shape) → ℕ

@@ -1,5 +1,5 @@
 -- A constant that stands in its pool.
-use Rattle.std.proofs.Common.{◌≡◌, ◌∙◌, ℕ, zero, suc, List, [], ◌∷◌, Option, Some, None, slice_get, slice_index_or, sym, ap}
+use Rattle.std.proofs.Common.{◌≡◌, ◌∙◌, ℕ, zero, suc, List, [], ◌∷◌, Some, slice_get, slice_index_or, sym, ap}
 use Rattle.grain_value.specs.Tree.{Tree, unit}
 use Rattle.grain_value.specs.View.{tree}
 use Rattle.grain_value.specs.Same.{value_of, value_of-tree}

@@ -4,7 +4,6 @@ use Rattle.std.specs.Prelude.{slice_get}
 use Rattle.std.specs.List.{AllByRecursion}
 use Rattle.grain_program.specs.declared.code.instructions.Op.{Op}
 use Rattle.grain_program.specs.declared.code.parts.Chunk.{Chunk}
-use Rattle.grain_program.specs.declared.verifier.shapes.Shape.{Shape}
 use Rattle.grain_program.specs.declared.verifier.refusals.Refusal.{Refusal}
 use Rattle.grain_program.specs.declared.verifier.refusals.Refusal.TheVariants.{Memory}
 use Rattle.grain_program.specs.View.{View}
@@ -13,7 +12,7 @@ use Rattle.grain_program.specs.Effects.{effect_of, leads}
 use Rattle.grain_program.specs.Starts.{Start}
 use Rattle.grain_program.specs.laws.Starts.{start_first, start_within}
 use Rattle.grain_program.specs.Rules.{IsSplit}
-use Rattle.grain_program.specs.Shapes.{bare, shape_at}
+use Rattle.grain_program.specs.Shapes.{Shape, bare, shape_at}
 use Rattle.grain_program.specs.Typing.{In, HasTyping, AnalysisState, ◌>>=◌, arrive, take_at, take_lowest, with_lowest, take_all, analyse_chunk, analyse_from, analysis, Ready, IsAnalysable}
 use Rattle.grain_program.proofs.Tiles.{is_tiled}
 use Rattle.grain_program.proofs.Cells.{free}

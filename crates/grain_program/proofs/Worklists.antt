@@ -5,7 +5,6 @@ use Rattle.std.proofs.lemmas.Bool.{cases_lt}
 use Rattle.std.proofs.lemmas.List.{get_or-replicate, length-replicate, get_or_past}
 use Rattle.grain_program.specs.declared.code.instructions.Op.{Op}
 use Rattle.grain_program.specs.declared.code.parts.Chunk.{Chunk}
-use Rattle.grain_program.specs.declared.verifier.shapes.Shape.{Shape}
 use Rattle.grain_program.specs.declared.verifier.refusals.Refusal.{Refusal}
 use Rattle.grain_program.specs.View.{View}
 use Rattle.grain_program.specs.Reading.{op_at}
@@ -14,7 +13,7 @@ use Rattle.grain_program.specs.Layout.{layout_fault, Tiled}
 use Rattle.grain_program.specs.Starts.{Start}
 use Rattle.grain_program.specs.laws.Starts.{start_first, start_next, start_within}
 use Rattle.grain_program.specs.Rules.{Splits, InstructionStart}
-use Rattle.grain_program.specs.Shapes.{bare, shape_at}
+use Rattle.grain_program.specs.Shapes.{Shape, bare, shape_at}
 use Rattle.grain_program.specs.Typing.{In, Agrees, Typing, HasTyping, AnalysisState, ◌>>=◌, arrive, take_at, take_lowest, nothing_seen, take_all, analyse_chunk, analyse_from, analysis}
 use Rattle.grain_program.specs.laws.TypedAt.{leads_to_start}
 use Rattle.grain_program.proofs.Tiles.{is_tiled}
@@ -183,6 +182,8 @@ module _ (p : View) (chunks : List Chunk) (laid : layout_fault (length p.code) c
               known.0) same
               (record {
                 enough = m.stepped.enough;
+                handler = m.stepped.handler;
+                above = m.stepped.above;
                 room = m.stepped.room;
                 arrives =
                     λ b q. m.spread.there b q ∙ ap (λ (x : Shape). Some x) (sym after);

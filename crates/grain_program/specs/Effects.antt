@@ -1,11 +1,14 @@
--- What each instruction takes and gives, and where it leads, by its row.
-use Rattle.std.specs.Prelude.{ℕ, List, [], ◌∷◌, nat_lt, if◌then◌else◌}
+-- What each instruction takes and gives, where it leads, and what it does to the handlers of its
+-- frame, by its row.
+use Rattle.std.specs.Prelude.{ℕ, List, [], ◌∷◌, Option, nat_lt, if◌then◌else◌}
 use Rattle.grain_program.specs.declared.code.instructions.Op.{Op}
 use Rattle.grain_program.specs.declared.code.effects.Effect.{Effect}
 use Rattle.grain_program.specs.declared.code.effects.Flow.{Flow}
 use Rattle.grain_program.specs.declared.code.effects.Flow.TheVariants as flow
-use Rattle.grain_program.specs.Fields.{targets_of}
-use Rattle.grain_program.specs.InstructionSet.{Transfer, falls_through, jumps, branches, ends, row}
+use Rattle.grain_program.specs.declared.code.effects.Handling.{Handling}
+use Rattle.grain_program.specs.declared.code.effects.Handling.TheVariants as handling
+use Rattle.grain_program.specs.Fields.{targets_of, name_in}
+use Rattle.grain_program.specs.InstructionSet.{Transfer, falls_through, jumps, branches, ends, HandlerUse, keeps_handlers, pushes_handler, pops_handler, row}
 
 -- where the machine goes, given the targets among the instruction's operands
 abbrev pub flow_to : Transfer → List ℕ → Flow
@@ -17,12 +20,22 @@ flow_to jumps [] = flow.End
 flow_to branches [] = flow.End
 flow_to ends targets = flow.End
 
--- how many operands the instruction takes, how many it then gives, and where the machine goes
+-- what becomes of the handlers, given the targets and the name among the instruction's operands
+abbrev pub handling_to : HandlerUse → List ℕ → Option ℕ → Handling
+handling_to keeps_handlers targets name = handling.Keep
+handling_to pushes_handler (t ∷ targets) name = handling.Push t name
+-- no instruction pushes a handler without a target
+handling_to pushes_handler [] name = handling.Keep
+handling_to pops_handler targets name = handling.Pop
+
+-- how many operands the instruction takes, how many it then gives, where the machine goes, and what
+-- becomes of the handlers
 abbrev pub effect_of : Op → Effect
 effect_of o = record {
   takes = (row o).takes;
   gives = (row o).gives;
   flow = flow_to (row o).transfer (targets_of (row o).fields);
+  handling = handling_to (row o).handlers (targets_of (row o).fields) (name_in (row o).fields);
 }
 
 -- the addresses that a flow leads to, given the address after the instruction, the lower one first
@@ -43,3 +56,7 @@ gives_of o = (effect_of o).gives
 -- the addresses that the instruction leads to, given the address after it
 abbrev pub leads_of : Op → ℕ → List ℕ
 leads_of o next = leads (effect_of o).flow next
+
+-- what the instruction does to the handlers
+abbrev pub handling_of : Op → Handling
+handling_of o = (effect_of o).handling

@@ -63,6 +63,18 @@ targets_of (field.Target n ∷ fs) = n ∷ targets_of fs
 targets_of (field.Count n ∷ fs) = targets_of fs
 targets_of (field.Number n ∷ fs) = targets_of fs
 
+-- the first name among the operands, if there is one
+abbrev pub name_in : List Field → Option ℕ
+name_in [] = None
+name_in (field.Constant n ∷ fs) = name_in fs
+name_in (field.Name n ∷ fs) = Some n
+name_in (field.Assignment n ∷ fs) = name_in fs
+name_in (field.Token n ∷ fs) = name_in fs
+name_in (field.Slot n ∷ fs) = name_in fs
+name_in (field.Target n ∷ fs) = name_in fs
+name_in (field.Count n ∷ fs) = name_in fs
+name_in (field.Number n ∷ fs) = name_in fs
+
 -- each operand passes the test
 abbrev pub every : (Field → Bool) → List Field → Bool
 every test [] = true

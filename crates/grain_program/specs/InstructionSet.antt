@@ -18,6 +18,15 @@ pub data Transfer : Type 0 where
   -- out of the chunk
   ends : Transfer
 
+-- what an instruction does to the handlers of its frame
+pub data HandlerUse : Type 0 where
+  -- nothing
+  keeps_handlers : HandlerUse
+  -- one more, which leads to the instruction's target, and whose variable has the instruction's name
+  pushes_handler : HandlerUse
+  -- the innermost goes
+  pops_handler : HandlerUse
+
 pub record Row : Type 0 where
   -- the word that begins its line in a listing
   pub word : List ℕ
@@ -29,9 +38,11 @@ pub record Row : Type 0 where
   pub takes : ℕ
   pub gives : ℕ
   pub transfer : Transfer
+  pub handlers : HandlerUse
   -- the bit of the capability that it needs, or no bit
   pub capability : ℕ
 
+-- an instruction that keeps the handlers
 abbrev pub entry : List ℕ → ℕ → List Field → ℕ → ℕ → Transfer → ℕ → Row
 entry word tag fields takes gives transfer capability = record {
   word = word;
@@ -40,6 +51,7 @@ entry word tag fields takes gives transfer capability = record {
   takes = takes;
   gives = gives;
   transfer = transfer;
+  handlers = keeps_handlers;
   capability = capability;
 }
 
@@ -53,6 +65,11 @@ function_calls = 1
 abbrev pub plain : List ℕ → ℕ → List Field → ℕ → ℕ → Transfer → Row
 plain word tag fields takes gives transfer =
     entry word tag fields takes gives transfer no_capability
+
+-- an instruction on handlers
+abbrev pub handling : List ℕ → ℕ → List Field → Transfer → HandlerUse → Row
+handling word tag fields transfer handlers =
+    record (plain word tag fields 0 0 transfer) { handlers = handlers }
 
 -- the row of the instruction
 abbrev pub row : Op → Row
@@ -85,6 +102,12 @@ row (op.UnwindTo d) = plain (codes "unwind_to") 0x38 (field.Number d ∷ []) 0 0
 row op.Tick = plain (codes "tick") 0x39 [] 0 0 falls_through
 row op.Checkpoint = plain (codes "checkpoint") 0x3a [] 0 0 falls_through
 row (op.Statement d) = plain (codes "statement") 0x3b (field.Number d ∷ []) 0 0 falls_through
+row (op.PushHandler t) =
+    handling (codes "push_handler") 0x3c (field.Target t ∷ []) branches pushes_handler
+row (op.PushHandlerVar t n) =
+    handling (codes "push_handler_var") 0x3d (field.Target t ∷ field.Name n ∷ []) branches
+    pushes_handler
+row op.PopHandler = handling (codes "pop_handler") 0x3e [] falls_through pops_handler
 row op.Throw = plain (codes "throw") 0x49 [] 1 0 ends
 row op.Return = plain (codes "return") 0x4a [] 0 0 ends
 
@@ -124,6 +147,9 @@ instructions =
     (λ n. op.Tick) ∷
     (λ n. op.Checkpoint) ∷
     (λ n. op.Statement (first n)) ∷
+    (λ n. op.PushHandler (first n)) ∷
+    (λ n. op.PushHandlerVar (first n) (second n)) ∷
+    (λ n. op.PopHandler) ∷
     (λ n. op.Throw) ∷
     (λ n. op.Return) ∷
     []

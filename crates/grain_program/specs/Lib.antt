@@ -21,7 +21,10 @@ pub mod Recorded
 -- the table with which the rules of instructions are tested, which the contracts of private
 -- functions name
 pub mod Owners
--- the addresses that wait in the search for a typing, as private functions have them
+-- the addresses that wait in the search for a typing, the lists of handlers and the shapes, as
+-- private functions have them
 pub mod Waiting
+pub mod HandlerLists
+pub mod Numbered
 -- lemmas, which no contract names
 pub mod laws

@@ -122,6 +122,8 @@ Breach p chunks (refusal.Capability a) = Disobeys p.code chunks (CapabilityRule 
 Breach p chunks (refusal.HeightDisagrees a) = ⊥
 Breach p chunks (refusal.TooDeep a) = ⊥
 Breach p chunks (refusal.Underflow a) = ⊥
+Breach p chunks (refusal.HandlerDisagrees a) = ⊥
+Breach p chunks (refusal.UnderTry a) = ⊥
 Breach p chunks refusal.Memory = ⊥
 
 -- the address of a refusal
@@ -133,6 +135,8 @@ address_of (refusal.FallsOff a) = a
 address_of (refusal.HeightDisagrees a) = a
 address_of (refusal.TooDeep a) = a
 address_of (refusal.Underflow a) = a
+address_of (refusal.HandlerDisagrees a) = a
+address_of (refusal.UnderTry a) = a
 address_of (refusal.Capability a) = a
 address_of refusal.Memory = 0
 
@@ -145,6 +149,8 @@ rule_of (refusal.FallsOff a) = 4
 rule_of (refusal.HeightDisagrees a) = 5
 rule_of (refusal.TooDeep a) = 6
 rule_of (refusal.Underflow a) = 7
+rule_of (refusal.HandlerDisagrees a) = 8
+rule_of (refusal.UnderTry a) = 9
 rule_of (refusal.Capability a) = 12
 rule_of refusal.Memory = 13
 

@@ -1,32 +1,73 @@
--- A frame that stands at an instruction with as many operands as a typing says, and what the
--- verifier has shown of that instruction.
-use Rattle.std.specs.Prelude.{ℕ, ◌≡◌, ◌≤◌, ◌+◌, ◌-◌, slice_get, Option, Some}
+-- A frame that stands at an instruction with as many operands and with such handlers as a typing
+-- says, and what the verifier has shown of that instruction.
+use Rattle.std.specs.Prelude.{ℕ, ◌≡◌, ◌<◌, ◌≤◌, ◌+◌, ◌-◌, false, List, [], ◌∷◌, length, slice_get, Option, Some, None}
 use Rattle.grain_program.specs.declared.code.instructions.Op.{Op}
 use Rattle.grain_program.specs.declared.code.parts.Chunk.{Chunk}
-use Rattle.grain_program.specs.declared.verifier.shapes.Shape.{Shape}
 use Rattle.grain_program.specs.View.{View}
-use Rattle.grain_program.specs.Effects.{takes_of, gives_of, leads_of}
+use Rattle.grain_program.specs.Effects.{takes_of, gives_of, leads_of, handling_of}
 use Rattle.grain_program.specs.Indices.{InPools}
 use Rattle.grain_program.specs.Layout.{chunks_in}
+use Rattle.grain_program.specs.Shapes.{Shape, TryHandler, handled, lacks_handler}
 use Rattle.grain_program.specs.Starts.{Start}
 use Rattle.grain_program.specs.Typing.{In, Typing}
 
--- a frame of the chunk stands at an instruction, with as many operands as a typing says
-pub record IsTypedAt (p : View) (c : Chunk) (at depth : ℕ) : Type 0 where
+-- the variable, if there is one, has a name of the pool
+abbrev pub HasName : View → Option ℕ → Type 0
+HasName p None = Unit {0}
+HasName p (Some n) = n < length p.names
+
+-- of each handler, which stands above this number of operands: there were no more at its push, its
+-- variable has a name, and at its target, which is an instruction of the chunk, the typing has as
+-- many operands as there were then, and this handler with those around it
+abbrev pub Covers : View → Chunk → (ℕ → Option Shape) → ℕ → List TryHandler → Type 0
+Covers p c typing depth [] = Unit {0}
+Covers p c typing depth (h ∷ hs) =
+    (h.height ≤ depth) × HasName p h.variable × Start p.code c h.target
+    × (typing h.target ≡ Some (record { height = h.height; handlers = h ∷ hs }))
+    × Covers p c typing h.height hs
+
+-- the handlers of a frame of the chunk, which has this number of operands, or more than they need,
+-- stand in a typing
+pub record IsCovered (p : View) (c : Chunk) (depth : ℕ) (handlers : List TryHandler) : Type 0 where
   pub number : ℕ
   pub is : slice_get (chunks_in p) number ≡ Some c
-  pub start : Start p.code c at
   pub typing : ℕ → Option Shape
   pub typed : Typing p.code (chunks_in p) typing
-  pub known : typing at ≡ Some (record { height = depth })
   pub low : depth ≤ c.max_stack
+  pub covers : Covers p c typing depth handlers
 
--- what validity says of the instruction at which a frame stands
-pub record Verified (p : View) (c : Chunk) (at depth : ℕ) (op : Op) (width : ℕ) : Type 0 where
+-- a frame of the chunk stands at an instruction, with as many operands and with such handlers as a
+-- typing says
+pub record IsTypedAt (p : View) (c : Chunk) (at depth : ℕ) (handlers : List TryHandler) : Type 0
+  where
+    pub number : ℕ
+    pub is : slice_get (chunks_in p) number ≡ Some c
+    pub start : Start p.code c at
+    pub typing : ℕ → Option Shape
+    pub typed : Typing p.code (chunks_in p) typing
+    pub known : typing at ≡ Some (record { height = depth; handlers = handlers })
+    pub low : depth ≤ c.max_stack
+    pub covers : Covers p c typing depth handlers
+
+-- what validity says of the instruction at which a frame stands, whatever its handlers are
+pub record Provides (p : View) (c : Chunk) (at depth : ℕ) (op : Op) (width : ℕ) : Type 0 where
   pub enough : takes_of op ≤ depth
   pub room : depth - takes_of op + gives_of op ≤ c.max_stack
   pub pools : InPools p op
   pub inside : at + width ≤ 16777216
   pub wide : 1 ≤ width
+
+-- what validity says of the instruction at which a frame stands
+pub record Verified (p : View) (c : Chunk) (at depth : ℕ) (handlers : List TryHandler) (op : Op)
+    (width : ℕ) : Type 0 where
+  pub enough : takes_of op ≤ depth
+  pub room : depth - takes_of op + gives_of op ≤ c.max_stack
+  pub pools : InPools p op
+  pub inside : at + width ≤ 16777216
+  pub wide : 1 ≤ width
+  pub handler : lacks_handler (handling_of op) handlers ≡ false
+  -- the operands that the handlers need stay
+  pub covered : IsCovered p c (depth - takes_of op) handlers
   pub goes : (b : ℕ) → In b (leads_of op (at + width))
       → IsTypedAt p c b (depth - takes_of op + gives_of op)
+      (handled (handling_of op) (depth - takes_of op + gives_of op) handlers)

@@ -1,13 +1,12 @@
 -- Typings: at each address that is reached, the one shape with which it is reached. The search for
 -- one takes the chunks in their order, and goes from the entry on, always at the lowest waiting
 -- address.
-use Rattle.std.specs.Prelude.{ℕ, zero, suc, ◌≡◌, ◌<◌, ◌≤◌, ◌+◌, List, [], ◌∷◌, length, replicate, slice_get, slice_set, Option, Some, None, Result, Ok, Err, ◌⊎◌}
+use Rattle.std.specs.Prelude.{ℕ, zero, suc, ◌≡◌, ◌<◌, ◌≤◌, ◌+◌, ◌-◌, List, [], ◌∷◌, false, length, replicate, slice_get, slice_set, Option, Some, None, Result, Ok, Err, ◌⊎◌}
 use Rattle.std.specs.List.{AllByRecursion}
 use Rattle.std.specs.Ordering.{nat_cmp}
 use Rattle.std.specs.BTreeSet.{insert_key}
 use Rattle.grain_program.specs.declared.code.instructions.Op.{Op}
 use Rattle.grain_program.specs.declared.code.parts.Chunk.{Chunk}
-use Rattle.grain_program.specs.declared.verifier.shapes.Shape.{Shape}
 use Rattle.grain_program.specs.declared.code.effects.Effect.{Effect}
 use Rattle.grain_program.specs.declared.verifier.refusals.Refusal.{Refusal}
 use Rattle.grain_program.specs.declared.verifier.refusals.Refusal.TheVariants as refusal
@@ -17,18 +16,21 @@ use Rattle.grain_program.specs.Effects.{effect_of, leads}
 use Rattle.grain_program.specs.Layout.{chunks_in, layout_fault}
 use Rattle.grain_program.specs.Starts.{Start}
 use Rattle.grain_program.specs.Rules.{Splits, RefusedBeforeHeights}
-use Rattle.grain_program.specs.Shapes.{bare, height_after, after, stepped, clash, shape_at}
+use Rattle.grain_program.specs.Shapes.{Shape, bare, height_after, after, lacks_handler, is_under, stepped, clash, shape_at}
 
 -- the number is in the list
 abbrev pub In : ℕ → List ℕ → Type 0
 In a [] = ⊥
 In a (x ∷ xs) = (a ≡ x) ⊎ In a xs
 
--- an instruction of this effect and width has enough operands in this shape and leaves no more than
--- max, and wherever it leads the typing has the shape that it leaves
+-- An instruction of this effect and width has enough operands in this shape and leaves no more than
+-- max. It takes away no handler where there is none, and no operand that was there at the push of
+-- the innermost handler. Wherever it leads, the typing has the shape that it leaves.
 pub record Agrees (typing : ℕ → Option Shape) (max a width : ℕ) (e : Effect) (s : Shape) : Type 0
   where
     pub enough : e.takes ≤ s.height
+    pub handler : lacks_handler e.handling s.handlers ≡ false
+    pub above : is_under (s.height - e.takes) s.handlers ≡ false
     pub room : height_after e s ≤ max
     pub arrives : (b : ℕ) → In b (leads e.flow (a + width)) → typing b ≡ Some (after e s)
 

@@ -4,6 +4,8 @@
 mod code;
 #[cfg(test)]
 mod function_tests;
+#[cfg(test)]
+mod handler_tests;
 mod lookups;
 mod programs;
 #[cfg(test)]
@@ -13,7 +15,7 @@ mod verifier;
 pub use code::bytes::{assemble, assembled_reads_back, decode};
 pub use code::caps::Caps;
 pub use code::descriptors::Descriptor;
-pub use code::effects::{Effect, Flow};
+pub use code::effects::{Effect, Flow, Handling};
 pub use code::fields::{Field, Fields};
 pub use code::functions::{Function, Functions, Indices};
 pub use code::instructions::Op;
@@ -22,4 +24,3 @@ pub use code::pools::{AssignOps, Names, Positions, Tokens};
 pub use programs::{Program, verify};
 pub use verifier::check::one_refusal;
 pub use verifier::refusals::Refusal;
-pub use verifier::shapes::Shape;

@@ -1,11 +1,12 @@
 //! Programs: parts that break no rule.
 
-ghost use Rattle.std.specs.Prelude.{◌≡◌, ◌<◌, ◌^◌, ◌⊎◌, ℕ, List, length, slice_get, IfOk, IfErr, IfSome, Some, option_map};
+ghost use Rattle.std.specs.Prelude.{◌≡◌, ◌<◌, ◌^◌, ◌⊎◌, ℕ, List, [], length, slice_get, IfOk, IfErr, IfSome, Some, option_map};
 ghost use Rattle.grain_program.specs.View.{View, view_of, position_in, const_of, name_of, token_of, assign_op_of, position_of};
 ghost use Rattle.grain_program.specs.Reading.{op_at};
 ghost use Rattle.grain_program.specs.Typing.{IsProgram, IsRefusal};
 ghost use Rattle.grain_program.specs.Indices.{IsNamed};
-ghost use Rattle.grain_program.specs.TypedAt.{IsTypedAt, Verified};
+ghost use Rattle.grain_program.specs.Shapes.{TryHandler};
+ghost use Rattle.grain_program.specs.TypedAt.{IsTypedAt, Provides, Verified};
 ghost use Rattle.grain_program.specs.Lookups.{function_of, Called, function_by_text, CalledByText, name_at};
 ghost use Rattle.grain_program.specs.Recorded.{Ascends, HasOrder};
 ghost use Rattle.grain_program.specs.declared.verifier.refusals.Refusal.TheVariants.{Memory};
@@ -156,7 +157,7 @@ impl Program {
     pub fn function_at(&self, number: usize) -> &Function
         requires { number < length self.now.functions }
         ensures value { slice_get self.now.functions number ≡ Some result.now }
-        ensures enters { IsTypedAt self.now result.now.chunk result.now.chunk.entry 0 }
+        ensures enters { IsTypedAt self.now result.now.chunk result.now.chunk.entry 0 [] }
         ensures named { IsNamed self.now result.now }
         ensures small { result.now.chunk.max_stack < 2 ^ 16 }
     {
@@ -254,13 +255,16 @@ impl Program {
         self.parts.assign_ops.at(index as usize)
     }
 
-    /// The instruction at which a frame of the chunk stands with depth operands, and its width in
-    /// bytes.
+    /// The instruction at which a frame of the chunk stands with depth operands and some handlers,
+    /// and its width in bytes.
     #[inline(always)]
     pub fn fetch(&self, chunk: Chunk, address: usize, depth: usize) -> (Op, usize)
-        requires { IsTypedAt self.now chunk address depth }
+        requires { (handlers : List TryHandler) × IsTypedAt self.now chunk address depth handlers }
         ensures read { op_at self.now.code address ≡ Some (result.0, result.1) }
-        ensures verified { Verified self.now chunk address depth result.0 result.1 }
+        ensures provides { Provides self.now chunk address depth result.0 result.1 }
+        ensures verified { (handlers : List TryHandler) →
+            IsTypedAt self.now chunk address depth handlers →
+            Verified self.now chunk address depth handlers result.0 result.1 }
     {
         let _ = chunk;
         let _ = depth;

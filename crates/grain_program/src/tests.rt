@@ -67,7 +67,7 @@ fn verdict_of(alloc: Global, code: Blob, end: u32, max_stack: u16) -> Result<(),
 }
 
 /// What is said of these instructions, in a frame of that number of operands.
-fn verdict(alloc: Global, ops: &[Op], max_stack: u16) -> Result<(), Refusal> {
+pub fn verdict(alloc: Global, ops: &[Op], max_stack: u16) -> Result<(), Refusal> {
     let Ok(code) = assemble(alloc, ops) else {
         return Err(Refusal::Memory);
     };
@@ -108,7 +108,7 @@ fn short_instructions_read_again(rt: HostRuntime) -> Result<(), Fail> {
 }
 
 /// The instruction has these bytes, and is read from them.
-fn has_bytes(rt: &impl Abort, alloc: Global, op: Op, bytes: &[u8]) -> Result<(), Fail> {
+pub fn has_bytes(rt: &impl Abort, alloc: Global, op: Op, bytes: &[u8]) -> Result<(), Fail> {
     let code = assemble(alloc, &[op])?;
     assert_eq!(rt; code.as_slice(), bytes);
     assert_eq!(rt; decode(&code, 0), Some((op, bytes.len())));

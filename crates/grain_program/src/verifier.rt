@@ -2,6 +2,7 @@
 
 pub mod analysis;
 pub mod check;
+pub mod handlers;
 pub mod heights;
 pub mod layout;
 pub mod owners;

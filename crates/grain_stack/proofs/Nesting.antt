@@ -4,6 +4,7 @@ use Rattle.std.specs.Vec.{vec_capacity}
 use Rattle.std.proofs.lemmas.List.{length-reverse, reverse-append}
 use Rattle.grain_value.specs.declared.values.Held.{Held}
 use Rattle.grain_fault.specs.declared.traces.Fault.{Fault}
+use Rattle.grain_stack.specs.declared.handlers.FrameHandler.{FrameHandler}
 use Rattle.grain_stack.specs.declared.stacks.Floor.{Floor}
 use Rattle.grain_stack.specs.declared.stacks.Stacks.TheInside.{Inside}
 use Rattle.grain_value.specs.declared.values.Dynamic.{Dynamic}
@@ -11,7 +12,7 @@ use Rattle.grain_value.specs.Operands.{read_write}
 use Rattle.grain_stack.specs.Views.{StackFrame, StacksView, joined_frame, with_value, without_frame}
 use Rattle.grain_stack.specs.Filled.{Filled}
 use Rattle.grain_stack.proofs.Lists.{length_front, take_shorter}
-use Rattle.grain_stack.specs.Floors.{frames_on, Nested, unnoted, floors, stacks_view, IsSound}
+use Rattle.grain_stack.specs.Floors.{frames_on, Nested, unnoted, floors, newest, IsOrdered, handlers_at, stacks_view, IsSound}
 
 -- more room does no harm
 nested_up : (c d b : ℕ) (fs : List Floor) → c ≤ d → Nested c b fs → Nested d b fs
@@ -24,12 +25,17 @@ unnoted_all q [] = omega arith
 unnoted_all true (f ∷ fs) = omega (arith, unnoted_all f.noted fs)
 unnoted_all false (f ∷ fs) = omega (arith, unnoted_all f.noted fs)
 
+-- handlers that are no further in than a frame are no further in than one inside it
+ordered_up : (d e : ℕ) (hs : List FrameHandler) → d ≤ e → IsOrdered d hs → IsOrdered e hs
+ordered_up d e [] le o = tt
+ordered_up d e (h ∷ hs) le o = (omega (arith, o.0, le), o.1)
+
 -- nothing but the room has changed, which is no less
 pub same_sound : (s t : Inside) → IsSound s → t.slots.operands ≡ s.slots.operands →
     s.slots.slots ≤ t.slots.slots → t.bottom ≡ s.bottom → t.room ≡ s.room →
     t.noted ≡ s.noted → t.outer.items ≡ s.outer.items → t.trace.items ≡ s.trace.items →
-    vec_capacity s.trace ≤ vec_capacity t.trace → IsSound t
-same_sound s t i eo co eb er en ef et ct = record {
+    vec_capacity s.trace ≤ vec_capacity t.trace → t.handlers ≡ s.handlers → IsSound t
+same_sound s t i eo co eb er en ef et ct eh = record {
   bottom = rw (eb, eo) i.bottom;
   room = omega (arith, i.room, co, eb, er);
   nested = rw (eb, ef) (nested_up (s.slots.slots) (t.slots.slots) s.bottom (floors s) co i.nested);
@@ -37,6 +43,7 @@ same_sound s t i eo co eb er en ef et ct = record {
       let long : length t.trace.items ≡ length s.trace.items = ap length et in
       let free : unnoted t.noted (floors t) ≡ unnoted s.noted (floors s) = rw (en, ef) refl in
       omega (arith, i.notes, ct, long, free);
+  handlers = rw (ef, eh) i.handlers;
 }
 
 -- a frame more, around which the others keep their room
@@ -45,8 +52,8 @@ pub entered_sound : (s t : Inside) (f : Floor) → IsSound s → t.slots.operand
     t.slots.slots → t.noted ≡ false → t.outer.items ≡ s.outer.items ++ f ∷ [] →
     f.bottom ≡ s.bottom → f.room ≡ s.room → f.noted ≡ s.noted →
     t.trace.items ≡ s.trace.items → length s.trace.items + (length s.outer.items + 1) ≤
-    vec_capacity t.trace → IsSound t
-entered_sound s t f i eo co eb room en ef fb fr fn et ct =
+    vec_capacity t.trace → t.handlers ≡ s.handlers → IsSound t
+entered_sound s t f i eo co eb room en ef fb fr fn et ct eh =
     let on : floors t ≡ f ∷ floors s = ap reverse ef ∙ reverse-append s.outer.items (f ∷ []) in
     record {
       bottom = rw eo (omega (arith, eb));
@@ -68,23 +75,29 @@ entered_sound s t f i eo co eb room en ef fb fr fn et ct =
             unnoted_all f.noted (floors s),
             length-reverse s.outer.items,
           );
+      handlers =
+          rw (on, eh) (ordered_up (length (floors s)) (suc (length (floors s))) (newest s)
+          (omega arith) i.handlers);
     }
 
 -- one operand more
 pub pushed_sound : (s t : Inside) (h : Held) → IsSound s → t.slots.operands ≡ s.slots.operands ++
     h ∷ [] → s.slots.slots ≤ t.slots.slots → t.bottom ≡ s.bottom → t.room ≡ s.room →
-    t.noted ≡ s.noted → t.outer ≡ s.outer → t.trace ≡ s.trace → IsSound t
-pushed_sound s t h i eo co eb er en ef et = record {
+    t.noted ≡ s.noted → t.outer ≡ s.outer → t.trace ≡ s.trace → t.handlers ≡ s.handlers →
+    IsSound t
+pushed_sound s t h i eo co eb er en ef et eh = record {
   bottom = rw (eb, eo) (omega (arith, i.bottom, length-append s.slots.operands (h ∷ [])));
   room = omega (arith, i.room, co, eb, er);
   nested = rw (eb, ef) (nested_up (s.slots.slots) (t.slots.slots) s.bottom (floors s) co i.nested);
   notes = rw (et, en, ef) i.notes;
+  handlers = rw (ef, eh) i.handlers;
 }
 
 -- a frame is entered where there is a floor
-frames_length : (xs : List Held) (fs : List Floor) → length (frames_on xs fs) ≡ length fs
-frames_length xs [] = refl
-frames_length xs (f ∷ fs) = ap (λ (n : ℕ). suc n) (frames_length (take f.bottom xs) fs)
+frames_length : (xs : List Held) (hs : List FrameHandler) (fs : List Floor) →
+    length (frames_on xs hs fs) ≡ length fs
+frames_length xs hs [] = refl
+frames_length xs hs (f ∷ fs) = ap (λ (n : ℕ). suc n) (frames_length (take f.bottom xs) hs fs)
 
 one_unnoted : (fs : List Floor) → 0 < length fs → 1 ≤ unnoted false fs
 one_unnoted [] lt = absurd (omega (arith, lt))
@@ -94,13 +107,13 @@ one_less : (fs : List Floor) → 0 < length fs → unnoted true fs + 1 ≡ unnot
 one_less [] lt = absurd (omega (arith, lt))
 one_less (f ∷ fs) lt = omega arith
 
-some_floor : (s : Inside) (xs : List Held) → 0 < length (frames_on xs (floors s)) →
+some_floor : (s : Inside) (xs : List Held) → 0 < length (frames_on xs (newest s) (floors s)) →
     0 < length (floors s)
-some_floor s xs lt = omega (arith, lt, frames_length xs (floors s))
+some_floor s xs lt = omega (arith, lt, frames_length xs (newest s) (floors s))
 
 -- the trace has room for an entry of a frame that has noted none
 pub note_room : (s : Inside) (xs : List Held) → IsSound s → s.noted ≡ false →
-    0 < length (frames_on xs (floors s)) → length s.trace.items < vec_capacity s.trace
+    0 < length (frames_on xs (newest s) (floors s)) → length s.trace.items < vec_capacity s.trace
 note_room s xs i en lt =
     let one : 1 ≤ unnoted s.noted (floors s) =
     rw en (one_unnoted (floors s) (some_floor s xs lt)) in
@@ -108,10 +121,10 @@ note_room s xs i en lt =
 
 -- one entry more, of a frame that had noted none
 pub noted_sound : (s t : Inside) (fault : Fault) (xs : List Held) → IsSound s → s.noted ≡ false →
-    0 < length (frames_on xs (floors s)) → t.slots ≡ s.slots → t.bottom ≡ s.bottom →
+    0 < length (frames_on xs (newest s) (floors s)) → t.slots ≡ s.slots → t.bottom ≡ s.bottom →
     t.room ≡ s.room → t.noted ≡ true → t.outer ≡ s.outer → t.trace.items ≡ s.trace.items ++
-    fault ∷ [] → vec_capacity s.trace ≤ vec_capacity t.trace → IsSound t
-noted_sound s t fault xs i sn lt eo eb er en ef et ct =
+    fault ∷ [] → vec_capacity s.trace ≤ vec_capacity t.trace → t.handlers ≡ s.handlers → IsSound t
+noted_sound s t fault xs i sn lt eo eb er en ef et ct eh =
     let was : length s.trace.items + unnoted false (floors s) ≤ vec_capacity s.trace =
     rw (← sn) i.notes in
     record {
@@ -130,26 +143,33 @@ noted_sound s t fault xs i sn lt eo eb er en ef et ct =
             one_less (floors s) (some_floor s xs lt),
             length-append s.trace.items (fault ∷ []),
           );
+      handlers = rw (ef, eh) i.handlers;
     }
 
-below_slots : (slots b : ℕ) (xs : List Held) (fs : List Floor) → b ≤ length xs → Nested slots b fs →
-    0 < length (frames_on (take b xs) fs) →
-    ((first : StackFrame) (others : List StackFrame) → frames_on (take b xs) fs ≡ first ∷ others →
-    length first.operands < first.room) → b < slots
-below_slots slots b xs [] le n some room = absurd (omega (arith, some))
-below_slots slots b xs (f ∷ fs) le n some room =
+below_slots : (slots b : ℕ) (xs : List Held) (hs : List FrameHandler) (fs : List Floor) →
+    b ≤ length xs → Nested slots b fs → 0 < length (frames_on (take b xs) hs fs) →
+    ((first : StackFrame) (others : List StackFrame) →
+    frames_on (take b xs) hs fs ≡ first ∷ others → length first.operands < first.room) → b < slots
+below_slots slots b xs hs [] le n some room = absurd (omega (arith, some))
+below_slots slots b xs hs (f ∷ fs) le n some room =
     let free : length (drop f.bottom (take b xs)) < f.room =
-    room (record { operands = drop f.bottom (take b xs); room = f.room; noted = f.noted })
-    (frames_on (take f.bottom (take b xs)) fs) refl in
+    room (record {
+      operands = drop f.bottom (take b xs);
+      room = f.room;
+      noted = f.noted;
+      handlers = handlers_at (length fs) hs;
+    })
+    (frames_on (take f.bottom (take b xs)) hs fs) refl in
     omega (arith, free, n.0, n.1, length-drop f.bottom (take b xs), length_front b xs le)
 
 -- where the frame around the innermost one has room, a slot is there behind its operands
 pub room_below : (s : Inside) → IsSound s →
-    0 < length (frames_on (take s.bottom s.slots.operands) (floors s)) →
+    0 < length (frames_on (take s.bottom s.slots.operands) (newest s) (floors s)) →
     ((first : StackFrame) (others : List StackFrame) → frames_on (take s.bottom s.slots.operands)
-    (floors s) ≡ first ∷ others → length first.operands < first.room) → s.bottom < s.slots.slots
+    (newest s) (floors s) ≡ first ∷ others → length first.operands < first.room) → s.bottom < s.slots.slots
 room_below s i some room =
-    below_slots s.slots.slots s.bottom s.slots.operands (floors s) i.bottom i.nested some room
+    below_slots s.slots.slots s.bottom s.slots.operands (newest s) (floors s) i.bottom i.nested
+    some room
 
 emptied : (b : ℕ) (xs : List Held) → drop b (take b xs) ≡ []
 emptied zero xs = refl
@@ -157,16 +177,16 @@ emptied (suc b) [] = refl
 emptied (suc b) (x ∷ xs) = emptied b xs
 
 joined_empty : (fs : List StackFrame) (s : StacksView) → 0 < length fs →
-    joined_frame fs (record s { operands = [] }) ≡ without_frame fs s
+    joined_frame fs (record s { operands = []; handlers = [] }) ≡ without_frame fs s
 joined_empty [] s some = absurd (omega (arith, some))
 joined_empty (f ∷ fs) s some = rw append-nil refl
 
 -- a frame that has lost its operands, and is left
 pub left_view : (s : Inside) (v : Filled) → v.operands ≡ take s.bottom s.slots.operands →
-    0 < length (frames_on (take s.bottom s.slots.operands) (floors s)) →
-    joined_frame (frames_on (take s.bottom v.operands) (floors s))
-    (stacks_view (record s { slots = v })) ≡
-    without_frame (frames_on (take s.bottom s.slots.operands) (floors s)) (stacks_view s)
+    0 < length (frames_on (take s.bottom s.slots.operands) (newest s) (floors s)) →
+    joined_frame (frames_on (take s.bottom v.operands) (newest s) (floors s))
+    (record (stacks_view (record s { slots = v })) { handlers = [] }) ≡
+    without_frame (frames_on (take s.bottom s.slots.operands) (newest s) (floors s)) (stacks_view s)
 left_view s v e some =
     rw (
       e,
@@ -174,10 +194,27 @@ left_view s v e some =
       take_shorter s.bottom s.bottom s.slots.operands
           (omega arith),
     )
-    (joined_empty (frames_on (take s.bottom s.slots.operands) (floors s)) (stacks_view s) some)
+    (joined_empty (frames_on (take s.bottom s.slots.operands) (newest s) (floors s)) (stacks_view s) some)
 
 -- a frame that has one operand, and is left
 pub joined_value : (fs : List StackFrame) (s : StacksView) (v : Dynamic) → 0 < length fs →
-    joined_frame fs (record s { operands = read_write v ∷ [] }) ≡ with_value v (without_frame fs s)
+    joined_frame fs (record s { operands = read_write v ∷ []; handlers = [] }) ≡
+    with_value v (without_frame fs s)
 joined_value [] s v some = absurd (omega (arith, some))
 joined_value (f ∷ fs) s v some = refl
+
+-- one handler less
+pub less_sound : (s t : Inside) (h : FrameHandler) → IsSound s → t.slots ≡ s.slots →
+    t.bottom ≡ s.bottom → t.room ≡ s.room → t.noted ≡ s.noted → t.outer ≡ s.outer →
+    t.trace ≡ s.trace → s.handlers.items ≡ t.handlers.items ++ h ∷ [] → IsSound t
+less_sound s t h i es eb er en eo et items =
+    let on : newest s ≡ h ∷ newest t =
+    ap reverse items ∙ reverse-append t.handlers.items (h ∷ []) in
+    let ordered : IsOrdered (length (floors s)) (h ∷ newest t) = rw on at i.handlers in
+    record {
+      bottom = rw (eb, es) i.bottom;
+      room = rw (eb, er, es) i.room;
+      nested = rw (eb, es, eo) i.nested;
+      notes = rw (et, en, eo) i.notes;
+      handlers = rw eo (ordered_up h.depth (length (floors s)) (newest t) ordered.0 ordered.1);
+    }

@@ -1,3 +1,4 @@
+pub mod Handlers
 pub mod Views
 pub mod Filled
 pub mod Floors

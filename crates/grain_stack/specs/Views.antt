@@ -1,16 +1,19 @@
--- What a caller sees of the stacks: the operands of each frame, the trace, and how often a frame
--- was entered.
+-- What a caller sees of the stacks: the operands and the handlers of each frame, the trace, and how
+-- often a frame was entered.
 use Rattle.std.specs.Prelude.{◌≡◌, ℕ, ◌+◌, ◌-◌, ◌^◌, nat_lt, if◌then◌else◌, Bool, false, List, [], ◌∷◌, ◌++◌}
 use Rattle.grain_value.specs.declared.values.Dynamic.{Dynamic}
 use Rattle.grain_value.specs.declared.values.Held.{Held}
 use Rattle.grain_value.specs.Operands.{read_write}
 use Rattle.grain_fault.specs.declared.traces.Fault.{Fault}
+use Rattle.grain_stack.specs.declared.handlers.Handler.{Handler}
 
--- a frame's own operands, how many it may have at most, and whether it has noted a fault
+-- a frame's own operands, how many it may have at most, whether it has noted a fault, and its own
+-- handlers, the innermost first
 pub record StackFrame : Type 0 where
   pub operands : List Held
   pub room : ℕ
   pub noted : Bool
+  pub handlers : List Handler
 
 -- The innermost frame, and the frames around it, the inner ones first. Around the outermost frame
 -- stands one more, in which there is no room: it is the innermost one while no frame is entered.
@@ -18,6 +21,7 @@ pub record StacksView : Type 0 where
   pub operands : List Held
   pub room : ℕ
   pub noted : Bool
+  pub handlers : List Handler
   pub outer : List StackFrame
   pub trace : List Fault
   -- how often a frame was entered, at most 2^64 - 1
@@ -25,10 +29,19 @@ pub record StacksView : Type 0 where
 
 -- no frame is entered, and nothing is noted
 abbrev pub no_frames : StacksView
-no_frames = record { operands = []; room = 0; noted = false; outer = []; trace = []; entered = 0 }
+no_frames = record {
+  operands = [];
+  room = 0;
+  noted = false;
+  handlers = [];
+  outer = [];
+  trace = [];
+  entered = 0;
+}
 
 abbrev pub innermost : StacksView → StackFrame
-innermost s = record { operands = s.operands; room = s.room; noted = s.noted }
+innermost s =
+    record { operands = s.operands; room = s.room; noted = s.noted; handlers = s.handlers }
 
 -- one more, up to 2^64 - 1
 abbrev pub counted_up : ℕ → ℕ
@@ -40,6 +53,7 @@ with_frame room s = record s {
   operands = [];
   room = room;
   noted = false;
+  handlers = [];
   outer = innermost s ∷ s.outer;
   entered = counted_up s.entered;
 }
@@ -48,7 +62,13 @@ with_frame room s = record s {
 abbrev pub without_frame : List StackFrame → StacksView → StacksView
 without_frame [] s = s
 without_frame (f ∷ fs) s =
-    record s { operands = f.operands; room = f.room; noted = f.noted; outer = fs }
+    record s {
+      operands = f.operands;
+      room = f.room;
+      noted = f.noted;
+      handlers = f.handlers;
+      outer = fs;
+    }
 
 -- the frames are as they were: only the trace and the number of entries may differ
 abbrev pub IsLeft : (old new : StacksView) → Type 0
@@ -58,12 +78,14 @@ IsLeft old new = new ≡ record old { trace = new.trace; entered = new.entered }
 abbrev pub with_value : Dynamic → StacksView → StacksView
 with_value v s = record s { operands = s.operands ++ read_write v ∷ [] }
 
--- the innermost frame and the one around it, which become one with the operands of both
+-- the innermost frame, without its handlers, and the one around it, which become one with the
+-- operands of both
 abbrev pub joined_frame : List StackFrame → StacksView → StacksView
 joined_frame [] s = s
 joined_frame (f ∷ fs) s = record s {
   operands = f.operands ++ s.operands;
   room = f.room;
   noted = f.noted;
+  handlers = f.handlers;
   outer = fs;
 }

@@ -1,9 +1,12 @@
-//! The stacks that all frames of a machine share: their operands, and the trace of a fault.
+//! The stacks that all frames of a machine share: their operands, their handlers, and the trace of a
+//! fault.
 #![tactic(auto)]
 
+mod handlers;
 mod slots;
 mod stacks;
 #[cfg(test)]
 mod tests;
 
+pub use handlers::Handler;
 pub use stacks::Stacks;

@@ -1,10 +1,12 @@
-//! One stack of operands for all frames, and the trace of a fault.
+//! One stack of operands for all frames, their handlers, and the trace of a fault.
 
-ghost use Rattle.std.specs.Prelude.{◌≡◌, ◌<◌, ◌≤◌, ◌+◌, ◌++◌, ◌∷◌, [], length, take, is_ok, if◌then◌else◌, OnOk, All, true, false};
+ghost use Rattle.std.specs.Prelude.{◌≡◌, ◌<◌, ◌≤◌, ◌+◌, ◌++◌, ◌∷◌, [], length, take, is_ok, if◌then◌else◌, option_map, OnOk, All, true, false};
 ghost use Rattle.grain_value.specs.declared.values.Dynamic.TheVariants as dynamic;
 ghost use Rattle.grain_value.specs.Operands.{top, below, under, rotated, read_write, arguments, bound_entries};
+ghost use Rattle.grain_stack.specs.Handlers.{first_of};
 ghost use Rattle.grain_stack.specs.Views.{StackFrame, no_frames, with_frame, without_frame, with_value, joined_frame};
 
+use crate::handlers::{FrameHandler, Handler};
 use crate::slots::Slots;
 use grain_fault::Fault;
 use grain_value::{Dynamic, Held, List, Name, OutOfMemory, Scope};
@@ -28,6 +30,8 @@ pub struct Stacks {
     room: usize,
     noted: bool,
     outer: Vec<Floor>,
+    // those of the inner frames behind those of the outer ones
+    handlers: Vec<FrameHandler>,
     trace: Vec<Fault>,
     entered: u64,
 }
@@ -39,7 +43,9 @@ impl Model for Stacks {
 
     ghost Value = { StacksView };
 
-    ghost coded = { Prim.hlevel (codes, coded_tree) };
+    ghost use Rattle.grain_fault.specs.contracts.faults.EvalAltResult as row;
+
+    ghost coded = { Prim.hlevel (codes, coded_tree, row.the_row.coded) };
 
     ghost use Rattle.grain_stack.specs.Floors.{stacks_view, IsSound};
 
@@ -59,6 +65,7 @@ impl Stacks {
             room: 0,
             noted: false,
             outer: Vec::new(alloc),
+            handlers: Vec::new(alloc),
             trace: Vec::new(alloc),
             entered: 0,
         }
@@ -92,6 +99,7 @@ impl Stacks {
         ensures { self.new ≡ without_frame self.old.outer self.old }
     {
         self.slots.truncate(self.bottom);
+        self.drop_handlers();
         self.join_frame();
     }
 
@@ -106,6 +114,7 @@ impl Stacks {
             (without_frame self.old.outer self.old) }
     {
         self.keep_value();
+        self.drop_handlers();
         self.join_frame();
     }
 
@@ -155,10 +164,33 @@ impl Stacks {
         Dynamic::Unit
     }
 
-    // The innermost frame and the one around it become one, with the operands of both.
+    // The frame's handlers go.
+    #[inline(always)]
+    fn drop_handlers(&mut self)
+        ensures { self.new ≡ record self.old { handlers = [] } }
+    {
+        if !self.handlers.is_empty() {
+            self.drop_handlers_there();
+        }
+    }
+
+    // The same, where there are handlers.
+    #[cold]
+    #[inline(never)]
+    fn drop_handlers_there(&mut self)
+        ensures { self.new ≡ record self.old { handlers = [] } }
+    {
+        'handlers: while self.innermost_handler().is_some() {
+            drop(self.pop_handler());
+        }
+    }
+
+    // The innermost frame, which has no handlers, and the one around it become one, with the
+    // operands of both.
     #[inline(always)]
     fn join_frame(&mut self)
         requires entered { 0 < length self.old.outer }
+        requires bare { self.old.handlers ≡ [] }
         ensures { self.new ≡ joined_frame self.old.outer self.old }
     {
         match self.outer.pop() {
@@ -329,6 +361,42 @@ impl Stacks {
         } }
     {
         self.slots.answer_bool(truth);
+    }
+
+    /// One handler more, the innermost of the frame. After want of memory the stacks are as they
+    /// were.
+    pub fn push_handler(&mut self, handler: Handler) -> Result<(), OutOfMemory>
+        ensures { self.new ≡ (if is_ok result
+            then record self.old { handlers = handler ∷ self.old.handlers }
+            else self.old) }
+    {
+        let depth = self.outer.len();
+        self.handlers.push(FrameHandler { depth, handler })?;
+        Ok(())
+    }
+
+    /// Takes the frame's innermost handler.
+    pub fn pop_handler(&mut self) -> Handler
+        requires there { 0 < length self.old.handlers }
+        ensures { self.old ≡ record self.new {
+          handlers =
+              result ∷ self.new.handlers;
+        } }
+    {
+        match self.handlers.pop() {
+            Some(newest) => newest.handler,
+            None => unreachable!(),
+        }
+    }
+
+    /// The frame's innermost handler, if it has one.
+    pub fn innermost_handler(&self) -> Option<&Handler>
+        ensures { option_map (λ h. h.now) result ≡ first_of self.now.handlers }
+    {
+        match self.handlers.last() {
+            Some(newest) if newest.depth == self.outer.len() => Some(&newest.handler),
+            _ => None,
+        }
     }
 
     /// Notes where a fault left the frame, which has noted none since it was entered.

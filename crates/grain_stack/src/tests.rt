@@ -1,7 +1,8 @@
 //! Frames on the shared stacks, with memory enough.
 
+use crate::handlers::Handler;
 use crate::stacks::Stacks;
-use grain_fault::Fault;
+use grain_fault::{EvalAltResult, Fault, Position};
 use grain_value::{Dynamic, Held};
 use std::process::Abort;
 use std::test::Fail;
@@ -52,5 +53,51 @@ fn a_fault_is_noted_and_cut(rt: HostRuntime) -> Result<(), Fail> {
     assert_eq!(rt; stacks.trace()[0].address, 7);
     stacks.cut_trace(0);
     assert!(rt; stacks.trace().is_empty());
+    Ok(())
+}
+
+/// A handler that leads to this address, and has caught nothing.
+fn handler(target: u32) -> Handler {
+    Handler {
+        target,
+        variable: None,
+        operands: 0,
+        scope: 0,
+        caught: None,
+    }
+}
+
+#[test]
+fn a_frame_has_its_own_handlers(rt: HostRuntime) -> Result<(), Fail> {
+    let mut stacks = Stacks::new(rt.alloc());
+    stacks.enter(0)?;
+    stacks.push_handler(handler(7))?;
+    stacks.enter(0)?;
+    assert!(rt; stacks.innermost_handler().is_none());
+    stacks.push_handler(handler(8))?;
+    stacks.push_handler(handler(9))?;
+    assert_eq!(rt; stacks.pop_handler().target, 9);
+    stacks.leave();
+    assert_eq!(rt; stacks.pop_handler().target, 7);
+    assert!(rt; stacks.innermost_handler().is_none());
+    Ok(())
+}
+
+#[test]
+fn a_handler_keeps_what_it_has_caught(rt: HostRuntime) -> Result<(), Fail> {
+    let mut stacks = Stacks::new(rt.alloc());
+    stacks.enter(1)?;
+    stacks.push_handler(Handler {
+        caught: Some(EvalAltResult::ErrorStackOverflow(Position::NONE)),
+        ..handler(7)
+    })?;
+    stacks.enter(0)?;
+    stacks.leave_with_value();
+    assert!(rt;
+        matches!(
+            &stacks.pop_handler().caught,
+            Some(EvalAltResult::ErrorStackOverflow(_))
+        )
+    );
     Ok(())
 }

@@ -36,11 +36,12 @@ enum ExampleHost {
 
 /// The examples, with their hosts. NAME.grain is the listing, and NAME.out the report that is
 /// expected.
-const EXAMPLES: [(&str, ExampleHost); 5] = [
+const EXAMPLES: [(&str, ExampleHost); 6] = [
     ("sum", ExampleHost::Table),
     ("fibonacci", ExampleHost::Table),
     ("limit", ExampleHost::Table),
     ("fault", ExampleHost::Table),
+    ("caught", ExampleHost::Table),
     ("prices", ExampleHost::Prices),
 ];
 

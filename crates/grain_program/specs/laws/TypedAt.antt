@@ -1,6 +1,6 @@
 -- A frame that is typed at an instruction stays typed, and what is verified holds of each
 -- instruction.
-use Rattle.std.specs.Prelude.{ℕ, suc, ◌≡◌, ◌<◌, ◌≤◌, ◌+◌, nat_lt, Bool, true, false, cond, List, [], ◌∷◌, length, slice_get, Some, None, refl}
+use Rattle.std.specs.Prelude.{ℕ, suc, ◌≡◌, ◌<◌, ◌≤◌, ◌+◌, ◌-◌, nat_lt, Bool, true, false, cond, List, [], ◌∷◌, length, slice_get, Option, Some, None, refl}
 use Rattle.std.proofs.Common.{sym, subst, ◌∙◌, inl, inr, arith}
 use Rattle.std.proofs.lemmas.Bool.{ltb-false}
 use Rattle.std.specs.List.{AllByRecursion}
@@ -12,19 +12,25 @@ use Rattle.grain_program.specs.Reading.{op_at}
 use Rattle.grain_program.specs.laws.Widths.{op_at_within}
 use Rattle.grain_program.specs.declared.code.effects.Flow.{Flow}
 use Rattle.grain_program.specs.declared.code.effects.Flow.TheVariants as flow
+use Rattle.grain_program.specs.declared.code.effects.Handling.{Handling}
+use Rattle.grain_program.specs.declared.code.effects.Handling.TheVariants as handling
+use Rattle.grain_program.specs.declared.code.instructions.Op.TheVariants as op
 use Rattle.grain_program.specs.declared.code.fields.Field.{Field}
 use Rattle.grain_program.specs.declared.code.fields.Field.TheVariants as field
 use Rattle.grain_program.specs.Fields.{targets_of}
 use Rattle.grain_program.specs.InstructionSet.{Transfer, falls_through, jumps, branches, ends, row, fields_of}
-use Rattle.grain_program.specs.Effects.{flow_to, effect_of, leads, leads_of}
+use Rattle.grain_program.specs.Effects.{flow_to, effect_of, leads, leads_of, handling_of}
 use Rattle.grain_program.specs.Indices.{InPools}
 use Rattle.grain_program.specs.Layout.{chunks_in, gap_from, layout_fault}
 use Rattle.grain_program.specs.laws.Layout.{function_chunk}
 use Rattle.grain_program.specs.Starts.{Start}
 use Rattle.grain_program.specs.laws.Starts.{start_first, start_next}
 use Rattle.grain_program.specs.Rules.{Lands, StaysIn}
+use Rattle.grain_program.specs.Shapes.{Shape, TryHandler, height_after, handled, is_under}
+use Rattle.grain_program.specs.Typing.{Agrees}
+use Rattle.grain_program.specs.TypedAt.{HasName, Covers}
 pub use Rattle.grain_program.specs.Typing.{In, IsProgram}
-pub use Rattle.grain_program.specs.TypedAt.{IsTypedAt, Verified}
+pub use Rattle.grain_program.specs.TypedAt.{IsCovered, IsTypedAt, Verified}
 
 -- a flow's target is an instruction of the chunk
 abbrev FlowLands : List ℕ → Chunk → Flow → Type 0
@@ -84,28 +90,98 @@ short len chunks e = at (nat_lt 16777216 len) refl e where
   at true h e = absurd cc
   at false h e = ltb-false 16777216 len h
 
+-- ---- handlers
+
+module _ (p : View) (c : Chunk) (typing : ℕ → Option Shape) where
+  -- handlers stand above any larger number of operands
+  covers_more : (low high : ℕ) (hs : List TryHandler) → low ≤ high → Covers p c typing low hs
+      → Covers p c typing high hs
+  covers_more low high [] le k = tt
+  covers_more low high (h ∷ hs) le k = (omega (arith, le, k.0), k.1, k.2, k.3, k.4)
+
+  -- handlers stand above the operands that are left, where those of the innermost one are left
+  covers_less : (low high : ℕ) (hs : List TryHandler) → is_under low hs ≡ false
+      → Covers p c typing high hs → Covers p c typing low hs
+  covers_less low high [] e k = tt
+  covers_less low high (h ∷ hs) e k = (ltb-false low h.height e, k.1, k.2, k.3, k.4)
+
+  -- a handler that is pushed above this number of operands has what a handler needs
+  abbrev Catches : Handling → ℕ → List TryHandler → Type 0
+  Catches handling.Keep height hs = Unit {0}
+  Catches (handling.Push target variable) height hs =
+      HasName p variable × Start p.code c target
+      × (typing target ≡ Some (record {
+        height = height;
+        handlers = record { target = target; variable = variable; height = height } ∷ hs;
+      }))
+  Catches handling.Pop height hs = Unit {0}
+
+  -- the handlers after an instruction that leaves low operands of those that were there, and then
+  -- gives others
+  handled_covers : (w : Handling) (low height : ℕ) (hs : List TryHandler) → low ≤ height
+      → Covers p c typing low hs → Catches w height hs
+      → Covers p c typing height (handled w height hs)
+  handled_covers handling.Keep low height hs le k push = covers_more low height hs le k
+  handled_covers (handling.Push target variable) low height hs le k push =
+      (omega arith, push.0, push.1, push.2, covers_more low height hs le k)
+  handled_covers handling.Pop low height [] le k push = tt
+  handled_covers handling.Pop low height (h ∷ hs) le k push =
+      covers_more h.height height hs (omega (arith, le, k.0)) k.4
+
+  in_branch : (t next : ℕ) → In t (leads (flow.Branch t) next)
+  in_branch t next = at (nat_lt t next) where
+    at : (b : Bool) → In t (cond b (t ∷ next ∷ []) (next ∷ t ∷ []))
+    at true = inl refl
+    at false = inr (inl refl)
+
+  -- a push leads to its handler's target, and its variable has a name
+  pushes : (o : Op) (max at width : ℕ) (s : Shape) → AllByRecursion (Lands p c) (fields_of o)
+      → InPools p o → Agrees typing max at width (effect_of o) s
+      → Catches (handling_of o) (height_after (effect_of o) s) s.handlers
+  pushes (op.PushHandler t) max at width s lands pools agrees =
+      (tt, lands.0, agrees.arrives t (in_branch t (at + width)))
+  pushes (op.PushHandlerVar t n) max at width s lands pools agrees =
+      (pools.1.0, lands.0, agrees.arrives t (in_branch t (at + width)))
+  pushes _ max at width s lands pools agrees = tt
+
 -- an instruction is there
-pub stands : (p : View) → IsProgram p → (c : Chunk) (at depth : ℕ) → IsTypedAt p c at depth
-    → (x : Op × ℕ) × (op_at p.code at ≡ Some x)
-stands p v c at depth f = let o = v.splits.obeys f.number c at f.is f.start in (o.read, o.whole.is)
+pub stands : (p : View) → IsProgram p → (c : Chunk) (at depth : ℕ) (hs : List TryHandler)
+    → IsTypedAt p c at depth hs → (x : Op × ℕ) × (op_at p.code at ≡ Some x)
+stands p v c at depth hs f =
+    let o = v.splits.obeys f.number c at f.is f.start in (o.read, o.whole.is)
 
 -- what validity says of the instruction
-pub verified : (p : View) → IsProgram p → (c : Chunk) (at depth : ℕ) → IsTypedAt p c at depth
-    → (r : Op × ℕ) → op_at p.code at ≡ Some r → Verified p c at depth r.0 r.1
-verified p v c at depth f r e =
+pub verified : (p : View) → IsProgram p → (c : Chunk) (at depth : ℕ) (hs : List TryHandler)
+    → IsTypedAt p c at depth hs → (r : Op × ℕ) → op_at p.code at ≡ Some r
+    → Verified p c at depth hs r.0 r.1
+verified p v c at depth hs f r e =
     let o = v.splits.obeys f.number c at f.is f.start in
     let both : Some o.read ≡ Some r = sym o.whole.is ∙ e in
     let same : o.read ≡ r = cc in
     let lands = subst (λ (x : Op × ℕ). AllByRecursion (Lands p c) (fields_of x.0)) same o.target in
     let stays = subst (λ (x : Op × ℕ). StaysIn c (at + x.1) (effect_of x.0).flow) same o.end in
-    let agrees = f.typed.steps f.number c at r (record { height = depth }) f.is f.start e f.known in
+    let pools = subst (λ (x : Op × ℕ). InPools p x.0) same o.index in
+    let s : Shape = record { height = depth; handlers = hs } in
+    let agrees = f.typed.steps f.number c at r s f.is f.start e f.known in
     let wide = op_at_within p.code at r e in
+    let left = depth - (effect_of r.0).takes in
+    let keeps : Covers p c f.typing left hs =
+    covers_less p c f.typing left depth hs agrees.above f.covers in
     record {
       enough = agrees.enough;
       room = agrees.room;
-      pools = subst (λ (x : Op × ℕ). InPools p x.0) same o.index;
+      pools = pools;
       inside = let l = short (length p.code) (chunks_in p) v.layout in omega (arith, wide.1);
       wide = wide.0;
+      handler = agrees.handler;
+      covered = record {
+        number = f.number;
+        is = f.is;
+        typing = f.typing;
+        typed = f.typed;
+        low = omega (arith, f.low);
+        covers = keeps;
+      };
       goes = λ b i. record {
         number = f.number;
         is = f.is;
@@ -115,11 +191,14 @@ verified p v c at depth f r e =
         typed = f.typed;
         known = agrees.arrives b i;
         low = agrees.room;
+        covers = handled_covers p c f.typing (handling_of r.0) left (height_after (effect_of r.0) s)
+            hs (omega arith) keeps
+            (pushes p c f.typing r.0 c.max_stack at r.1 s lands pools agrees);
       };
     }
 
--- a frame of the main chunk begins at its entry, without operands
-pub begins : (p : View) → IsProgram p → IsTypedAt p p.main p.main.entry 0
+-- a frame of the main chunk begins at its entry, without operands and handlers
+pub begins : (p : View) → IsProgram p → IsTypedAt p p.main p.main.entry 0 []
 begins p v = record {
   number = 0;
   is = refl;
@@ -128,11 +207,12 @@ begins p v = record {
   typed = v.typed;
   known = v.typed.entries 0 p.main refl;
   low = omega arith;
+  covers = tt;
 }
 
--- a frame of a function begins at its entry, without operands
+-- a frame of a function begins at its entry, without operands and handlers
 pub enters : (p : View) → IsProgram p → (i : ℕ) (f : Function) → slice_get p.functions i ≡ Some f
-    → IsTypedAt p f.chunk f.chunk.entry 0
+    → IsTypedAt p f.chunk f.chunk.entry 0 []
 enters p v i f e =
     let is = function_chunk p i f e in
     record {
@@ -143,4 +223,49 @@ enters p v i f e =
       typed = v.typed;
       known = v.typed.entries (suc i) f.chunk is;
       low = omega arith;
+      covers = tt;
     }
+
+-- the handlers of a frame that stands at an instruction
+pub covered : (p : View) (c : Chunk) (at depth : ℕ) (hs : List TryHandler)
+    → IsTypedAt p c at depth hs → IsCovered p c depth hs
+covered p c at depth hs f = record {
+  number = f.number;
+  is = f.is;
+  typing = f.typing;
+  typed = f.typed;
+  low = f.low;
+  covers = f.covers;
+}
+
+-- the innermost handler was pushed above no more operands than there are
+pub covers_height : (p : View) (c : Chunk) (depth : ℕ) (h : TryHandler) (hs : List TryHandler)
+    → IsCovered p c depth (h ∷ hs) → h.height ≤ depth
+covers_height p c depth h hs k = k.covers.0
+
+-- the handlers around the innermost one
+pub uncovered : (p : View) (c : Chunk) (depth : ℕ) (h : TryHandler) (hs : List TryHandler)
+    → IsCovered p c depth (h ∷ hs) → IsCovered p c depth hs
+uncovered p c depth h hs k = record {
+  number = k.number;
+  is = k.is;
+  typing = k.typing;
+  typed = k.typed;
+  low = k.low;
+  covers = covers_more p c k.typing h.height depth hs k.covers.0 k.covers.4;
+}
+
+-- a frame that has caught stands at the handler's target, with the operands that were there at its
+-- push, and with this handler and those around it
+pub catches : (p : View) (c : Chunk) (depth : ℕ) (h : TryHandler) (hs : List TryHandler)
+    → IsCovered p c depth (h ∷ hs) → IsTypedAt p c h.target h.height (h ∷ hs)
+catches p c depth h hs k = record {
+  number = k.number;
+  is = k.is;
+  start = k.covers.2;
+  typing = k.typing;
+  typed = k.typed;
+  known = k.covers.3;
+  low = omega (arith, k.covers.0, k.low);
+  covers = (omega arith, k.covers.1, k.covers.2, k.covers.3, k.covers.4);
+}

@@ -144,6 +144,19 @@ fn tagged(tag: u8, rest: &[u8], op: &mut Op) -> usize
             *op = Op::Statement(two_there(rest));
             3
         }
+        0x3c => {
+            *op = Op::PushHandler(four_there(rest));
+            5
+        }
+        0x3d => {
+            let name = &rest[4..];
+            *op = Op::PushHandlerVar(four_there(rest), two_there(name));
+            7
+        }
+        0x3e => {
+            *op = Op::PopHandler;
+            1
+        }
         0x49 => {
             *op = Op::Throw;
             1

@@ -5,22 +5,24 @@ ghost use Rattle.grain_program.specs.InstructionSet.{tag_of, fields_of};
 ghost use Rattle.grain_program.specs.Spelling.{OpFits};
 ghost use Rattle.grain_program.specs.Effects.{effect_of};
 ghost use Rattle.grain_program.specs.Capabilities.{needs};
+ghost use Rattle.grain_program.specs.declared.code.effects.Handling.TheVariants as handling;
 
 use crate::code::caps::Caps;
-use crate::code::effects::{Effect, Flow};
+use crate::code::effects::{Effect, Flow, Handling};
 use crate::code::fields::{Field, Fields};
 use crate::code::instructions::Op;
 use bitflags::Flags;
 
-/// What an instruction is: its bytes, what it does to the operands on the stack, where it goes, and
-/// what it needs.
+/// What an instruction is: its bytes, what it does to the operands on the stack and to the handlers,
+/// where it goes, and what it needs.
 #[derive(Drop)]
 pub struct Descriptor {
     /// Its first byte.
     pub tag: u8,
     /// What its other bytes say.
     pub fields: Fields,
-    /// How many operands it takes and gives, and where the machine goes afterwards.
+    /// How many operands it takes and gives, where the machine goes afterwards, and what becomes of
+    /// the handlers.
     pub effect: Effect,
     /// The capability that a program needs to have it, or none.
     pub capability: Caps,
@@ -31,10 +33,47 @@ pub struct Descriptor {
 fn plain(tag: u8, fields: Fields, takes: u32, gives: u32, flow: Flow) -> Descriptor
     ensures tag { result.tag ≡ tag }
     ensures fields { result.fields ≡ fields }
-    ensures effect { result.effect ≡ record { takes = takes; gives = gives; flow = flow } }
+    ensures effect { result.effect ≡ record {
+      takes = takes;
+      gives = gives;
+      flow = flow;
+      handling = handling.Keep;
+    } }
     ensures capability { result.capability.0 ≡ 0 }
 {
-    let effect = Effect { takes, gives, flow };
+    let effect = Effect {
+        takes,
+        gives,
+        flow,
+        handling: Handling::Keep,
+    };
+    Descriptor {
+        tag,
+        fields,
+        effect,
+        capability: Caps::empty(),
+    }
+}
+
+/// An instruction on handlers, which needs no capability, and takes and gives no operand.
+#[inline(always)]
+fn on_handlers(tag: u8, fields: Fields, flow: Flow, handling: Handling) -> Descriptor
+    ensures tag { result.tag ≡ tag }
+    ensures fields { result.fields ≡ fields }
+    ensures effect { result.effect ≡ record {
+      takes = 0;
+      gives = 0;
+      flow = flow;
+      handling = handling;
+    } }
+    ensures capability { result.capability.0 ≡ 0 }
+{
+    let effect = Effect {
+        takes: 0,
+        gives: 0,
+        flow,
+        handling,
+    };
     Descriptor {
         tag,
         fields,
@@ -130,6 +169,17 @@ impl Op {
                 0,
                 Flow::Next,
             ),
+            Op::PushHandler(target) => {
+                let fields = Fields::one(Field::Target(target));
+                let handling = Handling::Push(target, None);
+                on_handlers(0x3c, fields, Flow::Branch(target), handling)
+            }
+            Op::PushHandlerVar(target, name) => {
+                let fields = Fields::two(Field::Target(target), Field::Name(name));
+                let handling = Handling::Push(target, Some(name));
+                on_handlers(0x3d, fields, Flow::Branch(target), handling)
+            }
+            Op::PopHandler => on_handlers(0x3e, Fields::none(), Flow::Next, Handling::Pop),
             Op::Throw => plain(0x49, Fields::none(), 1, 0, Flow::End),
             Op::Return => plain(0x4a, Fields::none(), 0, 0, Flow::End),
         }

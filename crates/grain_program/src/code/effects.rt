@@ -1,4 +1,4 @@
-//! What an instruction does to the operands, and where it leads.
+//! What an instruction does to the operands and the handlers, and where it leads.
 
 ghost use Rattle.std.specs.Prelude.{◌≡◌};
 ghost use Rattle.grain_program.specs.Effects.{effect_of};
@@ -18,12 +18,26 @@ pub enum Flow {
     End,
 }
 
-/// How many operands an instruction takes and then gives, and where the machine goes.
+/// What an instruction does to the handlers of its frame.
+#[derive(Clone, Copy, Debug, PartialEq, Eq)]
+pub enum Handling {
+    /// Nothing.
+    Keep,
+    /// One more, which leads to this address. The name of this index is that of its variable, if it
+    /// has one.
+    Push(u32, Option<u16>),
+    /// The innermost goes.
+    Pop,
+}
+
+/// How many operands an instruction takes and then gives, where the machine goes, and what becomes
+/// of the handlers.
 #[derive(Clone, Copy, Debug, PartialEq, Eq)]
 pub struct Effect {
     pub takes: u32,
     pub gives: u32,
     pub flow: Flow,
+    pub handling: Handling,
 }
 
 impl Effect {

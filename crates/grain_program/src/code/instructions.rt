@@ -51,6 +51,12 @@ pub enum Op {
     Checkpoint,
     /// `statement d`: does nothing.
     Statement(u16),
+    /// `push_handler T`: a handler, which leads to the target.
+    PushHandler(u32),
+    /// `push_handler_var T N`: a handler with a variable of that name.
+    PushHandlerVar(u32, u16),
+    /// `pop_handler`: the innermost handler goes.
+    PopHandler,
     /// `throw`: raises the last operand.
     Throw,
     /// `return`: the last operand, or unit.

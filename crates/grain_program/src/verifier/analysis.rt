@@ -1,56 +1,69 @@
 //! The search for a typing.
 
-ghost use Rattle.std.specs.Prelude.{◌≡◌, ◌<◌, ◌^◌, [], length, IfOk, MatchOption};
+ghost use Rattle.std.specs.Prelude.{◌≡◌, ◌<◌, ◌≤◌, ◌^◌, [], length, IfOk, MatchOption};
 ghost use Rattle.std.specs.List.{AllByRecursion};
 ghost use Rattle.grain_program.specs.Effects.{leads};
 ghost use Rattle.grain_program.specs.Typing.{nothing_seen, with_lowest, arrive, arrive_all, take_at, analyse_chunk, Gives, Ready, IsAnalysable};
+ghost use Rattle.grain_program.specs.Numbered.{shape_of, state_of};
 
 use crate::code::bytes::decode;
 use crate::code::effects::{Effect, Flow};
 use crate::code::parts::Chunk;
+use crate::verifier::handlers::HandlerLists;
 use crate::verifier::refusals::Refusal;
-use crate::verifier::shapes::{Shape, Shapes};
+use crate::verifier::shapes::{NumberedShape, Shapes};
 use crate::verifier::waiting::Waiting;
 use grain_value::{Blob, OutOfMemory};
 use std::alloc::Global;
 use std::marker::Model;
 
-/// The shapes that are known, and the addresses that wait to be taken.
+/// The shapes that are known, the addresses that wait to be taken, and the lists of handlers.
 #[derive(Drop)]
 pub struct HeightAnalysis {
     shapes: Shapes,
     waiting: Waiting,
+    handlers: HandlerLists,
 }
 
 impl Model for HeightAnalysis {
-    ghost use Rattle.grain_program.specs.Typing.{AnalysisState};
+    ghost use Rattle.grain_program.specs.Numbered.{Search, AreNumbered};
 
-    ghost Value = { AnalysisState };
+    ghost Value = { Search };
 
-    ghost view = { λ s. record { shapes = s.shapes; waiting = s.waiting } };
+    ghost view = { λ s. record {
+      shapes = s.shapes;
+      waiting = s.waiting;
+      lists = s.handlers;
+    } };
+
+    ghost invariant = { λ s. AreNumbered s.handlers s.shapes };
 }
 
 impl HeightAnalysis {
     /// Nothing is known at len addresses, and none waits.
     pub fn new(alloc: Global, len: usize) -> Result<HeightAnalysis, OutOfMemory>
-        ensures { IfOk result (λ analysis. analysis ≡ nothing_seen len) }
+        ensures { IfOk result (λ analysis. state_of analysis ≡ nothing_seen len) }
     {
         let shapes = Shapes::new(alloc, len)?;
         Ok(HeightAnalysis {
             shapes,
             waiting: Waiting::new(alloc),
+            handlers: HandlerLists::new(alloc),
         })
     }
 
     /// The shape comes to the address, which waits unless it was known.
-    fn arrive(&mut self, shape: Shape, address: usize) -> Result<(), Refusal>
+    fn arrive(&mut self, shape: NumberedShape, address: usize) -> Result<(), Refusal>
         requires within { address < length self.old.shapes }
         requires small { shape.height < 2 ^ 16 }
+        requires numbered { shape.list ≤ length self.old.lists }
         ensures length_same { length self.new.shapes ≡ length self.old.shapes }
-        ensures exact { Gives self.new result (arrive shape self.old address) }
+        ensures lists_same { self.new.lists ≡ self.old.lists }
+        ensures exact { Gives (state_of self.new) result (arrive (shape_of self.old.lists shape)
+            (state_of self.old) address) }
     {
         if let Some(known) = self.shapes.get(address) {
-            return match known.clash(shape, address) {
+            return match self.handlers.clash(known, shape, address) {
                 Some(refusal) => Err(refusal),
                 None => Ok(()),
             };
@@ -61,11 +74,13 @@ impl HeightAnalysis {
     }
 
     /// The shape comes wherever the flow leads, to the lower address first.
-    fn arrive_by(&mut self, shape: Shape, flow: Flow, next: usize) -> Result<(), Refusal>
+    fn arrive_by(&mut self, shape: NumberedShape, flow: Flow, next: usize) -> Result<(), Refusal>
         requires within { AllByRecursion (λ b. b < length self.old.shapes) (leads flow next) }
         requires small { shape.height < 2 ^ 16 }
+        requires numbered { shape.list ≤ length self.old.lists }
         ensures length_same { length self.new.shapes ≡ length self.old.shapes }
-        ensures exact { Gives self.new result (arrive_all shape (leads flow next) self.old) }
+        ensures exact { Gives (state_of self.new) result (arrive_all (shape_of self.old.lists shape)
+            (leads flow next) (state_of self.old)) }
     {
         match flow {
             Flow::Next => self.arrive(shape, next),
@@ -87,15 +102,16 @@ impl HeightAnalysis {
     /// The lowest address that waits, which waits no longer. Where none waits, nothing changes.
     fn lowest(&mut self) -> Option<usize>
         ensures { MatchOption result ((self.old.waiting ≡ []) × (self.new ≡ self.old))
-            (λ a. self.old ≡ with_lowest a self.new) }
+            (λ a. state_of self.old ≡ with_lowest a (state_of self.new)) }
     {
         self.waiting.pop_lowest()
     }
 
     /// Takes the instruction at the address, in a chunk whose frame may have max operands.
     fn take(&mut self, code: &Blob, max: u16, address: usize) -> Result<(), Refusal>
-        requires { Ready code.now self.old.shapes address }
-        ensures { Gives self.new result (take_at code.now max address self.old) }
+        requires { Ready code.now (state_of self.old).shapes address }
+        ensures { Gives (state_of self.new) result (take_at code.now max address (state_of
+            self.old)) }
     {
         let Some((op, width)) = decode(code, address) else {
             unreachable!()
@@ -104,7 +120,7 @@ impl HeightAnalysis {
             unreachable!()
         };
         let effect = Effect::of(op);
-        match shape.stepped(max, address, effect) {
+        match self.handlers.stepped(shape, max, address, effect) {
             Ok(after) => self.arrive_by(after, effect.flow, address + width),
             Err(refusal) => Err(refusal),
         }
@@ -113,12 +129,14 @@ impl HeightAnalysis {
     /// Takes the instructions of the chunk from its entry on, the lowest waiting address each time,
     /// until none waits.
     pub fn analyse_chunk(&mut self, code: &Blob, chunk: Chunk) -> Result<(), Refusal>
-        requires { IsAnalysable code.now chunk self.old }
-        ensures exact { Gives self.new result (analyse_chunk code.now chunk self.old) }
+        requires { IsAnalysable code.now chunk (state_of self.old) }
+        ensures exact { Gives (state_of self.new) result (analyse_chunk code.now chunk (state_of
+            self.old)) }
         ensures rest { IfOk result (λ _. (self.new.waiting ≡ []) × (length self.new.shapes ≡ length
             code.now)) }
     {
-        self.arrive(Shape { height: 0 }, chunk.entry as usize)?;
+        let bare = NumberedShape { height: 0, list: 0 };
+        self.arrive(bare, chunk.entry as usize)?;
         while let Some(address) = self.lowest() {
             self.take(code, chunk.max_stack, address)?;
         }

@@ -26,8 +26,13 @@ pub enum Refusal {
     HeightDisagrees(usize),
     /// There are more operands after the instruction there than the chunk may have.
     TooDeep(usize),
-    /// There are fewer operands than the instruction there takes.
+    /// There are fewer operands than the instruction there takes, or no handler that it could take
+    /// away.
     Underflow(usize),
+    /// Two ways to the instruction there come with different handlers.
+    HandlerDisagrees(usize),
+    /// The instruction there takes operands that were there where the innermost handler was pushed.
+    UnderTry(usize),
     /// The instruction there needs a capability that the program does not have.
     Capability(usize),
     /// There was no memory for the verification.
@@ -47,6 +52,8 @@ impl Refusal {
             Refusal::HeightDisagrees(address) => address,
             Refusal::TooDeep(address) => address,
             Refusal::Underflow(address) => address,
+            Refusal::HandlerDisagrees(address) => address,
+            Refusal::UnderTry(address) => address,
             Refusal::Capability(address) => address,
             Refusal::Memory => 0,
         }
@@ -64,6 +71,8 @@ impl Refusal {
             Refusal::HeightDisagrees(_) => 5,
             Refusal::TooDeep(_) => 6,
             Refusal::Underflow(_) => 7,
+            Refusal::HandlerDisagrees(_) => 8,
+            Refusal::UnderTry(_) => 9,
             Refusal::Capability(_) => 12,
             Refusal::Memory => 13,
         }

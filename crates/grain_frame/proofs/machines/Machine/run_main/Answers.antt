@@ -1,4 +1,4 @@
-use Rattle.std.proofs.Common.{◌≡◌, ◌∙◌, ◌+◌, None, ap, subst}
+use Rattle.std.proofs.Common.{◌≡◌, ◌∙◌, ◌+◌, None, refl, ap, subst}
 use Rattle.grain_stack.specs.Views.{StacksView}
 use Rattle.grain_means.specs.Worlds.{Setup}
 use Rattle.grain_means.specs.Rules.{called}
@@ -117,5 +117,5 @@ returns-clause-provided g c =
     begin c.args.scope.now c.args.cells.now c.args.host.now c.args.global.now in
     let m : Setup g.row.H.Denot = setup g.H.Host.law c.args.program.now c.self.inside.engine.now in
     rw (← c.self.view_is)
-    (λ f w comes. c.provided.ensures m None (first_world b) w f c.run_main-back.ensures.valid
+    (λ f w comes. c.provided.ensures m None (first_world b) w f c.run_main-back.ensures.valid refl
     comes)

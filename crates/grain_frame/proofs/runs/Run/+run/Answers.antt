@@ -1,6 +1,4 @@
-use Rattle.std.proofs.Common.{◌∙◌, ◌≡◌, Option, Ok, Err, length, refl, ap, subst, arith}
-use Rattle.grain_means.specs.Worlds.{Frame, Place}
-use Rattle.grain_means.specs.Rules.{without}
+use Rattle.std.proofs.Common.{◌∙◌, ℕ, Option, Ok, Err, refl, sym, ap, subst, arith}
 use Rattle.grain_frame.specs.Counts.{Counts}
 use Rattle.grain_frame.specs.Abstraction.{abstraction, frame_in, IsPending, Stepped, StaysTyped}
 use Rattle.grain_frame.specs.declared.activations.Activation.{Activation}
@@ -8,9 +6,13 @@ use Rattle.grain_frame.specs.declared.runs.Progress.{Progress}
 use Rattle.grain_frame.specs.declared.runs.Run.{Run}
 use Rattle.grain_frame.specs.declared.loops.Pending.{Pending}
 use Rattle.grain_frame.proofs.Arms.{call_stepped}
-use Rattle.grain_frame.proofs.Calling.{call_over, call_ran, has_begun, not_begun, entered_with, found_is, params_are, there_is, outer_is}
-use Rattle.grain_frame.proofs.Measure.{falls}
+use Rattle.grain_frame.proofs.Calling.{call_over, call_ran, has_begun, not_begun, entered_with, kept_with, refused_here, found_is, params_are, there_is, outer_is}
+use Rattle.grain_frame.proofs.Measure.{falls, taken}
 use Rattle.grain_frame.proofs.Turns.{moved_back, turn, flowed, left_out, next_runs, taken_back}
+use Rattle.grain_frame.specs.Catching.{standing, StopsSo, Caught, CaughtAt}
+use Rattle.grain_frame.specs.declared.loops.Stop.{Stop}
+use Rattle.grain_frame.proofs.CatchSteps.{caught_runs, offered_so, stopped_at, stopped_so}
+use Rattle.grain_means.specs.lemmas.Stretches.{compose}
 use Rattle.grain_frame.proofs.runs.Run.+run.Goals as goal
 
 pub call-returns-in-Err-clause-goes : goal.call-returns-in-Err-clause-goes
@@ -23,7 +25,6 @@ call-returns-in-Err-clause-goes g t c =
     c.function_at-function.ensures.value in
     let all = params_are p c.from.result c.args.count c.from-count.result c.in-Some.number function
     c.from-count.ensures c.in-Some.ensures.called c.function_at-function.ensures.value in
-    let cut : Option Place → Frame = λ place. without (length function.params) (f place) in
     call_over f c.args.name c.args.count c.args.next function found all
     (c.in-Err.ensures.same c.args.next)
 
@@ -37,10 +38,12 @@ call-returns-else-begun-clause-goes g t c =
     c.function_at-function.ensures.value in
     let all = params_are p c.from.result c.args.count c.from-count.result c.in-Some.number function
     c.from-count.ensures c.in-Some.ensures.called c.function_at-function.ensures.value in
-    let cut : Option Place → Frame = λ place. without (length function.params) (f place) in
+    let kept = kept_with c.args.context.engine.now function c.args.self.now c.begin.new.self
+    c.in-Ok.begun c.if-begun.false c.in-Ok.ensures.enters in
     call_over f c.args.name c.args.count c.args.next function found all
-    (not_begun c.in-Ok.begun c.args.self.now c.begin.new.self function cut c.args.next
-    c.if-begun.false (c.in-Ok.ensures.same c.args.next))
+    (refused_here c.args.frame.now c.args.self.now c.begin.new.self kept
+    (not_begun c.in-Ok.begun c.args.self.now c.begin.new.self function f c.args.next
+    c.if-begun.false (c.in-Ok.ensures.same c.args.next)))
 
 pub call-returns-then-begun-clause-goes : goal.call-returns-then-begun-clause-goes
 call-returns-then-begun-clause-goes g t c =
@@ -52,15 +55,14 @@ call-returns-then-begun-clause-goes g t c =
     c.function_at-function.ensures.value in
     let all = params_are p c.from.result c.args.count c.from-count.result c.in-Some.number function
     c.from-count.ensures c.in-Some.ensures.called c.function_at-function.ensures.value in
-    let cut : Option Place → Frame = λ place. without (length function.params) (f place) in
     let entered = entered_with c.args.context.engine.now function c.args.self.now c.begin.new.self
     c.in-Ok.begun c.if-begun.true c.in-Ok.ensures.enters in
     let ran = c.run_frame-end in
     call_ran f c.args.name c.args.count c.args.next function found c.args.self.now.scope
     c.args.self.now.level all
-    (has_begun c.in-Ok.begun c.args.self.now c.begin.new.self function cut c.args.next
-    c.if-begun.true (c.in-Ok.ensures.same c.args.next))
-    (λ place. rw entered.operands refl) refl ran.ensures.goes
+    (has_begun c.in-Ok.begun c.args.self.now c.begin.new.self function f c.args.next
+    c.if-begun.true (c.in-Ok.ensures.same c.args.next)) all
+    (λ place. rw (entered.operands, entered.handlers) refl) refl ran.ensures.goes
     (there_is c.args.context.engine.now c.args.frame.now c.resume_caller.new.frame c.args.self.now
     c.begin.new.self ran.new.self c.resume_caller.new.self function c.args.count c.args.next
     entered ran.ensures.outer ran.ensures.saved ran.ensures.level ran.new.steps ran.new.host)
@@ -95,14 +97,14 @@ proceed-returns-in-Other g t c =
           c.step-progress.new.host) same did;
     }
 
-pub run_frame-turn-smaller-in-Done : goal.run_frame-turn-smaller-in-Done
-run_frame-turn-smaller-in-Done g t c =
+pub run_from-turn-smaller-in-Done : goal.run_from-turn-smaller-in-Done
+run_from-turn-smaller-in-Done g t c =
     let did = c.in-Done.ensures c.turn.host in
     falls c.args.context.engine.now c.turn.self.count c.quick.new.self.count c.turn.frame.address
     c.quick.new.frame.address did.stays.1 did.stays.2
 
-pub run_frame-turn-preserved-in-Done : goal.run_frame-turn-preserved-in-Done
-run_frame-turn-preserved-in-Done g t c =
+pub run_from-turn-preserved-in-Done : goal.run_from-turn-preserved-in-Done
+run_from-turn-preserved-in-Done g t c =
     let did = c.in-Done.ensures c.turn.host in
     let now = c.turn.invariant in
     let fewer = falls c.args.context.engine.now c.turn.self.count c.quick.new.self.count
@@ -111,49 +113,57 @@ run_frame-turn-preserved-in-Done g t c =
       goes = turn (abstraction c.turn.self c.turn.steps c.turn.host)
           (rw (c.mark.ensures, c.tick.ensures) refl) now.goes did.goes;
       runs = next_runs c.args.context.program.now c.turn.frame c.quick.new.frame c.turn.self
-          c.quick.new.self now.runs did.kept did.stays.0;
+          c.quick.new.self now.runs did.kept did.stays.0
+          did.stays.3;
       outer = did.kept.outer ∙ now.outer;
       saved = did.kept.saved ∙ now.saved;
       level = did.kept.level ∙ now.level;
       later = omega (arith, did.kept.later, now.later);
       fewer = omega (arith, fewer, now.fewer);
+      chunk = did.kept.chunk ∙ now.chunk;
+      base = did.kept.base ∙ now.base;
+      room = did.kept.room ∙ now.room;
       before = did.before ∙
           (ap (λ (k : Counts). k.before) c.mark.ensures ∙
           (ap (λ (k : Counts). k.before) c.tick.ensures ∙ now.before));
     }
 
-pub run_frame-returns-in-Returned-clause-goes : goal.run_frame-returns-in-Returned-clause-goes
-run_frame-returns-in-Returned-clause-goes g t c =
+pub run_from-returns-in-Returned-clause-goes : goal.run_from-returns-in-Returned-clause-goes
+run_from-returns-in-Returned-clause-goes g t c =
     let did = c.in-Returned.ensures c.turn.host in
     turn (abstraction c.turn.self c.turn.steps c.turn.host)
     (rw (c.mark.ensures, c.tick.ensures) refl) c.turn.invariant.goes did.goes
 
-pub run_frame-returns-in-Returned-clause-outer : goal.run_frame-returns-in-Returned-clause-outer
-run_frame-returns-in-Returned-clause-outer g t c =
+pub run_from-returns-in-Returned-clause-outer : goal.run_from-returns-in-Returned-clause-outer
+run_from-returns-in-Returned-clause-outer g t c =
     let did = c.in-Returned.ensures c.turn.host in did.kept.outer ∙ c.turn.invariant.outer
 
-pub run_frame-returns-in-Returned-clause-saved : goal.run_frame-returns-in-Returned-clause-saved
-run_frame-returns-in-Returned-clause-saved g t c =
+pub run_from-returns-in-Returned-clause-room : goal.run_from-returns-in-Returned-clause-room
+run_from-returns-in-Returned-clause-room g t c =
+    let did = c.in-Returned.ensures c.turn.host in did.kept.room ∙ c.turn.invariant.room
+
+pub run_from-returns-in-Returned-clause-saved : goal.run_from-returns-in-Returned-clause-saved
+run_from-returns-in-Returned-clause-saved g t c =
     let did = c.in-Returned.ensures c.turn.host in did.kept.saved ∙ c.turn.invariant.saved
 
-pub run_frame-returns-in-Returned-clause-level : goal.run_frame-returns-in-Returned-clause-level
-run_frame-returns-in-Returned-clause-level g t c =
+pub run_from-returns-in-Returned-clause-level : goal.run_from-returns-in-Returned-clause-level
+run_from-returns-in-Returned-clause-level g t c =
     let did = c.in-Returned.ensures c.turn.host in did.kept.level ∙ c.turn.invariant.level
 
-pub run_frame-returns-in-Returned-clause-later : goal.run_frame-returns-in-Returned-clause-later
-run_frame-returns-in-Returned-clause-later g t c =
+pub run_from-returns-in-Returned-clause-later : goal.run_from-returns-in-Returned-clause-later
+run_from-returns-in-Returned-clause-later g t c =
     let did =
     c.in-Returned.ensures c.turn.host in omega (arith, did.kept.later, c.turn.invariant.later)
 
-pub run_frame-returns-in-Returned-clause-before : goal.run_frame-returns-in-Returned-clause-before
-run_frame-returns-in-Returned-clause-before g t c =
+pub run_from-returns-in-Returned-clause-before : goal.run_from-returns-in-Returned-clause-before
+run_from-returns-in-Returned-clause-before g t c =
     let did = c.in-Returned.ensures c.turn.host in
     did.before ∙
     (ap (λ (k : Counts). k.before) c.mark.ensures ∙
     (ap (λ (k : Counts). k.before) c.tick.ensures ∙ c.turn.invariant.before))
 
-pub run_frame-returns-in-Err-clause-goes : goal.run_frame-returns-in-Err-clause-goes
-run_frame-returns-in-Err-clause-goes g t c =
+pub run_from-returns-in-Err-clause-goes : goal.run_from-returns-in-Err-clause-goes
+run_from-returns-in-Err-clause-goes g t c =
     let at = frame_in c.jump.new.frame c.jump.new.self in
     let did =
     moved_back
@@ -168,8 +178,8 @@ run_frame-returns-in-Err-clause-goes g t c =
     (turn (abstraction c.turn.self c.turn.steps c.turn.host)
     (rw (c.mark.ensures, c.tick.ensures) refl) c.turn.invariant.goes did.goes)
 
-pub run_frame-turn-preserved-in-Continues : goal.run_frame-turn-preserved-in-Continues
-run_frame-turn-preserved-in-Continues g t c =
+pub run_from-turn-preserved-in-Continues : goal.run_from-turn-preserved-in-Continues
+run_from-turn-preserved-in-Continues g t c =
     let at = frame_in c.jump.new.frame c.jump.new.self in
     let did =
     moved_back
@@ -189,20 +199,24 @@ run_frame-turn-preserved-in-Continues g t c =
           (turn (abstraction c.turn.self c.turn.steps c.turn.host)
           (rw (c.mark.ensures, c.tick.ensures) refl) now.goes did.goes);
       runs = next_runs c.args.context.program.now c.turn.frame c.jump.new.frame c.turn.self
-          c.jump.new.self now.runs did.kept stays.0;
+          c.jump.new.self now.runs did.kept stays.0
+          stays.3;
       outer = did.kept.outer ∙ now.outer;
       saved = did.kept.saved ∙ now.saved;
       level = did.kept.level ∙ now.level;
       later = omega (arith, did.kept.later, now.later);
       fewer = omega (arith, fewer, now.fewer);
+      chunk = did.kept.chunk ∙ now.chunk;
+      base = did.kept.base ∙ now.base;
+      room = did.kept.room ∙ now.room;
       before = did.before ∙
           (ap (λ (k : Counts). k.before) c.mark.ensures ∙
           (ap (λ (k : Counts). k.before) c.tick.ensures ∙ now.before));
     }
 
-pub run_frame-returns-in-Returned-progress-clause-goes :
-    goal.run_frame-returns-in-Returned-progress-clause-goes
-run_frame-returns-in-Returned-progress-clause-goes g t c =
+pub run_from-returns-in-Returned-progress-clause-goes :
+    goal.run_from-returns-in-Returned-progress-clause-goes
+run_from-returns-in-Returned-progress-clause-goes g t c =
     let at = frame_in c.jump.new.frame c.jump.new.self in
     let did =
     moved_back
@@ -214,28 +228,8 @@ run_frame-returns-in-Returned-progress-clause-goes g t c =
     (turn (abstraction c.turn.self c.turn.steps c.turn.host)
     (rw (c.mark.ensures, c.tick.ensures) refl) c.turn.invariant.goes did.goes)
 
-pub run_frame-returns-in-Failed-clause-goes : goal.run_frame-returns-in-Failed-clause-goes
-run_frame-returns-in-Failed-clause-goes g t c =
-    let at = frame_in c.jump.new.frame c.jump.new.self in
-    let did =
-    moved_back
-    (λ (s : Run g.row.H.Denot) (f : Activation) (n : Counts).
-    Stepped g.H.Host.law c.args.context.program.now c.args.context.engine.now f s n
-    (Ok c.in-Ok.progress) c.jump.new.frame c.jump.new.self c.jump.new.steps c.turn.host
-    c.jump.new.host) c.in-Jump.ensures.0 c.in-Ok.ensures.stepped in
-    let left = c.leave_by_fault-in-Failed in
-    let fault : left.new.self.fault ≡ c.jump.new.self.fault =
-    ap (λ (s : Run g.row.H.Denot). s.fault) left.ensures in
-    rw fault (left_out (abstraction c.jump.new.self c.jump.new.steps c.jump.new.host)
-    (abstraction left.new.self c.jump.new.steps c.jump.new.host) at
-    c.jump.new.frame.floor c.jump.new.frame.address (λ place. refl) (λ place. refl)
-    (rw left.ensures refl)
-    (flowed at c.jump.new.self.fault c.in-Failed.is
-    (turn (abstraction c.turn.self c.turn.steps c.turn.host)
-    (rw (c.mark.ensures, c.tick.ensures) refl) c.turn.invariant.goes did.goes)))
-
-pub run_frame-returns-in-Err-proceed-clause-goes : goal.run_frame-returns-in-Err-proceed-clause-goes
-run_frame-returns-in-Err-proceed-clause-goes g t c =
+pub run_from-returns-in-Err-proceed-clause-goes : goal.run_from-returns-in-Err-proceed-clause-goes
+run_from-returns-in-Err-proceed-clause-goes g t c =
     let at = frame_in c.proceed.new.frame c.proceed.new.self in
     let did =
     moved_back
@@ -250,8 +244,8 @@ run_frame-returns-in-Err-proceed-clause-goes g t c =
     (turn (abstraction c.turn.self c.turn.steps c.turn.host)
     (rw (c.mark.ensures, c.tick.ensures) refl) c.turn.invariant.goes did.goes)
 
-pub run_frame-turn-preserved : goal.run_frame-turn-preserved
-run_frame-turn-preserved g t c =
+pub run_from-turn-preserved : goal.run_from-turn-preserved
+run_from-turn-preserved g t c =
     let at = frame_in c.proceed.new.frame c.proceed.new.self in
     let did =
     moved_back
@@ -273,20 +267,24 @@ run_frame-turn-preserved g t c =
           (turn (abstraction c.turn.self c.turn.steps c.turn.host)
           (rw (c.mark.ensures, c.tick.ensures) refl) now.goes did.goes);
       runs = next_runs c.args.context.program.now c.turn.frame c.proceed.new.frame c.turn.self
-          c.proceed.new.self now.runs did.kept stays.0;
+          c.proceed.new.self now.runs did.kept stays.0
+          stays.3;
       outer = did.kept.outer ∙ now.outer;
       saved = did.kept.saved ∙ now.saved;
       level = did.kept.level ∙ now.level;
       later = omega (arith, did.kept.later, now.later);
       fewer = omega (arith, fewer, now.fewer);
+      chunk = did.kept.chunk ∙ now.chunk;
+      base = did.kept.base ∙ now.base;
+      room = did.kept.room ∙ now.room;
       before = did.before ∙
           (ap (λ (k : Counts). k.before) c.mark.ensures ∙
           (ap (λ (k : Counts). k.before) c.tick.ensures ∙ now.before));
     }
 
-pub run_frame-returns-in-Returned-progress-2-clause-goes :
-    goal.run_frame-returns-in-Returned-progress-2-clause-goes
-run_frame-returns-in-Returned-progress-2-clause-goes g t c =
+pub run_from-returns-in-Returned-progress-2-clause-goes :
+    goal.run_from-returns-in-Returned-progress-2-clause-goes
+run_from-returns-in-Returned-progress-2-clause-goes g t c =
     let at = frame_in c.proceed.new.frame c.proceed.new.self in
     let did =
     moved_back
@@ -299,24 +297,141 @@ run_frame-returns-in-Returned-progress-2-clause-goes g t c =
     (turn (abstraction c.turn.self c.turn.steps c.turn.host)
     (rw (c.mark.ensures, c.tick.ensures) refl) c.turn.invariant.goes did.goes)
 
-pub run_frame-returns-in-Failed-progress-clause-goes :
-    goal.run_frame-returns-in-Failed-progress-clause-goes
-run_frame-returns-in-Failed-progress-clause-goes g t c =
-    let at = frame_in c.proceed.new.frame c.proceed.new.self in
+pub run_from-returns-in-Failed-clause-goes : goal.run_from-returns-in-Failed-clause-goes
+run_from-returns-in-Failed-clause-goes g t c =
+    let did =
+    moved_back
+    (λ (s : Run g.row.H.Denot) (f : Activation) (n : Counts).
+    Stepped g.H.Host.law c.args.context.program.now c.args.context.engine.now f s n
+    (Ok c.in-Ok.progress) c.jump.new.frame c.jump.new.self c.jump.new.steps
+    c.turn.host c.jump.new.host) c.in-Jump.ensures.0 c.in-Ok.ensures.stepped in
+    stopped_at c.args.chunk.now c.args.base c.jump.new.frame c.jump.new.self
+    (did.kept.chunk ∙ c.turn.invariant.chunk) (did.kept.base ∙ c.turn.invariant.base)
+    (flowed (frame_in c.jump.new.frame c.jump.new.self) c.jump.new.self.fault
+    c.in-Failed.is
+    (turn (abstraction c.turn.self c.turn.steps c.turn.host)
+    (rw (c.mark.ensures, c.tick.ensures) refl) c.turn.invariant.goes did.goes))
+
+pub run_from-returns-in-Failed-clause-catches : goal.run_from-returns-in-Failed-clause-catches
+run_from-returns-in-Failed-clause-catches g t c =
+    let did =
+    moved_back
+    (λ (s : Run g.row.H.Denot) (f : Activation) (n : Counts).
+    Stepped g.H.Host.law c.args.context.program.now c.args.context.engine.now f s n
+    (Ok c.in-Ok.progress) c.jump.new.frame c.jump.new.self c.jump.new.steps
+    c.turn.host c.jump.new.host) c.in-Jump.ensures.0 c.in-Ok.ensures.stepped in
+    let can =
+    subst (λ (q : Progress). StaysTyped c.args.context.program.now c.args.context.engine.now
+    c.turn.self c.turn.frame c.jump.new.self c.jump.new.frame (Ok q)) c.in-Failed.is
+    did.stays in (
+      did.kept.noted ∙ c.turn.invariant.runs.unnoted,
+      (
+        can.0,
+        can.1,
+        rw (sym (did.kept.chunk ∙ c.turn.invariant.chunk)) can.2,
+        rw (sym (did.kept.base ∙ c.turn.invariant.base)) can.3,
+      ),
+    )
+
+pub run_from-returns-in-Failed-progress-clause-goes : goal.run_from-returns-in-Failed-progress-clause-goes
+run_from-returns-in-Failed-progress-clause-goes g t c =
     let did =
     moved_back
     (λ (s : Run g.row.H.Denot) (f : Activation) (n : Counts).
     Stepped g.H.Host.law c.args.context.program.now c.args.context.engine.now f s n
     (Ok c.in-Ok-proceed.progress) c.proceed.new.frame c.proceed.new.self c.proceed.new.steps
-    c.turn.host
-    c.proceed.new.host) c.in-Pending.ensures.0 c.in-Ok-proceed.ensures.stepped in
-    let left = c.leave_by_fault-in-Failed-progress in
-    let fault : left.new.self.fault ≡ c.proceed.new.self.fault =
-    ap (λ (s : Run g.row.H.Denot). s.fault) left.ensures in
-    rw fault (left_out (abstraction c.proceed.new.self c.proceed.new.steps c.proceed.new.host)
-    (abstraction left.new.self c.proceed.new.steps c.proceed.new.host) at
-    c.proceed.new.frame.floor c.proceed.new.frame.address (λ place. refl) (λ place. refl)
-    (rw left.ensures refl)
-    (flowed at c.proceed.new.self.fault c.in-Failed-progress.is
+    c.turn.host c.proceed.new.host) c.in-Pending.ensures.0 c.in-Ok-proceed.ensures.stepped in
+    stopped_at c.args.chunk.now c.args.base c.proceed.new.frame c.proceed.new.self
+    (did.kept.chunk ∙ c.turn.invariant.chunk) (did.kept.base ∙ c.turn.invariant.base)
+    (flowed (frame_in c.proceed.new.frame c.proceed.new.self) c.proceed.new.self.fault
+    c.in-Failed-progress.is
     (turn (abstraction c.turn.self c.turn.steps c.turn.host)
-    (rw (c.mark.ensures, c.tick.ensures) refl) c.turn.invariant.goes did.goes)))
+    (rw (c.mark.ensures, c.tick.ensures) refl) c.turn.invariant.goes did.goes))
+
+pub run_from-returns-in-Failed-progress-clause-catches : goal.run_from-returns-in-Failed-progress-clause-catches
+run_from-returns-in-Failed-progress-clause-catches g t c =
+    let did =
+    moved_back
+    (λ (s : Run g.row.H.Denot) (f : Activation) (n : Counts).
+    Stepped g.H.Host.law c.args.context.program.now c.args.context.engine.now f s n
+    (Ok c.in-Ok-proceed.progress) c.proceed.new.frame c.proceed.new.self c.proceed.new.steps
+    c.turn.host c.proceed.new.host) c.in-Pending.ensures.0 c.in-Ok-proceed.ensures.stepped in
+    let can =
+    subst (λ (q : Progress). StaysTyped c.args.context.program.now c.args.context.engine.now
+    c.turn.self c.turn.frame c.proceed.new.self c.proceed.new.frame (Ok q)) c.in-Failed-progress.is
+    did.stays in (
+      did.kept.noted ∙ c.turn.invariant.runs.unnoted,
+      (
+        can.0,
+        can.1,
+        rw (sym (did.kept.chunk ∙ c.turn.invariant.chunk)) can.2,
+        rw (sym (did.kept.base ∙ c.turn.invariant.base)) can.3,
+      ),
+    )
+
+pub run_frame-returns-in-Err-clause-goes : goal.run_frame-returns-in-Err-clause-goes
+run_frame-returns-in-Err-clause-goes g t c =
+    compose c.frame.invariant.goes c.in-Err.ensures.goes tt
+
+pub run_frame-returns-in-Value-clause-goes : goal.run_frame-returns-in-Value-clause-goes
+run_frame-returns-in-Value-clause-goes g t c =
+    compose c.frame.invariant.goes
+    (stopped_so c.args.chunk.now c.args.base c.run_from.new.self c.in-Value.is c.in-Ok.ensures.goes)
+    tt
+
+pub run_frame-catch-requires-clause-catches : goal.run_frame-catch-requires-clause-catches
+run_frame-catch-requires-clause-catches g t c = (
+  standing c.args.chunk.now c.args.base c.in-Fault.at c.in-Fault.low,
+  (subst (λ (q : Stop). StopsSo c.args.context.program.now c.args.chunk.now c.args.base
+      c.run_from.new.self (Ok q)) c.in-Fault.is c.in-Ok.ensures.catches).1,
+)
+
+pub run_frame-returns-in-Err-catch-clause-goes : goal.run_frame-returns-in-Err-catch-clause-goes
+run_frame-returns-in-Err-catch-clause-goes g t c =
+    let at = standing c.args.chunk.now c.args.base c.in-Fault.at c.in-Fault.low in
+    compose (compose c.frame.invariant.goes
+    (stopped_so c.args.chunk.now c.args.base c.run_from.new.self c.in-Fault.is
+    c.in-Ok.ensures.goes) tt) (c.in-Err-catch.ensures.goes at refl refl) tt
+
+pub run_frame-returns-in-None-clause-goes : goal.run_frame-returns-in-None-clause-goes
+run_frame-returns-in-None-clause-goes g t c =
+    let at = standing c.args.chunk.now c.args.base c.in-Fault.at c.in-Fault.low in
+    compose (compose c.frame.invariant.goes
+    (stopped_so c.args.chunk.now c.args.base c.run_from.new.self c.in-Fault.is
+    c.in-Ok.ensures.goes) tt)
+    (offered_so (frame_in at c.catch.new.self) c.catch.new.self.fault c.in-None.is
+    (c.in-Ok-catch.ensures.goes at refl refl)) tt
+
+pub run_frame-frame-preserved : goal.run_frame-frame-preserved
+run_frame-frame-preserved g t c =
+    let p = c.args.context.program.now in
+    let engine = c.args.context.engine.now in
+    let at = standing c.args.chunk.now c.args.base c.in-Fault.at c.in-Fault.low in
+    let did = c.in-Ok.ensures in
+    let stops =
+    subst (λ (q : Stop). StopsSo p c.args.chunk.now c.args.base c.run_from.new.self (Ok q))
+    c.in-Fault.is did.catches in
+    let kept =
+    subst (λ (o : Option ℕ). Caught engine c.run_from.new.self c.catch.new.self (Ok o))
+    c.in-Some.is c.in-Ok-catch.ensures.kept in
+    let typed =
+    subst (λ (o : Option ℕ). CaughtAt p at c.catch.new.self (Ok o)) c.in-Some.is
+    (c.in-Ok-catch.ensures.typed at stops.1) in
+    let now = c.frame.invariant in
+    let fewer = taken engine c.frame.self.count c.catch.new.self.count c.frame.address
+    c.in-Some.target (omega (arith, did.later, kept.2)) (omega (arith, did.later, kept.3)) in
+    record {
+      goes = compose (compose now.goes
+          (stopped_so c.args.chunk.now c.args.base c.run_from.new.self c.in-Fault.is did.goes) tt)
+          (offered_so (frame_in at c.catch.new.self) c.catch.new.self.fault c.in-Some.is
+          (c.in-Ok-catch.ensures.goes at refl refl)) tt;
+      runs = caught_runs p engine c.args.chunk.now c.args.base c.frame.address c.frame.floor
+          c.in-Fault.at c.in-Fault.low c.in-Some.target c.frame.self c.run_from.new.self
+          c.catch.new.self now.runs did.room did.outer stops.0 kept typed;
+      outer = kept.0.outer ∙ (did.outer ∙ now.outer);
+      saved = kept.0.saved ∙ (did.saved ∙ now.saved);
+      level = kept.0.level ∙ (did.level ∙ now.level);
+      later = omega (arith, did.later, now.later, kept.2);
+      fewer = omega (arith, fewer, now.fewer);
+      before = c.catch.ensures.before ∙ (c.run_from.ensures.before ∙ now.before);
+    }

@@ -1,6 +1,5 @@
-use Rattle.std.proofs.Common.{rules, refl, ap, arith, ◌≡◌, ◌-◌, length, Ok}
+use Rattle.std.proofs.Common.{rules, refl, arith, ◌≡◌, ◌-◌, length, Ok}
 use Rattle.grain_value.specs.Operands.{under, arguments}
-use Rattle.grain_stack.specs.Views.{StacksView}
 use Rattle.grain_ops.specs.Outcomes.{NotBuiltIn, Gave, ArithmeticFault, TooLarge}
 use Rattle.grain_means.specs.Rules.{operated}
 use Rattle.std.proofs.lemmas.List.{length-take}
@@ -14,6 +13,9 @@ returns-in-Value g c =
     search rules in
     let cut : c.cut.new.self ≡ record c.args.self.now.stacks
     { operands = under c.args.count c.args.self.now.stacks.operands } = search rules in
+    let long =
+    length-take (length c.args.self.now.stacks.operands - c.args.count)
+    c.args.self.now.stacks.operands in
     record {
       performs = implements_after g.H.Host.law c.args.context.program.now c.args.context.engine.now
           c.args.frame.now c.push_on.new.frame c.args.self.now c.push_on.new.self c.args.steps.now
@@ -21,13 +23,8 @@ returns-in-Value g c =
           c.args.host.now c.args.host.now cut
           (c.push_on.ensures.implements c.args.context.program.now c.args.context.engine.now
           c.args.host.now)
-          (λ stop u place. rw (gives, ap (λ (v : StacksView). v.operands) cut) refl) (λ b i. i)
-          (omega (
-            arith,
-            ap (λ (v : StacksView). length v.operands) cut,
-            length-take (length c.args.self.now.stacks.operands - c.args.count)
-                c.args.self.now.stacks.operands,
-          ));
+          (λ stop u place. rw (gives, cut) refl) (λ b i. i) (omega (arith, long))
+          (omega (arith, long));
     }
 
 pub returns-in-Arithmetic : goal.returns-in-Arithmetic
@@ -78,5 +75,5 @@ returns-in-NotBuiltIn g c =
           c.args.self.now.stacks.operands c.args.host.now c.native_on.new.host refl
           c.native_on.ensures.implements
           (λ stop u place. rw (gives, c.from-arguments.ensures) refl) (λ b i. i)
-          (rw c.from-arguments.ensures refl);
+          (rw c.from-arguments.ensures refl) (rw c.from-arguments.ensures (omega arith));
     }

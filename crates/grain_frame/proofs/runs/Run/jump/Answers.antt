@@ -1,3 +1,4 @@
+use Rattle.std.proofs.Common.{refl}
 use Rattle.grain_program.specs.declared.code.instructions.Op.TheVariants as op
 use Rattle.grain_frame.proofs.Arms.{stood}
 use Rattle.grain_frame.proofs.runs.Run.jump.Goals as goal
@@ -7,7 +8,7 @@ returns g c =
     let at = c.requires.here in
     record {
       stepped = stood g.H.Host.law c.args.context.program.now c.args.context.engine.now
-          c.args.frame.now c.args.self.now (op.Jump c.args.target) at.0 at.1 c.requires.runs
+          c.args.frame.now c.args.self.now (op.Jump c.args.target) at.0 refl at.1 c.requires.runs
           c.args.steps.now c.jump_to.new.frame c.jump_to.new.self c.jump_to.new.steps
           c.args.host.now c.jump_to.new.host c.jump_to.ensures.implements;
     }

@@ -1,7 +1,6 @@
-use Rattle.std.proofs.Common.{rules, refl, ap, arith, ◌≡◌, ◌-◌, length, true, false, Some}
+use Rattle.std.proofs.Common.{rules, refl, arith, ◌≡◌, ◌-◌, length, true, false, Some}
 use Rattle.grain_value.specs.Operands.{top, below}
 use Rattle.grain_value.specs.Looking.{truth_of}
-use Rattle.grain_stack.specs.Views.{StacksView}
 use Rattle.grain_means.specs.Rules.{agrees}
 use Rattle.std.proofs.lemmas.List.{length-take}
 use Rattle.grain_means.specs.Simulation.{stopped, world}
@@ -16,6 +15,8 @@ returns-then-agrees g c =
     let truth : truth_of (top c.args.self.now.stacks.operands).value ≡ Some c.in-Some.truth =
     search rules in
     let agreed : agrees c.args.wanted c.in-Some.truth ≡ true = search rules in
+    let long =
+    length-take (length c.args.self.now.stacks.operands - 1) c.args.self.now.stacks.operands in
     record {
       implements = implements_after g.H.Host.law c.args.context.program.now
           c.args.context.engine.now c.args.frame.now c.jump_to.new.frame c.args.self.now
@@ -28,14 +29,9 @@ returns-then-agrees g c =
           c.args.frame.now c.args.self.now c.pop-value.new.self c.args.wanted c.args.target
           c.args.next c.in-Some.truth place
           (world (abstraction c.args.self.now c.args.steps.now c.args.host.now) u) truth agreed
-          (ap (λ (v : StacksView). v.operands) c.pop-value.ensures.rest))
+          c.pop-value.ensures.rest)
           (to_target c.args.target c.args.next)
-          (omega (
-            arith,
-            ap (λ (v : StacksView). length v.operands) c.pop-value.ensures.rest,
-            length-take (length c.args.self.now.stacks.operands - 1)
-                c.args.self.now.stacks.operands,
-          ));
+          (omega (arith, long)) (omega (arith, long));
     }
 
 pub returns-in-Some : goal.returns-in-Some
@@ -43,6 +39,8 @@ returns-in-Some g c =
     let truth : truth_of (top c.args.self.now.stacks.operands).value ≡ Some c.in-Some.truth =
     search rules in
     let agreed : agrees c.args.wanted c.in-Some.truth ≡ false = search rules in
+    let long =
+    length-take (length c.args.self.now.stacks.operands - 1) c.args.self.now.stacks.operands in
     record {
       implements = implements_after g.H.Host.law c.args.context.program.now
           c.args.context.engine.now c.args.frame.now c.go_on.new.frame c.args.self.now
@@ -52,12 +50,7 @@ returns-in-Some g c =
           (c.go_on.ensures.implements c.args.context.program.now c.args.context.engine.now
           c.args.host.now)
           (λ stop u place.
-          rw (truth, agreed, ap (λ (v : StacksView). v.operands) c.pop-value.ensures.rest) refl)
+          rw (truth, agreed, c.pop-value.ensures.rest) refl)
           (to_next c.args.target c.args.next)
-          (omega (
-            arith,
-            ap (λ (v : StacksView). length v.operands) c.pop-value.ensures.rest,
-            length-take (length c.args.self.now.stacks.operands - 1)
-                c.args.self.now.stacks.operands,
-          ));
+          (omega (arith, long)) (omega (arith, long));
     }

@@ -1,4 +1,4 @@
-use Rattle.std.proofs.Common.{◌≡◌, ◌∙◌, ◌+◌, ◌-◌, List, None, true, subst, length, refl, sym, ap, arith, rules}
+use Rattle.std.proofs.Common.{◌≡◌, ◌∙◌, ◌-◌, List, None, true, subst, length, refl, sym, ap, arith, rules}
 use Rattle.std.proofs.lemmas.List.{length-take}
 use Rattle.grain_program.specs.View.{name_of}
 use Rattle.grain_value.specs.Operands.{arguments, under}
@@ -122,7 +122,7 @@ returns-in-Value g c =
           c.call_native.ensures.run c.call_native.ensures.before
           c.requires.inside
           c.push_on.new.frame c.push_on.new.self c.push_on.new.steps c.in-Value.value c.args.next
-          (length s.stacks.operands - c.args.count + 1) ops c.cut.new.self
+          c.args.count ops c.cut.new.self
           (rw c.in-Value.is at did) cut
           (c.push_on.ensures.implements p c.args.context.engine.now c.call_native.new.host)
           (omega (arith, length-take (length s.stacks.operands - c.args.count) s.stacks.operands)))

@@ -1,4 +1,4 @@
-use Rattle.std.proofs.Common.{◌∷◌, [], ◌+◌, ◌-◌, None, length, subst}
+use Rattle.std.proofs.Common.{◌∷◌, [], None, subst}
 use Rattle.grain_program.specs.View.{name_of}
 use Rattle.grain_value.specs.Operands.{arguments, under}
 use Rattle.grain_means.specs.Rules.{native, pushed, raised}
@@ -22,7 +22,7 @@ returns g c =
           (frame_in f s place) w
           (λ v w1. pushed m (frame_in f s place) c.args.next (under c.args.count ops) v w1)
           (raised m (frame_in f s place)))
-          (c.args.next ∷ []) (length ops - c.args.count + 1) c.native_on-progress.result x
+          (c.args.next ∷ []) c.args.count 1 s.stacks.handlers c.native_on-progress.result x
           c.native_on-progress.new.self c.native_on-progress.new.steps c.args.host.now
           c.native_on-progress.new.host) same did;
     }

@@ -1,14 +1,20 @@
-use Rattle.std.proofs.Common.{refl}
+use Rattle.grain_frame.proofs.Arms.{typed_with}
+use Rattle.std.proofs.Common.{refl, inl}
 use Rattle.grain_program.specs.declared.code.instructions.Op.TheVariants as op
-use Rattle.grain_frame.proofs.Arms.{tried_out, tried_or, tried_on, stepped, stands}
+use Rattle.grain_frame.proofs.Arms.{tried_out, tried_or, tried_on, stepped, stands, leads_typed}
 use Rattle.grain_frame.proofs.runs.Run.quick.Goals as goal
+
+pub fetch-requires : goal.fetch-requires
+fetch-requires g c =
+    typed_with c.args.context.program.now c.args.frame.now c.args.self.now c.height-depth.result
+    c.height-depth.ensures c.requires.runs
 
 pub returns-in-LoadConst-default : goal.returns-in-LoadConst-default
 returns-in-LoadConst-default g c =
     tried_out g.H.Host.law c.args.context.program.now c.args.context.engine.now c.args.frame.now
     c.args.self.now c.fetch.result.0 (op.LoadConst c.in-LoadConst-default.constant)
     c.fetch.result.1 c.height-depth.result c.in-LoadConst-default.is-0 c.height-depth.ensures
-    c.requires.runs c.fetch.ensures.verified c.fetch.ensures.read c.args.steps.now
+    c.requires.runs c.fetch.ensures.verified c.fetch.ensures.read refl c.args.steps.now
     c.quick_const.new.frame c.quick_const.new.self c.quick_const.new.steps c.quick_const.result
     c.of.result c.of.ensures c.quick_const.ensures.performs c.quick_const.ensures.undone
     (λ name count e. cc)
@@ -18,7 +24,7 @@ returns-in-LoadLocal-default g c =
     tried_out g.H.Host.law c.args.context.program.now c.args.context.engine.now c.args.frame.now
     c.args.self.now c.fetch.result.0 (op.LoadLocal c.in-LoadLocal-default.slot) c.fetch.result.1
     c.height-depth.result c.in-LoadLocal-default.is-0 c.height-depth.ensures c.requires.runs
-    c.fetch.ensures.verified c.fetch.ensures.read c.args.steps.now c.quick_local.new.frame
+    c.fetch.ensures.verified c.fetch.ensures.read refl c.args.steps.now c.quick_local.new.frame
     c.quick_local.new.self c.quick_local.new.steps c.quick_local.result
     c.of-in-LoadLocal-default.result c.of-in-LoadLocal-default.ensures
     c.quick_local.ensures.performs c.quick_local.ensures.undone (λ name count e. cc)
@@ -30,7 +36,7 @@ returns-in-AssignLocalOp-default g c =
     (op.AssignLocalOp c.in-AssignLocalOp-default.slot c.in-AssignLocalOp-default.name
     c.in-AssignLocalOp-default.op) c.fetch.result.1 c.height-depth.result
     c.in-AssignLocalOp-default.is-0 c.height-depth.ensures c.requires.runs
-    c.fetch.ensures.verified c.fetch.ensures.read c.args.steps.now c.quick_assign.new.frame
+    c.fetch.ensures.verified c.fetch.ensures.read refl c.args.steps.now c.quick_assign.new.frame
     c.quick_assign.new.self c.quick_assign.new.steps c.quick_assign.result
     c.of-in-AssignLocalOp-default.result c.of-in-AssignLocalOp-default.ensures
     c.quick_assign.ensures.performs c.quick_assign.ensures.undone (λ name count e. cc)
@@ -45,7 +51,7 @@ returns-in-Jump-default g c =
     tried_or g.H.Host.law c.args.context.program.now c.args.context.engine.now c.args.frame.now
     c.args.self.now c.fetch.result.0 (op.Jump c.in-Jump-default.target) c.fetch.result.1
     c.height-depth.result c.in-Jump-default.is-0 c.height-depth.ensures c.requires.runs
-    c.fetch.ensures.verified c.fetch.ensures.read c.args.steps.now c.quick_jump-done.new.frame
+    c.fetch.ensures.verified c.fetch.ensures.read refl c.args.steps.now c.quick_jump-done.new.frame
     c.quick_jump-done.new.self c.quick_jump-done.new.steps c.quick_jump-done.result
     c.in-Jump-default.target c.or.result c.or.ensures
     c.quick_jump-done.ensures.performs c.quick_jump-done.ensures.undone (_, at)
@@ -55,7 +61,7 @@ returns-in-JumpIfFalse-default g c =
     tried_out g.H.Host.law c.args.context.program.now c.args.context.engine.now c.args.frame.now
     c.args.self.now c.fetch.result.0 (op.JumpIfFalse c.in-JumpIfFalse-default.target)
     c.fetch.result.1 c.height-depth.result c.in-JumpIfFalse-default.is-0 c.height-depth.ensures
-    c.requires.runs c.fetch.ensures.verified c.fetch.ensures.read c.args.steps.now
+    c.requires.runs c.fetch.ensures.verified c.fetch.ensures.read refl c.args.steps.now
     c.quick_jump_if.new.frame c.quick_jump_if.new.self c.quick_jump_if.new.steps
     c.quick_jump_if.result c.of-in-JumpIfFalse-default.result
     c.of-in-JumpIfFalse-default.ensures c.quick_jump_if.ensures.implements
@@ -66,7 +72,7 @@ returns-in-JumpIfTrue-default g c =
     tried_out g.H.Host.law c.args.context.program.now c.args.context.engine.now c.args.frame.now
     c.args.self.now c.fetch.result.0 (op.JumpIfTrue c.in-JumpIfTrue-default.target)
     c.fetch.result.1 c.height-depth.result c.in-JumpIfTrue-default.is-0 c.height-depth.ensures
-    c.requires.runs c.fetch.ensures.verified c.fetch.ensures.read c.args.steps.now
+    c.requires.runs c.fetch.ensures.verified c.fetch.ensures.read refl c.args.steps.now
     c.quick_jump_if-in-JumpIfTrue-default.new.frame
     c.quick_jump_if-in-JumpIfTrue-default.new.self
     c.quick_jump_if-in-JumpIfTrue-default.new.steps c.quick_jump_if-in-JumpIfTrue-default.result
@@ -80,17 +86,25 @@ returns-in-CallOp-default g c =
     c.args.self.now c.fetch.result.0
     (op.CallOp c.in-CallOp-default.name c.in-CallOp-default.count c.in-CallOp-default.token)
     c.fetch.result.1 c.height-depth.result c.in-CallOp-default.is-0 c.height-depth.ensures
-    c.requires.runs c.fetch.ensures.verified c.fetch.ensures.read c.args.steps.now
+    c.requires.runs c.fetch.ensures.verified c.fetch.ensures.read refl c.args.steps.now
     c.quick_op.new.frame c.quick_op.new.self c.quick_op.new.steps c.quick_op.result
     c.of-in-CallOp-default.result c.of-in-CallOp-default.ensures c.quick_op.ensures.performs
     c.quick_op.ensures.undone (λ name count e. cc)
+
+pub quick_op-requires-clause-typed : goal.quick_op-requires-clause-typed
+quick_op-requires-clause-typed g c =
+    leads_typed g.H.Host.law c.args.context.program.now c.args.context.engine.now c.args.frame.now
+    c.args.self.now c.fetch.result.0
+    (op.CallOp c.in-CallOp-default.name c.in-CallOp-default.count c.in-CallOp-default.token)
+    c.fetch.result.1 c.height-depth.result c.in-CallOp-default.is-0 c.height-depth.ensures
+    c.requires.runs c.fetch.ensures.verified refl _ (inl refl)
 
 pub returns-in-Return-default : goal.returns-in-Return-default
 returns-in-Return-default g c =
     λ host. stepped g.H.Host.law c.args.context.program.now c.args.context.engine.now
     c.args.frame.now c.args.self.now c.fetch.result.0 op.Return c.fetch.result.1
     c.height-depth.result c.in-Return-default.is-0 c.height-depth.ensures c.requires.runs
-    c.fetch.ensures.verified c.fetch.ensures.read c.args.steps.now c.args.frame.now
+    c.fetch.ensures.verified c.fetch.ensures.read refl c.args.steps.now c.args.frame.now
     c.return_value.new.self c.return_value.new.steps host host
     (rw c.return_value.ensures.over at
     (c.return_value.ensures.performs c.args.context.program.now c.args.context.engine.now host))

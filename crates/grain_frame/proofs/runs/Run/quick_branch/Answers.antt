@@ -1,10 +1,24 @@
+use Rattle.grain_frame.proofs.Arms.{typed_with}
 -- The branch is done from where its comparison would have left the frame.
-use Rattle.std.proofs.Common.{◌≡◌, ◌-◌, length, arith}
+use Rattle.std.proofs.Common.{◌≡◌, ◌-◌, length, refl, arith}
 use Rattle.grain_program.specs.declared.code.instructions.Op.TheVariants as op
 use Rattle.grain_frame.specs.Following.{answered, begun_one}
 use Rattle.grain_frame.proofs.Arms.{tried, stepped}
 use Rattle.grain_frame.proofs.Branching.{length_answered}
 use Rattle.grain_frame.proofs.runs.Run.quick_branch.Goals as goal
+
+pub fetch-requires : goal.fetch-requires
+fetch-requires g c =
+    let p = c.args.context.program.now in
+    let e = c.args.context.engine.now in
+    let s = c.args.self.now in
+    typed_with p c.args.frame.now (answered s c.args.truth) (c.height-depth.result - 1)
+    (omega (
+      arith,
+      c.height-depth.ensures,
+      length_answered g.H.Host.law p e c.args.frame.now s
+          c.args.truth c.requires.two,
+    )) c.requires.runs
 
 pub returns-in-JumpIfFalse-default-clause-stepped :
     goal.returns-in-JumpIfFalse-default-clause-stepped
@@ -23,7 +37,7 @@ returns-in-JumpIfFalse-default-clause-stepped g c =
     (λ did host. stepped g.H.Host.law p e c.args.frame.now (answered s c.args.truth)
     c.fetch.result.0 (op.JumpIfFalse c.in-JumpIfFalse-default.target) c.fetch.result.1
     (c.height-depth.result - 1) c.in-JumpIfFalse-default.is-0 deep c.requires.runs
-    c.fetch.ensures.verified c.fetch.ensures.read (begun_one c.args.steps.now)
+    c.fetch.ensures.verified c.fetch.ensures.read refl (begun_one c.args.steps.now)
     c.branch_to.new.frame c.branch_to.new.self c.branch_to.new.steps host host (did host))
 
 pub returns-in-JumpIfTrue-default-clause-stepped : goal.returns-in-JumpIfTrue-default-clause-stepped
@@ -43,5 +57,5 @@ returns-in-JumpIfTrue-default-clause-stepped g c =
     (λ did host. stepped g.H.Host.law p e c.args.frame.now (answered s c.args.truth)
     c.fetch.result.0 (op.JumpIfTrue c.in-JumpIfTrue-default.target) c.fetch.result.1
     (c.height-depth.result - 1) c.in-JumpIfTrue-default.is-0 deep c.requires.runs
-    c.fetch.ensures.verified c.fetch.ensures.read (begun_one c.args.steps.now) to.new.frame
+    c.fetch.ensures.verified c.fetch.ensures.read refl (begun_one c.args.steps.now) to.new.frame
     to.new.self to.new.steps host host (did host))

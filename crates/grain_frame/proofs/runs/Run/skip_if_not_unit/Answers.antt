@@ -15,7 +15,7 @@ returns-then-is_unit g c =
           (c.go_on.ensures.implements c.args.context.program.now c.args.context.engine.now
           c.args.host.now)
           (λ stop u place. rw unit refl) (to_next c.args.target c.args.next)
-          (omega (arith, c.requires.ready.operands));
+          (omega (arith, c.requires.ready.operands)) (omega arith);
     }
 
 pub returns-else-is_unit : goal.returns-else-is_unit
@@ -27,5 +27,5 @@ returns-else-is_unit g c =
           c.jump_to.new.steps c.args.self.now.stacks c.args.self.now.stacks.operands c.args.host.now
           c.jump_to.new.host refl c.jump_to.ensures.implements
           (λ stop u place. rw unit refl) (to_target c.args.target c.args.next)
-          (omega (arith, c.requires.ready.operands));
+          (omega (arith, c.requires.ready.operands)) (omega arith);
     }

@@ -1,8 +1,16 @@
-use Rattle.std.proofs.Common.{◌∙◌, ap, Some}
+use Rattle.grain_frame.proofs.Arms.{typed_with}
+use Rattle.std.proofs.Common.{◌∙◌, ◌∷◌, ◌+◌, ◌-◌, ap, refl, length, Some, None}
 use Rattle.grain_program.specs.declared.code.instructions.Op.{Op}
 use Rattle.grain_program.specs.declared.code.instructions.Op.TheVariants as op
-use Rattle.grain_frame.proofs.Arms.{stepped}
+use Rattle.grain_frame.specs.Catching.{armed, around}
+use Rattle.grain_frame.proofs.Arms.{here, stepped, stepped_with}
+use Rattle.grain_frame.proofs.Handled.{one_tried, outer_tried, outer_above, some_tried}
 use Rattle.grain_frame.proofs.runs.Run.step.Goals as goal
+
+pub fetch-requires : goal.fetch-requires
+fetch-requires g c =
+    typed_with c.args.context.program.now c.args.frame.now c.args.self.now c.height-depth.result
+    c.height-depth.ensures c.requires.runs
 
 pub unreachable-requires : goal.unreachable-requires
 unreachable-requires g c =
@@ -18,7 +26,7 @@ returns-in-LoadConst-default g c =
           (op.LoadConst c.in-LoadConst-default.constant) c.fetch.result.1 c.height-depth.result
           c.in-LoadConst-default.is-0 c.height-depth.ensures c.requires.runs
           c.fetch.ensures.verified
-          c.fetch.ensures.read c.args.steps.now c.load_const.new.frame c.load_const.new.self
+          c.fetch.ensures.read refl c.args.steps.now c.load_const.new.frame c.load_const.new.self
           c.load_const.new.steps c.args.host.now c.args.host.now
           (c.load_const.ensures.performs c.args.host.now);
     }
@@ -29,7 +37,7 @@ returns-in-Unit-default g c =
       stepped = stepped g.H.Host.law c.args.context.program.now c.args.context.engine.now
           c.args.frame.now c.args.self.now c.fetch.result.0 (op.Unit) c.fetch.result.1
           c.height-depth.result c.in-Unit-default.is-0 c.height-depth.ensures c.requires.runs
-          c.fetch.ensures.verified c.fetch.ensures.read c.args.steps.now c.push_on.new.frame
+          c.fetch.ensures.verified c.fetch.ensures.read refl c.args.steps.now c.push_on.new.frame
           c.push_on.new.self c.push_on.new.steps c.args.host.now c.args.host.now
           (c.push_on.ensures.implements c.args.context.program.now c.args.context.engine.now
           c.args.host.now);
@@ -41,7 +49,7 @@ returns-in-False-default g c =
       stepped = stepped g.H.Host.law c.args.context.program.now c.args.context.engine.now
           c.args.frame.now c.args.self.now c.fetch.result.0 (op.False) c.fetch.result.1
           c.height-depth.result c.in-False-default.is-0 c.height-depth.ensures c.requires.runs
-          c.fetch.ensures.verified c.fetch.ensures.read c.args.steps.now
+          c.fetch.ensures.verified c.fetch.ensures.read refl c.args.steps.now
           c.push_on-in-False-default.new.frame c.push_on-in-False-default.new.self
           c.push_on-in-False-default.new.steps c.args.host.now c.args.host.now
           (c.push_on-in-False-default.ensures.implements c.args.context.program.now
@@ -54,7 +62,7 @@ returns-in-True-default g c =
       stepped = stepped g.H.Host.law c.args.context.program.now c.args.context.engine.now
           c.args.frame.now c.args.self.now c.fetch.result.0 (op.True) c.fetch.result.1
           c.height-depth.result c.in-True-default.is-0 c.height-depth.ensures c.requires.runs
-          c.fetch.ensures.verified c.fetch.ensures.read c.args.steps.now
+          c.fetch.ensures.verified c.fetch.ensures.read refl c.args.steps.now
           c.push_on-in-True-default.new.frame c.push_on-in-True-default.new.self
           c.push_on-in-True-default.new.steps c.args.host.now c.args.host.now
           (c.push_on-in-True-default.ensures.implements c.args.context.program.now
@@ -68,7 +76,7 @@ returns-in-LoadLocal-default g c =
           c.args.frame.now c.args.self.now c.fetch.result.0
           (op.LoadLocal c.in-LoadLocal-default.slot)
           c.fetch.result.1 c.height-depth.result c.in-LoadLocal-default.is-0 c.height-depth.ensures
-          c.requires.runs c.fetch.ensures.verified c.fetch.ensures.read c.args.steps.now
+          c.requires.runs c.fetch.ensures.verified c.fetch.ensures.read refl c.args.steps.now
           c.load_local.new.frame c.load_local.new.self c.load_local.new.steps c.args.host.now
           c.args.host.now (c.load_local.ensures.performs c.args.host.now);
     }
@@ -81,7 +89,7 @@ returns-in-StoreLocal-default g c =
           (op.StoreLocal c.in-StoreLocal-default.slot) c.fetch.result.1 c.height-depth.result
           c.in-StoreLocal-default.is-0 c.height-depth.ensures c.requires.runs
           c.fetch.ensures.verified
-          c.fetch.ensures.read c.args.steps.now c.store.new.frame c.store.new.self c.store.new.steps
+          c.fetch.ensures.read refl c.args.steps.now c.store.new.frame c.store.new.self c.store.new.steps
           c.args.host.now c.args.host.now (c.store.ensures.implements c.args.host.now);
     }
 
@@ -93,7 +101,7 @@ returns-in-StoreConst-default g c =
           (op.StoreConst c.in-StoreConst-default.slot) c.fetch.result.1 c.height-depth.result
           c.in-StoreConst-default.is-0 c.height-depth.ensures c.requires.runs
           c.fetch.ensures.verified
-          c.fetch.ensures.read c.args.steps.now c.store-in-StoreConst-default.new.frame
+          c.fetch.ensures.read refl c.args.steps.now c.store-in-StoreConst-default.new.frame
           c.store-in-StoreConst-default.new.self c.store-in-StoreConst-default.new.steps
           c.args.host.now c.args.host.now
           (c.store-in-StoreConst-default.ensures.implements c.args.host.now);
@@ -106,7 +114,7 @@ returns-in-DeclareLocal-default g c =
           c.args.frame.now c.args.self.now c.fetch.result.0
           (op.DeclareLocal c.in-DeclareLocal-default.name) c.fetch.result.1 c.height-depth.result
           c.in-DeclareLocal-default.is-0 c.height-depth.ensures c.requires.runs
-          c.fetch.ensures.verified c.fetch.ensures.read c.args.steps.now c.declare.new.frame
+          c.fetch.ensures.verified c.fetch.ensures.read refl c.args.steps.now c.declare.new.frame
           c.declare.new.self c.declare.new.steps c.args.host.now c.args.host.now
           (c.declare.ensures.implements c.args.host.now);
     }
@@ -118,7 +126,7 @@ returns-in-DeclareConst-default g c =
           c.args.frame.now c.args.self.now c.fetch.result.0
           (op.DeclareConst c.in-DeclareConst-default.name) c.fetch.result.1 c.height-depth.result
           c.in-DeclareConst-default.is-0 c.height-depth.ensures c.requires.runs
-          c.fetch.ensures.verified c.fetch.ensures.read c.args.steps.now
+          c.fetch.ensures.verified c.fetch.ensures.read refl c.args.steps.now
           c.declare-in-DeclareConst-default.new.frame c.declare-in-DeclareConst-default.new.self
           c.declare-in-DeclareConst-default.new.steps c.args.host.now c.args.host.now
           (c.declare-in-DeclareConst-default.ensures.implements c.args.host.now);
@@ -132,7 +140,7 @@ returns-in-AssignLocal-default g c =
           (op.AssignLocal c.in-AssignLocal-default.slot c.in-AssignLocal-default.name)
           c.fetch.result.1 c.height-depth.result c.in-AssignLocal-default.is-0
           c.height-depth.ensures
-          c.requires.runs c.fetch.ensures.verified c.fetch.ensures.read c.args.steps.now
+          c.requires.runs c.fetch.ensures.verified c.fetch.ensures.read refl c.args.steps.now
           c.assign_local.new.frame c.assign_local.new.self c.assign_local.new.steps c.args.host.now
           c.args.host.now (c.assign_local.ensures.performs c.args.host.now);
     }
@@ -145,7 +153,7 @@ returns-in-AssignLocalOp-default g c =
           (op.AssignLocalOp c.in-AssignLocalOp-default.slot c.in-AssignLocalOp-default.name
           c.in-AssignLocalOp-default.op) c.fetch.result.1 c.height-depth.result
           c.in-AssignLocalOp-default.is-0 c.height-depth.ensures c.requires.runs
-          c.fetch.ensures.verified c.fetch.ensures.read c.args.steps.now c.assign_local_op.new.frame
+          c.fetch.ensures.verified c.fetch.ensures.read refl c.args.steps.now c.assign_local_op.new.frame
           c.assign_local_op.new.self c.assign_local_op.new.steps c.args.host.now
           c.assign_local_op.new.host c.assign_local_op.ensures.performs;
     }
@@ -156,7 +164,7 @@ returns-in-Pop-default g c =
       stepped = stepped g.H.Host.law c.args.context.program.now c.args.context.engine.now
           c.args.frame.now c.args.self.now c.fetch.result.0 (op.Pop) c.fetch.result.1
           c.height-depth.result c.in-Pop-default.is-0 c.height-depth.ensures c.requires.runs
-          c.fetch.ensures.verified c.fetch.ensures.read c.args.steps.now c.pop_on.new.frame
+          c.fetch.ensures.verified c.fetch.ensures.read refl c.args.steps.now c.pop_on.new.frame
           c.pop_on.new.self c.pop_on.new.steps c.args.host.now c.args.host.now
           (c.pop_on.ensures.performs c.args.context.program.now c.args.context.engine.now
           c.args.host.now);
@@ -168,7 +176,7 @@ returns-in-Rotate-default g c =
       stepped = stepped g.H.Host.law c.args.context.program.now c.args.context.engine.now
           c.args.frame.now c.args.self.now c.fetch.result.0 (op.Rotate c.in-Rotate-default.under)
           c.fetch.result.1 c.height-depth.result c.in-Rotate-default.is-0 c.height-depth.ensures
-          c.requires.runs c.fetch.ensures.verified c.fetch.ensures.read c.args.steps.now
+          c.requires.runs c.fetch.ensures.verified c.fetch.ensures.read refl c.args.steps.now
           c.rotate.new.frame c.rotate.new.self c.rotate.new.steps c.args.host.now c.args.host.now
           (c.rotate.ensures.performs c.args.context.program.now c.args.context.engine.now
           c.args.host.now);
@@ -180,7 +188,7 @@ returns-in-Jump-default g c =
       stepped = stepped g.H.Host.law c.args.context.program.now c.args.context.engine.now
           c.args.frame.now c.args.self.now c.fetch.result.0 (op.Jump c.in-Jump-default.target)
           c.fetch.result.1 c.height-depth.result c.in-Jump-default.is-0 c.height-depth.ensures
-          c.requires.runs c.fetch.ensures.verified c.fetch.ensures.read c.args.steps.now
+          c.requires.runs c.fetch.ensures.verified c.fetch.ensures.read refl c.args.steps.now
           c.jump_to.new.frame c.jump_to.new.self c.jump_to.new.steps c.args.host.now
           c.jump_to.new.host c.jump_to.ensures.implements;
     }
@@ -192,7 +200,7 @@ returns-in-JumpIfFalse-default g c =
           c.args.frame.now c.args.self.now c.fetch.result.0
           (op.JumpIfFalse c.in-JumpIfFalse-default.target) c.fetch.result.1 c.height-depth.result
           c.in-JumpIfFalse-default.is-0 c.height-depth.ensures c.requires.runs
-          c.fetch.ensures.verified c.fetch.ensures.read c.args.steps.now c.jump_if.new.frame
+          c.fetch.ensures.verified c.fetch.ensures.read refl c.args.steps.now c.jump_if.new.frame
           c.jump_if.new.self c.jump_if.new.steps c.args.host.now c.jump_if.new.host
           c.jump_if.ensures.implements;
     }
@@ -205,7 +213,7 @@ returns-in-JumpIfTrue-default g c =
           (op.JumpIfTrue c.in-JumpIfTrue-default.target) c.fetch.result.1 c.height-depth.result
           c.in-JumpIfTrue-default.is-0 c.height-depth.ensures c.requires.runs
           c.fetch.ensures.verified
-          c.fetch.ensures.read c.args.steps.now c.jump_if-in-JumpIfTrue-default.new.frame
+          c.fetch.ensures.read refl c.args.steps.now c.jump_if-in-JumpIfTrue-default.new.frame
           c.jump_if-in-JumpIfTrue-default.new.self c.jump_if-in-JumpIfTrue-default.new.steps
           c.args.host.now c.jump_if-in-JumpIfTrue-default.new.host
           c.jump_if-in-JumpIfTrue-default.ensures.implements;
@@ -219,7 +227,7 @@ returns-in-SkipIfNotUnit-default g c =
           (op.SkipIfNotUnit c.in-SkipIfNotUnit-default.target) c.fetch.result.1
           c.height-depth.result
           c.in-SkipIfNotUnit-default.is-0 c.height-depth.ensures c.requires.runs
-          c.fetch.ensures.verified c.fetch.ensures.read c.args.steps.now
+          c.fetch.ensures.verified c.fetch.ensures.read refl c.args.steps.now
           c.skip_if_not_unit.new.frame
           c.skip_if_not_unit.new.self c.skip_if_not_unit.new.steps c.args.host.now
           c.skip_if_not_unit.new.host c.skip_if_not_unit.ensures.performs;
@@ -232,7 +240,7 @@ returns-in-CallOp-default g c =
           c.args.frame.now c.args.self.now c.fetch.result.0
           (op.CallOp c.in-CallOp-default.name c.in-CallOp-default.count c.in-CallOp-default.token)
           c.fetch.result.1 c.height-depth.result c.in-CallOp-default.is-0 c.height-depth.ensures
-          c.requires.runs c.fetch.ensures.verified c.fetch.ensures.read c.args.steps.now
+          c.requires.runs c.fetch.ensures.verified c.fetch.ensures.read refl c.args.steps.now
           c.call_op.new.frame c.call_op.new.self c.call_op.new.steps c.args.host.now
           c.call_op.new.host c.call_op.ensures.performs;
     }
@@ -244,7 +252,7 @@ returns-in-UnwindTo-default g c =
           c.args.frame.now c.args.self.now c.fetch.result.0
           (op.UnwindTo c.in-UnwindTo-default.depth)
           c.fetch.result.1 c.height-depth.result c.in-UnwindTo-default.is-0 c.height-depth.ensures
-          c.requires.runs c.fetch.ensures.verified c.fetch.ensures.read c.args.steps.now
+          c.requires.runs c.fetch.ensures.verified c.fetch.ensures.read refl c.args.steps.now
           c.unwind_to.new.frame c.unwind_to.new.self c.unwind_to.new.steps c.args.host.now
           c.args.host.now (c.unwind_to.ensures.performs c.args.host.now);
     }
@@ -255,7 +263,7 @@ returns-in-Tick-default g c =
       stepped = stepped g.H.Host.law c.args.context.program.now c.args.context.engine.now
           c.args.frame.now c.args.self.now c.fetch.result.0 (op.Tick) c.fetch.result.1
           c.height-depth.result c.in-Tick-default.is-0 c.height-depth.ensures c.requires.runs
-          c.fetch.ensures.verified c.fetch.ensures.read c.args.steps.now c.tick.new.frame
+          c.fetch.ensures.verified c.fetch.ensures.read refl c.args.steps.now c.tick.new.frame
           c.tick.new.self c.tick.new.steps c.args.host.now c.tick.new.host c.tick.ensures.performs;
     }
 
@@ -265,7 +273,7 @@ returns-in-Checkpoint-default g c =
       stepped = stepped g.H.Host.law c.args.context.program.now c.args.context.engine.now
           c.args.frame.now c.args.self.now c.fetch.result.0 (op.Checkpoint) c.fetch.result.1
           c.height-depth.result c.in-Checkpoint-default.is-0 c.height-depth.ensures c.requires.runs
-          c.fetch.ensures.verified c.fetch.ensures.read c.args.steps.now c.checkpoint.new.frame
+          c.fetch.ensures.verified c.fetch.ensures.read refl c.args.steps.now c.checkpoint.new.frame
           c.checkpoint.new.self c.checkpoint.new.steps c.args.host.now c.args.host.now
           (c.checkpoint.ensures.performs c.args.context.program.now c.args.context.engine.now
           c.args.host.now);
@@ -279,9 +287,69 @@ returns-in-Statement-default g c =
           (op.Statement c.in-Statement-default.field-0-0) c.fetch.result.1 c.height-depth.result
           c.in-Statement-default.is-0 c.height-depth.ensures c.requires.runs
           c.fetch.ensures.verified
-          c.fetch.ensures.read c.args.steps.now c.go_on.new.frame c.go_on.new.self c.go_on.new.steps
+          c.fetch.ensures.read refl c.args.steps.now c.go_on.new.frame c.go_on.new.self c.go_on.new.steps
           c.args.host.now c.args.host.now
           (c.go_on.ensures.implements c.args.context.program.now c.args.context.engine.now
+          c.args.host.now);
+    }
+
+pub returns-in-PushHandler-default : goal.returns-in-PushHandler-default
+returns-in-PushHandler-default g c =
+    let s = c.args.self.now in
+    record {
+      stepped = stepped_with g.H.Host.law c.args.context.program.now c.args.context.engine.now
+          c.args.frame.now s c.fetch.result.0 (op.PushHandler c.in-PushHandler-default.target)
+          c.fetch.result.1 c.height-depth.result c.in-PushHandler-default.is-0
+          c.height-depth.ensures c.requires.runs c.fetch.ensures.verified
+          (armed c.in-PushHandler-default.target None s ∷ s.stacks.handlers)
+          (one_tried c.in-PushHandler-default.target None s)
+          (c.requires.runs.inside, c.requires.runs.above) c.push_handler.new.frame
+          c.push_handler.new.self c.fetch.ensures.read c.args.steps.now c.push_handler.new.steps
+          c.args.host.now c.args.host.now
+          (c.push_handler.ensures.implements c.args.context.program.now
+          c.args.context.engine.now c.args.host.now);
+    }
+
+pub returns-in-PushHandlerVar-default : goal.returns-in-PushHandlerVar-default
+returns-in-PushHandlerVar-default g c =
+    let s = c.args.self.now in
+    let push = c.push_handler-in-PushHandlerVar-default in
+    record {
+      stepped = stepped_with g.H.Host.law c.args.context.program.now c.args.context.engine.now
+          c.args.frame.now s c.fetch.result.0
+          (op.PushHandlerVar c.in-PushHandlerVar-default.target c.in-PushHandlerVar-default.name)
+          c.fetch.result.1 c.height-depth.result c.in-PushHandlerVar-default.is-0
+          c.height-depth.ensures c.requires.runs c.fetch.ensures.verified
+          (armed c.in-PushHandlerVar-default.target (Some c.in-PushHandlerVar-default.name) s
+          ∷ s.stacks.handlers)
+          (one_tried c.in-PushHandlerVar-default.target (Some c.in-PushHandlerVar-default.name) s)
+          (c.requires.runs.inside, c.requires.runs.above) push.new.frame push.new.self
+          c.fetch.ensures.read c.args.steps.now push.new.steps c.args.host.now c.args.host.now
+          (rw c.from.ensures at (push.ensures.implements c.args.context.program.now
+          c.args.context.engine.now c.args.host.now));
+    }
+
+pub pop_handler-requires-clause-there : goal.pop_handler-requires-clause-there
+pop_handler-requires-clause-there g c =
+    some_tried c.args.self.now.stacks.handlers
+    (here g.H.Host.law c.args.context.program.now c.args.context.engine.now c.args.frame.now
+    c.args.self.now c.fetch.result.0 op.PopHandler c.fetch.result.1 c.height-depth.result
+    c.in-PopHandler-default.is-0 c.height-depth.ensures c.requires.runs
+    c.fetch.ensures.verified).handler
+
+pub returns-in-PopHandler-default : goal.returns-in-PopHandler-default
+returns-in-PopHandler-default g c =
+    let s = c.args.self.now in
+    record {
+      stepped = stepped_with g.H.Host.law c.args.context.program.now c.args.context.engine.now
+          c.args.frame.now s c.fetch.result.0 op.PopHandler c.fetch.result.1
+          c.height-depth.result c.in-PopHandler-default.is-0 c.height-depth.ensures
+          c.requires.runs c.fetch.ensures.verified (around s.stacks.handlers)
+          (outer_tried (length s.stacks.operands - 0 + 0) s.stacks.handlers) (outer_above c.args.frame.now.base s.stacks.handlers
+          c.requires.runs.above) c.pop_handler.new.frame c.pop_handler.new.self
+          c.fetch.ensures.read c.args.steps.now c.pop_handler.new.steps c.args.host.now
+          c.args.host.now
+          (c.pop_handler.ensures.implements c.args.context.program.now c.args.context.engine.now
           c.args.host.now);
     }
 
@@ -291,7 +359,7 @@ returns-in-Throw-default g c =
       stepped = stepped g.H.Host.law c.args.context.program.now c.args.context.engine.now
           c.args.frame.now c.args.self.now c.fetch.result.0 (op.Throw) c.fetch.result.1
           c.height-depth.result c.in-Throw-default.is-0 c.height-depth.ensures c.requires.runs
-          c.fetch.ensures.verified c.fetch.ensures.read c.args.steps.now c.throw.new.frame
+          c.fetch.ensures.verified c.fetch.ensures.read refl c.args.steps.now c.throw.new.frame
           c.throw.new.self c.throw.new.steps c.args.host.now c.args.host.now
           (c.throw.ensures.performs c.args.host.now);
     }
@@ -302,7 +370,7 @@ returns-in-Return-default g c =
       stepped = stepped g.H.Host.law c.args.context.program.now c.args.context.engine.now
           c.args.frame.now c.args.self.now c.fetch.result.0 (op.Return) c.fetch.result.1
           c.height-depth.result c.in-Return-default.is-0 c.height-depth.ensures c.requires.runs
-          c.fetch.ensures.verified c.fetch.ensures.read c.args.steps.now c.args.frame.now
+          c.fetch.ensures.verified c.fetch.ensures.read refl c.args.steps.now c.args.frame.now
           c.return_value.new.self c.return_value.new.steps c.args.host.now c.args.host.now
           (c.return_value.ensures.performs c.args.context.program.now c.args.context.engine.now
           c.args.host.now);

@@ -27,7 +27,17 @@ returns-in_err-move_to-clause-others c =
     ((c.len.result - length c.args.params.now) + c.bind.index) c.self.inside.slots.operands
     c.bind.self-inside.slots.operands c.move_to.new.self.operands o.0 first (omega arith)
     (ap (λ (v : Filled). v.operands) o.1) i.below in
-    rw (← c.self.view_is, i.bottom, i.room, i.noted, i.outer, i.trace, i.entered, below) refl
+    rw (
+      ← c.self.view_is,
+      i.bottom,
+      i.room,
+      i.noted,
+      i.outer,
+      i.handlers,
+      i.trace,
+      i.entered,
+      below,
+    ) refl
 
 pub bind-preserved : goal.bind-preserved
 bind-preserved c =
@@ -67,6 +77,7 @@ bind-preserved c =
       room = i.room;
       noted = i.noted;
       outer = i.outer;
+      handlers = i.handlers;
       trace = i.trace;
       entered = i.entered;
     }

@@ -17,6 +17,7 @@ invariant-bind l = record {
   room : l.self-inside.room ≡ l.initial.self-inside.room;
   noted : l.self-inside.noted ≡ l.initial.self-inside.noted;
   outer : l.self-inside.outer ≡ l.initial.self-inside.outer;
+  handlers : l.self-inside.handlers ≡ l.initial.self-inside.handlers;
   trace : l.self-inside.trace ≡ l.initial.self-inside.trace;
   entered : l.self-inside.entered ≡ l.initial.self-inside.entered;
 }

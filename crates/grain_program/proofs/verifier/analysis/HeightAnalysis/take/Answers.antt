@@ -1,9 +1,11 @@
 -- The table has a place wherever the instruction leads.
-use Rattle.std.proofs.Common.{◌≡◌, ◌+◌, ◌<◌, Some, sym, subst, ◌∙◌, length}
+use Rattle.std.proofs.Common.{◌≡◌, ◌+◌, ◌<◌, Some, sym, subst, ap, ◌∙◌, length}
 use Rattle.std.specs.List.{AllByRecursion}
 use Rattle.grain_program.specs.declared.code.effects.Effect.{Effect}
 use Rattle.grain_program.specs.Reading.{op_at}
 use Rattle.grain_program.specs.Effects.{leads}
+use Rattle.grain_program.specs.Numbered.{shape_of, Search, state_of}
+use Rattle.grain_program.proofs.Searched.{places, numbered, numbered_still, taken_on}
 use Rattle.grain_program.proofs.verifier.analysis.HeightAnalysis.take.Goals as goal
 
 pub arrive_by-requires-clause-within : goal.arrive_by-requires-clause-within
@@ -14,8 +16,35 @@ arrive_by-requires-clause-within c =
     let here =
     subst (λ (x : Effect). AllByRecursion (λ b. b < length c.args.code.now) (leads x.flow next))
     (sym c.of-effect.ensures) (c.requires.targets (c.in-Some.op, c.in-Some.width) read) in
-    subst (λ n. AllByRecursion (λ b. b < n) (leads c.of-effect.result.flow next))
-    (sym c.requires.room) here
+    let long : length c.args.code.now ≡ length c.self.inside.shapes =
+    sym c.requires.room ∙ places c.args.self.now
+    ∙ ap (λ (f : Search). length f.shapes) (sym c.self.view_is) in
+    subst (λ n. AllByRecursion (λ b. b < n) (leads c.of-effect.result.flow next)) long here
 
 pub unreachable-requires : goal.unreachable-requires
 unreachable-requires c = c.requires.read (sym c.decode.ensures.exact ∙ c.in_default.is)
+
+pub stepped-requires : goal.stepped-requires
+stepped-requires c =
+    numbered c.self.inside.handlers c.self.inside.shapes c.args.address c.in-Some-get.shape
+    c.self.invariant (sym c.in-Some-get.ensures)
+
+pub invariant_of-self : goal.invariant_of-self
+invariant_of-self c =
+    numbered_still c.self.inside.handlers c.stepped.new.self c.stepped.ensures.grown
+    c.self.inside.shapes c.self.invariant
+
+pub invariant_of-self-in-Err : goal.invariant_of-self-in-Err
+invariant_of-self-in-Err c =
+    numbered_still c.self.inside.handlers c.stepped.new.self c.stepped.ensures.grown
+    c.self.inside.shapes c.self.invariant
+
+pub returns-in-Ok : goal.returns-in-Ok
+returns-in-Ok c =
+    taken_on c.args.code.now c.args.max c.args.address c.args.self.now c.self.inside.shapes
+    c.self.inside.waiting c.self.inside.handlers c.stepped.new.self c.self.view_is c.self.invariant
+    c.stepped.ensures.grown (c.in-Some.op, c.in-Some.width)
+    (sym c.decode.ensures.exact ∙ c.in-Some.is) c.in-Some-get.shape (sym c.in-Some-get.ensures)
+    c.of-effect.result c.of-effect.ensures (state_of c.arrive_by.new.self)
+    (shape_of c.stepped.new.self c.in-Ok.after) c.arrive_by.result c.in-Ok.ensures.exact
+    c.arrive_by.ensures.exact

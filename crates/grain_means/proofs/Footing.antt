@@ -1,0 +1,357 @@
+-- What a run stands on, what is known of what is left of it, and causes as they are carried from one
+-- act to another and through handlers.
+use Rattle.std.proofs.Common.{◌≡◌, ◌≤◌, ◌⊎◌, ℕ, List, [], ◌∷◌, Option, Some, None, Bool, true, false, refl, sym, subst, ap, ◌∙◌, inl, inr, if◌then◌else◌}
+use Rattle.grain_value.specs.declared.scopes.Entry.{Entry}
+use Rattle.grain_value.specs.Looking.{is_unit}
+use Rattle.grain_value.specs.Operands.{top}
+use Rattle.grain_fault.specs.Classes.{catchable}
+use Rattle.grain_fault.specs.Positions.{at_position, position_of_problem}
+use Rattle.grain_fault.specs.declared.places.Position.{Position}
+use Rattle.grain_fault.specs.declared.traces.Fault.{Fault}
+use Rattle.grain_fault.specs.Problems.{FaultKind, Malformed, Runtime, Terminated, TooManyOperations, TooManyVariables, Problem, Plain, InFunctionCall, InModule, SystemError, NoMemory}
+use Rattle.grain_program.specs.Typing.{IsProgram}
+use Rattle.grain_means.specs.Worlds.{Act, Go, End, Then, Answer, Came, Failed, World, Setup, Frame, Handler, Todo, InFrame, InCatch}
+use Rattle.grain_means.specs.Rules.{if_armed, is_stop, kind_throws_unit, outer_handlers, position, throws_unit, thrown_anew}
+use Rattle.grain_means.specs.Comes.{ProgramPoint, CatchPoint, Comes, ComesToCatch, Meets, try_of, tries}
+use Rattle.grain_means.specs.Leavings.{Keeps, Cut, Cuts}
+use Rattle.grain_means.specs.Causes.{HasPosition, Why, Throws, Raises, LeftCall, Tells, ThrowsUnit, ThrownAnew, Raised, Row, FailsToCatch, CatchRow, RaisedByCatch, Cause, Caused}
+use Rattle.grain_means.proofs.Moving.{placed_twice, caught_anywhere, unit_anywhere, unit_placed}
+use Rattle.grain_means.proofs.Standing.{Fitting, Covered}
+
+-- what a run keeps: the tokens that are out, the level, and the names of the entries below a base
+pub record Footing : Type 0 where
+  pub tokens : Option (List ℕ)
+  pub level : ℕ
+  pub base : ℕ
+  pub names : List (List ℕ)
+
+-- what the first act comes to, the second comes to
+abbrev pub Onto : {S : Type 0} → Setup S → Act S → Act S → Type 0
+Onto {S = S} m first act = (t : Todo) (w : World S) → Comes m t w first → Comes m t w act
+
+-- A handler caught this fault in a frame of this level: a script may catch it, it has its cause, and
+-- the run of the act came to where it was caught.
+pub record WasCaught {S : Type 0} (m : Setup S) (root : Act S) (level : ℕ) (y : Problem) : Type 0
+  where
+    pub may : catchable y ≡ true
+    pub cause : Raised m root level y (Why m y)
+    pub caught : CatchPoint S
+    pub comes : ComesToCatch m caught root
+    pub own : caught.world.level ≡ level
+    pub is : caught.fault ≡ y
+
+abbrev pub HasCaught : {S : Type 0} → Setup S → Act S → ℕ → Option Problem → Type 0
+HasCaught m root level None = Unit {0}
+HasCaught m root level (Some y) = WasCaught m root level y
+
+-- no handler cuts the scope below the base, and what each has caught was caught so
+abbrev pub Guarded : {S : Type 0} → Setup S → Act S → Footing → List Handler → Type 0
+Guarded m root k [] = Unit {0}
+Guarded m root k (h ∷ hs) =
+    (k.base ≤ h.scope) × HasCaught m root k.level h.caught × Guarded m root k hs
+
+-- a frame on this footing, which in a valid program fits
+abbrev pub Sits : {S : Type 0} → Setup S → Act S → Footing → Frame → Type 0
+Sits {S = S} m root k f = (f.base ≡ k.base) × (k.base ≤ f.floor) ×
+    (IsProgram m.program → Fitting m.program f) × Guarded m root k f.handlers
+
+-- A frame on this footing, in which the handler catches the fault: the frame stood at an instruction
+-- that raised it.
+pub record CanCatch {S : Type 0} (m : Setup S) (root : Act S) (k : Footing) (f : Frame)
+    (h : Handler) (x : Problem) : Type 0 where
+  pub from : Frame
+  pub world : World S
+  pub comes : Comes m (InFrame from) world root
+  pub own : world.level ≡ k.level
+  pub from_base : from.base ≡ k.base
+  pub address : f.address ≡ from.address
+  pub floor : f.floor ≡ from.floor
+  pub base : f.base ≡ k.base
+  pub low : k.base ≤ f.floor
+  pub scope : k.base ≤ h.scope
+  pub around : Guarded m root k f.handlers
+  pub armed : h.caught ≡ None
+  pub may : catchable x ≡ true
+  pub cause : Raised m root k.level x (Why m x)
+  pub covered : IsProgram m.program →
+      Covered m.program f.operands (try_of h ∷ tries f.handlers)
+
+-- what is known where the run stands at this
+abbrev pub Seats : {S : Type 0} → Setup S → Act S → Footing → Todo → World S → Type 0
+Seats m root k (InFrame f) w = (w.trace ≡ []) × Sits m root k f
+Seats m root k (InCatch f h x) w = CanCatch m root k f h x
+
+-- what is left to do of a run, and of its instruction, begins after n instructions, keeps its
+-- footing, and ends with a cause and the scope cut
+abbrev pub Tally : {S : Type 0} → Setup S → Act S → Act S → ℕ → Footing → Act S → Type 0
+Tally {S = S} m root turn r k (Go t w) = (w.ran ≡ r) × (w.tokens ≡ k.tokens) ×
+    (w.level ≡ k.level) × Keeps k.base k.names w.scope × Seats m root k t w
+Tally {S = S} m root turn r k (End a w) = (w.ran ≡ r) × (w.tokens ≡ k.tokens) ×
+    (w.level ≡ k.level) × Keeps k.base k.names w.scope × Cuts m root k.level k.base a w ×
+    Caused m root k.level a w
+Tally {S = S} m root turn r k (Then first rest) =
+    (j : Footing) × Tally m first first r j first ×
+    (Onto m first root → Onto m first turn → (x : Answer) (w : World S) → w.tokens ≡ j.tokens →
+    w.level ≡ j.level → Keeps j.base j.names w.scope → Cuts m first j.level j.base x w →
+    Caused m first j.level x w → Tally m root turn w.ran k (rest x w))
+
+pub by_test : {S : Type 0} (P : Act S → Type 0) (b : Bool) (x y : Act S) → (b ≡ true → P x) →
+    (b ≡ false → P y) → P (if b then x else y)
+by_test P true x y p q = p refl
+by_test P false x y p q = q refl
+
+pub true-false : {A : Type 0} {b : Bool} → b ≡ true → b ≡ false → A
+true-false p q = cc
+
+pub is_false : {A : Type 0} → false ≡ true → A
+is_false p = cc
+
+pub is_true : {A : Type 0} → true ≡ false → A
+is_true p = cc
+
+module _ {S : Type 0} (m : Setup S) where
+  -- of a handler that is armed, and of one that has caught
+  pub by_arming : (P : Act S → Type 0) (c : Option Problem) (armed : Act S)
+      (left : Problem → Act S) → (c ≡ None → P armed) →
+      ((y : Problem) → c ≡ Some y → P (left y)) → P (if_armed m c armed left)
+  by_arming P None armed left p q = p refl
+  by_arming P (Some y) armed left p q = q y refl
+
+  -- the handlers around the innermost one
+  pub guarded_outside : (root : Act S) (k : Footing) (hs : List Handler) → Guarded m root k hs →
+      Guarded m root k (outer_handlers hs)
+  guarded_outside root k [] g = tt
+  guarded_outside root k (h ∷ hs) g = g.2
+
+  -- a fault has the same cause wherever it is
+  moved : (p : Position) (x : Problem) (s : ProgramPoint S) → Row m x s → Row m (at_position p x) s
+  moved p (Plain k q) s row = row
+  moved p (InFunctionCall t u x q) s row = row
+  moved p (InModule t x q) s row = absurd row
+  moved p (SystemError t u) s row = absurd row
+  moved p NoMemory s row = absurd row
+
+  moved_why : (p : Position) (x : Problem) (s : ProgramPoint S) → Why m x s →
+      Why m (at_position p x) s
+  moved_why p x s (inl row) = inl (moved p x s row)
+  moved_why p x s (inr h) = inr (h.0, p, h.2, ap (at_position p) h.3 ∙ placed_twice p h.1 h.0)
+
+  moved_catch : (p : Position) (x : Problem) (s : CatchPoint S) → CatchRow m x s →
+      CatchRow m (at_position p x) s
+  moved_catch p (Plain k q) s row = row
+  moved_catch p (InFunctionCall t u x q) s row = absurd row
+  moved_catch p (InModule t x q) s row = absurd row
+  moved_catch p (SystemError t u) s row = absurd row
+  moved_catch p NoMemory s row = absurd row
+
+  -- what is raised while a handler catches may not be caught
+  pub catch_passes : (x : Problem) (s : CatchPoint S) → CatchRow m x s → catchable x ≡ false
+  catch_passes (Plain k p) s row = of_kind k row where
+    of_kind : (k : FaultKind) → FailsToCatch m k s → catchable (Plain k p) ≡ false
+    of_kind (Malformed k) row = refl
+    of_kind TooManyVariables row = refl
+    of_kind TooManyOperations row = refl
+    of_kind (Terminated v) row = refl
+    of_kind k row = absurd row
+  catch_passes (InFunctionCall t u x p) s row = absurd row
+  catch_passes (InModule t x p) s row = absurd row
+  catch_passes (SystemError t u) s row = absurd row
+  catch_passes NoMemory s row = absurd row
+
+  -- the cause of a fault that a script may catch
+  pub cause_in : (act : Act S) (level : ℕ) (x : Problem) (w : World S) → catchable x ≡ true →
+      Caused m act level (Failed x) w → Raised m act level x (Why m x)
+  cause_in act level x w may (inl s) = true-false may (ap catchable s.0)
+  cause_in act level x w may (inr (inl c)) = c
+  cause_in act level x w may (inr (inr c)) = true-false may (catch_passes x c.point c.why)
+
+  -- where it was raised
+  tells_level : (act : Act S) (level : ℕ) (at : ProgramPoint S) (x : Problem) →
+      catchable x ≡ true → Tells m act level at x → at.world.level ≡ level
+  tells_level act level at x may (inl own) = own.0
+  tells_level act level at x may (inr (inl l)) = true-false may l.0
+  tells_level act level at x may (inr (inr anew)) = anew.0
+
+  -- where an instruction throws unit
+  unit_thrown : (x : Problem) (s : ProgramPoint S) → Row m x s → throws_unit x ≡ true →
+      Throws s.instruction × (is_unit (top s.frame.operands).value ≡ true)
+  unit_thrown (Plain k p) s row e = of_kind k row e where
+    of_kind : (k : FaultKind) → Raises m k s → kind_throws_unit k ≡ true →
+        Throws s.instruction × (is_unit (top s.frame.operands).value ≡ true)
+    of_kind (Runtime v) row e = (row.1, sym (ap is_unit row.0) ∙ e)
+    of_kind k row e = is_false e
+  unit_thrown (InFunctionCall t u x p) s row e = is_false e
+  unit_thrown (InModule t x p) s row e = is_false e
+  unit_thrown (SystemError t u) s row e = is_false e
+  unit_thrown NoMemory s row e = is_false e
+
+  -- if the fault is a throw of unit, this is where it is thrown
+  abbrev pub UnitThrown : Act S → ℕ → Problem → Type 0
+  UnitThrown root level x =
+      throws_unit x ≡ true → ThrowsUnit m root level (position_of_problem x)
+
+  -- an instruction that raises a throw of unit throws it
+  pub unit_by_row : (root : Act S) (level : ℕ) (s : ProgramPoint S) → Meets m s root →
+      s.world.level ≡ level → (x : Problem) → HasPosition (position m s.frame) x → Row m x s →
+      UnitThrown root level x
+  unit_by_row root level s met own x has row e =
+      let p = position m s.frame in
+      let throw = unit_thrown x s row e in
+      record {
+        point = s;
+        met = met;
+        own = own;
+        how = inl (
+          throw.0,
+          throw.1,
+          sym (ap position_of_problem has) ∙ unit_placed p x e,
+        );
+      }
+
+  -- a fault that is offered to a handler: why, and where it is thrown if it is a throw of unit
+  abbrev pub Offers : Act S → ℕ → Problem → World S → Type 0
+  Offers root level x w = Caused m root level (Failed x) w × UnitThrown root level x
+
+  -- what was caught is thrown anew where unit is thrown
+  cause_anew : (root : Act S) (level : ℕ) (y : Problem) → WasCaught m root level y →
+      (p : Position) → ThrowsUnit m root level p →
+      Raised m root level (at_position p y) (Why m (at_position p y))
+  cause_anew root level y c p throw = record {
+    point = c.cause.point;
+    met = c.cause.met;
+    why = moved_why p y c.cause.point c.cause.why;
+    tells = inr (inr (
+      tells_level root level c.cause.point y c.may c.cause.tells,
+      record {
+        caught = c.caught;
+        comes = c.comes;
+        own = c.own;
+        position = p;
+        throw = throw;
+        is = ap (at_position p) (sym c.is);
+      },
+    ));
+  }
+
+  pub offers_anew : (root : Act S) (level : ℕ) (y : Problem) → WasCaught m root level y →
+      (x : Problem) (w : World S) → Offers root level x w → Offers root level (thrown_anew y x) w
+  offers_anew root level y c x w offers = by_unit (throws_unit x) refl where
+    p : Position
+    p = position_of_problem x
+
+    by_unit : (b : Bool) → throws_unit x ≡ b →
+        Offers root level (if b then at_position p y else x) w
+    by_unit false e = offers
+    by_unit true e = (
+      inr (inl (cause_anew root level y c p (offers.1 e))),
+      λ again. subst (ThrowsUnit m root level)
+          (sym (unit_placed p y (sym (unit_anywhere p y) ∙ again))) (offers.1 e),
+    )
+
+  module _ (first root : Act S) (onto : Onto m first root) where
+    -- what the first act meets, and why it ends so, as the second has it
+    pub meets : (s : ProgramPoint S) → Meets m s first → Meets m s root
+    meets s h = record {
+      comes = onto (InFrame s.frame) s.world h.comes;
+      width = h.width;
+      stands = h.stands;
+    }
+
+    catches : (c : CatchPoint S) → ComesToCatch m c first → ComesToCatch m c root
+    catches c comes = onto (InCatch c.frame c.handler c.fault) c.world comes
+
+    left_call : {level : ℕ} {Runs : Act S → Type 0} {p : Position} →
+        LeftCall m first level Runs p → LeftCall m root level Runs p
+    left_call l = record {
+      call = l.call;
+      met = meets l.call l.met;
+      own = l.own;
+      function = l.function;
+      enters = l.enters;
+      position = l.position;
+    }
+
+    anew : {level : ℕ} {x : Problem} → ThrownAnew m first level x → ThrownAnew m root level x
+    anew a = record {
+      caught = a.caught;
+      comes = catches a.caught a.comes;
+      own = a.own;
+      position = a.position;
+      throw = record {
+        point = a.throw.point;
+        met = meets a.throw.point a.throw.met;
+        own = a.throw.own;
+        how = a.throw.how;
+      };
+      is = a.is;
+    }
+
+    told : (level : ℕ) (at : ProgramPoint S) (x : Problem) → Tells m first level at x →
+        Tells m root level at x
+    told level at x (inl own) = inl own
+    told level at x (inr (inl l)) = inr (inl (l.0, (l.1.0, left_call l.1.1, l.1.2)))
+    told level at x (inr (inr a)) = inr (inr (a.0, anew a.1))
+
+    caught_told : (level : ℕ) (x : Problem) → RaisedByCatch m first level x →
+        RaisedByCatch m root level x
+    caught_told level x c = record {
+      point = c.point;
+      comes = catches c.point c.comes;
+      why = c.why;
+      tells = here_or_left c.tells;
+    } where
+      here_or_left : {A : Type 0} →
+          A ⊎ ((p : Position) × LeftCall m first level (ComesToCatch m c.point) p
+          × HasPosition p x) →
+          A ⊎ ((p : Position) × LeftCall m root level (ComesToCatch m c.point) p
+          × HasPosition p x)
+      here_or_left (inl own) = inl own
+      here_or_left (inr l) = inr (l.0, left_call l.1, l.2)
+
+    pub caused : (level : ℕ) (a : Answer) (w v : World S) →
+        (is_stop m.stop w.passed ≡ true → is_stop m.stop v.passed ≡ true) →
+        Caused m first level a w → Caused m root level a v
+    caused level (Came u) w v stops c = tt
+    caused level (Failed x) w v stops (inl s) = inl (s.0, stops s.1)
+    caused level (Failed x) w v stops (inr (inl c)) =
+        inr (inl (record {
+          point = c.point;
+          met = meets c.point c.met;
+          why = c.why;
+          tells = told level c.point x c.tells;
+        }))
+    caused level (Failed x) w v stops (inr (inr c)) = inr (inr (caught_told level x c))
+
+    -- a fault that no script may catch goes on at a call
+    pub cause_at : (p : Position) (inside level : ℕ) (x : Problem) → catchable x ≡ false →
+        ((Runs : Act S → Type 0) → Runs first → LeftCall m root level Runs p) →
+        Cause m first inside x → Cause m root level (at_position p x)
+    cause_at p inside level x passes call (inl c) = inl (record {
+      point = c.point;
+      met = meets c.point c.met;
+      why = moved_why p x c.point c.why;
+      tells = inr (inl (
+        caught_anywhere p x ∙ passes,
+        (p, call (Meets m c.point) c.met, placed_twice p p x),
+      ));
+    })
+    cause_at p inside level x passes call (inr c) = inr (record {
+      point = c.point;
+      comes = catches c.point c.comes;
+      why = moved_catch p x c.point c.why;
+      tells = inr (p, call (ComesToCatch m c.point) c.comes, placed_twice p p x);
+    })
+
+    pub cut_of : (level base : ℕ) (scope : List Entry) (trace : List Fault) →
+        Cut m first level base scope trace → Cut m root level base scope trace
+    cut_of level base scope trace c = record {
+      frame = c.frame;
+      world = c.world;
+      comes = onto (InFrame c.frame) c.world c.comes;
+      own = c.own;
+      based = c.based;
+      inner = c.inner;
+      slot = c.slot;
+      last = c.last;
+      short = c.short;
+    }

@@ -1,0 +1,52 @@
+-- What a handler that catches comes to: a fault that no script may catch, or its catch block.
+use Rattle.std.specs.Prelude.{◌≡◌, ◌⊎◌, ◌≤◌, ◌+◌, ℕ, List, [], ◌∷◌, ◌++◌, Option, Some, None, false, length, take}
+use Rattle.grain_value.specs.declared.scopes.Entry.{Entry}
+use Rattle.grain_value.specs.Operands.{read_write}
+use Rattle.grain_fault.specs.Classes.{catchable}
+use Rattle.grain_fault.specs.Problems.{Problem}
+use Rattle.grain_program.specs.View.{View, name_of}
+use Rattle.grain_means.specs.Worlds.{Act, Go, End, Failed, World, Setup, Frame, InFrame}
+use Rattle.grain_means.specs.CatchValues.{caught_value}
+use Rattle.grain_means.specs.Rules.{caught}
+use Rattle.grain_means.specs.Comes.{CatchPoint}
+
+-- the entry of the variable of a catch, if it has one, which can be written
+abbrev pub variable_entry : View → Option ℕ → Problem → List Entry
+variable_entry program None x = []
+variable_entry program (Some n) x = record {
+  name = name_of program n;
+  held = read_write (caught_value program.source x);
+} ∷ []
+
+-- The catch block begins in a frame and a world: at the handler's target, with exactly as many
+-- operands and entries of the scope as at its push, and with the variable above these; the handler
+-- has caught the fault. It cost one operation.
+pub record CatchBlock {S : Type 0} (m : Setup S) (at : CatchPoint S) (f : Frame) (w : World S) :
+    Type 0 where
+  pub target : f.address ≡ at.handler.target
+  pub operands : f.operands ≡ take at.handler.operands at.frame.operands
+  pub as_many : length f.operands ≡ at.handler.operands
+  pub handlers : f.handlers ≡ record at.handler { caught = Some at.fault } ∷ at.frame.handlers
+  pub base : f.base ≡ at.frame.base
+  pub floor : f.floor ≡ at.frame.floor
+  pub this : f.this ≡ at.frame.this
+  pub there : at.handler.scope ≤ length at.world.scope
+  pub scope : w.scope ≡
+      take at.handler.scope at.world.scope ++
+      variable_entry m.program at.handler.variable at.fault
+  pub trace : w.trace ≡ []
+  pub level : w.level ≡ at.world.level
+  pub count : w.count ≡ at.world.count + 1
+
+-- the rule of the catch comes to this
+abbrev pub LeadsTo : {S : Type 0} → Setup S → CatchPoint S → Act S → Type 0
+LeadsTo m at act = caught m at.frame at.handler at.fault at.world ≡ act
+
+-- The handler was armed, and there are as many operands as at its push, or more; and either the
+-- catch fails, with a fault that no script may catch, or the catch block begins.
+pub record Catches {S : Type 0} (m : Setup S) (at : CatchPoint S) : Type 0 where
+  pub armed : at.handler.caught ≡ None
+  pub enough : at.handler.operands ≤ length at.frame.operands
+  pub leads :
+      ((x : Problem) × (w : World S) × LeadsTo m at (End (Failed x) w) × (catchable x ≡ false))
+      ⊎ ((f : Frame) × (w : World S) × LeadsTo m at (Go (InFrame f) w) × CatchBlock m at f w)

@@ -1,0 +1,72 @@
+-- What the tests say that compare handlers.
+use Rattle.std.proofs.Common.{◌≡◌, ℕ, Bool, true, false, cond, List, [], ◌∷◌, Option, Some, None, refl, ap, ◌∙◌}
+use Rattle.std.specs.Prelude.{◌==◌, ◌&&◌}
+use Rattle.std.proofs.lemmas.Bool.{eqb-true, eq-eqb}
+use Rattle.grain_program.specs.declared.verifier.refusals.Refusal.TheVariants as refusal
+use Rattle.grain_program.specs.Shapes.{TryHandler, Shape, same_variable, same_handler, same_handlers, clash}
+
+-- both tests passed
+pub both_true : (a b : Bool) → (a && b) ≡ true → (a ≡ true) × (b ≡ true)
+both_true true b e = (refl, e)
+both_true false b e = absurd cc
+
+and_true : (a b : Bool) → a ≡ true → b ≡ true → (a && b) ≡ true
+and_true a b e f = ap (λ (x : Bool). x && b) e ∙ f
+
+variables_same : (x y : Option ℕ) → same_variable x y ≡ true → x ≡ y
+variables_same None None e = refl
+variables_same None (Some n) e = absurd cc
+variables_same (Some m) None e = absurd cc
+variables_same (Some m) (Some n) e = ap (λ (k : ℕ). Some k) (eqb-true m n e)
+
+variable_self : (x : Option ℕ) → same_variable x x ≡ true
+variable_self None = refl
+variable_self (Some n) = eq-eqb n n refl
+
+abbrev handler : ℕ → Option ℕ → ℕ → TryHandler
+handler target variable height =
+    record { target = target; variable = variable; height = height }
+
+handler_same : (g h : TryHandler) → same_handler g h ≡ true → g ≡ h
+handler_same g h e =
+    let first =
+    both_true (g.target == h.target) (same_variable g.variable h.variable && (g.height == h.height))
+    e in
+    let rest = both_true (same_variable g.variable h.variable) (g.height == h.height) first.1 in
+    ap (λ (x : ℕ). handler x g.variable g.height) (eqb-true g.target h.target first.0)
+    ∙ ap (λ (x : Option ℕ). handler h.target x g.height)
+    (variables_same g.variable h.variable rest.0)
+    ∙ ap (λ (x : ℕ). handler h.target h.variable x) (eqb-true g.height h.height rest.1)
+
+handler_self : (h : TryHandler) → same_handler h h ≡ true
+handler_self h =
+    and_true (h.target == h.target) (same_variable h.variable h.variable && (h.height == h.height))
+    (eq-eqb h.target h.target refl)
+    (and_true (same_variable h.variable h.variable) (h.height == h.height)
+    (variable_self h.variable) (eq-eqb h.height h.height refl))
+
+-- lists that pass the test are one
+pub handlers_same : (gs hs : List TryHandler) → same_handlers gs hs ≡ true → gs ≡ hs
+handlers_same [] [] e = refl
+handlers_same [] (h ∷ hs) e = absurd cc
+handlers_same (g ∷ gs) [] e = absurd cc
+handlers_same (g ∷ gs) (h ∷ hs) e =
+    let both = both_true (same_handler g h) (same_handlers gs hs) e in
+    ap (λ (x : TryHandler). x ∷ gs) (handler_same g h both.0)
+    ∙ ap (λ (xs : List TryHandler). h ∷ xs) (handlers_same gs hs both.1)
+
+-- a list passes the test against itself
+pub handlers_self : (hs : List TryHandler) → same_handlers hs hs ≡ true
+handlers_self [] = refl
+handlers_self (h ∷ hs) =
+    and_true (same_handler h h) (same_handlers hs hs) (handler_self h) (handlers_self hs)
+
+-- where the numbers of operands agree, the handlers decide
+pub clash_even : (a : ℕ) (s t : Shape) (b : Bool) → s.height ≡ t.height
+    → same_handlers s.handlers t.handlers ≡ b
+    → clash a s t ≡ cond b None (Some (refusal.HandlerDisagrees a))
+clash_even a s t b e f =
+    ap (λ (x : Bool). cond x (cond (same_handlers s.handlers t.handlers) None
+    (Some (refusal.HandlerDisagrees a))) (Some (refusal.HeightDisagrees a)))
+    (eq-eqb s.height t.height e)
+    ∙ ap (λ (x : Bool). cond x None (Some (refusal.HandlerDisagrees a))) f

@@ -1,0 +1,164 @@
+-- The handlers of each frame among those of all frames.
+use Rattle.std.proofs.Common.{◌≡◌, ◌≢◌, ◌∙◌, ◌<◌, ◌≤◌, ◌==◌, ℕ, zero, suc, List, [], ◌∷◌, Bool, true, false, if◌then◌else◌, ◌++◌, ◌-◌, Some, None, length, reverse, take, slice_get, get_or, refl, sym, ap, arith}
+use Rattle.std.specs.Prelude.{nat_le}
+use Rattle.std.proofs.lemmas.Bool.{eq-eqb, leb-true, leb-false}
+use Rattle.std.proofs.lemmas.List.{reverse-append, length-reverse, get_or-reverse}
+use Rattle.std.proofs.lemmas.Option.{slice_get_within, slice_get-get_or, get_or_from_slice_get}
+use Rattle.std.proofs.Math.Seq.{drop-length, take-length}
+use borrow.Author.Tests.{ne_eqb}
+use Rattle.grain_value.specs.declared.values.Held.{Held}
+use Rattle.grain_stack.specs.declared.handlers.FrameHandler.{FrameHandler}
+use Rattle.grain_stack.specs.declared.stacks.Floor.{Floor}
+use Rattle.grain_stack.specs.declared.stacks.Stacks.TheInside.{Inside}
+use Rattle.grain_stack.specs.Handlers.{first_of}
+use Rattle.grain_stack.specs.Views.{counted_up, with_frame}
+use Rattle.grain_stack.specs.Floors.{handlers_at, IsOrdered, frames_on, floors, newest, stacks_view}
+
+-- a frame further in than those of all handlers has none
+pub none_further_in : (d k : ℕ) (hs : List FrameHandler) → d < k → IsOrdered d hs →
+    handlers_at k hs ≡ []
+none_further_in d k [] lt o = refl
+none_further_in d k (h ∷ hs) lt o =
+    let other : (h.depth == k) ≡ false = ne_eqb h.depth k (λ e. omega (arith, e, o.0, lt)) in
+    rw other (none_further_in h.depth k hs (omega (arith, o.0, lt)) o.1)
+
+-- where the newest handler is of another frame, this one has none
+pub none_left : (d : ℕ) (h : FrameHandler) (hs : List FrameHandler) → IsOrdered d (h ∷ hs) →
+    (h.depth == d) ≡ false → handlers_at d (h ∷ hs) ≡ []
+none_left d h hs o other = by_test (nat_le d h.depth) refl where
+  by_test : (b : Bool) → nat_le d h.depth ≡ b → handlers_at d (h ∷ hs) ≡ []
+  by_test true le =
+      let here : (h.depth == d) ≡ true =
+      eq-eqb h.depth d (omega (arith, leb-true d h.depth le, o.0)) in absurd cc
+  by_test false less =
+      none_further_in h.depth d (h ∷ hs) (leb-false d h.depth less) (omega arith, o.1)
+
+-- where the frame has a handler, the newest is the frame's
+pub newest_here : (d : ℕ) (h : FrameHandler) (hs : List FrameHandler) → IsOrdered d (h ∷ hs) →
+    0 < length (handlers_at d (h ∷ hs)) → h.depth ≡ d
+newest_here d h hs o some = by_test (nat_le d h.depth) refl where
+  by_test : (b : Bool) → nat_le d h.depth ≡ b → h.depth ≡ d
+  by_test true le = omega (arith, leb-true d h.depth le, o.0)
+  by_test false less =
+      let none : handlers_at d (h ∷ hs) ≡ [] =
+      none_further_in h.depth d (h ∷ hs) (leb-false d h.depth less) (omega arith, o.1) in
+      absurd (omega (arith, some, ap length none))
+
+-- where the frame has none, the handlers are of the frames around it
+pub ordered_down : (d : ℕ) (hs : List FrameHandler) → IsOrdered (suc d) hs →
+    handlers_at (suc d) hs ≡ [] → IsOrdered d hs
+ordered_down d [] o e = tt
+ordered_down d (h ∷ hs) o e = by_test (nat_le h.depth d) refl where
+  by_test : (b : Bool) → nat_le h.depth d ≡ b → IsOrdered d (h ∷ hs)
+  by_test true le = (leb-true h.depth d le, o.1)
+  by_test false more =
+      let here : h.depth ≡ suc d = omega (arith, leb-false h.depth d more, o.0) in
+      let some : h.handler ∷ handlers_at (suc d) hs ≡ [] =
+      rw (eq-eqb h.depth (suc d) here) at e in absurd cc
+
+-- a handler of the innermost frame is of none around it
+pub frames_beside : (xs : List Held) (h : FrameHandler) (hs : List FrameHandler)
+    (fs : List Floor) → length fs ≤ h.depth → frames_on xs (h ∷ hs) fs ≡ frames_on xs hs fs
+frames_beside xs h hs [] le = refl
+frames_beside xs h hs (f ∷ fs) le =
+    let other : (h.depth == length fs) ≡ false =
+    ne_eqb h.depth (length fs) (λ e. omega (arith, e, le)) in
+    rw (other, frames_beside (take f.bottom xs) h hs fs (omega (arith, le))) refl
+
+-- the newest handler stands first among the frame's
+pub first_here : (d : ℕ) (h : FrameHandler) (hs : List FrameHandler) → h.depth ≡ d →
+    handlers_at d (h ∷ hs) ≡ h.handler ∷ handlers_at d hs
+first_here d h hs here = rw (eq-eqb h.depth d here) refl
+
+-- one handler more of the innermost frame
+pub with_handler : (s t : Inside) (h : FrameHandler) → t.slots ≡ s.slots → t.bottom ≡ s.bottom →
+    t.room ≡ s.room → t.noted ≡ s.noted → t.outer ≡ s.outer → t.trace ≡ s.trace →
+    t.entered ≡ s.entered → t.handlers.items ≡ s.handlers.items ++ h ∷ [] →
+    h.depth ≡ length (floors s) →
+    stacks_view t ≡ record (stacks_view s) { handlers = h.handler ∷ (stacks_view s).handlers }
+with_handler s t h es eb er en eo et ee items here =
+    let on : reverse t.handlers.items ≡ h ∷ reverse s.handlers.items =
+    ap reverse items ∙ reverse-append s.handlers.items (h ∷ []) in
+    rw (
+      es,
+      eb,
+      er,
+      en,
+      eo,
+      et,
+      ee,
+      on,
+      first_here (length (floors s)) h (newest s) here,
+      frames_beside (take s.bottom s.slots.operands) h (newest s) (floors s)
+          (omega (arith, here)),
+    ) refl
+
+-- what stands last stands first the other way round
+last_first : (hs : List FrameHandler) (h d : FrameHandler) →
+    slice_get hs (length hs - 1) ≡ Some h → (rest : List FrameHandler) × (reverse hs ≡ h ∷ rest)
+last_first hs h d last = by_cases (reverse hs) refl where
+  by_cases : (l : List FrameHandler) → reverse hs ≡ l →
+      (rest : List FrameHandler) × (reverse hs ≡ h ∷ rest)
+  by_cases [] is =
+      let within : length hs - 1 < length hs = slice_get_within hs (length hs - 1) h last in
+      absurd (omega (arith, within, length-reverse hs, ap length is))
+  by_cases (g ∷ rest) is =
+      let within : length hs - 1 < length hs = slice_get_within hs (length hs - 1) h last in
+      let at : get_or (reverse hs) 0 h ≡ get_or hs (length hs - 1 - 0) h =
+      get_or-reverse hs 0 h (omega (arith, within)) in
+      let here : get_or hs (length hs - 1) h ≡ h =
+      get_or_from_slice_get hs (length hs - 1) h h last in
+      let same : g ≡ h =
+      sym (ap (λ l. get_or l 0 h) is) ∙ at ∙ ap (λ n. get_or hs n h) (omega arith) ∙ here in
+      (rest, is ∙ ap (λ x. x ∷ rest) same)
+
+-- the innermost handler of a frame is the newest of all, if that is the frame's
+pub innermost_of : (d : ℕ) (hs : List FrameHandler) (h : FrameHandler) → IsOrdered d (reverse hs) →
+    slice_get hs (length hs - 1) ≡ Some h → (h.depth == d) ≡ false →
+    first_of (handlers_at d (reverse hs)) ≡ None
+innermost_of d hs h o last other =
+    let at = last_first hs h h last in
+    rw (at.1, none_left d h at.0 (rw at.1 at o) other) refl
+
+pub innermost_here : (d : ℕ) (hs : List FrameHandler) (h : FrameHandler) →
+    slice_get hs (length hs - 1) ≡ Some h → h.depth ≡ d →
+    first_of (handlers_at d (reverse hs)) ≡ Some h.handler
+innermost_here d hs h last here =
+    let at = last_first hs h h last in rw (at.1, first_here d h at.0 here) refl
+
+pub innermost_none : (d : ℕ) (hs : List FrameHandler) → slice_get hs (length hs - 1) ≡ None →
+    first_of (handlers_at d (reverse hs)) ≡ None
+innermost_none d [] none = refl
+innermost_none d (h ∷ hs) none =
+    let there = slice_get-get_or (h ∷ hs) (length (h ∷ hs) - 1) h (omega arith) in
+    absurd (cc)
+
+-- a frame more
+pub entered_view : (s t : Inside) (f : Floor) (room : ℕ) →
+    IsOrdered (length (floors s)) (newest s) → t.slots.operands ≡ s.slots.operands →
+    t.bottom ≡ length s.slots.operands → t.room ≡ room → t.noted ≡ false →
+    t.outer.items ≡ s.outer.items ++ f ∷ [] → f.bottom ≡ s.bottom → f.room ≡ s.room →
+    f.noted ≡ s.noted → t.handlers ≡ s.handlers → t.trace.items ≡ s.trace.items →
+    t.entered ≡ counted_up s.entered → stacks_view t ≡ with_frame room (stacks_view s)
+entered_view s t f room ordered eo eb er en ef fb fr fn eh et ee =
+    let on : reverse t.outer.items ≡ f ∷ reverse s.outer.items =
+    ap reverse ef ∙ reverse-append s.outer.items (f ∷ []) in
+    let none : handlers_at (suc (length (floors s))) (newest s) ≡ [] =
+    none_further_in (length (floors s)) (suc (length (floors s))) (newest s) (omega arith) ordered
+    in
+    rw (
+      eo,
+      eb,
+      er,
+      en,
+      on,
+      eh,
+      et,
+      ee,
+      none,
+      fb,
+      fr,
+      fn,
+      drop-length s.slots.operands,
+      take-length s.slots.operands,
+    ) refl
