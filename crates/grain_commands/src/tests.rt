@@ -1,8 +1,13 @@
 //! Whole calls, over sources and sinks in memory.
 
+mod after_catches;
 mod assignments;
 mod calls;
+mod catch_calls;
+mod catch_ends;
+mod catch_values;
 mod edges;
+mod handlers;
 mod limits;
 mod memory;
 mod natives;
