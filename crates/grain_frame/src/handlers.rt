@@ -4,8 +4,7 @@ ghost use Rattle.std.specs.Prelude.{◌<◌, ◌≤◌, ◌∷◌, [], length, O
 ghost use Rattle.grain_program.specs.declared.code.instructions.Op.TheVariants as op;
 ghost use Rattle.grain_program.specs.View.{View};
 ghost use Rattle.grain_global.specs.declared.engines.Engine.{Engine};
-ghost use Rattle.grain_means.specs.Rules.{push_handler};
-ghost use Rattle.grain_means.specs.Rules.{instr};
+ghost use Rattle.grain_means.specs.Rules.{instr, push_handler};
 ghost use Rattle.grain_frame.specs.Abstraction.{frame_in, Implements, Ready};
 ghost use Rattle.grain_frame.specs.Catching.{armed, around};
 
