@@ -4,7 +4,7 @@ use Rattle.std.specs.Prelude.{ℕ, ℤ, pos, Bool, true, false, List, [], ◌∷
 use Rattle.std.specs.List.{starts_with}
 use Rattle.std.specs.Fmt.{decimal, signed_decimal}
 use Rattle.grain_value.specs.Tree.{Tree}
-use Rattle.grain_value.specs.Same.{value_of}
+use Rattle.grain_value.specs.View.{value_of}
 use Rattle.grain_value.specs.declared.values.Dynamic.{Dynamic}
 use Rattle.grain_value.specs.declared.values.Dynamic.TheVariants as dynamic
 use Rattle.grain_value.specs.Writing.{plain}

@@ -5,9 +5,9 @@ ghost use Rattle.grain_fault.specs.Chains.{added};
 ghost use Rattle.grain_fault.specs.Problems.{problem_of};
 ghost use Rattle.grain_fault.specs.Texts.{message, location_text};
 
+use crate::fault_texts::{Location, write_message, write_wrapper};
 use crate::faults::EvalAltResult;
 use crate::places::Position;
-use crate::texts::{Location, write_message, write_wrapper};
 use grain_value::OutOfMemory;
 use std::alloc::Global;
 use std::fmt;

@@ -9,13 +9,13 @@ mod chains;
 mod classes;
 #[cfg(test)]
 mod ending_tests;
+mod fault_texts;
 mod faults;
 mod fields;
 mod places;
 mod positions;
 #[cfg(test)]
 mod tests;
-mod texts;
 mod traces;
 
 pub use faults::{EvalAltResult, MalformedKind, OperatorFault, RhaiResult, RhaiResultOf};

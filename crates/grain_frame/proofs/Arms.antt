@@ -18,7 +18,7 @@ use Rattle.grain_program.specs.declared.code.effects.Handling.TheVariants as han
 use Rattle.grain_program.specs.Effects.{takes_of, gives_of, leads_of, handling_of}
 use Rattle.grain_program.specs.Shapes.{TryHandler, handled}
 use Rattle.grain_program.specs.laws.TypedAt.{IsTypedAt, Verified}
-use Rattle.grain_program.specs.Reading.{op_at}
+use Rattle.grain_program.specs.Decoding.{op_at}
 use Rattle.grain_program.specs.View.{View}
 use Rattle.grain_stack.specs.declared.handlers.Handler.{Handler}
 use Rattle.grain_host.specs.Law.{Law}
@@ -83,8 +83,8 @@ module _ {H : Type 0} (law : Law H) (p : View) (engine : Engine) (f : Activation
         let hs = tries_in s.stacks.handlers in
         let same : handled (handling_of o) left hs ≡ tries_in s'.stacks.handlers =
         sym become ∙ ap tries_in (sym lands.2) in
-        let inside = here.inside in
-        let wide = here.wide in (
+        let inside = here.provides.inside in
+        let wide = here.provides.wide in (
           subst (λ (c : Chunk). IsTypedAt p c f'.address (length s'.stacks.operands)
               (tries_in s'.stacks.handlers)) (sym kept.chunk)
               (subst (λ (ts : List TryHandler).
@@ -158,9 +158,9 @@ module _ {H : Type 0} (law : Law H) (p : View) (engine : Engine) (f : Activation
   pub ready : Ready f s o (f.address + width)
   ready = record {
     inside = runs.inside;
-    operands = here.enough;
-    room = omega (arith, here.room, runs.room);
-    ahead = omega (arith, here.wide);
+    operands = here.provides.enough;
+    room = omega (arith, here.provides.room, runs.room);
+    ahead = omega (arith, here.provides.wide);
   }
 
   -- the frame stands at the instruction

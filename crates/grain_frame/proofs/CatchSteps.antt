@@ -5,6 +5,7 @@ use Rattle.grain_value.specs.declared.values.Dynamic.{Dynamic}
 use Rattle.grain_value.specs.declared.scopes.Entry.{Entry}
 use Rattle.grain_value.specs.declared.values.Held.{Held}
 use Rattle.grain_value.specs.declared.memory.OutOfMemory.{OutOfMemory}
+use Rattle.grain_value.specs.Scopes.{new_entry}
 use Rattle.grain_value.specs.Operands.{read_write}
 use Rattle.grain_fault.specs.Problems.{Problem, Plain, TooManyOperations, NoMemory, problem_of}
 use Rattle.grain_fault.specs.declared.faults.EvalAltResult.{EvalAltResult}
@@ -44,8 +45,7 @@ named (y ∷ ys) (suc n) x e = named ys n x e
 -- the entry of a catch's variable
 pub bound_entry : (names : List (List ℕ)) (n : ℕ) (x : List ℕ) (h : Held) (v : Dynamic)
     (scope : List Entry) → slice_get names n ≡ Some x → h.value ≡ v → h.read_only ≡ false →
-    scope ++ record { name = x; held = h } ∷ []
-    ≡ scope ++ record { name = slice_index_or names n []; held = read_write v } ∷ []
+    scope ++ new_entry x h ∷ [] ≡ scope ++ new_entry (slice_index_or names n []) (read_write v) ∷ []
 bound_entry names n x h v scope at value only =
     let held : h ≡ read_write v = whole h v value only in
     rw (named names n x at, held) refl where
@@ -61,7 +61,7 @@ pub binds : {H : Type 0} (law : Law H) (p : View) (engine : Engine) (s s' : Run 
     (name target : ℕ) (v : Dynamic) → variable ≡ Some name →
     nat_le engine.limits.variables (length s.scope) ≡ false →
     v ≡ caught_value p.source (problem_of s.fault) →
-    s'.scope ≡ s.scope ++ record { name = name_of p name; held = read_write v } ∷ [] →
+    s'.scope ≡ s.scope ++ new_entry (name_of p name) (read_write v) ∷ [] →
     s' ≡ record s { scope = s'.scope; fault = s'.fault } →
     n' ≡ record n { passed = n.passed + 1 } →
     SimulatesExactly (setup law p engine) (abstraction s n host)
@@ -79,7 +79,7 @@ binds {H = H} law p engine s s' n n' host f go fails variable name target v some
       ) refl;
     }) where
       here : abstraction s' n' host ≡ record (abstraction s n host) {
-        scope = s.scope ++ record { name = name_of p name; held = read_write v } ∷ [];
+        scope = s.scope ++ new_entry (name_of p name) (read_write v) ∷ [];
         passed = n.passed + 1;
       }
       here = rw (en, others, longer) refl

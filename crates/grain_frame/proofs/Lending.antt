@@ -17,8 +17,8 @@ use Rattle.grain_stack.specs.declared.handlers.Handler.{Handler}
 use Rattle.grain_host.specs.Law.{Law, Reply, written}
 use Rattle.grain_host.specs.Law as reply
 use Rattle.grain_host.specs.Answers.{Answers, Replies, reply_of}
-use Rattle.grain_host.specs.declared.answers.Args.{Args}
-use Rattle.grain_host.specs.declared.answers.HostAnswer.{HostAnswer}
+use Rattle.grain_host.specs.declared.host_answers.Args.{Args}
+use Rattle.grain_host.specs.declared.host_answers.HostAnswer.{HostAnswer}
 use Rattle.grain_global.specs.declared.engines.Engine.{Engine}
 use Rattle.grain_means.specs.Worlds.{Frame, Setup, World}
 use Rattle.grain_means.specs.Signatures.{says_missing}
@@ -31,8 +31,8 @@ use Rattle.grain_frame.specs.Abstraction.{abstraction, frame_in, continuation, K
 use Rattle.grain_frame.specs.Following.{moved, marked_once}
 use Rattle.grain_frame.specs.Natives.{EndsBy, Serves}
 use Rattle.grain_frame.specs.declared.activations.Activation.{Activation}
-use Rattle.grain_frame.specs.declared.natives.NativeEnd.{NativeEnd}
-use Rattle.grain_frame.specs.declared.natives.NativeEnd.TheVariants as native_end
+use Rattle.grain_frame.specs.declared.native_calls.NativeEnd.{NativeEnd}
+use Rattle.grain_frame.specs.declared.native_calls.NativeEnd.TheVariants as native_end
 use Rattle.grain_frame.specs.declared.runs.Progress.{Progress}
 use Rattle.grain_frame.specs.declared.runs.Progress.TheVariants as progress
 use Rattle.grain_frame.specs.declared.runs.Run.{Run}

@@ -17,8 +17,9 @@ use Rattle.grain_stack.specs.declared.handlers.Handler.{Handler}
 use Rattle.grain_means.specs.Worlds.{Act, Frame, Place, Setup, World}
 use Rattle.grain_means.specs.Rules.{Receiver, native, kinds_in, trees_in, raised}
 use Rattle.grain_means.specs.Signatures.{not_found}
-use Rattle.grain_value.specs.Same.{value_of, value_of-tree}
-use Rattle.grain_frame.specs.declared.natives.Arguments.{Arguments}
+use Rattle.grain_value.specs.View.{value_of}
+use Rattle.grain_value.specs.laws.Same.{value_of-tree}
+use Rattle.grain_frame.specs.declared.native_calls.Arguments.{Arguments}
 use Rattle.grain_means.specs.Simulation.{Computation, SimulatesExactly}
 use Rattle.grain_means.specs.Means.{setup}
 use Rattle.grain_means.specs.lemmas.Stretches.{then_exactly}
@@ -26,9 +27,9 @@ use Rattle.grain_frame.specs.Counts.{Counts}
 use Rattle.grain_frame.specs.Abstraction.{abstraction, frame_in, is_out, continuation, native_continuation, KeepsFrame, ContinuesAt, Progresses, Implements}
 use Rattle.grain_frame.specs.Natives.{Describes, Seeks, Serves}
 use Rattle.grain_frame.specs.declared.activations.Activation.{Activation}
-use Rattle.grain_frame.specs.declared.natives.NativeEnd.{NativeEnd}
-use Rattle.grain_frame.specs.declared.natives.NativeEnd.TheVariants as native_end
-use Rattle.grain_frame.specs.declared.natives.Sought.TheVariants as sought
+use Rattle.grain_frame.specs.declared.native_calls.NativeEnd.{NativeEnd}
+use Rattle.grain_frame.specs.declared.native_calls.NativeEnd.TheVariants as native_end
+use Rattle.grain_frame.specs.declared.native_calls.Sought.TheVariants as sought
 use Rattle.grain_frame.specs.declared.runs.Progress.{Progress}
 use Rattle.grain_frame.specs.declared.runs.Progress.TheVariants as progress
 use Rattle.grain_frame.specs.declared.runs.Run.{Run}

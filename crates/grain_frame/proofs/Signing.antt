@@ -2,8 +2,8 @@
 use Rattle.std.proofs.Common.{◌≡◌, ◌∙◌, ◌+◌, ℕ, zero, suc, List, [], ◌∷◌, ◌++◌, Some, None, map, drop, refl, ap, add-one, append_assoc}
 use Rattle.std.specs.Prelude.{slice_get, codes}
 use Rattle.grain_value.specs.Tree.{Tree}
-use Rattle.grain_value.specs.View.{tree}
-use Rattle.grain_value.specs.Same.{value_of, value_of-tree}
+use Rattle.grain_value.specs.View.{tree, value_of}
+use Rattle.grain_value.specs.laws.Same.{value_of-tree}
 use Rattle.grain_value.specs.Writing.{type_name_of}
 use Rattle.grain_value.specs.declared.values.Dynamic.{Dynamic}
 use Rattle.grain_means.specs.Signatures.{type_at, types_text}

@@ -13,7 +13,7 @@ use Rattle.grain_program.specs.declared.code.parts.Chunk.{Chunk}
 use Rattle.grain_program.specs.Effects.{takes_of, gives_of, leads_of}
 use Rattle.grain_program.specs.Shapes.{TryHandler}
 use Rattle.grain_program.specs.TypedAt.{IsTypedAt, IsCovered, Verified}
-use Rattle.grain_program.specs.Reading.{op_at}
+use Rattle.grain_program.specs.Decoding.{op_at}
 use Rattle.grain_program.specs.Typing.{In}
 use Rattle.grain_program.specs.View.{View}
 use Rattle.grain_host.specs.Law.{Law}
@@ -32,8 +32,8 @@ use Rattle.grain_frame.specs.declared.runs.Progress.{Progress}
 use Rattle.grain_frame.specs.declared.runs.Progress.TheVariants as progress
 use Rattle.grain_frame.specs.declared.runs.FrameEnd.{FrameEnd}
 use Rattle.grain_frame.specs.declared.runs.FrameEnd.TheVariants as frame_end
-use Rattle.grain_frame.specs.declared.natives.NativeEnd.{NativeEnd}
-use Rattle.grain_frame.specs.declared.natives.NativeEnd.TheVariants as native_end
+use Rattle.grain_frame.specs.declared.native_calls.NativeEnd.{NativeEnd}
+use Rattle.grain_frame.specs.declared.native_calls.NativeEnd.TheVariants as native_end
 use Rattle.grain_frame.specs.declared.loops.Attempt.{Attempt}
 use Rattle.grain_frame.specs.declared.loops.Attempt.TheVariants as attempt
 use Rattle.grain_frame.specs.declared.loops.Pending.{Pending}

@@ -13,11 +13,11 @@ use Rattle.grain_host.specs.Law as reply
 use Rattle.grain_means.specs.Signatures.{not_found}
 use Rattle.grain_means.specs.Rules.{Receiver, lent, given, given_back, kinds_in, trees_in, first_is_read_only}
 use Rattle.grain_frame.specs.Counts.{Counts}
-use Rattle.grain_frame.specs.declared.natives.Arguments.{Arguments}
-use Rattle.grain_frame.specs.declared.natives.Sought.{Sought}
-use Rattle.grain_frame.specs.declared.natives.Sought.TheVariants as sought
-use Rattle.grain_frame.specs.declared.natives.NativeEnd.{NativeEnd}
-use Rattle.grain_frame.specs.declared.natives.NativeEnd.TheVariants as native_end
+use Rattle.grain_frame.specs.declared.native_calls.Arguments.{Arguments}
+use Rattle.grain_frame.specs.declared.native_calls.Sought.{Sought}
+use Rattle.grain_frame.specs.declared.native_calls.Sought.TheVariants as sought
+use Rattle.grain_frame.specs.declared.native_calls.NativeEnd.{NativeEnd}
+use Rattle.grain_frame.specs.declared.native_calls.NativeEnd.TheVariants as native_end
 use Rattle.grain_frame.specs.declared.runs.Run.{Run}
 
 -- what a host is given of these arguments

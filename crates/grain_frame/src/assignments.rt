@@ -16,7 +16,7 @@ ghost use Rattle.grain_frame.specs.Natives.{Seeks, Serves};
 
 use crate::activations::Activation;
 use crate::contexts::Context;
-use crate::natives::{Arguments, NativeEnd, Sought, seek, served};
+use crate::native_calls::{Arguments, NativeEnd, Sought, seek, served};
 use crate::runs::{Progress, Run};
 use crate::signatures::{not_found, says_missing};
 use crate::steps::Steps;

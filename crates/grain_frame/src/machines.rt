@@ -35,7 +35,7 @@ pub struct Machine<'e> {
 impl<'e> Model for Machine<'e> {
     ghost use Rattle.grain_frame.specs.MachineView.{MachineView};
     ghost use Rattle.std.specs.Coded.{codes};
-    ghost use Rattle.grain_value.specs.TreeCode.{coded_tree};
+    ghost use Rattle.grain_value.specs.laws.TreeCode.{coded_tree};
     ghost use Rattle.grain_fault.specs.contracts.faults.EvalAltResult as row;
 
     ghost Value = { MachineView };

@@ -14,7 +14,7 @@ ghost use Rattle.grain_program.specs.Indices.{InPools};
 
 use crate::activations::Activation;
 use crate::contexts::Context;
-use crate::natives::{Arguments, NativeEnd, seek};
+use crate::native_calls::{Arguments, NativeEnd, seek};
 use crate::operated::{Operated, operate};
 use crate::runs::{Progress, Run};
 use crate::steps::Steps;

@@ -20,7 +20,7 @@ impl Model for SavedScopes {
     ghost use Rattle.std.specs.Prelude.{List, ◌≤◌, length, take};
     ghost use Rattle.grain_value.specs.declared.scopes.Entry.{Entry};
     ghost use Rattle.std.specs.Coded.{codes};
-    ghost use Rattle.grain_value.specs.TreeCode.{coded_tree};
+    ghost use Rattle.grain_value.specs.laws.TreeCode.{coded_tree};
 
     ghost Value = { List (List Entry) };
 

@@ -1,7 +1,7 @@
 //! The fault that a native is not found.
 
 ghost use Rattle.std.specs.Prelude.{◌≡◌, ◌++◌, [], IfOk, map};
-ghost use Rattle.grain_value.specs.Same.{value_of};
+ghost use Rattle.grain_value.specs.View.{value_of};
 ghost use Rattle.grain_fault.specs.Problems.{problem_of};
 ghost use Rattle.grain_means.specs.Signatures.{types_text, signature_text, type_at, unknown_property, unwritable_property, index_text, not_found, says_missing};
 

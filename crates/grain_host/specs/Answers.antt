@@ -2,11 +2,11 @@
 use Rattle.std.specs.Prelude.{ℕ, ◌≡◌, Option, Some, None}
 use Rattle.grain_fault.specs.Problems.{problem_of}
 use Rattle.grain_host.specs.Law.{Law, Reply, Done, Failed, GoOn, Stop, receiver_after}
-use Rattle.grain_host.specs.declared.answers.Args.{Args}
-use Rattle.grain_host.specs.declared.answers.HostAnswer.{HostAnswer}
-use Rattle.grain_host.specs.declared.answers.HostAnswer.TheVariants as answer
-use Rattle.grain_host.specs.declared.answers.ProgressAnswer.{ProgressAnswer}
-use Rattle.grain_host.specs.declared.answers.ProgressAnswer.TheVariants as progress
+use Rattle.grain_host.specs.declared.host_answers.Args.{Args}
+use Rattle.grain_host.specs.declared.host_answers.HostAnswer.{HostAnswer}
+use Rattle.grain_host.specs.declared.host_answers.HostAnswer.TheVariants as answer
+use Rattle.grain_host.specs.declared.host_answers.ProgressAnswer.{ProgressAnswer}
+use Rattle.grain_host.specs.declared.host_answers.ProgressAnswer.TheVariants as progress
 
 -- the reply, the state afterwards and the receiver are the law's
 abbrev pub Follows : {S : Type 0} → Law S → S → ℕ → Args → Reply → S → Args → Type 0

@@ -4,8 +4,7 @@ use Rattle.std.specs.Fmt.{decimal}
 use Rattle.std.specs.Str.{chars}
 use Rattle.std.specs.List.{list_any}
 use Rattle.grain_value.specs.Tree.{Tree}
-use Rattle.grain_value.specs.View.{tree}
-use Rattle.grain_value.specs.Same.{value_of}
+use Rattle.grain_value.specs.View.{tree, value_of}
 use Rattle.grain_value.specs.Writing.{plain}
 use Rattle.grain_value.specs.declared.values.Dynamic.{Dynamic}
 use Rattle.grain_value.specs.declared.values.Dynamic.TheVariants as dynamic
@@ -14,8 +13,8 @@ use Rattle.grain_fault.specs.Places.{nowhere}
 use Rattle.grain_fault.specs.Problems.{Plain, Runtime, Exit, SystemError}
 use Rattle.grain_host.specs.Law.{Law, Reply, Done, Failed, Verdict, GoOn, Stop, receiver_after}
 use Rattle.grain_host.specs.Answers.{reply_of}
-use Rattle.grain_host.specs.declared.answers.Args.{Args}
-use Rattle.grain_host.specs.declared.answers.HostAnswer.{HostAnswer}
+use Rattle.grain_host.specs.declared.host_answers.Args.{Args}
+use Rattle.grain_host.specs.declared.host_answers.HostAnswer.{HostAnswer}
 use Rattle.grain_host.specs.declared.tables.TableHost.{TableHost}
 use Rattle.grain_host.specs.declared.tables.StopLine.{StopLine}
 use Rattle.grain_host.specs.declared.tables.Turn.{Turn}

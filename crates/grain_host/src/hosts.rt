@@ -4,7 +4,7 @@ ghost use Rattle.std.specs.Prelude.{◌≡◌};
 ghost use Rattle.grain_host.specs.Law.{Law, IsLawful, native_of};
 ghost use Rattle.grain_host.specs.Answers.{Answers, Hears};
 
-use crate::answers::{Args, HostAnswer, ProgressAnswer};
+use crate::host_answers::{Args, HostAnswer, ProgressAnswer};
 use grain_value::{Kinds, Native};
 use std::alloc::Global;
 

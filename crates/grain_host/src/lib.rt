@@ -1,15 +1,15 @@
 //! The host: what a machine asks of the program around it, and a host that lives in memory.
 #![tactic(auto)]
 
-mod answers;
-mod faults;
+mod host_answers;
+mod host_faults;
 mod hosts;
-mod natives;
+mod table_natives;
 mod tables;
 #[cfg(test)]
 mod tests;
 
-pub use answers::{Args, HostAnswer, ProgressAnswer};
-pub use faults::HostFault;
+pub use host_answers::{Args, HostAnswer, ProgressAnswer};
+pub use host_faults::HostFault;
 pub use hosts::Host;
 pub use tables::TableHost;

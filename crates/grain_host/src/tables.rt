@@ -4,9 +4,9 @@ ghost use Rattle.std.specs.Prelude.{◌≡◌, IfOk, IfErr, is_ok, if◌then◌e
 ghost use Rattle.grain_host.specs.Tables.{table_law, blank, failing_at, stopping_at, turn, stop_at, IsStep};
 ghost use Rattle.grain_host.specs.Lawful.{table_lawful};
 
-use crate::answers::{Args, HostAnswer, ProgressAnswer};
+use crate::host_answers::{Args, HostAnswer, ProgressAnswer};
 use crate::hosts::Host;
-use crate::natives::{self, key_of, perform};
+use crate::table_natives::{self, key_of, perform};
 use grain_value::{Dynamic, Kinds, List, Native, OutOfMemory, Text};
 use std::alloc::Global;
 
@@ -105,9 +105,9 @@ impl TableHost {
             (self.new ≡ self.old) × (args.new.receiver ≡ args.old.receiver)) }
     {
         match self.turn() {
-            Turn::Full => natives::refused(alloc, "table host is full"),
+            Turn::Full => table_natives::refused(alloc, "table host is full"),
             Turn::Failing(number) => {
-                let answer = natives::failure(alloc, number)?;
+                let answer = table_natives::failure(alloc, number)?;
                 self.steps = number;
                 Ok(answer)
             }
@@ -127,7 +127,7 @@ impl Host for TableHost {
 
     fn resolve(&self, name: &str, kinds: &Kinds) -> Option<Native> {
         let key = key_of(name, kinds.as_slice())?;
-        let writes = key == natives::PUSH;
+        let writes = key == table_natives::PUSH;
         Some(Native { key, writes })
     }
 

@@ -4,9 +4,9 @@ use Rattle.std.proofs.Math.Utf8.{scalars}
 use Rattle.std.specs.Char.{IsScalar}
 use Rattle.std.specs.List.{AllByRecursion}
 use Rattle.std.specs.Str.{IsUtf8}
-use Rattle.grain_value.specs.Same.{value_of, tree-value_of}
+use Rattle.grain_value.specs.View.{value_of, tree}
+use Rattle.grain_value.specs.laws.Same.{tree-value_of}
 use Rattle.grain_value.specs.Tree.{Tree}
-use Rattle.grain_value.specs.View.{tree}
 use Rattle.grain_value.specs.declared.scopes.Entry.{Entry}
 use Rattle.grain_value.specs.declared.values.Dynamic.{Dynamic}
 use Rattle.grain_words.specs.Numerals.{number}

@@ -2,8 +2,8 @@
 use Rattle.std.proofs.Common.{◌≡◌, ℕ, Bool, true, false, List, [], ◌∷◌, ◌++◌, Result, Ok, Some, codes, refl, sym, ap, ◌∙◌, append-nil}
 use Rattle.std.specs.Str.{chars, IsUtf8}
 use Rattle.grain_value.specs.Quoting.{quoted_text}
-use Rattle.grain_value.specs.Same.{value_of, value_of-tree}
-use Rattle.grain_value.specs.View.{tree}
+use Rattle.grain_value.specs.View.{value_of, tree}
+use Rattle.grain_value.specs.laws.Same.{value_of-tree}
 use Rattle.grain_value.specs.Writing.{quoted}
 use Rattle.grain_value.specs.declared.scopes.Entry.{Entry}
 use Rattle.grain_value.specs.declared.values.Dynamic.{Dynamic}

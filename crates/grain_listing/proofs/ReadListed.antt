@@ -8,7 +8,7 @@ use Rattle.std.specs.List.{AllByRecursion}
 use Rattle.std.specs.Str.{IsUtf8}
 use Rattle.grain_value.specs.Tree.{Tree, unit, boolean, integer, character, text, blob, range, foreign, array, dict, pointer, pack, pack_fields}
 use Rattle.grain_value.specs.Maps.{Entries, IsAscending}
-use Rattle.grain_value.specs.Same.{unpack-pack_fields}
+use Rattle.grain_value.specs.laws.Same.{unpack-pack_fields}
 use Rattle.grain_words.specs.lemmas.Spelling.{spells_none, one_ascii}
 use Rattle.grain_words.specs.Spelled.{IsLong}
 use Rattle.grain_words.specs.Numerals.{integer as integer_of, number, minus, is_numeral, number_from}

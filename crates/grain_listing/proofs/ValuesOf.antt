@@ -1,7 +1,7 @@
 -- A value that was read, and its tree.
 use Rattle.std.proofs.Common.{◌≡◌, ℕ, List, Ok, Err, Some, None, ap, sym, ◌∙◌}
-use Rattle.grain_value.specs.Same.{value_of, value_of-tree}
-use Rattle.grain_value.specs.View.{tree}
+use Rattle.grain_value.specs.View.{value_of, tree}
+use Rattle.grain_value.specs.laws.Same.{value_of-tree}
 use Rattle.grain_value.specs.declared.values.Dynamic.{Dynamic}
 use Rattle.grain_listing.specs.Steps.{present}
 use Rattle.grain_listing.specs.Values.{made, value}

@@ -4,7 +4,7 @@ use Rattle.std.specs.Fmt.{decimal, signed_decimal}
 use Rattle.std.specs.List.{flat_map}
 use Rattle.std.specs.Str.{chars, IsUtf8}
 use Rattle.std.proofs.lemmas.Str.{encodes-chars}
-use Rattle.grain_value.specs.Same.{pack-unpack, pack-unpack_fields}
+use Rattle.grain_value.specs.laws.Same.{pack-unpack, pack-unpack_fields}
 use Rattle.grain_value.specs.Tree.{Tree, Trees, Fields, unit, boolean, integer, character, text, array, blob, dict, pointer, range, foreign, no_trees, more_trees, no_fields, more_fields, pack, unpack, pack_fields, unpack_fields}
 use Rattle.grain_value.specs.Writing.{quoted_tree}
 use Rattle.grain_words.specs.lemmas.Spelling.{spells_none}

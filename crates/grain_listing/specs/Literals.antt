@@ -1,10 +1,11 @@
 -- Constants, texts, operators and entries of the starting scope.
 use Rattle.std.specs.Prelude.{ℕ, Bool, true, false, List, Option, Some, None, Result, Ok, Err, codes, if◌then◌else◌}
 use Rattle.grain_value.specs.declared.values.Dynamic.{Dynamic}
-use Rattle.grain_value.specs.Same.{value_of}
+use Rattle.grain_value.specs.View.{value_of}
 use Rattle.grain_value.specs.declared.scopes.Entry.{Entry}
-use Rattle.grain_value.specs.declared.operators.Token.{Token}
-use Rattle.grain_value.specs.Operators.{token_in}
+use Rattle.grain_value.specs.Scopes.{new_entry}
+use Rattle.grain_value.specs.declared.tokens.Token.{Token}
+use Rattle.grain_value.specs.Tokens.{token_in}
 use Rattle.grain_words.specs.Words.{trim_start, is_word_end, next_text}
 use Rattle.grain_listing.specs.Steps.{and_then, present}
 use Rattle.grain_listing.specs.Values.{made, value}
@@ -48,10 +49,7 @@ abbrev pub token_of : List ℕ → Result Token Reason
 token_of cs = and_then (text_operand cs) (λ a. and_then (token_named a.0) (λ k. alone a.1 k))
 
 abbrev pub entry_with : List ℕ → Bool → Dynamic → Entry
-entry_with name read_only v = record {
-  name = name;
-  held = record { value = v; read_only = read_only };
-}
+entry_with name read_only v = new_entry name (record { value = v; read_only = read_only })
 
 -- after `scope` and maybe `const`: a name and a value
 abbrev pub entry_in : Bool → List ℕ → Result Entry Reason

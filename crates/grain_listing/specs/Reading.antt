@@ -5,7 +5,7 @@ use Rattle.std.specs.Prelude.{ℕ, ◌+◌, Bool, List, [], ◌∷◌, length, t
 use Rattle.std.specs.Str.{is_utf8}
 use Rattle.std.specs.Str.Lossy.{utf8_valid_len}
 use Rattle.grain_value.specs.declared.values.Limits.{Limits}
-use Rattle.grain_value.specs.declared.operators.Token.{Token}
+use Rattle.grain_value.specs.declared.tokens.Token.{Token}
 use Rattle.grain_value.specs.declared.scopes.Entry.{Entry}
 use Rattle.grain_host.specs.declared.tables.TableHost.{TableHost}
 use Rattle.grain_program.specs.View.{View}

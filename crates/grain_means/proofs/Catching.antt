@@ -4,6 +4,7 @@ use Rattle.std.proofs.Common.{◌≡◌, ◌≤◌, ◌<◌, ◌⊎◌, ℕ, ◌
 use Rattle.std.proofs.lemmas.Bool.{ltb-true, ltb-false, leb-true}
 use Rattle.std.proofs.lemmas.List.{length-take}
 use Rattle.grain_value.specs.declared.scopes.Entry.{Entry}
+use Rattle.grain_value.specs.Scopes.{new_entry}
 use Rattle.grain_value.specs.Operands.{read_write}
 use Rattle.grain_fault.specs.Classes.{catchable}
 use Rattle.grain_fault.specs.declared.faults.MalformedKind.TheVariants as kind
@@ -161,10 +162,8 @@ module _ {S : Type 0} (m : Setup S) (f : Frame) (h : Handler) (x : Problem) (w :
   binds (Some n) e there =
       let p = position_of m.program h.target in
       let scope = take h.scope w.scope in
-      let entry : Entry = record {
-        name = name_of m.program n;
-        held = read_write (caught_value m.program.source x);
-      } in
+      let entry : Entry =
+      new_entry (name_of m.program n) (read_write (caught_value m.program.source x)) in
       let charge : World S → Act S =
       λ w1. charged_or m p g (leave_by_fault m None g) w1 (Go (InFrame block)) in
       by_test Outcome (is_full m.engine.limits.variables scope)

@@ -12,7 +12,7 @@ use Rattle.grain_program.specs.Shapes.{TryHandler, handled, outer}
 use Rattle.grain_program.specs.TypedAt.{IsTypedAt, IsCovered}
 use Rattle.grain_program.specs.laws.TypedAt.{stands, verified, begins, enters, covers_height, uncovered, catches}
 use Rattle.grain_program.specs.Lookups.{function_of}
-use Rattle.grain_program.specs.Reading.{op_at}
+use Rattle.grain_program.specs.Decoding.{op_at}
 use Rattle.grain_program.specs.Typing.{In, IsProgram}
 use Rattle.grain_program.specs.View.{View}
 use Rattle.grain_means.specs.Worlds.{Frame, Handler, Place}
@@ -89,7 +89,7 @@ module _ (p : View) (valid : IsProgram p) where
             (sym handlers)
             (subst (λ (n : ℕ). IsTypedAt p fit.0 g.address n
             (handled (handling_of o) (length f.operands - takes_of o + gives_of o)
-            (tries f.handlers))) (sym (many s.enough)) (s.goes g.address to)),
+            (tries f.handlers))) (sym (many s.provides.enough)) (s.goes g.address to)),
       )
 
   -- where an instruction raises a fault, what the handlers need of the operands is there, if no
@@ -111,7 +111,7 @@ module _ (p : View) (valid : IsProgram p) where
         instruction = x.0.0;
         width = x.0.1;
         stands = x.1;
-        operands = s.enough;
+        operands = s.provides.enough;
         handler = s.handler;
-        pools = s.pools;
+        pools = s.provides.pools;
       }

@@ -11,7 +11,7 @@ use Rattle.grain_value.specs.declared.values.Dynamic.{Dynamic}
 use Rattle.grain_value.specs.declared.values.Dynamic.TheVariants as dynamic
 use Rattle.grain_value.specs.declared.values.Held.{Held}
 use Rattle.grain_value.specs.declared.scopes.Entry.{Entry}
-use Rattle.grain_value.specs.Scopes.{set_held}
+use Rattle.grain_value.specs.Scopes.{set_held, new_entry}
 use Rattle.grain_value.specs.Looking.{truth_of, is_unit}
 use Rattle.grain_value.specs.Operands.{top, below, under, arguments, read_write, values_in}
 use Rattle.grain_value.specs.Writing.{type_name_of}
@@ -29,7 +29,7 @@ use Rattle.grain_program.specs.declared.code.effects.Handling.TheVariants as han
 use Rattle.grain_program.specs.Effects.{takes_of, gives_of, leads_of, handling_of}
 use Rattle.grain_program.specs.Shapes.{TryHandler, handled}
 use Rattle.grain_program.specs.Typing.{In, IsProgram}
-use Rattle.grain_program.specs.Reading.{op_at}
+use Rattle.grain_program.specs.Decoding.{op_at}
 use Rattle.grain_program.specs.View.{name_of, const_of, assign_op_of, source_text}
 use Rattle.grain_ops.specs.Outcomes.{Outcome, NotBuiltIn, Gave, ArithmeticFault, TooLarge}
 use Rattle.grain_means.specs.Worlds.{Act, Go, End, Then, Answer, Came, Failed, World, Setup, Frame, Handler, InFrame, InCatch}
@@ -412,11 +412,7 @@ module _ {S : Type 0} (m : Setup S) where
           Even (now.ran + 1) (declare m read_only name behind_it f start)
       even_declared read_only name u fills =
           let entry : Entry =
-          record {
-            name = name;
-            held =
-                record { value = (top f.operands).value; read_only = read_only };
-          } in
+          new_entry name (record { value = (top f.operands).value; read_only = read_only }) in
           by_test (Even (now.ran + 1)) (is_full m.engine.limits.variables now.scope) _ _
           (λ full. even_raised (now.ran + 1) (Plain TooManyVariables (position m f)) start steady
           (why (Plain TooManyVariables (position m f)) refl

@@ -1,6 +1,7 @@
 -- What a handler that catches comes to: a fault that no script may catch, or its catch block.
 use Rattle.std.specs.Prelude.{◌≡◌, ◌⊎◌, ◌≤◌, ◌+◌, ℕ, List, [], ◌∷◌, ◌++◌, Option, Some, None, false, length, take}
 use Rattle.grain_value.specs.declared.scopes.Entry.{Entry}
+use Rattle.grain_value.specs.Scopes.{new_entry}
 use Rattle.grain_value.specs.Operands.{read_write}
 use Rattle.grain_fault.specs.Classes.{catchable}
 use Rattle.grain_fault.specs.Problems.{Problem}
@@ -13,10 +14,8 @@ use Rattle.grain_means.specs.Comes.{CatchPoint}
 -- the entry of the variable of a catch, if it has one, which can be written
 abbrev pub variable_entry : View → Option ℕ → Problem → List Entry
 variable_entry program None x = []
-variable_entry program (Some n) x = record {
-  name = name_of program n;
-  held = read_write (caught_value program.source x);
-} ∷ []
+variable_entry program (Some n) x =
+    new_entry (name_of program n) (read_write (caught_value program.source x)) ∷ []
 
 -- The catch block begins in a frame and a world: at the handler's target, with exactly as many
 -- operands and entries of the scope as at its push, and with the variable above these; the handler

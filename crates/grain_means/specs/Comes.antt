@@ -5,7 +5,7 @@ use Rattle.grain_program.specs.declared.code.instructions.Op.{Op}
 use Rattle.grain_program.specs.Effects.{takes_of, handling_of}
 use Rattle.grain_program.specs.Shapes.{TryHandler, lacks_handler}
 use Rattle.grain_program.specs.Indices.{InPools}
-use Rattle.grain_program.specs.Reading.{op_at}
+use Rattle.grain_program.specs.Decoding.{op_at}
 use Rattle.grain_program.specs.View.{View}
 use Rattle.grain_host.specs.Law.{Law}
 use Rattle.grain_global.specs.declared.engines.Engine.{Engine}

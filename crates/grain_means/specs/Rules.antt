@@ -4,7 +4,7 @@ use Rattle.grain_value.specs.declared.values.Dynamic.{Dynamic}
 use Rattle.grain_value.specs.declared.values.Dynamic.TheVariants as dynamic
 use Rattle.grain_value.specs.declared.values.Held.{Held}
 use Rattle.grain_value.specs.declared.scopes.Entry.{Entry}
-use Rattle.grain_value.specs.Scopes.{held_of, set_held}
+use Rattle.grain_value.specs.Scopes.{held_of, set_held, new_entry}
 use Rattle.grain_value.specs.Looking.{truth_of, is_unit}
 use Rattle.grain_value.specs.Operands.{top, below, under, arguments, rotated, read_write, values_in, bound_entries}
 use Rattle.grain_value.specs.Tree.{Tree}
@@ -25,7 +25,7 @@ use Rattle.grain_program.specs.Lookups.{function_of}
 use Rattle.grain_program.specs.declared.code.instructions.Op.{Op}
 use Rattle.grain_program.specs.declared.code.instructions.Op.TheVariants as op
 use Rattle.grain_program.specs.View.{View, const_of, name_of, token_of, assign_op_of, position_of, source_text}
-use Rattle.grain_program.specs.Reading.{op_at}
+use Rattle.grain_program.specs.Decoding.{op_at}
 use Rattle.grain_global.specs.declared.engines.Engine.{Engine}
 use Rattle.grain_ops.specs.Outcomes.{Outcome, NotBuiltIn, Gave, ArithmeticFault, TooLarge}
 use Rattle.grain_ops.specs.Operators.{operation, assignment}
@@ -256,10 +256,8 @@ module _ {S : Type 0} (m : Setup S) where
   bind_caught (Some n) p g x w go =
       if is_full m.engine.limits.variables w.scope then escaped g (Plain TooManyVariables p) w
       else marked g w (λ w1. go (record w1 {
-        scope = w1.scope ++ record {
-          name = name_of m.program n;
-          held = read_write (caught_value m.program.source x);
-        } ∷ [];
+        scope = w1.scope ++ new_entry (name_of m.program n)
+            (read_write (caught_value m.program.source x)) ∷ [];
       }))
 
   -- A handler of a frame catches, which has the handlers around it: the operands and the scope are
@@ -370,7 +368,7 @@ module _ {S : Type 0} (m : Setup S) where
       flattened (top f.operands) name f w
       (λ v. marked f w (λ w1. onward f (stepped f next (below f.operands)) (record w1 {
         scope = w1.scope ++
-            record { name = name; held = record { value = v; read_only = read_only } } ∷ [];
+            new_entry name (record { value = v; read_only = read_only }) ∷ [];
       })))
 
   -- an assignment to an entry that can only be read

@@ -7,8 +7,8 @@ use Rattle.std.specs.Ordering.{int_eq, nat_cmp}
 use Rattle.grain_value.specs.declared.values.Dynamic.{Dynamic}
 use Rattle.grain_value.specs.declared.values.Dynamic.TheVariants as dynamic
 use Rattle.grain_value.specs.declared.values.Limits.{Limits}
-use Rattle.grain_value.specs.declared.operators.Token.{Token}
-use Rattle.grain_value.specs.declared.operators.Token.TheVariants as token
+use Rattle.grain_value.specs.declared.tokens.Token.{Token}
+use Rattle.grain_value.specs.declared.tokens.Token.TheVariants as token
 use Rattle.grain_ops.specs.declared.calculations.Calculation.TheVariants as calculation
 use Rattle.grain_ops.specs.Outcomes.{Outcome, NotBuiltIn, Gave}
 use Rattle.grain_ops.specs.Calculations.{calculated, negated}

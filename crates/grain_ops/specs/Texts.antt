@@ -3,8 +3,8 @@ use Rattle.std.specs.Prelude.{ℕ, Bool, List, length, ◌+◌, ◌++◌, nat_lt
 use Rattle.std.specs.Ordering.{is_eq, is_ne, is_lt, is_le, is_gt, is_ge}
 use Rattle.std.specs.declared.cmp.Ordering.{Ordering}
 use Rattle.grain_value.specs.declared.values.Dynamic.TheVariants as dynamic
-use Rattle.grain_value.specs.declared.operators.Token.{Token}
-use Rattle.grain_value.specs.declared.operators.Token.TheVariants as token
+use Rattle.grain_value.specs.declared.tokens.Token.{Token}
+use Rattle.grain_value.specs.declared.tokens.Token.TheVariants as token
 use Rattle.grain_ops.specs.Outcomes.{Outcome, NotBuiltIn, Gave, TooLarge}
 
 -- whether n is over a limit; a limit of 0 is none

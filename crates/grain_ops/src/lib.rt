@@ -9,7 +9,7 @@ mod quick;
 mod shifts;
 #[cfg(test)]
 mod tests;
-mod texts;
+mod text_operators;
 
 pub use answers::{AssignAnswer, OpAnswer};
 pub use operators::{assign, binary, unary};

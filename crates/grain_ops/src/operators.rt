@@ -2,13 +2,13 @@
 
 ghost use Rattle.std.specs.Prelude.{◌≡◌, Some};
 ghost use Rattle.grain_value.specs.declared.values.Dynamic.TheVariants as dynamic;
-ghost use Rattle.grain_value.specs.declared.operators.Token.{Token};
+ghost use Rattle.grain_value.specs.declared.tokens.Token.{Token};
 ghost use Rattle.grain_ops.specs.Operators.{unary, binary, assignment, truth, truths, units, operator_of, texts};
 ghost use Rattle.grain_ops.specs.Answers.{Answers, Assigns, Stores};
 
 use crate::answers::{AssignAnswer, OpAnswer};
 use crate::integers::{integer, integers};
-use crate::texts::{
+use crate::text_operators::{
     append, append_character, character_and_text, characters, text_and_character, texts,
 };
 use grain_value::{Dynamic, Limits, Text, Token};

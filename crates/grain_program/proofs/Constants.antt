@@ -1,8 +1,8 @@
 -- A constant that stands in its pool.
 use Rattle.std.proofs.Common.{◌≡◌, ◌∙◌, ℕ, zero, suc, List, [], ◌∷◌, Some, slice_get, slice_index_or, sym, ap}
 use Rattle.grain_value.specs.Tree.{Tree, unit}
-use Rattle.grain_value.specs.View.{tree}
-use Rattle.grain_value.specs.Same.{value_of, value_of-tree}
+use Rattle.grain_value.specs.View.{tree, value_of}
+use Rattle.grain_value.specs.laws.Same.{value_of-tree}
 use Rattle.grain_value.specs.declared.values.Dynamic.{Dynamic}
 
 -- the entry that is there is the entry, whatever stands past the end

@@ -11,7 +11,7 @@ use Rattle.grain_program.specs.declared.code.parts.Chunk.{Chunk}
 use Rattle.grain_program.specs.declared.code.effects.Effect.{Effect}
 use Rattle.grain_program.specs.declared.verifier.refusals.Refusal.{Refusal}
 use Rattle.grain_program.specs.declared.verifier.refusals.Refusal.TheVariants as refusal
-use Rattle.grain_program.specs.Reading.{op_at}
+use Rattle.grain_program.specs.Decoding.{op_at}
 use Rattle.grain_program.specs.Effects.{effect_of, leads}
 use Rattle.grain_program.specs.Starts.{Start}
 use Rattle.grain_program.specs.Rules.{InstructionStart}

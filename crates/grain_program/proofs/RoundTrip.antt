@@ -10,7 +10,7 @@ use Rattle.grain_program.specs.declared.code.instructions.Op.TheVariants as op
 use Rattle.grain_program.specs.declared.code.fields.Field.{Field}
 use Rattle.grain_program.specs.Fields.{Size, one, two, four, bytes_of, size_of, number_of, span, NumberFits, FieldFits}
 use Rattle.grain_program.specs.InstructionSet.{tag_of, fields_of}
-use Rattle.grain_program.specs.Reading.{number_at, joined, numbers_at, Format, formats, made, by_formats, by_tag, op_in, op_at}
+use Rattle.grain_program.specs.Decoding.{number_at, joined, numbers_at, Format, formats, made, by_formats, by_tag, op_in, op_at}
 use Rattle.grain_program.specs.Spelling.{spelled, fields_spelled, spelling, OpFits}
 
 number_again : (o : Size) (n : ℕ) (rest : List ℕ) → NumberFits o n

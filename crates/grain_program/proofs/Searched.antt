@@ -9,7 +9,7 @@ use Rattle.grain_program.specs.declared.code.instructions.Op.{Op}
 use Rattle.grain_program.specs.declared.code.effects.Effect.{Effect}
 use Rattle.grain_program.specs.declared.verifier.shapes.NumberedShape.{NumberedShape}
 use Rattle.grain_program.specs.declared.verifier.refusals.Refusal.{Refusal}
-use Rattle.grain_program.specs.Reading.{op_at}
+use Rattle.grain_program.specs.Decoding.{op_at}
 use Rattle.grain_program.specs.Effects.{effect_of, leads}
 use Rattle.grain_program.specs.Shapes.{TryHandler, Shape, stepped, shape_at}
 use Rattle.grain_program.specs.HandlerLists.{Grows}

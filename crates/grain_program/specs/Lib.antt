@@ -5,7 +5,7 @@ pub mod Bits
 pub mod View
 pub mod InstructionSet
 pub mod Fields
-pub mod Reading
+pub mod Decoding
 pub mod Spelling
 pub mod Effects
 pub mod Indices

@@ -14,7 +14,7 @@ use Rattle.grain_program.specs.declared.code.fields.Field.TheVariants as field
 use Rattle.grain_program.specs.View.{View}
 use Rattle.grain_program.specs.Fields.{every}
 use Rattle.grain_program.specs.InstructionSet.{fields_of}
-use Rattle.grain_program.specs.Reading.{op_at}
+use Rattle.grain_program.specs.Decoding.{op_at}
 use Rattle.grain_program.specs.Effects.{effect_of}
 use Rattle.grain_program.specs.Indices.{in_pools, is_named}
 use Rattle.grain_program.specs.Capabilities.{permits}

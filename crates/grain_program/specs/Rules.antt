@@ -13,7 +13,7 @@ use Rattle.grain_program.specs.declared.code.fields.Field.{Field}
 use Rattle.grain_program.specs.declared.code.fields.Field.TheVariants as field
 use Rattle.grain_program.specs.View.{View}
 use Rattle.grain_program.specs.InstructionSet.{fields_of}
-use Rattle.grain_program.specs.Reading.{op_at}
+use Rattle.grain_program.specs.Decoding.{op_at}
 use Rattle.grain_program.specs.Effects.{effect_of}
 use Rattle.grain_program.specs.Indices.{InPools, IsNamed}
 use Rattle.grain_program.specs.Capabilities.{Permits}

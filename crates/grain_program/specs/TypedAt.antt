@@ -60,11 +60,7 @@ pub record Provides (p : View) (c : Chunk) (at depth : ℕ) (op : Op) (width : �
 -- what validity says of the instruction at which a frame stands
 pub record Verified (p : View) (c : Chunk) (at depth : ℕ) (handlers : List TryHandler) (op : Op)
     (width : ℕ) : Type 0 where
-  pub enough : takes_of op ≤ depth
-  pub room : depth - takes_of op + gives_of op ≤ c.max_stack
-  pub pools : InPools p op
-  pub inside : at + width ≤ 16777216
-  pub wide : 1 ≤ width
+  pub provides : Provides p c at depth op width
   pub handler : lacks_handler (handling_of op) handlers ≡ false
   -- the operands that the handlers need stay
   pub covered : IsCovered p c (depth - takes_of op) handlers

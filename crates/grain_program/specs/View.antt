@@ -2,9 +2,9 @@
 use Rattle.std.specs.Prelude.{ℕ, List, [], ◌∷◌, Option, Some, None, slice_index_or, ◌==◌, if◌then◌else◌}
 use Rattle.grain_value.specs.declared.values.Dynamic.{Dynamic}
 use Rattle.grain_value.specs.Tree.{Tree, unit}
-use Rattle.grain_value.specs.Same.{value_of}
-use Rattle.grain_value.specs.declared.operators.Token.{Token}
-use Rattle.grain_value.specs.declared.operators.Token.TheVariants as token
+use Rattle.grain_value.specs.View.{value_of}
+use Rattle.grain_value.specs.declared.tokens.Token.{Token}
+use Rattle.grain_value.specs.declared.tokens.Token.TheVariants as token
 use Rattle.grain_fault.specs.declared.places.Position.{Position}
 use Rattle.grain_fault.specs.Places.{nowhere}
 use Rattle.grain_program.specs.Bits.{bits_of}

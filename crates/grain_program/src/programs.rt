@@ -2,7 +2,7 @@
 
 ghost use Rattle.std.specs.Prelude.{◌≡◌, ◌<◌, ◌^◌, ◌⊎◌, ℕ, List, [], length, slice_get, IfOk, IfErr, IfSome, Some, option_map};
 ghost use Rattle.grain_program.specs.View.{View, view_of, position_in, const_of, name_of, token_of, assign_op_of, position_of};
-ghost use Rattle.grain_program.specs.Reading.{op_at};
+ghost use Rattle.grain_program.specs.Decoding.{op_at};
 ghost use Rattle.grain_program.specs.Typing.{IsProgram, IsRefusal};
 ghost use Rattle.grain_program.specs.Indices.{IsNamed};
 ghost use Rattle.grain_program.specs.Shapes.{TryHandler};
@@ -41,7 +41,7 @@ impl Model for Program {
     ghost use Rattle.grain_program.specs.Recorded.{HasOrder};
     ghost use Rattle.grain_program.specs.Lookups.{IsIndex, AreFirst};
     ghost use Rattle.std.specs.Coded.{codes};
-    ghost use Rattle.grain_value.specs.TreeCode.{coded_tree};
+    ghost use Rattle.grain_value.specs.laws.TreeCode.{coded_tree};
 
     ghost Value = { View };
 

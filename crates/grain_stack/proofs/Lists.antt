@@ -5,6 +5,7 @@ use Rattle.std.specs.Prelude.{slice_get, slice_index_or, slice_set, Some}
 use Rattle.std.proofs.lemmas.List.{drop-append-le, drop-drop, drop-take, get_or-take, take-append-le}
 use Rattle.grain_value.specs.declared.values.Held.{Held}
 use Rattle.grain_value.specs.declared.scopes.Entry.{Entry}
+use Rattle.grain_value.specs.Scopes.{new_entry}
 use Rattle.grain_value.specs.Operands.{top, below, under, rotated, read_write, bound_entries}
 use Rattle.grain_stack.specs.Filled.{filled, operand_at}
 
@@ -387,7 +388,7 @@ named (x ∷ xs) (suc n) name e = named xs n name e
 pub bound_more : (scope scope' : List Entry) (names : List (List ℕ)) (ps : List ℕ)
     (xs ys : List Held) (i f : ℕ) (h : Held) (name : List ℕ) → i < length ps → f + i < length xs →
     slice_get names (get_or ps i 0) ≡ Some name →
-    scope' ≡ scope ++ record { name = name; held = read_write (operand_at (f + i) xs).value } ∷ [] →
+    scope' ≡ scope ++ new_entry name (read_write (operand_at (f + i) xs).value) ∷ [] →
     ys ≡ slice_set xs (f + i) h → scope' ++ bound_entries names (drop (i + 1) ps)
     (drop (f + (i + 1)) ys) ≡ scope ++ bound_entries names (drop i ps) (drop (f + i) xs)
 bound_more scope scope' names ps xs ys i f h name lp lx is es ey =
@@ -403,8 +404,7 @@ bound_more scope scope' names ps xs ys i f h name lp lx is es ey =
       drop_held (f + i) xs lx,
       named names (get_or ps i 0) name is,
     )
-    (append_assoc scope (record { name = name; held = read_write (operand_at (f + i) xs).value } ∷
-    []) (bound_entries names (drop (suc i) ps) (drop (suc (f + i)) xs)))
+    (append_assoc scope (new_entry name (read_write (operand_at (f + i) xs).value) ∷ []) (bound_entries names (drop (suc i) ps) (drop (suc (f + i)) xs)))
 
 -- without the arguments
 pub taken : (b k : ℕ) (xs ys : List Held) → length ys ≡ length xs → k ≤ length (drop b xs) →

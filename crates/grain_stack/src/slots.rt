@@ -2,6 +2,7 @@
 
 ghost use Rattle.std.specs.Prelude.{◌≡◌, ◌<◌, ◌≤◌, ◌+◌, ◌-◌, ◌++◌, ◌∷◌, [], length, take, is_ok, OnOk, slice_set, if◌then◌else◌};
 ghost use Rattle.grain_value.specs.declared.values.Dynamic.TheVariants as dynamic;
+ghost use Rattle.grain_value.specs.Scopes.{new_entry};
 ghost use Rattle.grain_value.specs.Operands.{top, below, under, rotated, read_write};
 ghost use Rattle.grain_value.specs.declared.values.Held.{Held};
 ghost use Rattle.grain_stack.specs.Filled.{operand_at};
@@ -23,7 +24,7 @@ impl Model for Slots {
     ghost use Rattle.std.specs.Prelude.{◌≤◌, length};
     ghost use Rattle.grain_stack.specs.Filled.{Filled, filled};
     ghost use Rattle.std.specs.Coded.{codes};
-    ghost use Rattle.grain_value.specs.TreeCode.{coded_tree};
+    ghost use Rattle.grain_value.specs.laws.TreeCode.{coded_tree};
 
     ghost Value = { Filled };
 
@@ -236,10 +237,8 @@ impl Slots {
     ) -> Result<(), OutOfMemory>
         requires there { index < length self.old.operands }
         ensures scope { scope.new ≡ (if is_ok result
-            then scope.old ++ record {
-              name = name.now;
-              held = read_write (operand_at index self.old.operands).value;
-            } ∷ []
+            then scope.old
+                ++ new_entry name.now (read_write (operand_at index self.old.operands).value) ∷ []
             else scope.old) }
         ensures others { (held : Held) × (self.new ≡ record self.old {
           operands =

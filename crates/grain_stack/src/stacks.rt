@@ -39,7 +39,7 @@ pub struct Stacks {
 impl Model for Stacks {
     ghost use Rattle.grain_stack.specs.Views.{StacksView};
     ghost use Rattle.std.specs.Coded.{codes};
-    ghost use Rattle.grain_value.specs.TreeCode.{coded_tree};
+    ghost use Rattle.grain_value.specs.laws.TreeCode.{coded_tree};
 
     ghost Value = { StacksView };
 

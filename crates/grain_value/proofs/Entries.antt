@@ -8,15 +8,15 @@ use Rattle.grain_value.specs.declared.scopes.Entry.{Entry}
 use Rattle.grain_value.specs.declared.values.Held.{Held}
 
 pub keeps_name : (es : List Entry) (i : ℕ) (e : Entry) (h : Held) → i < length es →
-    e ≡ get_or es i e → slice_set es i (record { name = e.name; held = h }) ≡ set_held es i h
+    e ≡ get_or es i e → slice_set es i (record e { held = h }) ≡ set_held es i h
 keeps_name [] i e h lt is = absurd (omega arith)
-keeps_name (x ∷ es) zero e h lt is = ap (λ (y : Entry). record { name = y.name; held = h } ∷ es) is
+keeps_name (x ∷ es) zero e h lt is = ap (λ (y : Entry). record y { held = h } ∷ es) is
 keeps_name (x ∷ es) (suc i) e h lt is =
     ap (λ (l : List Entry). x ∷ l) (keeps_name es i e h (omega arith) is)
 
 -- the scope that a borrowed entry is given back to
 pub gives_back : (es now : List Entry) (i : ℕ) (e : Entry) → es ≡ now → i < length es →
-    e ≡ get_or es i e → (λ (h : Held). slice_set es i (record { name = e.name; held = h }))
+    e ≡ get_or es i e → (λ (h : Held). slice_set es i (record e { held = h }))
     ≡ set_held now i
 gives_back es now i e same lt is =
     fun_ext (λ (h : Held). keeps_name es i e h lt is ∙ ap (λ (l : List Entry). set_held l i h) same)

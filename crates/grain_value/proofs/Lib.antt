@@ -4,3 +4,4 @@ pub mod Pairs
 pub mod PartWritten
 pub mod Prefixes
 pub mod Spares
+pub mod Totals

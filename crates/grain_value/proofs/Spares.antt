@@ -1,11 +1,11 @@
 -- The slots of a scope: what a write, a push and a cut do to the entries and to the spare slots.
-use Rattle.std.proofs.Common.{◌≡◌, ◌∙◌, ◌<◌, ◌≤◌, ◌+◌, ◌-◌, ℕ, zero, suc, List, [], ◌∷◌, ◌++◌, length, take, drop, min, refl, sym, ap, arith, get_or, length-append, length-drop}
+use Rattle.std.proofs.Common.{◌≡◌, ◌∙◌, ◌<◌, ◌≤◌, ◌+◌, ◌-◌, ℕ, zero, suc, Bool, true, false, if◌then◌else◌, List, [], ◌∷◌, ◌++◌, length, take, drop, min, refl, sym, ap, arith, get_or, length-append, length-drop}
 use Rattle.std.specs.Prelude.{All, slice_set}
 use Rattle.std.proofs.Math.Seq.{take-set-lt}
 use Rattle.std.proofs.Math.Path.{fun_ext}
 use Rattle.std.proofs.lemmas.List.{drop-set-lt, drop_all, take_min, drop_min, length-take-le, drop-take}
 use Rattle.std.proofs.lemmas.List.Elements.{All-nil, All-tail}
-use Rattle.grain_value.specs.Scopes.{set_held}
+use Rattle.grain_value.specs.Scopes.{set_held, add_alias, set_alias}
 use Rattle.grain_value.specs.Spare.{IsSpare, IsSpareFrom}
 use Rattle.grain_value.proofs.Entries.{keeps_name}
 use Rattle.grain_value.specs.declared.scopes.Entry.{Entry}
@@ -52,9 +52,9 @@ entry_at i h xs e lt is = is ∙ sym (below i h xs e lt)
 -- a write of an entry that keeps its name
 pub held_written : (h i : ℕ) (xs : List Entry) (e : Entry) (held : Held) → i < h → h ≤ length xs →
     e ≡ get_or xs i e →
-    take h (slice_set xs i (record { name = e.name; held = held })) ≡ set_held (take h xs) i held
+    take h (slice_set xs i (record e { held = held })) ≡ set_held (take h xs) i held
 held_written h i xs e held lt le is =
-    take-set-lt h xs i (record { name = e.name; held = held }) lt
+    take-set-lt h xs i (record e { held = held }) lt
     ∙ keeps_name (take h xs) i e held (omega (arith, lt, length-take-le h xs le))
     (entry_at i h xs e lt is)
 
@@ -133,8 +133,47 @@ removed h start count s n xs es en le =
 -- the scope that an entry was lent from, once it is given back
 pub lent_back : (h i : ℕ) (xs now : List Entry) (e : Entry) → take h xs ≡ now → i < h →
     h ≤ length xs → e ≡ get_or xs i e →
-    (λ (held : Held). take h (slice_set xs i (record { name = e.name; held = held })))
+    (λ (held : Held). take h (slice_set xs i (record e { held = held })))
     ≡ set_held now i
 lent_back h i xs now e same lt le is =
     fun_ext (λ (held : Held). held_written h i xs e held lt le is ∙
     ap (λ (l : List Entry). set_held l i held) same)
+
+-- the slots where an entry is written
+pub kept_spare : (h i : ℕ) (xs : List Entry) (e : Entry) → i < h → IsSpareFrom h xs →
+    IsSpareFrom h (slice_set xs i e)
+kept_spare h i xs e lt s = record {
+  within = omega (arith, s.within, set_length xs i e);
+  spare = rw (drop-set-lt h xs i e lt) s.spare;
+}
+
+alias_added : (es : List Entry) (i : ℕ) (e : Entry) (alias : List ℕ) → i < length es →
+    e ≡ get_or es i e → slice_set es i (record e { aliases = add_alias alias e.aliases }) ≡
+    set_alias es i alias
+alias_added [] i e alias lt is = absurd (omega arith)
+alias_added (x ∷ es) zero e alias lt is =
+    ap (λ (y : Entry). record y { aliases = add_alias alias y.aliases } ∷ es) is
+alias_added (x ∷ es) (suc i) e alias lt is =
+    ap (λ (l : List Entry). x ∷ l) (alias_added es i e alias (omega arith) is)
+
+alias_kept : (es : List Entry) (i : ℕ) (e : Entry) → i < length es → e ≡ get_or es i e →
+    slice_set es i e ≡ es
+alias_kept [] i e lt is = refl
+alias_kept (x ∷ es) zero e lt is = ap (λ (y : Entry). y ∷ es) is
+alias_kept (x ∷ es) (suc i) e lt is =
+    ap (λ (l : List Entry). x ∷ l) (alias_kept es i e (omega arith) is)
+
+-- the scope where an alias was added, or where there was no memory for it
+pub alias_written : (added : Bool) (h i : ℕ) (xs now : List Entry) (e : Entry) (alias : List ℕ)
+    (aliases : List (List ℕ)) → take h xs ≡ now → i < h → h ≤ length xs → e ≡ get_or xs i e →
+    aliases ≡ (if added then add_alias alias e.aliases else e.aliases) →
+    take h (slice_set xs i (record e { aliases = aliases }))
+    ≡ (if added then set_alias now i alias else now)
+alias_written true h i xs now e alias aliases same lt le is new =
+    rw (← same, new) (take-set-lt h xs i (record e { aliases = add_alias alias e.aliases }) lt
+    ∙ alias_added (take h xs) i e alias (omega (arith, lt, length-take-le h xs le))
+    (entry_at i h xs e lt is))
+alias_written false h i xs now e alias aliases same lt le is new =
+    rw (← same, new) (take-set-lt h xs i e lt
+    ∙ alias_kept (take h xs) i e (omega (arith, lt, length-take-le h xs le))
+    (entry_at i h xs e lt is))

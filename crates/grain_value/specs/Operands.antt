@@ -4,6 +4,7 @@ use Rattle.grain_value.specs.declared.values.Dynamic.{Dynamic}
 use Rattle.grain_value.specs.declared.values.Dynamic.TheVariants as dynamic
 use Rattle.grain_value.specs.declared.values.Held.{Held}
 use Rattle.grain_value.specs.declared.scopes.Entry.{Entry}
+use Rattle.grain_value.specs.Scopes.{new_entry}
 
 -- a value, held so that it may be written
 abbrev pub read_write : Dynamic → Held
@@ -56,7 +57,7 @@ left_behind (dynamic.Foreign kind number) = dynamic.Foreign kind number
 
 -- an operand as an entry of a scope, which can be written, under the name of an index
 abbrev pub bound_entry : List (List ℕ) → ℕ → Held → Entry
-bound_entry names n h = record { name = slice_index_or names n []; held = read_write h.value }
+bound_entry names n h = new_entry (slice_index_or names n []) (read_write h.value)
 
 -- operands as the entries of a scope, under the names of the indices
 abbrev pub bound_entries : List (List ℕ) → List ℕ → List Held → List Entry

@@ -28,4 +28,5 @@ is_pointer_name name = begins_with_letter name && all_word_bytes name
 abbrev pub Named : List ℕ → Result FnPtr ValueFault → Type 0
 Named name (Ok p) = (is_pointer_name name ≡ true) × (p ≡ record { name = name; curry = [] })
 Named name (Err fault.BadName) = is_pointer_name name ≡ false
+Named name (Err fault.Busy) = ⊥
 Named name (Err fault.Memory) = is_pointer_name name ≡ true

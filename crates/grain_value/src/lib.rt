@@ -1,20 +1,25 @@
-//! The values of the script machine: texts, lists, held values, scopes, the store of cells and
-//! limits.
+//! The values of the script machine: texts, lists, held values, scopes, the store of cells,
+//! modules, sizes and limits.
 #![tactic(auto)]
 
 mod appending;
 mod blobs;
 mod lists;
 mod memory;
+#[cfg(test)]
+mod module_tests;
+mod modules;
 mod names;
 mod natives;
-mod operators;
 mod quoting;
 mod scopes;
+#[cfg(test)]
+mod store_tests;
 mod stores;
 #[cfg(test)]
 mod tests;
 mod texts;
+mod tokens;
 #[cfg(test)]
 mod value_tests;
 mod values;
@@ -22,10 +27,16 @@ mod values;
 pub use blobs::Blob;
 pub use lists::List;
 pub use memory::OutOfMemory;
+pub use modules::{
+    Module, ModuleEntry, ModuleFunction, ModuleIterator, ModuleTable, ModuleVariable, SharedModule,
+};
 pub use names::Name;
 pub use natives::{Kinds, Native};
-pub use operators::Token;
 pub use scopes::{Entry, Scope};
 pub use stores::{Cell, Store};
 pub use texts::Text;
-pub use values::{Array, Dynamic, FnPtr, Held, Limits, MOST_LEVELS, Map, ValueFault};
+pub use tokens::Token;
+pub use values::{
+    Array, Dynamic, FnPtr, Held, Limits, MOST_LEVELS, Map, ValueFault, calc_array_sizes,
+    calc_data_sizes, calc_map_sizes,
+};

@@ -4,10 +4,11 @@ ghost use Rattle.std.specs.Prelude.{◌≡◌, ◌==◌, ◌<◌, ◌^◌, ◌+�
 ghost use Rattle.std.specs.Option.{option_copied};
 ghost use Rattle.std.specs.Borrow.{sem};
 ghost use Rattle.grain_value.specs.Operands.{read_write, left_behind};
-ghost use Rattle.grain_value.specs.Scopes.{held_of, set_held, last_of};
+ghost use Rattle.grain_value.specs.Scopes.{held_of, set_held, last_of, new_entry, has_alias, add_alias, set_alias};
 ghost use Rattle.grain_value.specs.declared.scopes.Entry.{Entry};
 ghost use Rattle.grain_value.specs.declared.values.Dynamic.TheVariants as dynamic;
 
+use crate::lists::List;
 use crate::memory::OutOfMemory;
 use crate::names::Name;
 use crate::texts::Text;
@@ -15,16 +16,17 @@ use crate::values::{Dynamic, Held};
 use std::alloc::Global;
 use std::marker::Model;
 
-/// A variable: its name, and what it holds.
+/// A variable: its name, what it holds, and the names under which a module exports it.
 #[derive(Drop)]
 pub struct Entry {
     pub name: Name,
     pub held: Held,
+    pub aliases: List<Text>,
 }
 
 /// The variables of a run. Clauses see the list of its entries, which are the slots below `height`.
 /// A slot at or above it is spare: until it is used again it keeps the name of the entry that it
-/// had, which others mostly share, and a value that owns no memory.
+/// had, which others mostly share, a value that owns no memory, and no alias.
 #[derive(Drop)]
 pub struct Scope {
     slots: Vec<Entry>,
@@ -36,7 +38,7 @@ impl Model for Scope {
     ghost use Rattle.grain_value.specs.declared.scopes.Entry.{Entry};
     ghost use Rattle.grain_value.specs.Spare.{IsSpareFrom};
     ghost use Rattle.std.specs.Coded.{codes};
-    ghost use Rattle.grain_value.specs.TreeCode.{coded_tree};
+    ghost use Rattle.grain_value.specs.laws.TreeCode.{coded_tree};
 
     ghost Value = { List Entry };
 
@@ -117,12 +119,17 @@ impl Scope {
     /// Puts an entry at the end. After want of memory the scope is as it was.
     pub fn push(&mut self, name: Text, held: Held) -> Result<(), OutOfMemory>
         ensures { self.new ≡ (if is_ok result
-            then self.old ++ record { name = name; held = held } ∷ []
+            then self.old ++ new_entry name held ∷ []
             else self.old) }
     {
         let alloc = *self.slots.allocator();
         let name = Name::new(alloc, name)?;
-        self.put(Entry { name, held })
+        let aliases = List::new(alloc);
+        self.put(Entry {
+            name,
+            held,
+            aliases,
+        })
     }
 
     // Puts an entry at the end. After want of memory the scope is as it was.
@@ -144,11 +151,16 @@ impl Scope {
     #[inline(never)]
     pub fn push_shared(&mut self, name: &Name, held: Held) -> Result<(), OutOfMemory>
         ensures { self.new ≡ (if is_ok result
-            then self.old ++ record { name = name.now; held = held } ∷ []
+            then self.old ++ new_entry name.now held ∷ []
             else self.old) }
     {
         let name = name.share()?;
-        self.put(Entry { name, held })
+        let aliases = List::new(*self.slots.allocator());
+        self.put(Entry {
+            name,
+            held,
+            aliases,
+        })
     }
 
     /// Puts an entry at the end, which can be written, with the value of `held` and a shared name.
@@ -157,7 +169,7 @@ impl Scope {
     #[inline(always)]
     pub fn push_moved(&mut self, name: &Name, held: &mut Held) -> Result<(), OutOfMemory>
         ensures scope { self.new ≡ (if is_ok result
-            then self.old ++ record { name = name.now; held = read_write held.old.value } ∷ []
+            then self.old ++ new_entry name.now (read_write held.old.value) ∷ []
             else self.old) }
         ensures left { left_behind held.new.value ≡ held.new.value }
     {
@@ -171,10 +183,7 @@ impl Scope {
     #[inline(always)]
     fn push_int(&mut self, name: &Name, integer: i64) -> Result<(), OutOfMemory>
         ensures { self.new ≡ (if is_ok result
-            then self.old ++ record {
-              name = name.now;
-              held = read_write (dynamic.Int integer);
-            } ∷ []
+            then self.old ++ new_entry name.now (read_write (dynamic.Int integer)) ∷ []
             else self.old) }
     {
         let place = self.height;
@@ -194,12 +203,33 @@ impl Scope {
     #[inline(never)]
     fn push_taken(&mut self, name: &Name, held: &mut Held) -> Result<(), OutOfMemory>
         ensures scope { self.new ≡ (if is_ok result
-            then self.old ++ record { name = name.now; held = read_write held.old.value } ∷ []
+            then self.old ++ new_entry name.now (read_write held.old.value) ∷ []
             else self.old) }
         ensures left { left_behind held.new.value ≡ held.new.value }
     {
         let value = held.value.take();
         self.push_shared(name, Held::read_write(value))
+    }
+
+    /// The aliases of the entry at the index, in the order in which they were added, if there is
+    /// one.
+    pub fn aliases(&self, index: usize) -> Option<&List<Text>>
+        ensures { option_copied result ≡ option_map (λ e. e.aliases) (slice_get self.now index) }
+    {
+        if index < self.height {
+            Some(&self.slots[index].aliases)
+        } else {
+            None
+        }
+    }
+
+    /// Adds an alias to the entry at the index, unless it has it. After want of memory the scope is
+    /// as it was.
+    pub fn add_alias_by_index(&mut self, index: usize, alias: Text) -> Result<(), OutOfMemory>
+        requires { index < length self.old }
+        ensures { self.new ≡ (if is_ok result then set_alias self.old index alias else self.old) }
+    {
+        add_alias(&mut self.slots[index].aliases, alias)
     }
 
     /// Keeps the first `n` entries. The values of the others own no memory from then on.
@@ -209,7 +239,11 @@ impl Scope {
     {
         'forget: while self.height > n {
             let last = self.height - 1;
-            self.slots[last].held.value.forget();
+            let slot = &mut self.slots[last];
+            slot.held.value.forget();
+            if !slot.aliases.is_empty() {
+                slot.aliases.clear();
+            }
             self.height = last;
         }
     }
@@ -262,4 +296,27 @@ impl Scope {
             None => None,
         }
     }
+}
+
+// Adds an alias, unless it is among these. After want of memory they are as they were.
+fn add_alias(aliases: &mut List<Text>, alias: Text) -> Result<(), OutOfMemory>
+    ensures { aliases.new
+        ≡ (if is_ok result then add_alias alias aliases.old else aliases.old) }
+{
+    if has_alias(aliases, &alias) {
+        return Ok(());
+    }
+    aliases.push(alias)
+}
+
+// Whether the alias is among these.
+fn has_alias(aliases: &List<Text>, alias: &Text) -> bool
+    ensures { result ≡ has_alias alias.now aliases.now }
+{
+    for known in aliases.as_slice() {
+        if known.as_str() == alias.as_str() {
+            return true;
+        }
+    }
+    false
 }

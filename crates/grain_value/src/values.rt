@@ -7,12 +7,14 @@ mod copies;
 mod looking;
 mod maps;
 mod pointers;
+mod sizes;
 mod types;
 mod writing;
 
 use crate::blobs::Blob;
 use crate::texts::Text;
 pub use pointers::ValueFault;
+pub use sizes::{calc_array_sizes, calc_data_sizes, calc_map_sizes};
 use std::alloc::Global;
 use std::collections::BTreeMap;
 use std::marker::Model;
@@ -67,7 +69,7 @@ pub struct Array {
 impl Model for Array {
     ghost use Rattle.std.specs.Prelude.{List};
     ghost use Rattle.grain_value.specs.Tree.{Tree, pack, weights};
-    ghost use Rattle.grain_value.specs.TreeCode.{coded_array};
+    ghost use Rattle.grain_value.specs.laws.TreeCode.{coded_array};
 
     ghost Value = { List Tree };
 
@@ -79,7 +81,7 @@ impl Model for Array {
 
     ghost size = { λ ts. weights (pack ts) };
 
-    ghost use Rattle.grain_value.specs.Falls.{depth_le-weights};
+    ghost use Rattle.grain_value.specs.laws.Falls.{depth_le-weights};
 
     ghost size_decreases = { λ a h. depth_le-weights a.values.items };
 }
@@ -99,7 +101,7 @@ pub struct Map {
 impl Model for Map {
     ghost use Rattle.std.specs.Prelude.{ℕ, List};
     ghost use Rattle.grain_value.specs.Tree.{Tree, pack_fields, field_weights};
-    ghost use Rattle.grain_value.specs.TreeCode.{coded_map};
+    ghost use Rattle.grain_value.specs.laws.TreeCode.{coded_map};
 
     ghost Value = { List (List ℕ × Tree) };
 
@@ -111,7 +113,7 @@ impl Model for Map {
 
     ghost size = { λ es. field_weights (pack_fields es) };
 
-    ghost use Rattle.grain_value.specs.Falls.{depth_le-field_weights};
+    ghost use Rattle.grain_value.specs.laws.Falls.{depth_le-field_weights};
 
     ghost size_decreases = { λ a h. depth_le-field_weights a.pairs.entries };
 }

@@ -29,7 +29,7 @@ pub struct Vm<'e> {
 impl<'e> Model for Vm<'e> {
     ghost use Rattle.grain_vm.specs.VmView.{VmView};
     ghost use Rattle.std.specs.Coded.{codes};
-    ghost use Rattle.grain_value.specs.TreeCode.{coded_tree};
+    ghost use Rattle.grain_value.specs.laws.TreeCode.{coded_tree};
 
     ghost Value = { VmView };
 

@@ -9,7 +9,7 @@ mod laws;
 mod lines;
 mod numerals;
 mod position_words;
-mod texts;
+mod quoted_texts;
 mod words;
 
 pub use bytes::hex_bytes;
@@ -22,7 +22,7 @@ pub use laws::{
 pub use lines::next_line;
 pub use numerals::{begins_letter, integer, number};
 pub use position_words::position_word;
-pub use texts::{next_text, quoted, word_text};
+pub use quoted_texts::{next_text, quoted, word_text};
 pub use words::{
     after_sign, after_text, after_word, integer_here, is_over, is_word, is_word_end, next_word,
     number_here, trim_start,

@@ -4,7 +4,7 @@ ghost use Rattle.std.specs.Prelude.{◌≡◌, ◌∷◌, ◌≢◌, ◌<◌, �
 ghost use Rattle.grain_words.specs.Words.{ends_word, trim_start, is_over, is_word_end, up_to, onward_from, is_quote, bare, next_word, skipped, after_word, is_gap, after_text, ends_integer, integer_here, number_here, skip_gaps, after_gap, after_sign};
 
 use crate::numerals::{integer, number};
-use crate::texts::skip_text;
+use crate::quoted_texts::skip_text;
 
 fn is_gap(c: char) -> bool
     ensures { result ≡ is_gap c }

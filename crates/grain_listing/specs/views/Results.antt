@@ -2,6 +2,7 @@
 use Rattle.std.specs.Prelude.{ℕ, List, Result, Ok, Err}
 use Rattle.std.specs.Borrow.{Bor}
 use Rattle.grain_listing.specs.declared.literals.ScopeEntry.{ScopeEntry}
+use Rattle.grain_value.specs.Scopes.{new_entry}
 use Rattle.grain_value.specs.declared.scopes.Entry.{Entry}
 use Rattle.grain_listing.specs.declared.reasons.Reason.{Reason}
 
@@ -21,5 +22,5 @@ name_view (Ok x) = Ok (x.0, x.1, x.2.now)
 name_view (Err e) = Err e
 
 abbrev pub entry_view : Result ScopeEntry Reason → Result Entry Reason
-entry_view (Ok e) = Ok (record { name = e.name; held = e.held })
+entry_view (Ok e) = Ok (new_entry e.name e.held)
 entry_view (Err e) = Err e

@@ -8,7 +8,7 @@ use Rattle.grain_program.specs.declared.code.instructions.Op.{Op}
 use Rattle.grain_program.specs.declared.code.parts.Chunk.{Chunk}
 use Rattle.grain_program.specs.declared.code.functions.Function.{Function}
 use Rattle.grain_program.specs.View.{View}
-use Rattle.grain_program.specs.Reading.{op_at}
+use Rattle.grain_program.specs.Decoding.{op_at}
 use Rattle.grain_program.specs.laws.Widths.{op_at_within}
 use Rattle.grain_program.specs.declared.code.effects.Flow.{Flow}
 use Rattle.grain_program.specs.declared.code.effects.Flow.TheVariants as flow
@@ -168,11 +168,13 @@ verified p v c at depth hs f r e =
     let keeps : Covers p c f.typing left hs =
     covers_less p c f.typing left depth hs agrees.above f.covers in
     record {
-      enough = agrees.enough;
-      room = agrees.room;
-      pools = pools;
-      inside = let l = short (length p.code) (chunks_in p) v.layout in omega (arith, wide.1);
-      wide = wide.0;
+      provides = record {
+        enough = agrees.enough;
+        room = agrees.room;
+        pools = pools;
+        inside = let l = short (length p.code) (chunks_in p) v.layout in omega (arith, wide.1);
+        wide = wide.0;
+      };
       handler = agrees.handler;
       covered = record {
         number = f.number;

@@ -5,7 +5,7 @@ use Rattle.std.proofs.Math.Seq.{drop-cons}
 use Rattle.std.proofs.lemmas.Bool.{leb-true}
 use Rattle.grain_program.specs.declared.code.instructions.Op.{Op}
 use Rattle.grain_program.specs.Fields.{Size, one, two, four, bytes_of, span}
-use Rattle.grain_program.specs.Reading.{number_at, joined, numbers_at, Format, formats, made, by_formats, by_tag, width_in, width_of, op_in, op_at}
+use Rattle.grain_program.specs.Decoding.{number_at, joined, numbers_at, Format, formats, made, by_formats, by_tag, width_in, width_of, op_in, op_at}
 
 number_within : (o : Size) (bytes : List ℕ) (n : ℕ) → number_at o bytes ≡ Some n
     → bytes_of o ≤ length bytes

@@ -4,7 +4,7 @@ ghost use Rattle.std.specs.Prelude.{◌≡◌, ◌<◌, ◌≤◌, ◌+◌, ◌+
 ghost use Rattle.std.specs.List.{flat_map, AllByRecursion};
 ghost use Rattle.grain_program.specs.declared.code.instructions.Op.{Op};
 ghost use Rattle.grain_program.specs.Fields.{one, two, four, size_of, number_of};
-ghost use Rattle.grain_program.specs.Reading.{number_at, by_tag, width_of, op_at};
+ghost use Rattle.grain_program.specs.Decoding.{number_at, by_tag, width_of, op_at};
 ghost use Rattle.grain_program.specs.Spelling.{spelled, fields_spelled, spelling, OpFits};
 
 use crate::code::fields::{Field, Fields};
@@ -39,7 +39,7 @@ fn four_there(bytes: &[u8]) -> u32
 // on as a part of larger values: so the compiler sees which instruction each tag gives, and a match
 // on what was read needs no second jump.
 #[inline(always)]
-#[tactic(auto, unfolding(crate::specs::Reading::by_tag, crate::specs::Reading::width_of))]
+#[tactic(auto, unfolding(crate::specs::Decoding::by_tag, crate::specs::Decoding::width_of))]
 fn tagged(tag: u8, rest: &[u8], op: &mut Op) -> usize
     requires { width_of tag ≤ length rest.now + 1 }
     ensures wide { result ≡ width_of tag }
@@ -195,8 +195,9 @@ fn width_of(tag: u8) -> usize
     tagged(tag, &[0; 8], &mut op)
 }
 
-/// The instruction at the address, and its width in bytes. There is none exactly where the address
-/// is at or past the code's end, the byte there is no tag, or the operands pass the code's end.
+/// Reads the instruction at the address, and how many bytes it takes. There is none where the code
+/// has no byte at the address, where that byte is the tag of no instruction, and where the code ends
+/// before the instruction does; everywhere else there is one.
 #[inline(always)]
 pub fn decode(code: &Blob, address: usize) -> Option<(Op, usize)>
     ensures exact { result ≡ op_at code.now address }

@@ -200,6 +200,7 @@ impl HandlerLists {
         requires other { other.list ≤ length self.now }
         ensures { result ≡ clash address (shape_of self.now known) (shape_of self.now other) }
     {
+        // This opens the type's invariant for the proof: two lists are equal where their numbers are.
         let _ = &self.nodes;
         if known.height != other.height {
             return Some(Refusal::HeightDisagrees(address));

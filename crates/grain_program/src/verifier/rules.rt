@@ -7,7 +7,7 @@ ghost use Rattle.std.specs.Prelude.{◌≡◌, ◌==◌, ◌⊎◌, ◌≤◌, �
 ghost use Rattle.grain_program.specs.View.{view_of};
 ghost use Rattle.grain_program.specs.Fields.{every};
 ghost use Rattle.grain_program.specs.Indices.{in_pool, record_named, all_below, is_named};
-ghost use Rattle.grain_program.specs.Reading.{op_at};
+ghost use Rattle.grain_program.specs.Decoding.{op_at};
 ghost use Rattle.grain_program.specs.Layout.{chunks_in, layout_fault};
 ghost use Rattle.grain_program.specs.Rules.{IsSplit, RefusedBeforeHeights};
 ghost use Rattle.grain_program.specs.Owners.{owner_at, lands, stays_in, rule_in, rule_at, IsFirstFound, first_empty, first_misnamed};

@@ -12,6 +12,8 @@ use std::alloc::Global;
 /// Why a call on a value gave nothing.
 #[derive(Clone, Copy, Debug, PartialEq, Eq)]
 pub enum ValueFault {
+    /// The content of the cell is lent.
+    Busy,
     /// The text is no name of a function to which a pointer may lead.
     BadName,
     /// There was no memory.

@@ -1,7 +1,7 @@
 use Rattle.std.proofs.Common.{◌≡◌, false, map, refl, rules}
 use Rattle.std.specs.Prelude.{codes, eqb, bytes_eq}
 use Rattle.std.specs.List.{starts_with}
-use Rattle.grain_value.specs.Same.{value_of}
+use Rattle.grain_value.specs.View.{value_of}
 use Rattle.grain_means.specs.Signatures.{signature_text}
 use Rattle.grain_frame.proofs.signatures.not_found.Goals as goal
 

@@ -1,7 +1,6 @@
 use Rattle.std.proofs.Common.{◌≡◌, Some, None, map, rules, sym}
 use Rattle.std.specs.Prelude.{slice_get}
-use Rattle.grain_value.specs.View.{tree}
-use Rattle.grain_value.specs.Same.{value_of}
+use Rattle.grain_value.specs.View.{tree, value_of}
 use Rattle.grain_value.specs.Writing.{type_name_of}
 use Rattle.grain_means.specs.Signatures.{type_at}
 use Rattle.grain_frame.proofs.Signing.{type_there, type_nowhere}

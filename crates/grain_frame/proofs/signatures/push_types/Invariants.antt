@@ -1,7 +1,7 @@
 use Rattle.std.proofs.Common.{◌≡◌, ◌++◌, [], map, drop}
 use denote.Text.{Utf8}
 use denote.Shadow.{shadow}
-use Rattle.grain_value.specs.Same.{value_of}
+use Rattle.grain_value.specs.View.{value_of}
 use Rattle.grain_means.specs.Signatures.{types_text}
 use Rattle.grain_frame.proofs.signatures.push_types.Given as goal
 

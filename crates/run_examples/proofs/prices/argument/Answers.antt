@@ -3,8 +3,8 @@ use Rattle.std.proofs.Common.{◌≡◌, ◌∙◌, ℕ, suc, ◌-◌, ◌<◌, 
 use Rattle.std.specs.Option.{option_copied}
 use Rattle.std.proofs.lemmas.Option.{slice_get-map}
 use Rattle.grain_value.specs.Tree.{Tree}
-use Rattle.grain_value.specs.View.{tree}
-use Rattle.grain_value.specs.Same.{value_of, value_of-tree}
+use Rattle.grain_value.specs.View.{tree, value_of}
+use Rattle.grain_value.specs.laws.Same.{value_of-tree}
 use Rattle.grain_value.specs.declared.values.Dynamic.{Dynamic}
 use Rattle.run_examples.proofs.prices.argument.Goals as goal
 

@@ -1,6 +1,6 @@
 -- What is read lies within the code, and what is not read is not there.
 use Rattle.std.proofs.Common.{ℕ, List, ◌≡◌, ap, ◌∙◌, arith, length, slice_index_or}
-use Rattle.grain_program.specs.Reading.{width_of}
+use Rattle.grain_program.specs.Decoding.{width_of}
 use Rattle.grain_program.specs.laws.Widths.{op_at_within, op_at_none}
 use Rattle.grain_program.proofs.code.bytes.decode.Goals as goal
 

@@ -1,7 +1,7 @@
 -- A frame that fits stands at an instruction, of which validity says what is needed.
 use Rattle.std.proofs.Common.{sym, ap, subst, ◌∙◌}
 use Rattle.grain_program.specs.View.{View}
-use Rattle.grain_program.specs.Reading.{op_at}
+use Rattle.grain_program.specs.Decoding.{op_at}
 use Rattle.grain_program.specs.laws.Widths.{op_at_there}
 use Rattle.grain_program.specs.Typing.{IsProgram}
 use Rattle.grain_program.specs.laws.TypedAt.{stands, verified}
@@ -46,15 +46,9 @@ pub returns-clause-provides : goal.returns-clause-provides
 returns-clause-provides c =
     let p = c.args.self.now in
     let valid = subst IsProgram c.self.view_is c.self.invariant.0 in
-    let v =
+    let here =
     verified p valid c.args.chunk c.args.address c.args.depth c.requires.0 c.requires.1
     (c.read_there-width.new.op, c.read_there-width.result)
     (ap (λ (v : View). op_at v.code c.args.address) (sym c.self.view_is)
     ∙ c.read_there-width.ensures) in
-    record {
-      enough = v.enough;
-      room = v.room;
-      pools = v.pools;
-      inside = v.inside;
-      wide = v.wide;
-    }
+    here.provides

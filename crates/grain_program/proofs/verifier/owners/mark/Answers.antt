@@ -1,5 +1,5 @@
 use Rattle.std.proofs.Common.{◌≡◌, Some, sym, ◌∙◌, arith}
-use Rattle.grain_program.specs.Reading.{op_at}
+use Rattle.grain_program.specs.Decoding.{op_at}
 use Rattle.grain_program.specs.laws.Widths.{op_at_within}
 use Rattle.grain_program.proofs.Marks.{marking_none, marking_more, marking_ends, marking_all}
 use Rattle.grain_program.proofs.verifier.owners.mark.Goals as goal

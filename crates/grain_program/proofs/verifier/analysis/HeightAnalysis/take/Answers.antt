@@ -2,7 +2,7 @@
 use Rattle.std.proofs.Common.{◌≡◌, ◌+◌, ◌<◌, Some, sym, subst, ap, ◌∙◌, length}
 use Rattle.std.specs.List.{AllByRecursion}
 use Rattle.grain_program.specs.declared.code.effects.Effect.{Effect}
-use Rattle.grain_program.specs.Reading.{op_at}
+use Rattle.grain_program.specs.Decoding.{op_at}
 use Rattle.grain_program.specs.Effects.{leads}
 use Rattle.grain_program.specs.Numbered.{shape_of, Search, state_of}
 use Rattle.grain_program.proofs.Searched.{places, numbered, numbered_still, taken_on}

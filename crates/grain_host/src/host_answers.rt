@@ -1,0 +1,36 @@
+//! What a host is given, and what it answers.
+
+use crate::host_faults::HostFault;
+use grain_value::{Array, Dynamic, Held};
+
+/// The arguments of a call. The first argument is the receiver if there is one, and else the first
+/// of the values.
+#[derive(Drop)]
+pub struct Args {
+    /// The value that the call may write.
+    pub receiver: Option<Held>,
+    /// The other arguments.
+    pub values: Array,
+}
+
+/// What a host answers to a call.
+#[derive(Drop)]
+pub enum HostAnswer {
+    /// The call's value.
+    Done(Dynamic),
+    /// The call failed.
+    Failed(HostFault),
+    /// There was no memory. The host and the receiver are as they were.
+    Memory,
+}
+
+/// What a host answers when it hears how many operations a run has taken.
+#[derive(Drop)]
+pub enum ProgressAnswer {
+    /// The run goes on.
+    GoOn,
+    /// The run ends with this value as its token.
+    Stop(Dynamic),
+    /// There was no memory. The host is as it was.
+    Memory,
+}

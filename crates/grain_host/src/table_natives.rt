@@ -1,0 +1,302 @@
+//! The natives of the host in memory.
+
+ghost use Rattle.std.specs.Prelude.{◌≡◌, ◌++◌, Some, IfOk, is_ok, if◌then◌else◌, codes, map, option_copied, ◌∷◌, ◌<◌, ◌^◌, IfSome};
+ghost use Rattle.std.specs.Fmt.{decimal};
+ghost use Rattle.grain_value.specs.View.{value_of};
+ghost use Rattle.grain_value.specs.declared.values.Dynamic.TheVariants as dynamic;
+ghost use Rattle.grain_fault.specs.Places.{nowhere};
+ghost use Rattle.grain_fault.specs.Problems.{Plain, Runtime};
+ghost use Rattle.grain_host.specs.Law.{Failed};
+ghost use Rattle.grain_host.specs.Answers.{reply_of};
+ghost use Rattle.grain_host.specs.Tables.{arguments, sole, first_of_two, refused, unknown, print_reply, line_of, push_reply, pushed, pushed_receiver, len_reply, entries_in, exit_reply, native_reply, printed_by, received, key_of, for_one, for_array, for_entries, has_entries};
+
+use crate::host_answers::{Args, HostAnswer};
+use crate::host_faults::HostFault;
+use grain_fault::{EvalAltResult, Position};
+use grain_value::{Array, Dynamic, OutOfMemory, Text};
+use std::alloc::Global;
+
+/// The key of `print`.
+pub(crate) const PRINT: u64 = 1;
+/// The key of `push`.
+pub(crate) const PUSH: u64 = 2;
+/// The key of `len`.
+pub(crate) const LEN: u64 = 3;
+/// The key of `exit`.
+pub(crate) const EXIT: u64 = 5;
+
+// The kinds of values of which a native asks.
+const TEXT: u32 = 4;
+
+const ARRAY: u32 = 5;
+
+const BLOB: u32 = 6;
+
+const MAP: u32 = 7;
+
+/// The key of the native of this name for arguments of these kinds.
+pub(crate) fn key_of(name: &str, kinds: &[u32]) -> Option<u64>
+    ensures { result ≡ key_of name.now kinds.now }
+{
+    match name {
+        "print" => for_one(PRINT, kinds),
+        "push" => for_array(PUSH, kinds),
+        "len" => for_entries(LEN, kinds),
+        "exit" => for_one(EXIT, kinds),
+        _ => None,
+    }
+}
+
+// The key, if there is one argument.
+fn for_one(key: u64, kinds: &[u32]) -> Option<u64>
+    ensures { result ≡ for_one key kinds.now }
+{
+    match kinds {
+        [_] => Some(key),
+        _ => None,
+    }
+}
+
+// The key, if there are two arguments, the first an array.
+fn for_array(key: u64, kinds: &[u32]) -> Option<u64>
+    ensures { result ≡ for_array key kinds.now }
+{
+    match kinds {
+        [first, _] if *first == ARRAY => Some(key),
+        _ => None,
+    }
+}
+
+// The key, if there is one argument, which has entries.
+fn for_entries(key: u64, kinds: &[u32]) -> Option<u64>
+    ensures { result ≡ for_entries key kinds.now }
+{
+    match kinds {
+        [kind] if has_entries(*kind) => Some(key),
+        _ => None,
+    }
+}
+
+// Whether values of the kind have entries.
+fn has_entries(kind: u32) -> bool
+    ensures { result ≡ has_entries kind }
+{
+    kind == TEXT || kind == ARRAY || kind == BLOB || kind == MAP
+}
+
+/// A failure of the host's own, for this reason.
+pub(crate) fn refused(alloc: Global, reason: &str) -> Result<HostAnswer, OutOfMemory>
+    ensures { IfOk result (λ a. reply_of a ≡ Some (refused reason.now)) }
+{
+    let reason = Text::copy_of(alloc, reason)?;
+    let fault = EvalAltResult::ErrorSystem(Text::new(alloc), reason);
+    Ok(HostAnswer::Failed(HostFault::passing(fault)))
+}
+
+/// The call of this number fails.
+pub(crate) fn failure(alloc: Global, number: u64) -> Result<HostAnswer, OutOfMemory>
+    ensures { IfOk result (λ a. reply_of a
+        ≡ Some (Failed (Plain (Runtime (dynamic.Text (codes "host failure " ++ decimal number)))
+        nowhere))) }
+{
+    let mut text = Text::copy_of(alloc, "host failure ")?;
+    text.push_number(number)?;
+    let fault = EvalAltResult::ErrorRuntime(Dynamic::Text(text), Position::NONE);
+    Ok(HostAnswer::Failed(HostFault::passing(fault)))
+}
+
+// No native has this key, or this one has no form for these arguments.
+fn unknown(alloc: Global) -> Result<HostAnswer, OutOfMemory>
+    ensures { IfOk result (λ a. reply_of a ≡ Some unknown) }
+{
+    refused(alloc, "unknown to the table host")
+}
+
+/// Does what the native of this key does. After want of memory nothing changed.
+pub(crate) fn perform(
+    alloc: Global,
+    key: u64,
+    args: &mut Args,
+    printed: &mut Text,
+) -> Result<HostAnswer, OutOfMemory>
+    ensures reply { let given = arguments args.old.receiver args.old.values in
+        IfOk result (λ a. reply_of a ≡ Some (native_reply key given)) }
+    ensures printed { let given = arguments args.old.receiver args.old.values in
+        printed.new ≡ (if is_ok result then printed.old ++ printed_by key given else printed.old) }
+    ensures receiver { args.new.receiver
+        ≡ (if is_ok result then received key args.old.receiver args.old.values
+        else args.old.receiver) }
+{
+    match key {
+        PRINT => print(alloc, args, printed),
+        PUSH => push(alloc, args),
+        LEN => len(alloc, args),
+        EXIT => exit(alloc, args),
+        _ => unknown(alloc),
+    }
+}
+
+// The only one of the values.
+fn sole(values: &Array) -> Option<&Dynamic>
+    ensures { option_copied result ≡ sole (map value_of values.now) }
+{
+    if values.len() == 1 {
+        values.get(0)
+    } else {
+        None
+    }
+}
+
+// The only argument.
+fn argument(args: &Args) -> Option<&Dynamic>
+    ensures { option_copied result
+        ≡ sole (arguments args.now.receiver args.now.values) }
+{
+    match &args.receiver {
+        None => sole(&args.values),
+        Some(held) => {
+            if args.values.is_empty() {
+                Some(&held.value)
+            } else {
+                None
+            }
+        }
+    }
+}
+
+// Appends the plain text of the only argument, and LF.
+fn print(alloc: Global, args: &Args, printed: &mut Text) -> Result<HostAnswer, OutOfMemory>
+    ensures reply { let given = sole (arguments args.now.receiver args.now.values) in
+        IfOk result (λ a. reply_of a ≡ Some (print_reply given)) }
+    ensures printed { let given = sole (arguments args.now.receiver args.now.values) in
+        printed.new ≡ (if is_ok result then printed.old ++ line_of given else printed.old) }
+{
+    match argument(args) {
+        None => unknown(alloc),
+        Some(value) => {
+            let mut line = Text::new(alloc);
+            value.write_plain(&mut line)?;
+            line.push_str("\n")?;
+            printed.push_str(line.as_str())?;
+            Ok(HostAnswer::Done(Dynamic::Unit))
+        }
+    }
+}
+
+// Appends the second argument to the first, which is an array: to the receiver, if there is one.
+fn push(alloc: Global, args: &mut Args) -> Result<HostAnswer, OutOfMemory>
+    ensures reply { let given = first_of_two (arguments args.old.receiver args.old.values) in
+        IfOk result (λ a. reply_of a ≡ Some (push_reply given)) }
+    ensures receiver { args.new.receiver
+        ≡ (if is_ok result then pushed_receiver args.old.receiver args.old.values
+        else args.old.receiver) }
+{
+    match &mut args.receiver {
+        None => push_values(alloc, &args.values),
+        Some(held) => push_onto(alloc, &mut held.value, &args.values),
+    }
+}
+
+// An array and a value: the array is dropped with the other arguments.
+fn push_values(alloc: Global, values: &Array) -> Result<HostAnswer, OutOfMemory>
+    ensures { IfOk result
+        (λ a. reply_of a ≡ Some (push_reply (first_of_two (map value_of values.now)))) }
+{
+    match first_of_two(values) {
+        Some(Dynamic::Array(_)) => Ok(HostAnswer::Done(Dynamic::Unit)),
+        _ => unknown(alloc),
+    }
+}
+
+// The first of the values, if there are two.
+fn first_of_two(values: &Array) -> Option<&Dynamic>
+    ensures { option_copied result ≡ first_of_two (map value_of values.now) }
+{
+    if values.len() == 2 {
+        values.get(0)
+    } else {
+        None
+    }
+}
+
+// Appends the only one of the values to the target, which is an array.
+fn push_onto(alloc: Global, target: &mut Dynamic, values: &Array) -> Result<HostAnswer, OutOfMemory>
+    ensures reply { let given = first_of_two (target.old ∷ map value_of values.now) in
+        IfOk result (λ a. reply_of a ≡ Some (push_reply given)) }
+    ensures target { target.new
+        ≡ (if is_ok result
+        then pushed target.old (sole (map value_of values.now))
+        else target.old) }
+{
+    match sole(values) {
+        None => unknown(alloc),
+        Some(value) => push_value(alloc, target, value),
+    }
+}
+
+// Appends a value to the target, which is an array.
+fn push_value(
+    alloc: Global,
+    target: &mut Dynamic,
+    value: &Dynamic,
+) -> Result<HostAnswer, OutOfMemory>
+    ensures reply { IfOk result (λ a. reply_of a ≡ Some (push_reply (Some target.old))) }
+    ensures target { target.new
+        ≡ (if is_ok result then pushed target.old (Some value.now) else target.old) }
+{
+    match target {
+        Dynamic::Array(array) => {
+            array.push(value.copy(alloc)?)?;
+            Ok(HostAnswer::Done(Dynamic::Unit))
+        }
+        _ => unknown(alloc),
+    }
+}
+
+// How many entries or characters the only argument has.
+fn len(alloc: Global, args: &Args) -> Result<HostAnswer, OutOfMemory>
+    ensures { let given = sole (arguments args.now.receiver args.now.values) in
+        IfOk result (λ a. reply_of a ≡ Some (len_reply given)) }
+{
+    match argument(args) {
+        None => unknown(alloc),
+        Some(value) => len_of(alloc, value),
+    }
+}
+
+fn len_of(alloc: Global, value: &Dynamic) -> Result<HostAnswer, OutOfMemory>
+    ensures { IfOk result (λ a. reply_of a ≡ Some (len_reply (Some value.now))) }
+{
+    match entries_in(value) {
+        None => unknown(alloc),
+        Some(count) => Ok(HostAnswer::Done(Dynamic::Int(count as i64))),
+    }
+}
+
+// How many characters, values, bytes or keys there are, if the value has such.
+fn entries_in(value: &Dynamic) -> Option<usize>
+    ensures value { result ≡ entries_in value.now }
+    ensures small { IfSome result (λ count. count < 2 ^ 63) }
+{
+    match value {
+        Dynamic::Text(text) => Some(text.char_count()),
+        Dynamic::Array(array) => Some(array.len()),
+        Dynamic::Blob(blob) => Some(blob.len()),
+        Dynamic::Map(map) => Some(map.len()),
+        _ => None,
+    }
+}
+
+// Ends the script with the only argument.
+fn exit(alloc: Global, args: &Args) -> Result<HostAnswer, OutOfMemory>
+    ensures { let given = sole (arguments args.now.receiver args.now.values) in
+        IfOk result (λ a. reply_of a ≡ Some (exit_reply given)) }
+{
+    match argument(args) {
+        None => unknown(alloc),
+        Some(value) => {
+            let fault = EvalAltResult::Exit(value.copy(alloc)?, Position::NONE);
+            Ok(HostAnswer::Failed(HostFault::passing(fault)))
+        }
+    }
+}
