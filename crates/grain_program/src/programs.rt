@@ -22,7 +22,7 @@ use crate::lookups::{
 use crate::verifier::check::check;
 use crate::verifier::refusals::Refusal;
 use grain_fault::Position;
-use grain_value::{Blob, Dynamic, OutOfMemory, Text, Token};
+use grain_value::{Blob, Dynamic, OutOfMemory, Pools, Text, Token};
 use std::alloc::Global;
 use std::marker::Model;
 
@@ -278,5 +278,19 @@ impl Program {
         ensures { result ≡ position_of self.now address }
     {
         position_among(self.parts.positions.as_slice(), address)
+    }
+}
+
+impl Pools for Program {
+    ghost names = { λ program. program.names };
+
+    ghost constants = { λ program. program.consts };
+
+    fn name(&self, index: u32) -> &Text {
+        self.parts.names.at(index as usize).as_text()
+    }
+
+    fn constant(&self, index: u32) -> &Dynamic {
+        self.parts.consts.at(index as usize)
     }
 }

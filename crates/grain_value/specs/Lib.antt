@@ -1,5 +1,5 @@
 -- What the contracts of this crate cite. Read `Tree`, `View`, `Quoting`,
--- `Writing` and `Scopes` first. `Lending`
+-- `Writing` and `Scopes` first, and for fragments `FragmentTree` and `FragmentView`. `Lending`
 -- says what a scope is after a loan, and `Extensions` serves one private function.
 pub mod Tree
 pub mod View
@@ -17,5 +17,7 @@ pub mod Spare
 pub mod Lending
 pub mod Extensions
 pub mod Operands
+pub mod FragmentTree
+pub mod FragmentView
 -- lemmas, which no contract names
 pub mod laws

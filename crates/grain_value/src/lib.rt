@@ -1,9 +1,12 @@
 //! The values of the script machine: texts, lists, held values, scopes, the store of cells,
-//! modules, sizes and limits.
+//! modules, sizes and limits; and the fragments of a program that are interpreted.
 #![tactic(auto)]
 
 mod appending;
 mod blobs;
+#[cfg(test)]
+mod fragment_tests;
+mod fragments;
 mod lists;
 mod memory;
 #[cfg(test)]
@@ -11,6 +14,7 @@ mod module_tests;
 mod modules;
 mod names;
 mod natives;
+mod pooled;
 mod quoting;
 mod scopes;
 #[cfg(test)]
@@ -25,6 +29,7 @@ mod value_tests;
 mod values;
 
 pub use blobs::Blob;
+pub use fragments::{Fragment, FragmentItem, Items};
 pub use lists::List;
 pub use memory::OutOfMemory;
 pub use modules::{
@@ -32,6 +37,7 @@ pub use modules::{
 };
 pub use names::Name;
 pub use natives::{Kinds, Native};
+pub use pooled::Pools;
 pub use scopes::{Entry, Scope};
 pub use stores::{Cell, Store};
 pub use texts::Text;

@@ -118,9 +118,10 @@ impl Model for Map {
     ghost size_decreases = { λ a h. depth_le-field_weights a.pairs.entries };
 }
 
-/// How many arrays, maps and pointers may stand inside one another. A value that would nest deeper
-/// is not made: the call answers that there is no memory. So what goes through a value, as a copy
-/// does, goes no deeper than this on the process's own stack.
+/// How many arrays, maps and pointers may stand inside one another, and how many blocks of a
+/// fragment. What would nest deeper is not made: the call answers that there is no memory. So what
+/// goes through a value or a fragment, as a copy does, goes no deeper than this on the process's own
+/// stack.
 pub const MOST_LEVELS: usize = 1024;
 
 /// A value in an operand or a scope entry. One that is read-only may not be assigned to.
