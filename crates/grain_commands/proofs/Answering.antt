@@ -7,11 +7,11 @@ use Rattle.grain_program.specs.declared.verifier.refusals.Refusal.{Refusal}
 use Rattle.grain_program.specs.declared.verifier.refusals.Refusal.TheVariants as refusals
 use Rattle.std.proofs.lemmas.Bool.{cases_lt}
 use Rattle.grain_commands.specs.Streams.{IsSpent}
+use Rattle.grain_literals.specs.declared.reasons.Reason.TheVariants.{TooLong}
 use Rattle.grain_listing.specs.Reading.{SetUp, reads, bad_line, most_bytes}
 use Rattle.grain_commands.specs.Replies.{Replies, no_listing, refused, reported, bad_line_text, refusal_text}
 use Rattle.grain_commands.specs.Runs.{Reported, engine_of, start}
 use Rattle.grain_listing.specs.declared.reasons.BadLine.{BadLine}
-use Rattle.grain_listing.specs.declared.reasons.Reason.TheVariants.{TooLong}
 use Rattle.grain_commands.specs.declared.replies.Reply.{Reply}
 
 pub answers_reason : (said : Result SetUp BadLine) (e : BadLine) (r : Result Reply OutOfMemory) →

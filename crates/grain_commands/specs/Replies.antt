@@ -5,8 +5,8 @@ use Rattle.grain_program.specs.Rules.{address_of}
 use Rattle.grain_program.specs.Typing.{IsProgram, IsRefusal}
 use Rattle.grain_program.specs.declared.verifier.refusals.Refusal.{Refusal}
 use Rattle.grain_program.specs.declared.verifier.refusals.Refusal.TheVariants as refusals
+use Rattle.grain_literals.specs.Reasons.{reason_text}
 use Rattle.grain_listing.specs.Reading.{SetUp, reads}
-use Rattle.grain_listing.specs.Reasons.{reason_text}
 use Rattle.grain_commands.specs.Puts.{PutWhole, PutPart}
 use Rattle.grain_commands.specs.Reports.{line_end}
 use Rattle.grain_commands.specs.Runs.{Reported, engine_of, start}

@@ -1,11 +1,11 @@
 -- One more limit leaves at least one operation allowed.
 use Rattle.std.proofs.Common.{◌≡◌, ◌<◌, ℕ, Bool, true, false, cond, codes, bytes_eq, List, [], ◌∷◌, ◌++◌, Option, Some, None, Result, Ok, Err, IfOk, refl, sym, ap, ◌∙◌, arith}
 use Rattle.std.specs.Option.{ForSome}
+use Rattle.grain_literals.specs.declared.reasons.Reason.{Reason}
 use Rattle.grain_listing.specs.Settings.{limit_table, entry_named, number_or, number_of, built, limit_named}
 use Rattle.grain_listing.specs.views.Limits.{limit_line_view, limits_view, Allows, AreAllowed}
 use Rattle.grain_listing.specs.declared.limits.Limit.{Limit}
 use Rattle.grain_listing.specs.declared.limits.LimitLine.{LimitLine}
-use Rattle.grain_listing.specs.declared.reasons.Reason.{Reason}
 
 -- the rows of a table of limits allow an operation at least
 abbrev RowsAllow : List (List ℕ × Limit) → Type 0

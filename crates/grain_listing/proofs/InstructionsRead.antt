@@ -15,7 +15,9 @@ use Rattle.grain_words.specs.Lines.{lines_of}
 use Rattle.grain_words.specs.Words.{next_word, is_over}
 use Rattle.grain_words.specs.Numerals.{number, begins_letter}
 use Rattle.grain_words.specs.Spelled.{is_plain_word, after_words, spaced, is_inside, text_of}
-use Rattle.grain_listing.specs.Steps.{and_then, present}
+use Rattle.grain_literals.specs.Steps.{and_then, present}
+use Rattle.grain_literals.specs.declared.reasons.Reason.{Reason}
+use Rattle.grain_literals.specs.declared.reasons.Reason.TheVariants.{BadOperand, OutOfPlace}
 use Rattle.grain_listing.specs.Instructions.{word_of, kind_of, kinds_of, encoding_of, op_named}
 use Rattle.grain_listing.specs.InstructionLines.{numbers_of, instruction_line, instruction_text}
 use Rattle.grain_listing.specs.Table.{is_block, line_of, own_line, instruction_line_of, later_line, or_else}
@@ -26,8 +28,6 @@ use Rattle.grain_listing.specs.declared.table.Line.TheVariants as lines
 use Rattle.grain_listing.specs.declared.table.OperandKind.{OperandKind}
 use Rattle.grain_listing.specs.declared.table.Section.TheVariants as sections
 use Rattle.grain_listing.specs.declared.reasons.BadLine.{BadLine}
-use Rattle.grain_listing.specs.declared.reasons.Reason.{Reason}
-use Rattle.grain_listing.specs.declared.reasons.Reason.TheVariants.{BadOperand, OutOfPlace}
 use Rattle.grain_listing.proofs.Spelled.{in_table}
 
 -- no instruction's word begins another line

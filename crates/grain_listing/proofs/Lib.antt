@@ -11,16 +11,5 @@ pub mod LinesRead
 pub mod AllowedLimits
 pub mod InstructionsRead
 pub mod Narrow
-pub mod ListsRead
-pub mod ValuesOf
-pub mod SpelledValues
-pub mod ValuesSpelled
-pub mod MapsRead
-pub mod ValuesRead
-pub mod LiteralsRead
 pub mod StopsRead
-pub mod Shorter
-pub mod Rooms
-pub mod MapsListed
-pub mod ReadListed
-pub mod LiteralsListed
+pub mod StopsListed

@@ -1,7 +1,8 @@
 -- What holds while the lines are read.
 use Rattle.std.proofs.Common.{◌≡◌, ℕ, ◌+◌, ◌*◌, ◌<◌, ◌≤◌, List, [], ◌∷◌, length, Result, Ok, Err, refl, sym, ap, ◌∙◌, subst, arith}
 use Rattle.grain_words.specs.Lines.{lines_of}
-use Rattle.grain_listing.specs.Steps.{and_then}
+use Rattle.grain_literals.specs.Steps.{and_then}
+use Rattle.grain_literals.specs.declared.reasons.Reason.{Reason}
 use Rattle.grain_listing.specs.Statements.{Statement, address, bad_line}
 use Rattle.grain_listing.specs.LineMeanings.{says, at_line, statements}
 use Rattle.grain_listing.specs.Reading.{SetUp, set_up_of, meaning}
@@ -9,7 +10,6 @@ use Rattle.grain_listing.specs.views.Assembling.{AssemblerView, HasRoom, empty, 
 use Rattle.grain_listing.specs.views.Linking.{ending}
 use Rattle.grain_listing.specs.views.Ordered.{IsOrdered}
 use Rattle.grain_listing.specs.declared.reasons.BadLine.{BadLine}
-use Rattle.grain_listing.specs.declared.reasons.Reason.{Reason}
 use Rattle.grain_listing.proofs.Assembled.{assembled, sized}
 use Rattle.grain_listing.proofs.Narrow.{narrow}
 use Rattle.grain_listing.proofs.Simulates.{given, next, simulates}

@@ -7,14 +7,14 @@ use Rattle.grain_program.specs.Recorded.{Ascends}
 use Rattle.grain_program.specs.declared.code.parts.AssignOp.{AssignOp}
 use Rattle.grain_program.specs.declared.code.parts.PositionEntry.{PositionEntry}
 use Rattle.grain_words.specs.Labels.{Addresses, address_of}
-use Rattle.grain_listing.specs.Steps.{and_then, present}
+use Rattle.grain_literals.specs.Steps.{and_then, present}
+use Rattle.grain_literals.specs.declared.reasons.Reason.TheVariants.{UnknownLabel}
 use Rattle.grain_listing.specs.Statements.{Piece, Byte, Goto, Statement, code_line, section, tokens, assigns, pieces, width, address, labels, label_address, positions, code_of, bad_line}
 use Rattle.grain_listing.specs.Reading
 use Rattle.grain_listing.specs.Reading.{SetUp, assign_ops_of, complete, set_up_of}
 use Rattle.grain_listing.specs.views.Linking.{write_on, write_at, fill, ending}
 use Rattle.grain_listing.specs.views.Ordered.{IsOrdered}
 use Rattle.grain_listing.specs.declared.reasons.BadLine.{BadLine}
-use Rattle.grain_listing.specs.declared.reasons.Reason.TheVariants.{UnknownLabel}
 use Rattle.grain_listing.proofs.Assembled.{blanks, fixups_from, blank_code, fixups, label_map, assembled, width-append, code_is, fixups_are, sized}
 use Rattle.grain_listing.proofs.FoundLabels.{found}
 

@@ -8,9 +8,11 @@ use Rattle.grain_program.specs.declared.code.instructions.Op.{Op}
 use Rattle.grain_program.specs.declared.code.instructions.Op.TheVariants as op
 use Rattle.grain_program.specs.InstructionSet.{tag_of, fields_of}
 use Rattle.grain_words.specs.Numerals.{number, begins_letter}
-use Rattle.grain_listing.specs.Steps.{and_then, present}
-use Rattle.grain_listing.specs.Operands.{word_operand, after_name, alone, position_after, byte_of}
-use Rattle.grain_listing.specs.Literals.{constant_of, text_of, token_of, entry_of}
+use Rattle.grain_literals.specs.Steps.{and_then, present}
+use Rattle.grain_literals.specs.Operands.{word_operand, after_name, alone, position_after, byte_of}
+use Rattle.grain_literals.specs.Literals.{constant_of, text_of, token_of, entry_of}
+use Rattle.grain_literals.specs.declared.reasons.Reason.{Reason}
+use Rattle.grain_literals.specs.declared.reasons.Reason.TheVariants.{MissingHeader, UnknownWord, OutOfPlace, TooMany, BadOperand, LabelTwice}
 use Rattle.grain_listing.specs.Settings.{capability_bits, capabilities}
 use Rattle.grain_listing.specs.Flags.{flag_of}
 use Rattle.grain_listing.specs.HostLines.{fail_of, stop_of}
@@ -25,8 +27,6 @@ use Rattle.grain_listing.specs.declared.table.OperandKind.{OperandKind}
 use Rattle.grain_listing.specs.declared.table.OperandKind.TheVariants as kinds
 use Rattle.grain_listing.specs.declared.table.Section.{Section}
 use Rattle.grain_listing.specs.declared.table.Section.TheVariants as sections
-use Rattle.grain_listing.specs.declared.reasons.Reason.{Reason}
-use Rattle.grain_listing.specs.declared.reasons.Reason.TheVariants.{MissingHeader, UnknownWord, OutOfPlace, TooMany, BadOperand, LabelTwice}
 use Rattle.grain_listing.proofs.Assembled.{width-append}
 
 -- an instruction has at most three operands

@@ -1,10 +1,10 @@
 -- Parameters, one after the other.
 use Rattle.std.proofs.Common.{◌≡◌, ℕ, zero, suc, ◌-◌, ◌<◌, ◌≤◌, Bool, true, false, List, [], ◌∷◌, ◌++◌, Result, Ok, Err, refl, sym, ap, ◌∙◌, arith, append-nil, append_assoc}
 use Rattle.grain_words.specs.Words.{is_over, after_word}
-use Rattle.grain_listing.specs.Steps.{and_then}
+use Rattle.grain_literals.specs.Steps.{and_then}
+use Rattle.grain_literals.specs.declared.reasons.Reason.{Reason}
+use Rattle.grain_literals.specs.declared.reasons.Reason.TheVariants.{TooMany}
 use Rattle.grain_listing.specs.Headers.{has_parameter, has_more, parameter, parameters_of}
-use Rattle.grain_listing.specs.declared.reasons.Reason.{Reason}
-use Rattle.grain_listing.specs.declared.reasons.Reason.TheVariants.{TooMany}
 
 below : (n : ℕ) → 0 < n → n ≡ suc (n - 1)
 below n h = omega arith

@@ -6,10 +6,12 @@ use Rattle.std.specs.Int.{w16, w32, to_le_bytes}
 use Rattle.grain_fault.specs.declared.places.Position.{Position}
 use Rattle.grain_words.specs.Labels.{address_of, with_label}
 use Rattle.grain_words.specs.Numerals.{number, begins_letter}
-use Rattle.grain_listing.specs.Steps.{and_then, present}
-use Rattle.grain_listing.specs.Operands.{word_operand, after_name, alone, position_after, byte_of}
+use Rattle.grain_literals.specs.Steps.{and_then, present}
+use Rattle.grain_literals.specs.Operands.{word_operand, after_name, alone, position_after, byte_of}
 use Rattle.grain_value.specs.View.{tree}
-use Rattle.grain_listing.specs.Literals.{constant_of, text_of, token_of, entry_of}
+use Rattle.grain_literals.specs.Literals.{constant_of, text_of, token_of, entry_of}
+use Rattle.grain_literals.specs.declared.reasons.Reason.{Reason}
+use Rattle.grain_literals.specs.declared.reasons.Reason.TheVariants.{MissingHeader, UnknownWord, OutOfPlace, TooMany, BadOperand, LabelTwice}
 use Rattle.grain_listing.specs.Settings.{capability_bits, capabilities}
 use Rattle.grain_host.specs.Tables.{failing_at, stopping_at}
 use Rattle.grain_listing.specs.Flags.{flag_of}
@@ -31,8 +33,6 @@ use Rattle.grain_listing.specs.declared.table.OperandKind.{OperandKind}
 use Rattle.grain_listing.specs.declared.table.OperandKind.TheVariants as kinds
 use Rattle.grain_listing.specs.declared.table.Section.{Section}
 use Rattle.grain_listing.specs.declared.table.Section.TheVariants as sections
-use Rattle.grain_listing.specs.declared.reasons.Reason.{Reason}
-use Rattle.grain_listing.specs.declared.reasons.Reason.TheVariants.{MissingHeader, UnknownWord, OutOfPlace, TooMany, BadOperand, LabelTwice}
 use Rattle.grain_listing.proofs.Assembled.{assembled, with_pieces, bytes_put, put_twice, sized, blank_code, label_map}
 use Rattle.grain_listing.proofs.FoundLabels.{found}
 

@@ -8,14 +8,12 @@ use Rattle.grain_value.specs.declared.values.Dynamic.{Dynamic}
 use Rattle.grain_words.specs.Numerals.{number}
 use Rattle.grain_words.specs.Spelled.{is_plain_word, after_words}
 use Rattle.grain_words.specs.Words.{next_word}
+use Rattle.grain_literals.specs.Listed.{IsListed}
+use Rattle.grain_literals.specs.Literals.{constant_of}
+use Rattle.grain_literals.specs.Steps.{and_then, present}
+use Rattle.grain_literals.specs.declared.reasons.Reason.{Reason}
+use Rattle.grain_literals.specs.declared.reasons.Reason.TheVariants.{BadOperand}
 use Rattle.grain_listing.specs.HostLines.{count_operand, stop_of}
-use Rattle.grain_listing.specs.Listed.{IsListed}
-use Rattle.grain_listing.specs.Literals.{constant_of}
-use Rattle.grain_listing.specs.Steps.{and_then, present}
-use Rattle.grain_listing.specs.declared.reasons.Reason.{Reason}
-use Rattle.grain_listing.specs.declared.reasons.Reason.TheVariants.{BadOperand}
-use Rattle.grain_listing.proofs.LiteralsRead.{constant_read}
-use Rattle.grain_listing.proofs.ValuesSpelled.{Laws}
 
 -- what the crate of words says of a number that is a word
 pub record Numbers : Type 0 where
@@ -23,6 +21,10 @@ pub record Numbers : Type 0 where
   pub plain : (n : ℕ) → n < 2 ^ 64 → is_plain_word (decimal n) ≡ true
   pub next : (w : List ℕ) (ws : List (List ℕ)) → is_plain_word w ≡ true →
       next_word (after_words (w ∷ ws)) ≡ Some (w, after_words ws)
+
+-- what the crate of literals says of the text of a value
+abbrev pub Constants : Type 0
+Constants = (v : Dynamic) → IsListed 64 (tree v) → constant_of (32 ∷ chars (quoted v)) ≡ Ok v
 
 abbrev numbered : ℕ → List ℕ → Result (ℕ × List ℕ) Reason
 numbered n rest = Ok (n, rest)
@@ -45,10 +47,10 @@ count_read numbers n cs small =
     ap (λ (o : Option ℕ). and_then (present BadOperand o) (λ k. numbered k (32 ∷ cs)))
     (numbers.read (2 ^ 64 - 1) n (omega (arith, small)) small)
 
-pub stop_read : Laws → Numbers → (n : ℕ) (v : Dynamic) → n < 2 ^ 64 → IsListed 64 (tree v) →
+pub stop_read : Constants → Numbers → (n : ℕ) (v : Dynamic) → n < 2 ^ 64 → IsListed 64 (tree v) →
     stop_of (32 ∷ (decimal n ++ 32 ∷ chars (quoted v))) ≡ Ok (n, v)
-stop_read laws numbers n v small l =
+stop_read constants numbers n v small l =
     ap (λ (r : Result (ℕ × List ℕ) Reason).
     and_then r (λ a. and_then (constant_of a.1) (λ d. stopped a.0 d)))
     (count_read numbers n (chars (quoted v)) small) ∙
-    ap (λ (r : Result Dynamic Reason). and_then r (λ d. stopped n d)) (constant_read laws v l)
+    ap (λ (r : Result Dynamic Reason). and_then r (λ d. stopped n d)) (constants v l)

@@ -3,8 +3,8 @@ use Rattle.std.proofs.Common.{◌≡◌, ◌≤◌, ℕ, List, Bool, true, false
 use Rattle.std.specs.Str.{IsUtf8, is_utf8, chars}
 use Rattle.std.proofs.lemmas.Str.{IsUtf8-from_is_utf8, is_utf8-from_IsUtf8}
 use Rattle.grain_words.specs.Lines.{lines_of}
+use Rattle.grain_literals.specs.declared.reasons.Reason.TheVariants.{NotUtf8}
 use Rattle.grain_listing.specs.Reading.{reads, meaning, most_bytes, broken_line, bad_line}
-use Rattle.grain_listing.specs.declared.reasons.Reason.TheVariants.{NotUtf8}
 
 is_false : (bytes : List ℕ) (b : Bool) → is_utf8 bytes ≡ b → (IsUtf8 bytes → ⊥) →
     is_utf8 bytes ≡ false

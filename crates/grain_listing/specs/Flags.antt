@@ -1,12 +1,12 @@
 -- Flags of the engine.
 use Rattle.std.specs.Prelude.{ℕ, Bool, true, false, not, List, [], ◌∷◌, Option, Some, None, Result, Ok, Err, codes, if◌then◌else◌}
-use Rattle.grain_listing.specs.Steps.{and_then, present}
-use Rattle.grain_listing.specs.Operands.{word_operand, after_name, alone}
+use Rattle.grain_literals.specs.Steps.{and_then, present}
+use Rattle.grain_literals.specs.Operands.{word_operand, after_name, alone}
+use Rattle.grain_literals.specs.declared.reasons.Reason.{Reason}
+use Rattle.grain_literals.specs.declared.reasons.Reason.TheVariants.{BadOperand, NotBuilt}
 use Rattle.grain_listing.specs.Later.{is_among}
 use Rattle.grain_listing.specs.Settings.{entry_named}
 use Rattle.grain_listing.specs.declared.flags.Flag.{Flag}
-use Rattle.grain_listing.specs.declared.reasons.Reason.{Reason}
-use Rattle.grain_listing.specs.declared.reasons.Reason.TheVariants.{BadOperand, NotBuilt}
 
 abbrev pub flag : Bool → Bool → Flag
 flag default is_built = record { default = default; is_built = is_built }

@@ -1,12 +1,12 @@
 -- What the lines say that begin a block, or join two operators.
 use Rattle.std.specs.Prelude.{ℕ, zero, suc, Bool, ◌&&◌, not, List, [], ◌∷◌, is_some, Result, Ok, Err, codes, if◌then◌else◌}
 use Rattle.grain_words.specs.Words.{is_over, after_word}
-use Rattle.grain_listing.specs.Steps.{and_then}
-use Rattle.grain_listing.specs.Operands.{alone, after_name, number_operand, index}
+use Rattle.grain_literals.specs.Steps.{and_then}
+use Rattle.grain_literals.specs.Operands.{alone, after_name, number_operand, index}
+use Rattle.grain_literals.specs.declared.reasons.Reason.{Reason}
+use Rattle.grain_literals.specs.declared.reasons.Reason.TheVariants.{TooMany, NotBuilt}
 use Rattle.grain_listing.specs.declared.headers.AssignLine.{AssignLine}
 use Rattle.grain_listing.specs.declared.headers.FunctionHeader.{FunctionHeader}
-use Rattle.grain_listing.specs.declared.reasons.Reason.{Reason}
-use Rattle.grain_listing.specs.declared.reasons.Reason.TheVariants.{TooMany, NotBuilt}
 
 -- after `main`: how many operands the block may have
 abbrev pub stack_of : List ℕ → Result ℕ Reason

@@ -1,10 +1,10 @@
 -- Lines of the host's tables.
 use Rattle.std.specs.Prelude.{ℕ, ◌^◌, ◌-◌, List, Result, Ok}
 use Rattle.grain_value.specs.declared.values.Dynamic.{Dynamic}
-use Rattle.grain_listing.specs.Steps.{and_then}
-use Rattle.grain_listing.specs.Operands.{alone, number_operand}
-use Rattle.grain_listing.specs.Literals.{constant_of}
-use Rattle.grain_listing.specs.declared.reasons.Reason.{Reason}
+use Rattle.grain_literals.specs.Steps.{and_then}
+use Rattle.grain_literals.specs.Operands.{alone, number_operand}
+use Rattle.grain_literals.specs.Literals.{constant_of}
+use Rattle.grain_literals.specs.declared.reasons.Reason.{Reason}
 
 -- a number of 64 bits
 abbrev pub count_operand : List ℕ → Result (ℕ × List ℕ) Reason

@@ -6,9 +6,11 @@ use Rattle.grain_fault.specs.declared.places.Position.{Position}
 use Rattle.std.specs.Str.{encode_utf8_all}
 use Rattle.grain_words.specs.Words.{is_over, next_word}
 use Rattle.grain_words.specs.Numerals.{number, begins_letter}
-use Rattle.grain_listing.specs.Steps.{and_then, present}
-use Rattle.grain_listing.specs.Operands.{word_operand, after_name, alone, position_after, byte_of}
-use Rattle.grain_listing.specs.Literals.{constant_of, text_of, token_of, entry_of}
+use Rattle.grain_literals.specs.Steps.{and_then, present}
+use Rattle.grain_literals.specs.Operands.{word_operand, after_name, alone, position_after, byte_of}
+use Rattle.grain_literals.specs.Literals.{constant_of, text_of, token_of, entry_of}
+use Rattle.grain_literals.specs.declared.reasons.Reason.{Reason}
+use Rattle.grain_literals.specs.declared.reasons.Reason.TheVariants.{MissingHeader, UnknownWord, OutOfPlace, TooMany, BadOperand, LabelTwice, NotBuilt}
 use Rattle.grain_listing.specs.Settings.{entry_named, limit_named, limit_number, capability_bits, capabilities}
 use Rattle.grain_listing.specs.Flags.{flag_of}
 use Rattle.grain_listing.specs.HostLines.{fail_of, stop_of}
@@ -24,8 +26,6 @@ use Rattle.grain_listing.specs.declared.table.OperandKind.TheVariants as kinds
 use Rattle.grain_listing.specs.declared.table.Section.{Section}
 use Rattle.grain_listing.specs.declared.table.Section.TheVariants as sections
 use Rattle.grain_listing.specs.declared.reasons.BadLine.{BadLine}
-use Rattle.grain_listing.specs.declared.reasons.Reason.{Reason}
-use Rattle.grain_listing.specs.declared.reasons.Reason.TheVariants.{MissingHeader, UnknownWord, OutOfPlace, TooMany, BadOperand, LabelTwice, NotBuilt}
 
 -- bytes as pieces
 abbrev pub bytes : List ℕ → List Piece

@@ -11,7 +11,9 @@ use Rattle.grain_host.specs.declared.tables.TableHost.{TableHost}
 use Rattle.grain_program.specs.View.{View}
 use Rattle.grain_program.specs.declared.code.parts.AssignOp.{AssignOp}
 use Rattle.grain_words.specs.Lines.{lines_of}
-use Rattle.grain_listing.specs.Steps.{and_then, present}
+use Rattle.grain_literals.specs.Steps.{and_then, present}
+use Rattle.grain_literals.specs.declared.reasons.Reason.{Reason}
+use Rattle.grain_literals.specs.declared.reasons.Reason.TheVariants.{TooLong, NotUtf8, MissingHeader, BadOperand, UnfinishedChunk, MissingMain}
 use Rattle.grain_listing.specs.Settings.{number_of}
 use Rattle.grain_listing.specs.Flags.{is_on}
 use Rattle.grain_listing.specs.Statements
@@ -21,8 +23,6 @@ use Rattle.grain_listing.specs.declared.headers.AssignLine.{AssignLine}
 use Rattle.grain_listing.specs.declared.table.Section.{Section}
 use Rattle.grain_listing.specs.declared.table.Section.TheVariants as sections
 use Rattle.grain_listing.specs.declared.reasons.BadLine.{BadLine}
-use Rattle.grain_listing.specs.declared.reasons.Reason.{Reason}
-use Rattle.grain_listing.specs.declared.reasons.Reason.TheVariants.{TooLong, NotUtf8, MissingHeader, BadOperand, UnfinishedChunk, MissingMain}
 
 -- what a listing says: what may become a program, the limits of its run, whether operators are fast
 -- in it, the host with which it begins, and the scope in which it begins

@@ -1,10 +1,10 @@
 -- Limits and capabilities.
 use Rattle.std.specs.Prelude.{ℕ, ◌+◌, ◌^◌, ◌-◌, Bool, true, false, List, [], ◌∷◌, Option, Some, None, Result, Ok, Err, codes, bytes_eq, nat_lt, if◌then◌else◌}
-use Rattle.grain_listing.specs.Steps.{and_then}
-use Rattle.grain_listing.specs.Operands.{after_name, alone, number_operand}
+use Rattle.grain_literals.specs.Steps.{and_then}
+use Rattle.grain_literals.specs.Operands.{after_name, alone, number_operand}
+use Rattle.grain_literals.specs.declared.reasons.Reason.{Reason}
+use Rattle.grain_literals.specs.declared.reasons.Reason.TheVariants.{BadOperand, NotBuilt}
 use Rattle.grain_listing.specs.declared.limits.Limit.{Limit}
-use Rattle.grain_listing.specs.declared.reasons.Reason.{Reason}
-use Rattle.grain_listing.specs.declared.reasons.Reason.TheVariants.{BadOperand, NotBuilt}
 
 abbrev pub limit : ℕ → ℕ → Bool → Limit
 limit default least is_built =

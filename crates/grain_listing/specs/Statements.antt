@@ -14,14 +14,14 @@ use Rattle.grain_host.specs.declared.tables.TableHost.{TableHost}
 use Rattle.grain_program.specs.declared.code.parts.Chunk.{Chunk}
 use Rattle.grain_program.specs.declared.code.parts.PositionEntry.{PositionEntry}
 use Rattle.grain_program.specs.declared.code.functions.Function.{Function}
-use Rattle.grain_listing.specs.Steps.{and_then, present}
+use Rattle.grain_literals.specs.Steps.{and_then, present}
+use Rattle.grain_literals.specs.declared.reasons.Reason.{Reason}
+use Rattle.grain_literals.specs.declared.reasons.Reason.TheVariants.{UnknownLabel}
 use Rattle.grain_listing.specs.declared.blocks.OpenBlock.{OpenBlock}
 use Rattle.grain_listing.specs.declared.blocks.OpenBlock.TheVariants as blocks
 use Rattle.grain_listing.specs.declared.headers.AssignLine.{AssignLine}
 use Rattle.grain_listing.specs.declared.headers.FunctionHeader.{FunctionHeader}
 use Rattle.grain_listing.specs.declared.reasons.BadLine.{BadLine}
-use Rattle.grain_listing.specs.declared.reasons.Reason.{Reason}
-use Rattle.grain_listing.specs.declared.reasons.Reason.TheVariants.{UnknownLabel}
 use Rattle.grain_listing.specs.declared.table.Section.{Section}
 use Rattle.grain_listing.specs.declared.table.Section.TheVariants as sections
 

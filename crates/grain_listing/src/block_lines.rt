@@ -8,10 +8,9 @@ ghost use Rattle.grain_listing.specs.views.Assembling.{HasRoom, opened, with_blo
 use crate::assembler::Assembler;
 use crate::blocks::OpenBlock;
 use crate::headers::{FunctionHeader, header_of, is_crowded, stack_of};
-use crate::operands::alone;
 use crate::pool_lines::POOL_ROOM;
-use crate::reasons::Reason;
 use crate::table::{Section, is_block};
+use grain_literals::{Reason, alone};
 use grain_program::{Chunk, Function};
 use grain_value::OutOfMemory;
 use std::alloc::Global;

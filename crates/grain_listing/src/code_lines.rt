@@ -8,9 +8,8 @@ ghost use Rattle.grain_listing.specs.views.AssemblerView.{assembler_view, result
 ghost use Rattle.grain_listing.specs.views.Assembling.{HasRoom, with_code, with_fixup, put_operand_word, put_operand, put_operands, put_line};
 
 use crate::assembler::{Assembler, Fixup};
-use crate::operands::{byte_of, position_after, word_operand};
-use crate::reasons::Reason;
 use crate::table::OperandKind;
+use grain_literals::{Reason, byte_of, position_after, word_operand};
 use grain_program::{Field, Op};
 use grain_value::{OutOfMemory, Text};
 use grain_words::{begins_letter, number, word_text};

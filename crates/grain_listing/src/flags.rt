@@ -6,8 +6,7 @@ ghost use Rattle.grain_listing.specs.Later.{is_among};
 ghost use Rattle.grain_listing.specs.Settings.{entry_named};
 ghost use Rattle.grain_listing.specs.views.Flags.{names_view, row_view, named_view, name_view};
 
-use crate::operands::{after_name, alone, word_operand};
-use crate::reasons::Reason;
+use grain_literals::{Reason, after_name, alone, word_operand};
 use grain_words::is_word;
 
 /// A flag: whether it is on without a line, and whether a line that turns it is read so far.

@@ -1,11 +1,11 @@
 //! What the lines say that begin a block, or join two operators.
 
 ghost use Rattle.std.specs.Prelude.{◌≡◌, ◌≤◌, ◌^◌, IfOk};
+ghost use Rattle.grain_literals.specs.Results.{operand_view};
 ghost use Rattle.grain_listing.specs.Headers.{stack_of, assign_of, is_on, has_parameter, has_more, parameter, parameters_of, name_and_stack, header_of, is_crowded};
-ghost use Rattle.grain_listing.specs.views.Results.{operand_view, name_view};
+ghost use Rattle.grain_listing.specs.views.Results.{name_view};
 
-use crate::operands::{after_name, alone, index, number_operand};
-use crate::reasons::Reason;
+use grain_literals::{Reason, after_name, alone, index, number_operand};
 use grain_program::Indices;
 use grain_value::OutOfMemory;
 use grain_words::{after_word, is_over};

@@ -1,9 +1,9 @@
 //! Lines that turn flags, and lines of the host's tables.
 
 use crate::listing_tests::{check_refused, read_lines};
-use crate::reasons::Reason;
 use crate::{Setup, read};
 use grain_host::{Args, Host, HostAnswer, ProgressAnswer, TableHost};
+use grain_literals::Reason;
 use grain_value::{Array, Dynamic, OutOfMemory};
 use std::alloc::Global;
 use std::process::Abort;

@@ -1,16 +1,14 @@
 //! The lines of the host's tables.
 
 ghost use Rattle.std.specs.Prelude.{◌≡◌, IfOk};
+ghost use Rattle.grain_literals.specs.Results.{operand_view};
 ghost use Rattle.grain_listing.specs.HostLines.{count_operand, fail_of, stop_of};
 ghost use Rattle.grain_listing.specs.declared.table.Line.TheVariants as lines;
 ghost use Rattle.grain_listing.specs.views.AssemblerView.{assembler_view, result_view};
 ghost use Rattle.grain_listing.specs.views.Assembling.{put_line};
-ghost use Rattle.grain_listing.specs.views.Results.{operand_view};
 
 use crate::assembler::Assembler;
-use crate::literals::constant_of;
-use crate::operands::{alone, number_operand};
-use crate::reasons::Reason;
+use grain_literals::{Reason, alone, constant_of, number_operand};
 use grain_value::{Dynamic, OutOfMemory};
 use std::alloc::Global;
 

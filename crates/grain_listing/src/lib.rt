@@ -17,10 +17,8 @@ mod line_rules;
 mod linking;
 #[cfg(test)]
 mod listing_tests;
-mod literals;
 #[cfg(test)]
 mod operand_tests;
-mod operands;
 mod pool_lines;
 mod reading;
 mod reasons;
@@ -30,15 +28,11 @@ mod table;
 #[cfg(test)]
 mod tests;
 #[cfg(test)]
-mod value_tests;
-mod values;
-#[cfg(test)]
 mod word_tests;
 
-pub use laws::{
-    instructions_are_read, lists_have_room, read_values_can_be_listed, values_are_read,
-};
+pub use grain_literals::Reason;
+pub use laws::{instructions_are_read, stops_are_read};
 pub use reading::{MOST_BYTES, read};
-pub use reasons::{BadLine, Reason};
+pub use reasons::BadLine;
 pub use setups::Setup;
 pub use table::instructions_are_in_the_table;

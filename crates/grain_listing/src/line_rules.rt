@@ -8,9 +8,8 @@ ghost use Rattle.grain_listing.specs.views.AssemblerView.{assembler_view, result
 ghost use Rattle.grain_listing.specs.views.Assembling.{HasRoom, put_line, label_line, known_line, with_header, after_header, take_line, is_start};
 
 use crate::assembler::Assembler;
-use crate::operands::after_name;
-use crate::reasons::Reason;
 use crate::table::{Line, Section, line_of, stands};
+use grain_literals::{Reason, after_name};
 use grain_value::OutOfMemory;
 use grain_words::{begins_letter, is_over, next_word, word_text};
 use std::alloc::Global;

@@ -1,7 +1,7 @@
 //! What the tests of lines share: listings that have some lines behind their header.
 
-use crate::reasons::Reason;
 use crate::{Setup, read};
+use grain_literals::Reason;
 use grain_value::OutOfMemory;
 use std::alloc::Global;
 use std::process::Abort;

@@ -2,7 +2,7 @@
 
 use crate::listing_tests::{check_refused, read_lines};
 use crate::read;
-use crate::reasons::Reason;
+use grain_literals::Reason;
 use grain_value::{Dynamic, OutOfMemory};
 use std::alloc::Global;
 use std::process::Abort;

@@ -11,10 +11,8 @@ use crate::assembler::Assembler;
 use crate::flags::flag_of;
 use crate::headers::assign_of;
 use crate::limits::LimitLine;
-use crate::literals::{ScopeEntry, constant_of, entry_of, text_of, token_of};
-use crate::operands::word_operand;
-use crate::reasons::Reason;
 use crate::settings::{capabilities, limit_named, limit_number, line_named};
+use grain_literals::{Reason, ScopeEntry, constant_of, entry_of, text_of, token_of, word_operand};
 use grain_value::{Name, OutOfMemory};
 use std::alloc::Global;
 

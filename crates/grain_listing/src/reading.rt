@@ -7,8 +7,9 @@ ghost use Rattle.grain_listing.specs.SetUpView.{outcome, IsReady};
 
 use crate::assembler::Assembler;
 use crate::linking::ending;
-use crate::reasons::{BadLine, Reason};
+use crate::reasons::BadLine;
 use crate::setups::Setup;
+use grain_literals::Reason;
 use grain_value::OutOfMemory;
 use grain_words::next_line;
 use std::alloc::Global;

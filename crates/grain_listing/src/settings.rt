@@ -6,8 +6,7 @@ ghost use Rattle.grain_listing.specs.Settings.{entry_named, default_in, number_o
 ghost use Rattle.grain_listing.specs.views.Limits.{Allows, limit_line_view, limits_view, row_view, named_view};
 
 use crate::limits::{LIMITS, Limit, LimitLine};
-use crate::operands::{after_name, alone, number_operand};
-use crate::reasons::Reason;
+use grain_literals::{Reason, after_name, alone, number_operand};
 use grain_words::is_word;
 
 /// The capabilities by their names, in the order in which they stand, with the bit of each.

@@ -1,8 +1,8 @@
 //! Listings with one fault each, and what is read of others.
 
-use crate::reasons::Reason;
 use crate::{Setup, read};
 use bitflags::Flags;
+use grain_literals::Reason;
 use grain_value::{Dynamic, OutOfMemory};
 use std::alloc::Global;
 use std::process::Abort;

@@ -1,7 +1,7 @@
 //! The words, the codes and the numbers of the format, written out.
 
-use crate::reasons::Reason;
 use crate::{MOST_BYTES, read};
+use grain_literals::Reason;
 use grain_value::OutOfMemory;
 use std::alloc::Global;
 use std::process::Abort;

@@ -1,11 +1,11 @@
 -- An assembler as lists and numbers.
 use Rattle.std.specs.Prelude.{ℕ, List, Result, Ok, Err}
 use Rattle.std.specs.Borrow.{Bor}
+use Rattle.grain_literals.specs.declared.reasons.Reason.{Reason}
 use Rattle.grain_listing.specs.views.Limits.{limits_view}
 use Rattle.grain_listing.specs.views.Flags.{names_view}
 use Rattle.grain_listing.specs.views.Assembling.{AssemblerView}
 use Rattle.grain_listing.specs.declared.assembler.Assembler.{Assembler}
-use Rattle.grain_listing.specs.declared.reasons.Reason.{Reason}
 
 abbrev pub assembler_view : Assembler → AssemblerView
 assembler_view a =

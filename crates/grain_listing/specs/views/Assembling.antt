@@ -16,9 +16,11 @@ use Rattle.grain_program.specs.declared.code.functions.Function.{Function}
 use Rattle.grain_words.specs.Numerals.{number, begins_letter}
 use Rattle.grain_words.specs.Labels.{Addresses, address_of, with_label}
 use Rattle.grain_words.specs.Words.{is_over, next_word}
-use Rattle.grain_listing.specs.Steps.{and_then, present}
-use Rattle.grain_listing.specs.Operands.{word_operand, alone, position_after, byte_of}
-use Rattle.grain_listing.specs.Literals.{constant_of, text_of, token_of, entry_of}
+use Rattle.grain_literals.specs.Steps.{and_then, present}
+use Rattle.grain_literals.specs.Operands.{word_operand, alone, position_after, byte_of}
+use Rattle.grain_literals.specs.Literals.{constant_of, text_of, token_of, entry_of}
+use Rattle.grain_literals.specs.declared.reasons.Reason.{Reason}
+use Rattle.grain_literals.specs.declared.reasons.Reason.TheVariants.{UnknownWord, OutOfPlace, BadOperand, LabelTwice, NotBuilt}
 use Rattle.grain_listing.specs.Settings.{capability_bits, capabilities}
 use Rattle.grain_listing.specs.Flags.{flag_of}
 use Rattle.grain_listing.specs.HostLines.{fail_of, stop_of}
@@ -39,8 +41,6 @@ use Rattle.grain_listing.specs.declared.table.OperandKind.{OperandKind}
 use Rattle.grain_listing.specs.declared.table.OperandKind.TheVariants as kinds
 use Rattle.grain_listing.specs.declared.table.Section.{Section}
 use Rattle.grain_listing.specs.declared.table.Section.TheVariants as sections
-use Rattle.grain_listing.specs.declared.reasons.Reason.{Reason}
-use Rattle.grain_listing.specs.declared.reasons.Reason.TheVariants.{UnknownWord, OutOfPlace, BadOperand, LabelTwice, NotBuilt}
 
 -- what the lines so far have given, and the number of the line that is read
 pub record AssemblerView : Type 0 where

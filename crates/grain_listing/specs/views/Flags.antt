@@ -1,8 +1,8 @@
 -- Flags and the lines that turn them, as names.
 use Rattle.std.specs.Prelude.{ℕ, List, map, Result, Ok, Err}
 use Rattle.std.specs.Borrow.{Bor}
+use Rattle.grain_literals.specs.declared.reasons.Reason.{Reason}
 use Rattle.grain_listing.specs.declared.flags.Flag.{Flag}
-use Rattle.grain_listing.specs.declared.reasons.Reason.{Reason}
 
 abbrev pub names_view : List (Bor (List ℕ)) → List (List ℕ)
 names_view names = map (λ name. name.now) names

@@ -2,10 +2,10 @@
 use Rattle.std.specs.Prelude.{ℕ, ◌≡◌, ◌<◌, List, map, Result, Ok, Err, codes, bytes_eq, true}
 use Rattle.std.specs.Option.{ForSome}
 use Rattle.std.specs.Borrow.{Bor}
+use Rattle.grain_literals.specs.declared.reasons.Reason.{Reason}
 use Rattle.grain_listing.specs.Settings.{entry_named}
 use Rattle.grain_listing.specs.declared.limits.Limit.{Limit}
 use Rattle.grain_listing.specs.declared.limits.LimitLine.{LimitLine}
-use Rattle.grain_listing.specs.declared.reasons.Reason.{Reason}
 
 abbrev pub limit_line_view : LimitLine → List ℕ × ℕ
 limit_line_view l = (l.name.now, l.number)

@@ -3,14 +3,14 @@ use Rattle.std.specs.Prelude.{ℕ, ◌+◌, List, [], ◌∷◌, Result, Ok, Err
 use Rattle.std.specs.Int.{w32, to_le_bytes}
 use Rattle.grain_program.specs.declared.code.parts.AssignOp.{AssignOp}
 use Rattle.grain_words.specs.Labels.{Addresses, address_of}
-use Rattle.grain_listing.specs.Steps.{and_then, present}
+use Rattle.grain_literals.specs.Steps.{and_then, present}
+use Rattle.grain_literals.specs.declared.reasons.Reason.TheVariants.{UnknownLabel}
 use Rattle.grain_listing.specs.Flags.{is_on}
 use Rattle.grain_listing.specs.Reading.{SetUp, bad_line, limits_of, caps_of, assign_ops_of, complete}
 use Rattle.grain_listing.specs.views.Assembling.{AssemblerView}
 use Rattle.grain_listing.specs.declared.assembler.Fixup.{Fixup}
 use Rattle.grain_listing.specs.declared.table.Section.{Section}
 use Rattle.grain_listing.specs.declared.reasons.BadLine.{BadLine}
-use Rattle.grain_listing.specs.declared.reasons.Reason.TheVariants.{UnknownLabel}
 
 -- the bytes, written over those from `at + i` on
 abbrev pub write_on : ℕ → ℕ → List ℕ → List ℕ → List ℕ

@@ -1,5 +1,5 @@
 use Rattle.std.proofs.Common.{◌≡◌, ◌++◌, drop, Ok}
-use Rattle.grain_listing.specs.Steps.{and_then}
+use Rattle.grain_literals.specs.Steps.{and_then}
 use Rattle.grain_listing.specs.Reading.{assign_ops_of}
 use Rattle.grain_listing.proofs.linking.assign_ops_of.Given as goal
 

@@ -1,6 +1,6 @@
 use Rattle.std.proofs.Common.{◌≡◌, ◌+◌, ◌≤◌, map, drop, Ok}
 use Rattle.std.specs.List.{sum_by}
-use Rattle.grain_listing.specs.Steps.{and_then}
+use Rattle.grain_literals.specs.Steps.{and_then}
 use Rattle.grain_listing.specs.Settings.{capabilities}
 use Rattle.grain_listing.proofs.settings.capabilities_among.Given as goal
 

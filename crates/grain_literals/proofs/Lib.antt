@@ -1,0 +1,12 @@
+pub mod ListsRead
+pub mod ValuesOf
+pub mod SpelledValues
+pub mod ValuesSpelled
+pub mod MapsRead
+pub mod ValuesRead
+pub mod LiteralsRead
+pub mod Shorter
+pub mod Rooms
+pub mod MapsListed
+pub mod ReadListed
+pub mod LiteralsListed

@@ -1,0 +1,17 @@
+//! Values and other operands as a listing writes them, and how they are read.
+#![tactic(auto)]
+
+mod laws;
+mod literals;
+mod operands;
+mod reasons;
+#[cfg(test)]
+mod value_tests;
+mod values;
+
+pub use laws::{lists_have_room, read_values_can_be_listed, values_are_read};
+pub use literals::{ScopeEntry, constant_of, entry_of, text_of, token_of};
+pub use operands::{
+    after_name, alone, byte_of, index, number_operand, position_after, word_operand,
+};
+pub use reasons::Reason;
