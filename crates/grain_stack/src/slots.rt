@@ -238,7 +238,7 @@ impl Slots {
         requires there { index < length self.old.operands }
         ensures scope { scope.new ≡ (if is_ok result
             then scope.old
-                ++ new_entry name.now (read_write (operand_at index self.old.operands).value) ∷ []
+            ++ new_entry name.now (read_write (operand_at index self.old.operands).value) ∷ []
             else scope.old) }
         ensures others { (held : Held) × (self.new ≡ record self.old {
           operands =

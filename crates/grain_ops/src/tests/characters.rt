@@ -1,6 +1,6 @@
 //! The operators on characters, and on characters with texts.
 
-use super::text_operators::{check_joined, check_not_joined};
+use super::texts::{check_joined, check_not_joined};
 use super::{EQUAL, GREATER, LESS, check_compared, of_two, text};
 use crate::answers::OpAnswer;
 use grain_value::{Dynamic, OutOfMemory, Token};
