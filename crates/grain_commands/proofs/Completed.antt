@@ -133,12 +133,12 @@ only_end law words input bytes end command told run =
 -- the answer alone is the end's, by its trace
 end_at : (end : Finish TableHost) (a : Answer) → end.answer ≡ a →
     (status_of end.answer ≡ status_of a) ×
-    (report end ≡ end.host.printed ++ answer_report a end.trace)
-end_at end a is = (ap status_of is, ap (λ x. end.host.printed ++ answer_report x end.trace) is)
+    (report end ≡ end.host.printed ++ answer_report end.cells a end.trace)
+end_at end a is = (ap status_of is, ap (λ x. end.host.printed ++ answer_report end.cells x end.trace) is)
 
 only_at : (words : List (List ℕ)) (input : Option (List ℕ)) (end : Finish TableHost) (a : Answer) →
     end.answer ≡ a → OnlyAnswer words input (status_of end.answer) (report end) →
-    OnlyAnswer words input (status_of a) (end.host.printed ++ answer_report a end.trace)
+    OnlyAnswer words input (status_of a) (end.host.printed ++ answer_report end.cells a end.trace)
 only_at words input end a is only status text answers =
     let one = only status text answers in
     let at = end_at end a is in
@@ -149,7 +149,7 @@ pub completed : MeansOne → RefusedOnce → (words : List (List ℕ))
     Ended words input before now counts status → Completes words input before now counts status
 completed means refuses words input before now counts status ended = record {
   value = λ command none bytes told v end is run.
-      given words input before now counts status 0 (end.host.printed ++ report_value v)
+      given words input before now counts status 0 (end.host.printed ++ report_value end.cells v)
       (only_at words input end (Came v) is
       (only_end means words input bytes end command told run))
       (λ _. none.source) none.sink ended;

@@ -36,9 +36,9 @@ no_value : (v : Dynamic) → Came v ≢ Failed NoMemory
 no_value v e = cc
 
 -- an end, by its answer
-abbrev pub EndsAs : (Answer → Finish TableHost) → List ℕ → List Fault → Type 0
-EndsAs finish printed trace = (a : Answer) → ((finish a).answer ≡ a) ×
-    ((finish a).trace ≡ trace) × ((finish a).host.printed ≡ printed)
+abbrev pub EndsAs : (Answer → Finish TableHost) → List ℕ → List Fault → List Cell → Type 0
+EndsAs finish printed trace cells = (a : Answer) → ((finish a).answer ≡ a) ×
+    ((finish a).trace ≡ trace) × ((finish a).host.printed ≡ printed) × ((finish a).cells ≡ cells)
 
 -- an engine whose flag is written
 pub engine_is : (e : Engine) (l : Limits) (fast : Bool) → e.limits ≡ l →
@@ -55,15 +55,15 @@ begin_is scope cells host m e none fresh =
 
 pub value_told : (p : View) (under : Engine) (first : Begin TableHost) (v : Dynamic) (e : Engine)
     (b : Begin TableHost)
-    (finish : Answer → Finish TableHost) (printed : List ℕ) (trace : List Fault) (ran : ℕ)
+    (finish : Answer → Finish TableHost) (printed : List ℕ) (trace : List Fault) (cells : List Cell) (ran : ℕ)
     (r : Result Reply OutOfMemory) →
     e ≡ under → b ≡ first →
-    EndsAs finish printed trace → Evaluates table_law p e b (Ok v) finish ran →
+    EndsAs finish printed trace cells → Evaluates table_law p e b (Ok v) finish ran →
     IfOk r (λ x. x.status ≡ 0) →
-    IfOk r (λ x. x.text ≡ printed ++ report_value v) →
+    IfOk r (λ x. x.text ≡ printed ++ report_value cells v) →
     IfOk r (λ x. Reported p under first x.status x.text)
-value_told p under first v e b finish printed trace ran (Err m) engine begun ends h status text = tt
-value_told p under first v e b finish printed trace ran (Ok x) engine begun ends h status text =
+value_told p under first v e b finish printed trace cells ran (Err m) engine begun ends h status text = tt
+value_told p under first v e b finish printed trace cells ran (Ok x) engine begun ends h status text =
     let is = ends (Came v) in
     record {
       end = finish (Came v);
@@ -71,23 +71,23 @@ value_told p under first v e b finish printed trace ran (Ok x) engine begun ends
       means = rw (engine, begun) at h;
       number =
           rw is.0 status;
-      written = rw (is.0, is.2) text;
+      written = rw (is.0, is.2, is.3) text;
       memory = rw is.0 (no_value v);
     }
 
 pub fault_told : (p : View) (under : Engine) (first : Begin TableHost) (f : EvalAltResult)
     (e : Engine)
     (b : Begin TableHost) (finish : Answer → Finish TableHost) (printed : List ℕ)
-    (trace : List Fault) (ran : ℕ)
+    (trace : List Fault) (cells : List Cell) (ran : ℕ)
     (r : Result Reply OutOfMemory) → e ≡ under → b ≡ first →
-    EndsAs finish printed trace → Evaluates table_law p e b (Err f) finish ran →
+    EndsAs finish printed trace cells → Evaluates table_law p e b (Err f) finish ran →
     IfOk r (λ x. x.status ≡ 1) →
     IfOk r (λ x. x.text ≡ printed ++ report_fault (problem_of f) trace) →
     IfOk r (λ x. f ≢ faults.Memory) →
     IfOk r (λ x. Reported p under first x.status x.text)
-fault_told p under first f e b finish printed trace ran (Err m) engine begun ends h status text
+fault_told p under first f e b finish printed trace cells ran (Err m) engine begun ends h status text
     other = tt
-fault_told p under first f e b finish printed trace ran (Ok x) engine begun ends h status text
+fault_told p under first f e b finish printed trace cells ran (Ok x) engine begun ends h status text
     other =
     let is = ends (Failed (problem_of f)) in
     let means = meant p e b f finish ran other h in

@@ -35,7 +35,7 @@ usage_says words input none = record {
 value_says : (words : List (List ℕ)) (input : Option (List ℕ)) (v : Dynamic)
     (end : Finish TableHost) →
     is_run words ≡ true → end.answer ≡ Came v → IfSome input (λ bytes. RunEnds bytes end) →
-    Says words input 0 (end.host.printed ++ report_value v)
+    Says words input 0 (end.host.printed ++ report_value end.cells v)
 value_says words input v end command is run = record {
   known = omega arith;
   no_command = λ e. absurd cc;
@@ -89,7 +89,7 @@ refusal_says words input r command said = record {
 -- an end's status and report say the end
 end_says : (words : List (List ℕ)) (input : Option (List ℕ)) (end : Finish TableHost) (a : Answer) →
     is_run words ≡ true → end.answer ≡ a → IfSome input (λ bytes. RunEnds bytes end) →
-    Says words input (status_of a) (end.host.printed ++ answer_report a end.trace)
+    Says words input (status_of a) (end.host.printed ++ answer_report end.cells a end.trace)
 end_says words input end (Came v) command is run = value_says words input v end command is run
 end_says words input end (Failed p) command is run = fault_says words input p end command is run
 
@@ -123,7 +123,7 @@ reply_says words input said status text command told (reported {s} e valid h) =
       means = h.means;
     }) told in
     says_as words input status (status_of h.end.answer) text
-    (h.end.host.printed ++ answer_report h.end.answer h.end.trace) h.number h.written
+    (h.end.host.printed ++ answer_report h.end.cells h.end.answer h.end.trace) h.number h.written
     (end_says words input h.end h.end.answer command refl run)
 
 answer_says : (words : List (List ℕ)) (input : Option (List ℕ)) (status : ℕ) (text : List ℕ) →

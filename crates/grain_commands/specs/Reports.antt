@@ -1,7 +1,9 @@
 -- What is written of a run's end.
 use Rattle.std.specs.Prelude.{ℕ, List, [], ◌∷◌, ◌++◌, Option, Some, None, codes}
 use Rattle.std.specs.Fmt.{decimal}
+use Rattle.grain_value.specs.Cells.{seen}
 use Rattle.grain_value.specs.Writing.{quoted}
+use Rattle.grain_value.specs.declared.stores.Cell.{Cell}
 use Rattle.grain_value.specs.declared.values.Dynamic.{Dynamic}
 use Rattle.grain_fault.specs.Problems.{Problem}
 use Rattle.grain_fault.specs.Texts.{fault_name, fault_text}
@@ -11,9 +13,10 @@ use Rattle.grain_fault.specs.declared.traces.Fault.{Fault}
 abbrev pub line_end : List ℕ
 line_end = 10 ∷ []
 
--- a value's report is `value` and the value as a listing has it
-abbrev pub report_value : Dynamic → List ℕ
-report_value value = codes "value " ++ quoted value ++ line_end
+-- A value's report is `value` and the value as a listing has it. Of a cell it is that of what the
+-- cell has.
+abbrev pub report_value : List Cell → Dynamic → List ℕ
+report_value cells value = codes "value " ++ quoted (seen cells value) ++ line_end
 
 -- the slot of a chain's step stands after a colon
 abbrev pub slot_text : Option ℕ → List ℕ

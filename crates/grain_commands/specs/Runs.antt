@@ -2,6 +2,7 @@
 use Rattle.std.specs.Prelude.{◌≡◌, ◌++◌, ℕ, Bool, List, []}
 use Rattle.grain_value.specs.declared.values.Limits.{Limits}
 use Rattle.grain_value.specs.declared.scopes.Entry.{Entry}
+use Rattle.grain_value.specs.declared.stores.Cell.{Cell}
 use Rattle.grain_fault.specs.Problems.{NoMemory}
 use Rattle.grain_fault.specs.declared.traces.Fault.{Fault}
 use Rattle.grain_host.specs.Tables.{table_law}
@@ -26,13 +27,13 @@ abbrev pub status_of : Answer → ℕ
 status_of (Came v) = 0
 status_of (Failed p) = 1
 
-abbrev pub answer_report : Answer → List Fault → List ℕ
-answer_report (Came v) trace = report_value v
-answer_report (Failed p) trace = report_fault p trace
+abbrev pub answer_report : List Cell → Answer → List Fault → List ℕ
+answer_report cells (Came v) trace = report_value cells v
+answer_report cells (Failed p) trace = report_fault p trace
 
 -- the report of an end: what the host has printed, and then the answer
 abbrev pub report : Finish TableHost → List ℕ
-report end = end.host.printed ++ answer_report end.answer end.trace
+report end = end.host.printed ++ answer_report end.cells end.answer end.trace
 
 -- a status and a text tell the end that the program means under the engine from the beginning on,
 -- which is not want of memory

@@ -43,7 +43,7 @@ pub record Says (words : List (List ℕ)) (input : Option (List ℕ)) (status : 
   pub usage : status ≡ 2 → (is_run words ≡ false) × (text ≡ usage_text)
   -- 0: the run ends in a value, and the text is what was printed and its report
   pub value : status ≡ 0 → (v : Dynamic) × (end : Finish TableHost) × (end.answer ≡ Came v) ×
-      IfSome input (λ bytes. RunEnds bytes end) × (text ≡ end.host.printed ++ report_value v)
+      IfSome input (λ bytes. RunEnds bytes end) × (text ≡ end.host.printed ++ report_value end.cells v)
   -- 1: the run ends in a fault, and the text is what was printed and its report
   pub fault : status ≡ 1 → (p : Problem) × (end : Finish TableHost) × (end.answer ≡ Failed p) ×
       IfSome input (λ bytes. RunEnds bytes end) ×
@@ -88,7 +88,7 @@ pub record Completes (words : List (List ℕ)) (input before now : Option (List 
   -- a run that ends in a value: 0, what was printed and its report
   pub value : is_run words ≡ true → NoneRose counts → (bytes : List ℕ) → input ≡ Some bytes →
       (v : Dynamic) (end : Finish TableHost) → end.answer ≡ Came v → RunEnds bytes end →
-      Gives 0 (end.host.printed ++ report_value v) before now status
+      Gives 0 (end.host.printed ++ report_value end.cells v) before now status
   -- a run that ends in a fault: 1, what was printed and its report
   pub fault : is_run words ≡ true → NoneRose counts → (bytes : List ℕ) → input ≡ Some bytes →
       (p : Problem) (end : Finish TableHost) → end.answer ≡ Failed p → RunEnds bytes end →

@@ -17,11 +17,16 @@ use std::alloc::Global;
 use std::sync::ledger::Ledger;
 
 /// The reply to a run that ended in a value: 0, what was printed, and the value's report.
-fn value_reply(alloc: Global, printed: &Text, value: &Dynamic) -> Result<Reply, OutOfMemory>
+fn value_reply(
+    alloc: Global,
+    printed: &Text,
+    value: &Dynamic,
+    cells: &Store,
+) -> Result<Reply, OutOfMemory>
     ensures status { IfOk result (λ r. r.status ≡ 0) }
-    ensures text { IfOk result (λ r. r.text ≡ printed.now ++ report_value value.now) }
+    ensures text { IfOk result (λ r. r.text ≡ printed.now ++ report_value cells.now value.now) }
 {
-    let report = report_value(alloc, value)?;
+    let report = report_value(alloc, value, cells)?;
     let mut text = printed.copy(alloc)?;
     text.push_str(report.as_str())?;
     Ok(Reply { status: 0, text })
@@ -71,7 +76,7 @@ pub fn run_program<L: Ledger>(
     let mut cells = Store::new(alloc);
     let mut host = host;
     match vm.eval_with_callbacks(alloc, &mut host, &mut cells, &mut scope, program, steps) {
-        Ok(value) => value_reply(alloc, host.printed(), &value),
+        Ok(value) => value_reply(alloc, host.printed(), &value, &cells),
         Err(fault) => fault_reply(alloc, host.printed(), &fault, vm.fault_trace()),
     }
 }

@@ -6,16 +6,17 @@ ghost use Rattle.grain_fault.specs.Texts.{fault_name, fault_text};
 ghost use Rattle.grain_commands.specs.Reports.{line_end, report_value, report_fault, entry_text, entries_text, slot_text};
 
 use grain_fault::{EvalAltResult, Fault};
-use grain_value::{Dynamic, OutOfMemory, Text};
+use grain_value::{Dynamic, OutOfMemory, Store, Text};
 use std::alloc::Global;
 
-/// The report of a value: `value` and the value as a listing has it.
-pub fn report_value(alloc: Global, value: &Dynamic) -> Result<Text, OutOfMemory>
-    ensures { IfOk result (λ t. t ≡ report_value value.now) }
+/// The report of a value: `value` and the value as a listing has it. Of a cell it is that of what
+/// the cell holds.
+pub fn report_value(alloc: Global, value: &Dynamic, cells: &Store) -> Result<Text, OutOfMemory>
+    ensures { IfOk result (λ t. t ≡ report_value cells.now value.now) }
 {
     let mut out = Text::new(alloc);
     out.push_str("value ")?;
-    value.write_quoted(&mut out)?;
+    value.write_content(&mut out, cells)?;
     out.push_str("\n")?;
     Ok(out)
 }

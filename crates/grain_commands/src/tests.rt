@@ -6,6 +6,7 @@ mod calls;
 mod catch_calls;
 mod catch_ends;
 mod catch_values;
+mod cells;
 mod edges;
 mod handlers;
 mod limits;

@@ -3,6 +3,7 @@
 -- functions of the crate's own.
 pub mod Places
 pub mod Problems
+pub mod Cells
 pub mod Table
 pub mod Classes
 pub mod Exits

@@ -122,6 +122,7 @@ thrown_value_text (dynamic.Pointer p) = codes ": " ++ plain (dynamic.Pointer p)
 thrown_value_text (dynamic.Range from to inclusive) =
     codes ": " ++ plain (dynamic.Range from to inclusive)
 thrown_value_text (dynamic.Foreign kind number) = codes ": " ++ plain (dynamic.Foreign kind number)
+thrown_value_text (dynamic.Cell number) = codes ": " ++ plain (dynamic.Cell number)
 
 -- what a loop is left by outside of all loops
 abbrev pub loop_text : Bool → List ℕ

@@ -10,7 +10,6 @@ use Rattle.grain_stack.specs.Views.{StacksView}
 use Rattle.grain_value.specs.declared.memory.OutOfMemory.{OutOfMemory}
 use Rattle.grain_program.specs.declared.code.parts.Chunk.{Chunk}
 use Rattle.grain_program.specs.declared.code.instructions.Op.{Op}
-use Rattle.grain_program.specs.declared.code.instructions.Op.TheVariants as op
 use Rattle.grain_frame.specs.declared.loops.Attempt.{Attempt}
 use Rattle.grain_frame.specs.declared.loops.Attempt.TheVariants as attempt
 use Rattle.grain_program.specs.declared.code.effects.Handling.{Handling}
@@ -31,7 +30,7 @@ use Rattle.grain_means.specs.lemmas.Stretches.{same, exactly}
 use Rattle.grain_means.specs.lemmas.Branches.{of_two}
 use Rattle.grain_means.specs.lemmas.Scopes.{length_set_held}
 use Rattle.grain_frame.specs.Counts.{Counts}
-use Rattle.grain_frame.specs.Abstraction.{abstraction, frame_in, tries_in, Above, is_out, continuation, KeepsFrame, ContinuesAt, Ready, Runs, Implements, Performs, Raises, StaysTyped, Stepped, OnTrue, OnFalse, Unchanged, Attempted, CallsNothing, StandsAt, StandsAtJump, attempt_of, attempt_or}
+use Rattle.grain_frame.specs.Abstraction.{abstraction, frame_in, tries_in, Above, is_out, continuation, KeepsFrame, ContinuesAt, Ready, Runs, Implements, Performs, Raises, StaysTyped, Stepped, OnTrue, OnFalse, Unchanged, Attempted, CallsNothing, IsNoCall, StandsAt, StandsAtJump, attempt_of, attempt_or}
 use Rattle.grain_frame.specs.declared.activations.Activation.{Activation}
 use Rattle.grain_frame.specs.declared.runs.Progress.{Progress}
 use Rattle.grain_frame.specs.declared.runs.Progress.TheVariants as progress
@@ -168,6 +167,12 @@ module _ {H : Type 0} (law : Law H) (p : View) (engine : Engine) (f : Activation
       StandsAt p f s o (f.address + width)
   stands read = record { width = width; read = there read; next_is = refl; seen = here }
 
+  -- it calls no function
+  no_call : op_at p.code f.address ≡ Some (said, width) → IsNoCall o → CallsNothing p f
+  no_call read other q w at =
+      let same : Some (said, width) ≡ Some (q, w) = sym read ∙ at in
+      subst IsNoCall (sym is ∙ ap (λ (r : Option (Op × ℕ)). (or_return r).0) same) other
+
   -- where the instruction leads, the typing knows the frame
   pub leads_typed : handling_of o ≡ handling.Keep → (b : ℕ) →
       In b (leads_of o (f.address + width)) →
@@ -206,13 +211,9 @@ module _ {H : Type 0} (law : Law H) (p : View) (engine : Engine) (f : Activation
     pub tried_out : (b : Bool) (a : Attempt) → a ≡ attempt_of b →
         OnTrue b ((host : H) → Performs law p engine f s n o (f.address + width)
         (Ok progress.Continues) f' s' n' host host) → OnFalse b (Unchanged f s n f' s' n') →
-        ((name count : ℕ) → o ≡ op.Call name count → ⊥) → Attempted law p engine f s n f' s' n' a
+        IsNoCall o → Attempted law p engine f s n f' s' n' a
     tried_out b a e does undone other =
-        let calls : CallsNothing p f = λ name count w at.
-        let same : Some (said, width) ≡ Some (op.Call name count, w) = sym read ∙ at in
-        let call : o ≡ op.Call name count =
-        sym is ∙ ap (λ (r : Option (Op × ℕ)). (or_return r).0) same in
-        other name count call in
+        let calls : CallsNothing p f = no_call read other in
         rw e (attempted law p engine f f' s s' n n' b
         (tried b does (λ d host. stepped host host (d host))) undone calls)
 
@@ -229,14 +230,10 @@ module _ {H : Type 0} (law : Law H) (p : View) (engine : Engine) (f : Activation
       (keeps : handling_of o ≡ handling.Keep) (n : Counts) (f' : Activation)
       (s' : Run H) (n' : Counts) (b : Bool) (a : Attempt) → a ≡ attempt_of b →
       OnTrue b ((host : H) → PerformsOn law p engine f s n o (f.address + width) f' s' n' host) →
-      OnFalse b (Unchanged f s n f' s' n') → ((name count : ℕ) → o ≡ op.Call name count → ⊥) →
+      OnFalse b (Unchanged f s n f' s' n') → IsNoCall o →
       Attempted law p engine f s n f' s' n' a
   tried_on read keeps n f' s' n' b a e does undone other =
-      let calls : CallsNothing p f = λ name count w at.
-      let same : Some (said, width) ≡ Some (op.Call name count, w) = sym read ∙ at in
-      let call : o ≡ op.Call name count =
-      sym is ∙ ap (λ (r : Option (Op × ℕ)). (or_return r).0) same in
-      other name count call in
+      let calls : CallsNothing p f = no_call read other in
       rw e (attempted law p engine f f' s s' n n' b (tried b does (λ d host. on host (d host)))
       undone calls) where
         on : (host : H) → PerformsOn law p engine f s n o (f.address + width) f' s' n' host →
@@ -245,27 +242,6 @@ module _ {H : Type 0} (law : Law H) (p : View) (engine : Engine) (f : Activation
         on host (inr two) =
             both law p engine f two.frame f' s two.run s' n two.counts n' host
             (stepped read keeps n two.frame two.run two.counts host host two.first) two.second
-
--- a call was done, by what was known of it before
-pub call_stepped : {H : Type 0} (law : Law H) (p : View) (engine : Engine) (f : Activation)
-    (s : Run H) (name count next : ℕ) → StandsAt p f s (op.Call name count) next → Runs p f s →
-    (n : Counts) (f' : Activation) (s' : Run H) (n' : Counts) (host host' : H)
-    {r : Result Progress OutOfMemory} → Simulates (setup law p engine) (abstraction s n host)
-    (λ m place w. instr m (op.Call name count) next (frame_in f s place) w) (is_out r)
-    (abstraction s' n' host') (continuation r s'.fault (frame_in f' s')) →
-    KeepsFrame f s f' s' →
-    ContinuesAt engine s f s' f' (next ∷ []) count 1 s.stacks.handlers r →
-    n'.before ≡ n.before → Stepped law p engine f s n r f' s' n' host host'
-call_stepped law p engine f s name count next at runs n f' s' n' host host' {r} goes kept lands
-    before =
-    done law p engine f s (op.Call name count) at.width runs at.seen refl at.read n f' s' n' host
-    host'
-    (subst (λ (k : ℕ). Simulates (setup law p engine) (abstraction s n host)
-    (λ m place w. instr m (op.Call name count) k (frame_in f s place) w) (is_out r)
-    (abstraction s' n' host') (continuation r s'.fault (frame_in f' s'))) at.next_is goes)
-    kept (subst
-    (λ (k : ℕ). ContinuesAt engine s f s' f' (k ∷ []) count 1 s.stacks.handlers r)
-    at.next_is lands) before
 
 -- an instruction at which the frame stood, and which keeps the handlers, was done
 pub stood : {H : Type 0} (law : Law H) (p : View) (engine : Engine) (f : Activation)
@@ -292,7 +268,7 @@ to_next t next b (inl e) = of_two t next b (inr e)
 to_next t next b (inr i) = absurd i
 
 -- the same from a state with other operands
-lands_on : {H : Type 0} (engine : Engine) (s s' : Run H) (v : StacksView) (f f' : Activation)
+pub lands_on : {H : Type 0} (engine : Engine) (s s' : Run H) (v : StacksView) (f f' : Activation)
     (ts us : List ℕ) (takes gives more adds : ℕ) (hs : List Handler)
     (r : Result Progress OutOfMemory) →
     length v.operands - takes + gives ≡ length s.stacks.operands - more + adds →

@@ -1,5 +1,5 @@
 -- A comparison and the branch after it: each is what its rule says, and the two turns are one.
-use Rattle.std.proofs.Common.{◌≡◌, ◌<◌, ◌≤◌, ◌+◌, ◌-◌, ℕ, zero, suc, List, [], ◌∷◌, ◌++◌, Bool, true, false, cond, nat_lt, nat_le, inl, inr, Ok, length, take, refl, subst, ap, arith, length-append}
+use Rattle.std.proofs.Common.{◌≡◌, ◌<◌, ◌≤◌, ◌+◌, ◌-◌, ℕ, zero, suc, List, [], ◌∷◌, ◌++◌, Bool, true, false, cond, nat_lt, nat_le, inl, inr, Ok, Some, length, take, refl, subst, ap, arith, length-append}
 use Rattle.std.proofs.lemmas.Bool.Decides.{nat_tests}
 use Rattle.std.proofs.lemmas.List.{length-take-le, take-append-le, take_all}
 use Rattle.grain_value.specs.declared.values.Held.{Held}
@@ -11,7 +11,7 @@ use Rattle.grain_program.specs.View.{View}
 use Rattle.grain_host.specs.Law.{Law}
 use Rattle.grain_global.specs.declared.engines.Engine.{Engine}
 use Rattle.grain_ops.specs.Outcomes.{Gave}
-use Rattle.grain_means.specs.Rules.{operated, jump_if, agrees}
+use Rattle.grain_means.specs.Rules.{operated, jump_if, agrees, flat_all}
 use Rattle.grain_frame.specs.Counts.{Counts}
 use Rattle.grain_frame.specs.Abstraction.{frame_in, tries_in, KeepsFrame, Ready, Runs, Implements, Performs}
 use Rattle.grain_frame.specs.Following.{moved, answered, without_two, marked_once, begun_one}
@@ -107,14 +107,16 @@ module _ {H : Type 0} (law : Law H) (p : View) (engine : Engine) (f : Activation
   -- the comparison does what its rule says
   pub answers : (name count token next : ℕ) (n : Counts) (host : H) →
       Ready f s (op.CallOp name count token) next → count ≡ 2 → 2 ≤ length s.stacks.operands →
+      flat_all s.cells (arguments count s.stacks.operands)
+      ≡ Some (arguments count s.stacks.operands) →
       operated p engine token (arguments count s.stacks.operands) ≡ Gave (dynamic.Bool truth) →
       Performs law p engine f s n (op.CallOp name count token) next (Ok progress.Continues)
       (moved f next) (answered s truth) (marked_once n) host host
-  answers name count token next n host ready is two gives = record {
+  answers name count token next n host ready is two readable gives = record {
     same = record {
       this = refl;
       order = omega arith;
-      equal = λ stop clear halts u place. rw (gives, is, clear n.passed (omega arith) (omega arith))
+      equal = λ stop clear halts u place. rw (readable, gives, is, clear n.passed (omega arith) (omega arith))
           refl;
     };
     kept = answered_kept next ready.inside;

@@ -1,20 +1,17 @@
 -- A call, its body, and what follows it.
-use Rattle.std.proofs.Common.{◌≡◌, ◌<◌, ◌≤◌, ◌+◌, ◌-◌, ◌∙◌, ℕ, zero, suc, List, [], ◌∷◌, ◌++◌, Option, Some, None, Bool, true, false, Result, Ok, Err, length, take, refl, sym, subst, ap, inl, arith, length-append}
+use Rattle.std.proofs.Common.{◌≡◌, ◌<◌, ◌≤◌, ◌+◌, ◌-◌, ◌∙◌, ℕ, zero, suc, List, [], ◌∷◌, ◌++◌, Option, None, Bool, true, false, Result, Ok, Err, length, take, refl, sym, subst, ap, inl, arith, length-append}
 use Rattle.std.proofs.lemmas.List.{length-take}
-use Rattle.std.specs.Prelude.{slice_get, slice_index_or}
+use Rattle.std.specs.Prelude.{slice_index_or}
 use Rattle.grain_value.specs.declared.values.Held.{Held}
 use Rattle.grain_value.specs.declared.scopes.Entry.{Entry}
 use Rattle.grain_value.specs.declared.memory.OutOfMemory.{OutOfMemory}
 use Rattle.grain_value.specs.Operands.{under}
 use Rattle.grain_fault.specs.Problems.{NoMemory, problem_of}
-use Rattle.grain_program.specs.View.{View}
-use Rattle.grain_program.specs.Lookups.{function_of, Called}
 use Rattle.grain_program.specs.declared.code.functions.Function.{Function}
-use Rattle.grain_program.specs.declared.code.instructions.Op.TheVariants as op
 use Rattle.grain_global.specs.declared.engines.Engine.{Engine}
 use Rattle.grain_stack.specs.Views.{StackFrame, StacksView, innermost, without_frame}
 use Rattle.grain_means.specs.Worlds.{Go, End, Then, Answer, Failed, Setup, Frame, InFrame, Place}
-use Rattle.grain_means.specs.Rules.{leave_by_fault, offered, without, frame_at, function_numbered, function_found, instr, enter_function, resume_caller}
+use Rattle.grain_means.specs.Rules.{leave_by_fault, offered, without, frame_at, enter_function, resume_caller}
 use Rattle.grain_means.specs.Simulation.{LocalState, Computation, Simulates, SimulatesExactly, StopPersists, stopped, world}
 use Rattle.grain_means.specs.lemmas.Stretches.{same, compose, continued, alone}
 use Rattle.grain_frame.specs.Counts.{Counts}
@@ -25,51 +22,26 @@ use Rattle.grain_frame.specs.declared.runs.Run.{Run}
 use Rattle.grain_frame.specs.declared.runs.Progress.{Progress}
 use Rattle.grain_frame.specs.declared.runs.Progress.TheVariants as progress
 
-module _ {H : Type 0} {m : Setup H} (f : Option Place → Frame) (n k next : ℕ) (g : Function)
-    (found : function_found m.program n k ≡ Some g) where
-  -- the function is found
-  finds : (old : LocalState H) →
-      Simulates m old (λ p place w. instr p (op.Call n k) next (f place) w) false old
-      (λ p place w. enter_function p g k (f place) next w)
-  finds old =
-      same (record {
-        this = refl;
-        order = omega arith;
-        equal = λ stop clear halts u place.
-            rw found refl;
-      })
-
-  -- the call did not come to its body
-  pub call_over : {old new : LocalState H} {l : ℕ} {out : Bool} {last : Computation H} → l ≡ k →
-      SimulatesExactly m old
-      (λ p place w. enter_function p g l (f place) next w) out new last →
-      Simulates m old (λ p place w. instr p (op.Call n k) next (f place) w) out new last
-  call_over {old} {new} {out = out} {last} all h =
-      compose (finds old)
-      (same (subst
-      (λ (q : ℕ).
-      SimulatesExactly m old
-      (λ p place w. enter_function p g q (f place) next w) out new last) all h)) tt
-
+module _ {H : Type 0} {m : Setup H} (f : Option Place → Frame) (next : ℕ) (g : Function) where
   -- the body was run, and the caller goes on
   pub call_ran : {old mid after there new : LocalState H} {inner outer : Option Place → Frame}
-      (scope : List Entry) (level : ℕ) {l : ℕ} {b : Answer} {one two : Bool}
-      {last : Computation H} → l ≡ k →
+      (scope : List Entry) (level : ℕ) {b : Answer} {one two : Bool} {last : Computation H} →
       SimulatesExactly m old
-      (λ p place w. enter_function p g l (f place) next w) false mid
+      (λ p place w. enter_function p g (length g.params) (f place) next w) false mid
       (λ p place w. Then (Go (InFrame (frame_at g.chunk 0 None)) w)
       (λ a w2. resume_caller p g (without (length g.params) (f place)) next a
-      (record w2 { scope = scope; level = level }))) → length g.params ≡ k →
+      (record w2 { scope = scope; level = level }))) →
       ((place : Option Place) → inner place ≡ frame_at g.chunk 0 place) → mid.this ≡ None →
       Simulates m mid (λ p place w. Go (InFrame (inner place)) w) one after
       (λ p place w. End b w) →
       there ≡ record after { scope = scope; level = level } →
-      ((place : Option Place) → outer place ≡ without k (f place)) →
+      ((place : Option Place) → outer place ≡ without (length g.params) (f place)) →
       SimulatesExactly m there (λ p place w. resume_caller p g (outer place) next b w) two new
       last → StopPersists one after.passed two new.passed →
-      Simulates m old (λ p place w. instr p (op.Call n k) next (f place) w) two new last
+      Simulates m old (λ p place w. enter_function p g (length g.params) (f place) next w) two new
+      last
   call_ran {old} {mid} {after} {there} {new} {inner} {outer} scope level {b = b} {one} {two} {last}
-      all begins params at none ran is rest resumes persists =
+      begins at none ran is rest resumes persists =
       let body : Simulates m mid (λ p place w. Go (InFrame (frame_at g.chunk 0 None)) w) one after
       (λ p place w. End b w) =
       alone {first = λ p place w. Go (InFrame (frame_at g.chunk 0 place)) w} none (by_frame at ran)
@@ -79,33 +51,11 @@ module _ {H : Type 0} {m : Setup H} (f : Option Place → Frame) (n k next : ℕ
       subst (λ (q : LocalState H).
       SimulatesExactly m q (λ p place w. resume_caller p g (outer place) next b w) two new last)
       is resumes in
-      compose (finds old)
-      (compose (same
-      (subst (λ (q : ℕ).
-      SimulatesExactly m old
-      (λ p place w. enter_function p g q (f place) next w) false mid
-      (λ p place w. Then (Go (InFrame (frame_at g.chunk 0 None)) w)
-      (λ a w2. resume_caller p g (without k (f place)) next a
-      (record w2 { scope = scope; level = level })))) all (with_params params begins)))
+      compose (same begins)
       (compose (continued
-      (λ p place a w2. resume_caller p g (without k (f place)) next a
+      (λ p place a w2. resume_caller p g (without (length g.params) (f place)) next a
       (record w2 { scope = scope; level = level })) body) (same (goes_on here rest)) persists)
-      tt) tt where
-        with_params : {first : Computation H} → length g.params ≡ k →
-            SimulatesExactly m old first false mid
-            (λ p place w. Then (Go (InFrame (frame_at g.chunk 0 None)) w)
-            (λ a w2. resume_caller p g (without (length g.params) (f place)) next a
-            (record w2 { scope = scope; level = level }))) →
-            SimulatesExactly m old first false mid
-            (λ p place w. Then (Go (InFrame (frame_at g.chunk 0 None)) w)
-            (λ a w2. resume_caller p g (without k (f place)) next a
-            (record w2 { scope = scope; level = level })))
-        with_params {first} e h =
-            subst (λ (q : ℕ). SimulatesExactly m old first false mid
-            (λ p place w. Then (Go (InFrame (frame_at g.chunk 0 None)) w)
-            (λ a w2. resume_caller p g (without q (f place)) next a
-            (record w2 { scope = scope; level = level })))) e h
-
+      tt where
         by_frame : ((place : Option Place) → inner place ≡ frame_at g.chunk 0 place) →
             Simulates m mid (λ p place w. Go (InFrame (inner place)) w) one after
             (λ p place w. End b w) →
@@ -123,9 +73,9 @@ module _ {H : Type 0} {m : Setup H} (f : Option Place → Frame) (n k next : ℕ
         -- the caller's scope and level are back
         goes_on : SimulatesExactly m (record after { scope = scope; level = level })
             (λ p place w. resume_caller p g (outer place) next b w) two new last →
-            ((place : Option Place) → outer place ≡ without k (f place)) →
+            ((place : Option Place) → outer place ≡ without (length g.params) (f place)) →
             SimulatesExactly m after
-            (λ p place w. resume_caller p g (without k (f place)) next b
+            (λ p place w. resume_caller p g (without (length g.params) (f place)) next b
             (record w { scope = scope; level = level })) two new last
         goes_on h rest =
             record {
@@ -181,24 +131,6 @@ memory_passes {H = H} {m = m} f s t g next n host e = record {
       ∙ ap (λ (q : LocalState H). leave_by_fault (stopped m stop) None (frame_in f s place) NoMemory
       (world q u)) (sym e);
 }
-
--- the function that the code found is the meaning's
-pub found_is : (p : View) (name count name' count' number : ℕ) (g : Function) → name' ≡ name →
-    count' ≡ count → Some number ≡ function_of p name' count' → slice_get p.functions number ≡
-    Some g → function_found p name count ≡ Some g
-found_is p name count name' count' number g en ec e is =
-    let here : function_of p name count ≡ Some number =
-    subst (λ (q : ℕ). function_of p q count ≡ Some number) en
-    (subst (λ (q : ℕ). function_of p name' q ≡ Some number) ec (sym e)) in
-    ap (function_numbered p) here ∙ is
-
--- it has as many parameters as there are arguments
-pub params_are : (p : View) (name count count' number : ℕ) (g : Function) → count' ≡ count →
-    Called p name count' number → slice_get p.functions number ≡ Some g → length g.params ≡ count
-params_are p name count count' number g ec called is =
-    let both : Some called.function ≡ Some g = sym called.is ∙ is in
-    let alike : called.function ≡ g = cc in
-    ap (λ (k : Function). length k.params) (sym alike) ∙ (called.count_is ∙ ec)
 
 pub entered_with : {H : Type 0} (engine : Engine) (g : Function) (s s1 : Run H) (b : Bool) →
     b ≡ true → EnterResult engine g s s1 (Ok b) → CallEntered engine g s s1

@@ -1,25 +1,35 @@
 -- An op-assignment that wants memory is the run stopped at its first mark, whatever the operator
 -- would have given.
-use Rattle.std.proofs.Common.{◌≡◌, ◌+◌, ℕ, List, [], ◌∷◌, Option, Some, None, Result, Ok, Err, Bool, true, false, if◌then◌else◌, ◌&&◌, refl}
+use Rattle.std.proofs.Common.{◌≡◌, ◌+◌, ◌≤◌, ℕ, List, [], ◌∷◌, Option, Some, None, Result, Ok, Err, Bool, true, false, if◌then◌else◌, ◌&&◌, length, refl, arith}
+use Rattle.std.specs.Prelude.{slice_get, slice_set}
+use Rattle.grain_value.specs.Cells.{idle}
+use Rattle.grain_value.specs.Looking.{cell_of}
 use Rattle.grain_value.specs.declared.natives.Native.{Native}
+use Rattle.grain_value.specs.declared.stores.Cell.{Cell}
 use Rattle.grain_value.specs.declared.values.Dynamic.{Dynamic}
-use Rattle.grain_host.specs.Law.{native_of}
-use Rattle.grain_value.specs.declared.memory.OutOfMemory.{OutOfMemory}
-use Rattle.grain_value.specs.Operands.{top, below}
-use Rattle.grain_program.specs.View.{name_of}
 use Rattle.grain_value.specs.declared.values.Held.{Held}
-use Rattle.grain_fault.specs.Problems.{Problem, Plain, NoMemory, NonPureCall}
+use Rattle.grain_value.specs.declared.memory.OutOfMemory.{OutOfMemory}
+use Rattle.grain_value.specs.Operands.{below, read_write}
+use Rattle.grain_host.specs.Law.{Law, native_of}
+use Rattle.grain_program.specs.View.{View, name_of}
 use Rattle.grain_program.specs.declared.code.parts.AssignOp.{AssignOp}
+use Rattle.grain_fault.specs.declared.faults.EvalAltResult.{EvalAltResult}
+use Rattle.grain_fault.specs.Problems.{Problem, Plain, NoMemory, NonPureCall, problem_of}
+use Rattle.grain_global.specs.declared.engines.Engine.{Engine}
+use Rattle.grain_stack.specs.declared.handlers.Handler.{Handler}
 use Rattle.grain_ops.specs.Outcomes.{Outcome, NotBuiltIn, Gave, ArithmeticFault, TooLarge}
 use Rattle.grain_means.specs.Worlds.{Act, Frame, Place, Setup, World}
-use Rattle.grain_means.specs.Rules.{Receiver, given, held_or, assign_op, op_assigned, write_entry, held_at, is_stop, leave_by_fault, native_assigned, op_assign_failed, operator_assigned, onward, stepped, store_outcome, raised, position, native, native_found, host_called, kinds_in, first_is_read_only}
+use Rattle.grain_means.specs.Rules.{Receiver, cell_written, content_now, data_race, first_is_read_only, flat_or_race, flattened, given, host_called, is_stop, kinds_in, leave_by_fault, marked, native, native_found, onward, op_assign_failed, operator_assigned, position, raised, stepped, store_outcome, write_entry, written}
 use Rattle.grain_means.specs.Signatures.{says_missing}
-use Rattle.grain_means.specs.Simulation.{Environment, StopsHere, stopped, world}
-use Rattle.grain_frame.specs.Abstraction.{abstraction, continuation, frame_in, is_out}
+use Rattle.grain_means.specs.Means.{setup}
+use Rattle.grain_means.specs.Simulation.{Computation, Environment, stopped, world}
+use Rattle.grain_frame.specs.Abstraction.{abstraction, frame_in, is_out, Implements, Raises}
 use Rattle.grain_frame.specs.declared.activations.Activation.{Activation}
 use Rattle.grain_frame.specs.declared.runs.Progress.{Progress}
+use Rattle.grain_frame.specs.declared.runs.Progress.TheVariants as progress
 use Rattle.grain_frame.specs.declared.runs.Run.{Run}
 use Rattle.grain_frame.specs.Counts.{Counts}
+use Rattle.grain_frame.proofs.Arms.{raises_exactly}
 
 -- a fault that is raised stops at its mark
 abbrev pub StopsAtMark : {S : Type 0} → Setup S → Frame → World S → (Problem → World S → Act S) →
@@ -49,58 +59,158 @@ native_stops m name r args f w go fails halts stops =
     found_stops m (native_of m.law w.host name (kinds_in (given r args))) name r args f w go fails
     halts stops
 
+-- a write stops at its mark, whatever is written
+pub written_stops : {S : Type 0} (m : Setup S) (c : Option ℕ) (i : ℕ) (h : Held) (name : List ℕ)
+    (f : Frame) (w : World S) (go : World S → Act S) → is_stop m.stop w.passed ≡ true →
+    written m c i h name f w go ≡ leave_by_fault m None f NoMemory w
+written_stops m None i h name f w go halts = rw halts refl
+written_stops {S = S} m (Some n) i h name f w go halts = at (slice_get w.cells n) where
+  by_flag : (b : Bool) → (if b then data_race m name f w
+      else marked m f w (λ w1. go (record w1 { cells = slice_set w1.cells n (idle h) })))
+      ≡ leave_by_fault m None f NoMemory w
+  by_flag true = rw halts refl
+  by_flag false = rw halts refl
+
+  at : (o : Option Cell) → cell_written m o n h name f w go ≡ leave_by_fault m None f NoMemory w
+  at None = rw halts refl
+  at (Some d) = by_flag d.busy
+
+-- so does a native's value on its way into a target
+pub taken_stops : {S : Type 0} (m : Setup S) (o : Option Dynamic) (h : Held) (slot : ℕ)
+    (name : List ℕ) (next : ℕ) (f : Frame) (w : World S) → is_stop m.stop w.passed ≡ true →
+    flat_or_race m o name f w (λ q. write_entry m h slot (record h { value = q }) name next f w)
+    ≡ leave_by_fault m None f NoMemory w
+taken_stops m None h slot name next f w halts = rw halts refl
+taken_stops m (Some q) h slot name next f w halts =
+    written_stops m (cell_of h.value) (f.base + slot) (record h { value = q }) name f w
+    (onward m f (stepped f next (below f.operands))) halts
+
+-- so does the host's operator
+pub operator_stops : {S : Type 0} (m : Setup S) (name : List ℕ) (h u v : Held)
+    (slot n next : ℕ) (f : Frame) (w : World S) → is_stop m.stop w.passed ≡ true →
+    operator_assigned m name h u v slot n next f w ≡ leave_by_fault m None f NoMemory w
+operator_stops m name h u v slot n next f w halts =
+    native_stops m name None (u ∷ v ∷ []) f w
+    (λ r w1. flattened m (read_write r) (name_of m.program n) f w1 (λ q.
+    write_entry m h slot (record h { value = q }) (name_of m.program n) next f w1)) (raised m f)
+    halts (λ y. rw halts refl)
+
 -- so does the fault of an op-assignment, whether or not the host's operator is asked then
-op_assign_stops : {S : Type 0} (m : Setup S) (a : AssignOp) (h : Held) (slot next : ℕ)
+pub op_assign_stops : {S : Type 0} (m : Setup S) (a : AssignOp) (h v : Held) (slot n next : ℕ)
     (f : Frame) (w : World S) → is_stop m.stop w.passed ≡ true →
-    StopsAtMark m f w (op_assign_failed m a h slot next f)
-op_assign_stops m a h slot next f w halts x =
+    StopsAtMark m f w (op_assign_failed m a h v slot n next f)
+op_assign_stops m a h v slot n next f w halts x =
     at (says_missing (name_of m.program a.op_assign_name) x) where
-      g : Held
-      g = held_or h (held_at w.scope (f.base + slot))
+      u : Held
+      u = record h { value = content_now (cell_of h.value) (f.base + slot) h w.scope w.cells }
 
       at : (b : Bool) →
-          (if b then operator_assigned m (name_of m.program a.op_name) g slot next f w
+          (if b then operator_assigned m (name_of m.program a.op_name) h u v slot n next f w
           else raised m f x w) ≡ leave_by_fault m None f NoMemory w
-      at true = native_stops m (name_of m.program a.op_name) None (g ∷ top f.operands ∷ []) f w
-          (λ v w1. write_entry m g.read_only slot g v next f w1) (raised m f) halts
-          (λ y. rw halts refl)
+      at true = operator_stops m (name_of m.program a.op_name) h u v slot n next f w halts
       at false = rw halts refl
 
-store_stops : {S : Type 0} (m : Setup S) (o : Outcome) (a : AssignOp) (h : Held) (slot next : ℕ)
-    (f : Frame) (w : World S) → is_stop m.stop w.passed ≡ true →
-    store_outcome m o a h slot next f w ≡ leave_by_fault m None f NoMemory w
-store_stops m NotBuiltIn a h slot next f w halts =
-    native_stops m (name_of m.program a.op_assign_name)
-    (Some (record { index = f.base + slot; held = h })) (top f.operands ∷ []) f w
-    (λ v w1. onward m f (stepped f next (below f.operands)) w1)
-    (op_assign_failed m a h slot next f) halts (op_assign_stops m a h slot next f w halts)
-store_stops m (Gave v) a h slot next f w halts = rw halts refl
-store_stops m (ArithmeticFault t) a h slot next f w halts = rw halts refl
-store_stops m (TooLarge t) a h slot next f w halts = rw halts refl
-
-assign_stops : {S : Type 0} (m : Setup S) (a : AssignOp) (slot n next : ℕ) (f : Frame)
-    (w : World S) (h : Held) → held_at w.scope (f.base + slot) ≡ Some h → h.read_only ≡ false →
+-- so does what an op-assignment gives, whatever it is
+pub store_stops : {S : Type 0} (m : Setup S) (o : Outcome) (a : AssignOp) (h : Held)
+    (u : Dynamic) (v : Held) (slot n next : ℕ) (f : Frame) (w : World S) →
     is_stop m.stop w.passed ≡ true →
-    assign_op m a slot n next f w ≡ leave_by_fault m None f NoMemory w
-assign_stops m a slot n next f w h there plain halts = rw (there, plain)
-    (store_stops m _ _ _ slot next f w halts)
+    store_outcome m o a h u v slot n next f w ≡ leave_by_fault m None f NoMemory w
+store_stops m NotBuiltIn a h u v slot n next f w halts =
+    native_stops m (name_of m.program a.op_assign_name)
+    (Some (record {
+      index = f.base + slot;
+      cell = cell_of h.value;
+      held = record h { value = u };
+    })) (v ∷ []) f w
+    (λ r w1. onward m f (stepped f next (below f.operands)) w1)
+    (op_assign_failed m a h v slot n next f) halts
+    (op_assign_stops m a h v slot n next f w halts)
+store_stops m (Gave r) a h u v slot n next f w halts =
+    written_stops m (cell_of h.value) (f.base + slot) (record h { value = r })
+    (name_of m.program n) f w (onward m f (stepped f next (below f.operands))) halts
+store_stops m (ArithmeticFault t) a h u v slot n next f w halts = rw halts refl
+store_stops m (TooLarge t) a h u v slot n next f w halts = rw halts refl
 
-pub assign_fails : {H : Type 0} (m : Setup H) (stop : Option ℕ) (f : Activation) (s : Run H)
-    (n : Counts) (host : H) (u : Environment) (place : Option Place) (a : AssignOp)
-    (slot name next : ℕ) (h : Held) (r : Result Progress OutOfMemory) →
-    held_at s.scope (f.base + slot) ≡ Some h → h.read_only ≡ false → is_out r ≡ true →
-    StopsHere (is_out r) stop n.passed →
-    assign_op (stopped m stop) a slot name next (frame_in f s place)
-    (world (abstraction s n host) u)
-    ≡ continuation r s.fault (frame_in f s) (stopped m stop) place (world (abstraction s n host) u)
-assign_fails m stop f s n host u place a slot name next h (Ok p) there plain out halts = absurd cc
-assign_fails m stop f s n host u place a slot name next h (Err e) there plain out halts =
-    assign_stops (stopped m stop) a slot name next (frame_in f s place)
-    (world (abstraction s n host) u) h there plain halts
+-- a rule that stops at its first mark, where memory is out before anything is done
+pub wants_memory : {H : Type 0} (law : Law H) (p : View) (engine : Engine) (f : Activation)
+    (s : Run H) (n : Counts) (host : H) {rule : Computation H} {ts : List ℕ} {takes gives : ℕ}
+    {hs : List Handler} (r : Result Progress OutOfMemory) → is_out r ≡ true →
+    f.base ≤ length s.scope →
+    ((stop : Option ℕ) (u : Environment) (place : Option Place) →
+    is_stop stop n.passed ≡ true →
+    rule (stopped (setup law p engine) stop) place (world (abstraction s n host) u)
+    ≡ leave_by_fault (stopped (setup law p engine) stop) None (frame_in f s place) NoMemory
+    (world (abstraction s n host) u)) →
+    Implements law p engine f s n rule ts takes gives hs r f s n host host
+wants_memory law p engine f s n host (Ok y) out inside stops = absurd cc
+wants_memory law p engine f s n host (Err y) out inside stops = record {
+  same = record {
+    this = refl;
+    order = omega arith;
+    equal = λ stop clear halts u place. stops stop u place halts;
+  };
+  kept = record {
+    chunk = refl;
+    base = refl;
+    scope = inside;
+    room = refl;
+    noted = refl;
+    outer = refl;
+    saved = refl;
+    level = refl;
+    later = omega arith;
+  };
+  lands = tt;
+  before = refl;
+}
 
--- an op-assignment that no built-in does is the host's
-pub assign_calls : {S : Type 0} (m : Setup S) (a : AssignOp) (slot n next : ℕ) (f : Frame)
-    (w : World S) (h : Held) → held_at w.scope (f.base + slot) ≡ Some h → h.read_only ≡ false →
-    op_assigned m.engine a h (top f.operands).value ≡ NotBuiltIn →
-    assign_op m a slot n next f w ≡ native_assigned m a h slot next f w
-assign_calls m a slot n next f w h there plain none = rw (there, plain, none) refl
+-- a fault is raised, and no operand is gone
+pub raises_here : {H : Type 0} (law : Law H) (p : View) (engine : Engine) (f : Activation)
+    (s s' : Run H) (n n' : Counts) (host : H) (x : EvalAltResult) {rule : Computation H}
+    {ts : List ℕ} {takes gives : ℕ} (r : Result Progress OutOfMemory) → Raises s n x r s' n' →
+    f.base ≤ length s.scope →
+    ((stop : Option ℕ) (u : Environment) (place : Option Place) →
+    rule (stopped (setup law p engine) stop) place (world (abstraction s n host) u)
+    ≡ raised (stopped (setup law p engine) stop) (frame_in f s place) (problem_of x)
+    (world (abstraction s n host) u)) →
+    Implements law p engine f s n rule ts takes gives s.stacks.handlers r f s' n' host host
+raises_here {H = H} law p engine f s s' n n' host x {rule} {ts} {takes} {gives} (Ok q) h inside
+    alike = at q h.0 s' h.1 n' h.2 where
+      at : (q : Progress) → q ≡ progress.Failed → (s' : Run H) → s' ≡ record s { fault = x } →
+          (n' : Counts) → n' ≡ record n { passed = n.passed + 1 } →
+          Implements law p engine f s n rule ts takes gives s.stacks.handlers (Ok q) f s' n' host
+          host
+      at q eq s' es n' en = rw (eq, es, en) (record {
+        same = raises_exactly f s (record s { fault = x }) n (record n { passed = n.passed + 1 })
+            host x (Ok progress.Failed) (refl, refl, refl) alike;
+        kept = record {
+          chunk = refl;
+          base = refl;
+          scope = inside;
+          room = refl;
+          noted = refl;
+          outer = refl;
+          saved = refl;
+          level = refl;
+          later = omega arith;
+        };
+        lands = (omega arith, refl);
+        before = refl;
+      })
+raises_here law p engine f s s' n n' host x {rule} {ts} {takes} {gives} (Err e) h inside alike =
+    rw (h.0, h.1) (record {
+      same = raises_exactly f s s n n host x (Err e) (refl, refl) alike;
+      kept = record {
+        chunk = refl;
+        base = refl;
+        scope = inside;
+        room = refl;
+        noted = refl;
+        outer = refl;
+        saved = refl;
+        level = refl;
+        later = omega arith;
+      };
+      lands = tt;
+      before = refl;
+    })

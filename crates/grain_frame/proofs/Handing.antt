@@ -1,30 +1,25 @@
 -- What a native gave, as the frame goes on with it.
-use Rattle.std.proofs.Common.{◌≡◌, ◌<◌, ◌≤◌, ◌+◌, ◌-◌, ℕ, List, [], ◌∷◌, Option, Some, true, false, take, drop, inl, inr, Result, Ok, Err, length, refl, ap, subst, arith}
-use Rattle.std.proofs.lemmas.List.{length-take-le, length-drop, take_all}
+use Rattle.std.proofs.Common.{◌≡◌, ◌≤◌, ◌-◌, ℕ, List, [], ◌∷◌, Option, None, Some, true, false, Result, Ok, Err, length, refl, ap, subst, arith}
 use Rattle.grain_value.specs.declared.values.Dynamic.{Dynamic}
 use Rattle.grain_value.specs.declared.values.Held.{Held}
-use Rattle.grain_value.specs.declared.scopes.Entry.{Entry}
 use Rattle.grain_value.specs.declared.memory.OutOfMemory.{OutOfMemory}
-use Rattle.grain_value.specs.Operands.{arguments, below}
-use Rattle.grain_value.specs.Scopes.{set_held}
-use Rattle.grain_program.specs.View.{View}
+use Rattle.grain_value.specs.Operands.{arguments, under}
+use Rattle.grain_ops.specs.Outcomes.{NotBuiltIn}
+use Rattle.grain_program.specs.View.{View, name_of}
+use Rattle.grain_program.specs.declared.code.instructions.Op.TheVariants as op
 use Rattle.grain_stack.specs.Views.{StacksView}
 use Rattle.grain_stack.specs.declared.handlers.Handler.{Handler}
 use Rattle.grain_host.specs.Law.{Law}
 use Rattle.grain_global.specs.declared.engines.Engine.{Engine}
-use Rattle.grain_means.specs.Worlds.{Act, Place, Setup, World}
-use Rattle.grain_means.specs.Rules.{Receiver, is_stop, native, pushed, write_entry}
+use Rattle.grain_means.specs.Worlds.{Act, Frame, Place, Setup, World}
+use Rattle.grain_means.specs.Rules.{Receiver, call_function, flat_all, instr, is_stop, native, operated, pushed, raised}
 use Rattle.grain_fault.specs.Problems.{Problem}
 use Rattle.grain_means.specs.Simulation.{Computation, SimulatesExactly, stopped, world}
 use Rattle.grain_means.specs.Means.{setup}
-use Rattle.grain_means.specs.lemmas.Stretches.{then_exactly}
-use Rattle.grain_means.specs.lemmas.Scopes.{length_set_held}
 use Rattle.grain_frame.specs.Counts.{Counts}
-use Rattle.grain_frame.specs.Abstraction.{abstraction, frame_in, is_out, continuation, KeepsFrame, Implements}
-use Rattle.grain_frame.specs.Following.{moved, marked_once}
+use Rattle.grain_frame.specs.Abstraction.{abstraction, frame_in, is_out, Implements}
 use Rattle.grain_frame.specs.declared.activations.Activation.{Activation}
 use Rattle.grain_frame.specs.declared.runs.Progress.{Progress}
-use Rattle.grain_frame.specs.declared.runs.Progress.TheVariants as progress
 use Rattle.grain_frame.specs.declared.runs.Run.{Run}
 use Rattle.grain_frame.proofs.Arms.{implements_after}
 use Rattle.grain_frame.proofs.Failing.{native_stops, StopsAtMark}
@@ -33,11 +28,22 @@ use Rattle.grain_frame.proofs.Serving.{implements_then, scope_kept}
 pub one_held : (o : Option Held) (a b : Held) → o ≡ Some a → o ≡ Some b → a ≡ b
 one_held o a b is also = cc
 
--- all from a place on are the last operands
-pub last_ones : (n : ℕ) (xs : List Held) →
-    take (length xs - (length xs - n)) (drop (length xs - n) xs) ≡ arguments n xs
-last_ones n xs = take_all (length xs - (length xs - n)) (drop (length xs - n) xs)
-    (omega (arith, length-drop (length xs - n) xs))
+-- where no function has the name, the native is called on the operands, as they are read
+pub native_is : {S : Type 0} (m : Setup S) (name : List ℕ) (count next : ℕ) (f : Frame)
+    (w : World S) (args : List Held) → flat_all w.cells (arguments count f.operands) ≡ Some args →
+    call_function m None name count f next w
+    ≡ native m name None args f w
+    (λ v w1. pushed m f next (under count f.operands) v w1) (raised m f)
+native_is m name count next f w args is = rw is refl
+
+-- so it is where no built-in takes them
+pub operator_is : {S : Type 0} (m : Setup S) (n count token next : ℕ) (f : Frame) (w : World S)
+    (args : List Held) → flat_all w.cells (arguments count f.operands) ≡ Some args →
+    operated m.program m.engine token args ≡ NotBuiltIn →
+    instr m (op.CallOp n count token) next f w
+    ≡ native m (name_of m.program n) None args f w
+    (λ v w1. pushed m f next (under count f.operands) v w1) (raised m f)
+operator_is m n count token next f w args is none = rw (is, none) refl
 
 -- memory is out before the host is called
 pub native_short : {H : Type 0} (law : Law H) (p : View) (engine : Engine) (f : Activation)
@@ -92,7 +98,7 @@ module _ {H : Type 0} (law : Law H) (p : View) (engine : Engine) (f : Activation
       Implements law p engine f s n rule (next ∷ []) takes 1 s.stacks.handlers r f' s' n' host mid
   native_pushed f' s' n' v next takes ops cut {r} does cut_is pushes height =
       implements_then law p engine f s t n k host mid f' s' n' mid does
-      (scope_kept law p engine f s t n k host mid s.scope run refl inside)
+      (scope_kept law p engine f s t n k host mid s.scope s.cells run refl inside)
       (ap (λ (q : Run H). q.stacks) run) before
       (subst (λ (hs : List Handler). Implements law p engine f t k
       (λ m place w. pushed m (frame_in f s place) next ops v w) (next ∷ []) takes 1 hs r f' s' n'
@@ -101,56 +107,3 @@ module _ {H : Type 0} (law : Law H) (p : View) (engine : Engine) (f : Activation
       (λ stop u place. rw (cut_is, run) refl) (λ b i. i)
       (omega (arith, height, ap (λ (q : Run H). length q.stacks.operands) run))
       (omega (arith, height, ap (λ (q : Run H). length q.stacks.operands) run))))
-
-  -- its value is written into the entry
-  pub native_written : (h : Held) (slot index next : ℕ) (v : Dynamic) (stacks : StacksView)
-      (scope : List Entry) → SimulatesExactly (setup law p engine) (abstraction s n host) rule false
-      (abstraction t k mid)
-      (λ m place w. write_entry m h.read_only slot h v next (frame_in f s place) w) →
-      stacks ≡ record t.stacks { operands = below t.stacks.operands } →
-      scope ≡ set_held t.scope index (record { value = v; read_only = h.read_only }) →
-      f.base + slot ≡ index → f.address < next →
-      Implements law p engine f s n rule (next ∷ []) 1 0 s.stacks.handlers (Ok progress.Continues)
-      (moved f next) (record t { stacks = stacks; scope = scope })
-      (marked_once (marked_once k)) host mid
-  native_written h slot index next v stacks scope does es ec ei ahead = record {
-    same = then_exactly does second;
-    kept = keeps;
-    lands = (inl refl, rw (es, run) long, rw (es, run) refl, inr (rw run (omega arith), ahead));
-    before = before;
-  } where
-    written : Held
-    written = record { value = v; read_only = h.read_only }
-
-    long : length (below s.stacks.operands) ≡ length s.stacks.operands - 1 + 0
-    long = omega
-        (arith, length-take-le (length s.stacks.operands - 1) s.stacks.operands (omega arith))
-
-    second : SimulatesExactly (setup law p engine) (abstraction t k mid)
-        (λ m place w. write_entry m h.read_only slot h v next (frame_in f s place) w) false
-        (abstraction (record t { stacks = stacks; scope = scope }) (marked_once (marked_once k))
-        mid)
-        (continuation (Ok progress.Continues) t.fault
-        (frame_in (moved f next) (record t { stacks = stacks; scope = scope })))
-    second = rw (es, ec, run) (record {
-      this = refl;
-      order = omega arith;
-      equal = λ stop clear halts u place. rw (
-        clear k.passed (omega arith) (omega arith),
-        clear (k.passed + 1) (omega arith) (omega arith),
-        ei,
-      ) refl;
-    })
-
-    keeps : KeepsFrame f s (moved f next) (record t { stacks = stacks; scope = scope })
-    keeps = rw (es, ec, run) (record {
-      chunk = refl;
-      base = refl;
-      scope = omega (arith, inside, length_set_held s.scope index written);
-      room = refl;
-      noted = refl;
-      outer = refl;
-      saved = refl;
-      level = refl;
-      later = omega arith;
-    })

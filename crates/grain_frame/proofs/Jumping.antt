@@ -1,6 +1,8 @@
 -- A transfer does not look at the operands of the frame in which it begins.
 use Rattle.std.proofs.Common.{◌≡◌, ℕ, List, Option, Some, Bool, true, false, if◌then◌else◌, nat_le, refl, ap}
 use Rattle.std.proofs.Math.Path.{fun_ext}
+use Rattle.grain_value.specs.Cells.{flat}
+use Rattle.grain_value.specs.declared.values.Dynamic.{Dynamic}
 use Rattle.grain_value.specs.declared.values.Held.{Held}
 use Rattle.grain_value.specs.Operands.{top, below}
 use Rattle.grain_value.specs.Looking.{truth_of}
@@ -28,12 +30,13 @@ jump_alike {S = S} m f g ops w = at (nat_le g.address f.address) where
 
 -- a branch whose truth value is the wanted one is a transfer without it
 pub if_jumps : {H : Type 0} (m : Setup H) (f : Activation) (s : Run H) (v : StacksView)
-    (wanted : Bool) (target next : ℕ) (b : Bool) (place : Option Place) (w : World H) →
-    truth_of (top s.stacks.operands).value ≡ Some b → agrees wanted b ≡ true →
+    (wanted : Bool) (target next : ℕ) (value : Dynamic) (b : Bool) (place : Option Place)
+    (w : World H) → flat w.cells (top s.stacks.operands).value ≡ Some value →
+    truth_of value ≡ Some b → agrees wanted b ≡ true →
     v ≡ record s.stacks { operands = below s.stacks.operands } →
     jump_if m wanted target next (frame_in f s place) w
     ≡ jumped m (frame_in f (record s { stacks = v }) place)
     (stepped (frame_in f (record s { stacks = v }) place) target v.operands) w
-if_jumps m f s v wanted target next b place w truth agreed rest =
-    rw (truth, agreed, rest) (jump_alike m (frame_in f s place)
+if_jumps m f s v wanted target next value b place w read truth agreed rest =
+    rw (read, truth, agreed, rest) (jump_alike m (frame_in f s place)
     (stepped (frame_in f s place) target (below s.stacks.operands)) (below s.stacks.operands) w)

@@ -1,87 +1,112 @@
--- A native to which an entry of the scope is lent.
-use Rattle.std.proofs.Common.{◌≡◌, ◌∙◌, ◌<◌, ◌≤◌, ◌+◌, ◌-◌, ℕ, zero, suc, List, [], ◌∷◌, Option, Some, None, true, false, inl, inr, Result, Ok, Err, length, refl, sym, ap, subst, arith}
+-- A native to which a target is lent, and a target that is written.
+use Rattle.std.proofs.Common.{◌≡◌, ◌∙◌, ◌<◌, ◌≤◌, ◌+◌, ◌-◌, ℕ, List, [], ◌∷◌, Option, Some, None, Bool, false, inl, inr, Result, Ok, Err, length, refl, sym, ap, subst, arith}
 use Rattle.std.proofs.lemmas.List.{length-take-le}
 use Rattle.grain_value.specs.Tree.{Tree}
+use Rattle.grain_value.specs.Looking.{cell_of}
+use Rattle.grain_value.specs.declared.values.Dynamic.{Dynamic}
 use Rattle.grain_value.specs.declared.values.Held.{Held}
 use Rattle.grain_value.specs.declared.scopes.Entry.{Entry}
+use Rattle.grain_value.specs.declared.stores.Cell.{Cell}
 use Rattle.grain_value.specs.declared.memory.OutOfMemory.{OutOfMemory}
-use Rattle.grain_value.specs.Operands.{below, top}
-use Rattle.grain_value.specs.Scopes.{set_held}
+use Rattle.grain_value.specs.Operands.{below, read_write}
 use Rattle.grain_fault.specs.declared.places.Position.{Position}
-use Rattle.grain_fault.specs.declared.faults.EvalAltResult.{EvalAltResult}
-use Rattle.grain_fault.specs.Problems.{problem_of}
 use Rattle.grain_program.specs.declared.code.parts.AssignOp.{AssignOp}
 use Rattle.grain_program.specs.View.{View, name_of}
 use Rattle.grain_stack.specs.Views.{StacksView}
-use Rattle.grain_stack.specs.declared.handlers.Handler.{Handler}
 use Rattle.grain_host.specs.Law.{Law, Reply, written}
 use Rattle.grain_host.specs.Law as reply
 use Rattle.grain_host.specs.Answers.{Answers, Replies, reply_of}
 use Rattle.grain_host.specs.declared.host_answers.Args.{Args}
 use Rattle.grain_host.specs.declared.host_answers.HostAnswer.{HostAnswer}
 use Rattle.grain_global.specs.declared.engines.Engine.{Engine}
-use Rattle.grain_means.specs.Worlds.{Frame, Setup, World}
-use Rattle.grain_means.specs.Signatures.{says_missing}
-use Rattle.grain_means.specs.Rules.{held_at, native, native_assigned, onward, op_assign_failed, operator_assigned, stepped}
-use Rattle.grain_means.specs.Simulation.{Computation, SimulatesExactly}
+use Rattle.grain_ops.specs.Outcomes.{Outcome, Gave, NotBuiltIn}
+use Rattle.grain_means.specs.Worlds.{Frame, Place, Setup, World}
+use Rattle.grain_means.specs.Rules.{back_in_cell, back_in_entry, flattened, marked, native, native_assigned, onward, op_assign_failed, operator_assigned, raised, stepped, store_outcome, write_entry}
+use Rattle.grain_means.specs.Simulation.{Computation, Environment, SimulatesExactly, stopped, world}
 use Rattle.grain_means.specs.Means.{setup}
 use Rattle.grain_means.specs.lemmas.Stretches.{then_exactly}
 use Rattle.grain_frame.specs.Counts.{Counts}
 use Rattle.grain_frame.specs.Abstraction.{abstraction, frame_in, continuation, KeepsFrame, Implements}
 use Rattle.grain_frame.specs.Following.{moved, marked_once}
-use Rattle.grain_frame.specs.Natives.{EndsBy, Serves}
+use Rattle.grain_frame.specs.Natives.{EndsBy, Serves, served_run}
+use Rattle.grain_frame.specs.Targets.{Assigns, CanBeLent, HoldsAt, put_in, receiver_at, taken_out}
+use Rattle.grain_frame.specs.declared.targets.Target.{Target}
+use Rattle.grain_frame.proofs.Targeting.{back_is, long_as, put_same, put_twice, target_written}
 use Rattle.grain_frame.specs.declared.activations.Activation.{Activation}
 use Rattle.grain_frame.specs.declared.native_calls.NativeEnd.{NativeEnd}
 use Rattle.grain_frame.specs.declared.native_calls.NativeEnd.TheVariants as native_end
 use Rattle.grain_frame.specs.declared.runs.Progress.{Progress}
 use Rattle.grain_frame.specs.declared.runs.Progress.TheVariants as progress
 use Rattle.grain_frame.specs.declared.runs.Run.{Run}
-use Rattle.grain_frame.proofs.Arms.{implements_as}
-use Rattle.grain_frame.proofs.AssignedEntries.{same_entry}
 use Rattle.grain_frame.proofs.Serving.{implements_then, scope_kept}
 
--- of two writes of an entry the second counts
-set_twice : (es : List Entry) (i : ℕ) (a b : Held) →
-    set_held (set_held es i a) i b ≡ set_held es i b
-set_twice [] i a b = refl
-set_twice (e ∷ es) zero a b = refl
-set_twice (e ∷ es) (suc i) a b = ap (λ (l : List Entry). e ∷ l) (set_twice es i a b)
+-- an op-assignment that the host does asks for a native to which the target is lent
+pub lent_at : {S : Type 0} (m : Setup S) (a : AssignOp) (h : Held) (u : Dynamic) (v : Held)
+    (slot n next : ℕ) (t : Target) (f : Frame) (w : World S) → f.base + slot ≡ t.index →
+    cell_of h.value ≡ t.cell → h.read_only ≡ false → native_assigned m a h u v slot n next f w
+    ≡ native m (name_of m.program a.op_assign_name) (Some (receiver_at t (read_write u))) (v ∷ [])
+    f w (λ r w1. onward m f (stepped f next (below f.operands)) w1)
+    (op_assign_failed m a h v slot n next f)
+lent_at m a h u v slot n next t f w at is plain =
+    subst (λ (b : Bool). native_assigned m a h u v slot n next f w
+    ≡ native m (name_of m.program a.op_assign_name)
+    (Some (receiver_at t (record { value = u; read_only = b }))) (v ∷ [])
+    f w (λ r w1. onward m f (stepped f next (below f.operands)) w1)
+    (op_assign_failed m a h v slot n next f)) plain
+    (subst (λ (c : Option ℕ). native_assigned m a h u v slot n next f w
+    ≡ native m (name_of m.program a.op_assign_name)
+    (Some (record { index = t.index; cell = c; held = record h { value = u } })) (v ∷ [])
+    f w (λ r w1. onward m f (stepped f next (below f.operands)) w1)
+    (op_assign_failed m a h v slot n next f)) is
+    (subst (λ (i : ℕ). native_assigned m a h u v slot n next f w
+    ≡ native m (name_of m.program a.op_assign_name)
+    (Some (record { index = i; cell = cell_of h.value; held = record h { value = u } })) (v ∷ [])
+    f w (λ r w1. onward m f (stepped f next (below f.operands)) w1)
+    (op_assign_failed m a h v slot n next f)) at refl))
 
--- an op-assignment that the host does asks for a native to which the entry is lent
-pub lent_at : {S : Type 0} (m : Setup S) (a : AssignOp) (h : Held) (slot index next : ℕ) (f : Frame)
-    (w : World S) → f.base + slot ≡ index → native_assigned m a h slot next f w
-    ≡ native m (name_of m.program a.op_assign_name) (Some (record { index = index; held = h }))
-    (top f.operands ∷ []) f w (λ v w1. onward m f (stepped f next (below f.operands)) w1)
-    (op_assign_failed m a h slot next f)
-lent_at m a h slot index next f w at =
-    subst (λ (i : ℕ). native_assigned m a h slot next f w
-    ≡ native m (name_of m.program a.op_assign_name) (Some (record { index = i; held = h }))
-    (top f.operands ∷ []) f w (λ v w1. onward m f (stepped f next (below f.operands)) w1)
-    (op_assign_failed m a h slot next f)) at refl
+-- what an op-assignment gives, in the target, and what follows where no built-in does it
+pub gave_is : {S : Type 0} (m : Setup S) (o : Outcome) (a : AssignOp) (h : Held) (u : Dynamic)
+    (v : Held) (slot n next : ℕ) (f : Frame) (w : World S) (r : Dynamic) → o ≡ Gave r →
+    h.read_only ≡ false → store_outcome m o a h u v slot n next f w
+    ≡ write_entry m h slot (read_write r) (name_of m.program n) next f w
+gave_is m o a h u v slot n next f w r is plain = rw (is, plain) refl
 
--- an index within a scope has an entry
-pub entry_at : (es : List Entry) (i : ℕ) → i < length es → (h : Held) × (held_at es i ≡ Some h)
-entry_at [] i within = absurd (omega (arith, within))
-entry_at (e ∷ es) zero within = (e.held, refl)
-entry_at (e ∷ es) (suc i) within = entry_at es i (omega (arith, within))
+pub none_is : {S : Type 0} (m : Setup S) (o : Outcome) (a : AssignOp) (h : Held) (u : Dynamic)
+    (v : Held) (slot n next : ℕ) (f : Frame) (w : World S) → o ≡ NotBuiltIn →
+    store_outcome m o a h u v slot n next f w ≡ native_assigned m a h u v slot n next f w
+none_is m o a h u v slot n next f w is = rw is refl
 
-module _ {H : Type 0} (law : Law H) (s : Run H) (n : Counts) (host : H) (key index : ℕ) (h : Held)
-    (values : List Tree) (p : Position) (there : held_at s.scope index ≡ Some h) (left : Args)
-    (host' : H) (n' : Counts) (u back : Held) (mid scope : List Entry)
-    (taken : mid ≡ set_held s.scope index u) (given : left.receiver ≡ Some back)
-    (put : scope ≡ set_held mid index back) where
-  abbrev after : Run H
-  after = record s { scope = scope }
+-- the host's operator is a native whose value is written into the target, which can be
+pub operator_at : {S : Type 0} (m : Setup S) (name : List ℕ) (h u v : Held) (slot n next : ℕ)
+    (f : Frame) (w : World S) → h.read_only ≡ false →
+    operator_assigned m name h u v slot n next f w
+    ≡ native m name None (u ∷ v ∷ []) f w
+    (λ r w1. flattened m (read_write r) (name_of m.program n) f w1
+    (λ q. write_entry m h slot (read_write q) (name_of m.program n) next f w1)) (raised m f)
+operator_at m name h u v slot n next f w plain =
+    subst (λ (b : Bool). operator_assigned m name h u v slot n next f w
+    ≡ native m name None (u ∷ v ∷ []) f w
+    (λ r w1. flattened m (read_write r) (name_of m.program n) f w1
+    (λ q. write_entry m h slot (record { value = q; read_only = b }) (name_of m.program n) next f
+    w1)) (raised m f)) plain refl
 
-  held_back : (g : Held) → left.receiver ≡ Some g → scope ≡ set_held s.scope index g
+module _ {H : Type 0} (law : Law H) (s : Run H) (n : Counts) (host : H) (key : ℕ) (t : Target)
+    (h : Held) (values : List Tree) (p : Position) (there : HoldsAt s t h) (left : Args)
+    (host' : H) (n' : Counts) (u back : Held) (mid after : Run H)
+    (taken : mid ≡ taken_out s t u) (given : left.receiver ≡ Some back)
+    (put : after ≡ put_in mid t back) where
+  held_back : (g : Held) → left.receiver ≡ Some g → after ≡ put_in s t g
   held_back g is =
       let same : back ≡ g = cc in
-      put ∙ (ap (λ (es : List Entry). set_held es index back) taken ∙
-      (set_twice s.scope index u back ∙ ap (λ (x : Held). set_held s.scope index x) same))
+      put ∙ (ap (λ (q : Run H). put_in q t back) taken ∙
+      (put_twice s t u back ∙ ap (λ (x : Held). put_in s t x) same))
+
+  is_served : after ≡ put_in s t (written law host key values h) →
+      after ≡ served_run law s host key (Some (receiver_at t h)) values
+  is_served e = e ∙ back_is s t.index t.cell (written law host key values h)
 
   abbrev Served : Result NativeEnd OutOfMemory → Type 0
-  Served r =
-      Serves law s n host key (Some (record { index = index; held = h })) values p r after n' host'
+  Served r = Serves law s n host key (Some (receiver_at t h)) values p r after n' host'
 
   by_reply : (said : Option Reply) →
       Replies law host key (record { receiver = Some h; values = values }) said host' left →
@@ -90,8 +115,7 @@ module _ {H : Type 0} (law : Law H) (s : Run H) (n : Counts) (host : H) (key ind
       let is : x ≡ reply.Done v = cc in (
         sym is ∙ follows.0,
         follows.1,
-        ap (λ (es : List Entry). record s { scope = es })
-            (held_back (written law host key values h) follows.2),
+        is_served (held_back (written law host key values h) follows.2),
         ends.1,
       )
   by_reply (Some x) follows (Ok (native_end.Fault f)) ends =
@@ -101,8 +125,7 @@ module _ {H : Type 0} (law : Law H) (s : Run H) (n : Counts) (host : H) (key ind
         sym is ∙ follows.0,
         follows.1,
         ends.2,
-        ap (λ (es : List Entry). record s { scope = es })
-            (held_back (written law host key values h) follows.2),
+        is_served (held_back (written law host key values h) follows.2),
         ends.3,
       )
   by_reply (Some x) follows (Err e) ends =
@@ -113,8 +136,7 @@ module _ {H : Type 0} (law : Law H) (s : Run H) (n : Counts) (host : H) (key ind
       let said = ends.1 in absurd cc
   by_reply None same (Err e) ends = (
     same.0,
-    ap (λ (es : List Entry). record s { scope = es })
-        (held_back h same.1 ∙ same_entry s.scope index h there),
+    held_back h same.1 ∙ put_same s t.index t.cell h there,
     ends.1,
   )
 
@@ -125,8 +147,8 @@ module _ {H : Type 0} (law : Law H) (s : Run H) (n : Counts) (host : H) (key ind
   lends answer r answers ends = by_reply (reply_of answer) answers r ends
 
 module _ {H : Type 0} (law : Law H) (p : View) (engine : Engine) (f : Activation) (s t : Run H)
-    (n k : Counts) (host mid : H) {rule : Computation H} (scope : List Entry)
-    (run : t ≡ record s { scope = scope }) (long : length scope ≡ length s.scope)
+    (n k : Counts) (host mid : H) {rule : Computation H} (scope : List Entry) (cells : List Cell)
+    (run : t ≡ record s { scope = scope; cells = cells }) (long : length scope ≡ length s.scope)
     (before : k.before ≡ n.before) (inside : f.base ≤ length s.scope) where
   -- the operand is used up, and the frame goes on
   pub native_used : (next : ℕ) (stacks : StacksView) →
@@ -171,62 +193,115 @@ module _ {H : Type 0} (law : Law H) (p : View) (engine : Engine) (f : Activation
       later = omega arith;
     })
 
-  -- there is no op-assignment of its name, and the operator is asked
-  pub native_missing : (a : AssignOp) (h g : Held) (slot index next : ℕ) (x : EvalAltResult)
-      (f' : Activation) (s' : Run H) (n' : Counts) (host' : H) {r : Result Progress OutOfMemory} →
-      SimulatesExactly (setup law p engine) (abstraction s n host) rule false (abstraction t k mid)
-      (λ m place w. op_assign_failed m a h slot next (frame_in f s place) (problem_of x) w) →
-      says_missing (name_of p a.op_assign_name) (problem_of x) ≡ true →
-      held_at t.scope index ≡ Some g → f.base + slot ≡ index →
-      Implements law p engine f t k
-      (λ m place w. operator_assigned m (name_of m.program a.op_name) g slot next
-      (frame_in f t place) w)
-      (next ∷ []) 1 0 t.stacks.handlers r f' s' n' mid host' →
-      Implements law p engine f s n rule (next ∷ []) 1 0 s.stacks.handlers r f' s' n' host host'
-  native_missing a h g slot index next x f' s' n' host' {r} does missing there at second =
+  -- what follows from it is done where the run then stands
+  pub native_then : (via : StacksView → Computation H) (f' : Activation) (s' : Run H)
+      (n' : Counts) (host' : H) {ts : List ℕ} {takes gives : ℕ}
+      {r : Result Progress OutOfMemory} →
+      SimulatesExactly (setup law p engine) (abstraction s n host) rule false
+      (abstraction t k mid) (via s.stacks) →
+      Implements law p engine f t k (via t.stacks) ts takes gives t.stacks.handlers r f' s' n' mid
+      host' →
+      Implements law p engine f s n rule ts takes gives s.stacks.handlers r f' s' n' host host'
+  native_then via f' s' n' host' {ts} {takes} {gives} {r} does second =
       implements_then law p engine f s t n k host mid f' s' n' host' does
-      (scope_kept law p engine f s t n k host mid scope run long inside)
+      (scope_kept law p engine f s t n k host mid scope cells run long inside)
       (ap (λ (q : Run H). q.stacks) run) before
-      (subst (λ (hs : List Handler). Implements law p engine f t k
-      (λ m place w. op_assign_failed m a h slot next (frame_in f s place) (problem_of x) w)
-      (next ∷ []) 1 0 hs r f' s' n' mid host')
-      (ap (λ (q : Run H). q.stacks.handlers) run)
-      (implements_as law p engine f f' t t s' k n' mid host' refl second
-      (λ stop u place. rw (missing, at, there, run) refl)))
+      (subst (λ (v : StacksView). Implements law p engine f t k (via v) ts takes gives v.handlers r
+      f' s' n' mid host') (ap (λ (q : Run H). q.stacks) run) second)
 
-  -- the fault says something else, and it is raised
-  pub native_unmissed : (a : AssignOp) (h : Held) (slot next : ℕ) (x : EvalAltResult) (s' : Run H)
-      (n' : Counts) {ts : List ℕ} {takes gives : ℕ} {hs : List Handler} →
-      SimulatesExactly (setup law p engine) (abstraction s n host) rule false (abstraction t k mid)
-      (λ m place w. op_assign_failed m a h slot next (frame_in f s place) (problem_of x) w) →
-      says_missing (name_of p a.op_assign_name) (problem_of x) ≡ false →
-      s' ≡ record t { fault = x } → n' ≡ record k { passed = k.passed + 1 } →
-      Implements law p engine f s n rule ts takes gives hs (Ok progress.Failed) f s' n' host mid
-  native_unmissed a h slot next x s' n' {ts} {takes} {gives} {hs} does other es en =
-      implements_then law p engine f s t n k host mid f s' n' mid does
-      (scope_kept law p engine f s t n k host mid scope run long inside)
-      (ap (λ (q : Run H). q.stacks) run) before second where
-        second : Implements law p engine f t k
-            (λ m place w. op_assign_failed m a h slot next (frame_in f s place) (problem_of x) w)
-            ts takes gives hs (Ok progress.Failed) f s' n' mid mid
-        second = rw (es, en, run) (record {
-          same = record {
-            this = refl;
-            order = omega arith;
-            equal = λ stop clear halts u place.
-                rw (other, clear k.passed (omega arith) (omega arith)) refl;
-          };
-          kept = record {
-            chunk = refl;
-            base = refl;
-            scope = omega (arith, long, inside);
-            room = refl;
-            noted = refl;
-            outer = refl;
-            saved = refl;
-            level = refl;
-            later = omega arith;
-          };
-          lands = (omega arith, refl);
-          before = refl;
-        })
+-- a target is written beside the operands
+put_stacks : {H : Type 0} (s : Run H) (v : StacksView) (i : ℕ) (c : Option ℕ) (h : Held) →
+    record (put_in s (record { index = i; cell = c }) h) { stacks = v }
+    ≡ put_in (record s { stacks = v }) (record { index = i; cell = c }) h
+put_stacks s v i None h = refl
+put_stacks s v i (Some n) h = refl
+
+pub put_keeps : {H : Type 0} (s : Run H) (i : ℕ) (c : Option ℕ) (h : Held) →
+    (put_in s (record { index = i; cell = c }) h).stacks ≡ s.stacks
+put_keeps s i None h = refl
+put_keeps s i (Some n) h = refl
+
+module _ {H : Type 0} (law : Law H) (p : View) (engine : Engine) (f : Activation) (s : Run H)
+    (n : Counts) (host : H) (t : Target) (h : Held) (slot next : ℕ) (to : Assigns f t slot h)
+    (can : CanBeLent s t) (inside : f.base ≤ length s.scope)
+    (operand : 0 < length s.stacks.operands) (ahead : f.address < next) where
+  -- the target is written, the operand is used up, and the frame goes on
+  pub writes : (g : Held) (name : Setup H → List ℕ) (stacks : StacksView) (after : Run H)
+      {rule : Computation H} → stacks ≡ record s.stacks { operands = below s.stacks.operands } →
+      after ≡ put_in (record s { stacks = stacks }) t g →
+      ((stop : Option ℕ) (u : Environment) (place : Option Place) →
+      rule (stopped (setup law p engine) stop) place (world (abstraction s n host) u)
+      ≡ write_entry (stopped (setup law p engine) stop) h slot g
+      (name (stopped (setup law p engine) stop)) next (frame_in f s place)
+      (world (abstraction s n host) u)) →
+      Implements law p engine f s n rule (next ∷ []) 1 0 s.stacks.handlers (Ok progress.Continues)
+      (moved f next) after (marked_once (marked_once n)) host host
+  writes g name stacks after {rule} popped is alike = rw after_is (record {
+    same = record {
+      this = refl;
+      order = omega arith;
+      equal = λ stop clear halts u place.
+          let m = stopped (setup law p engine) stop in
+          let w = world (abstraction s n host) u in
+          let one : write_entry m h slot g (name m) next (frame_in f s place) w
+          ≡ marked m (frame_in f s place) w (λ w1. onward m (frame_in f s place)
+          (stepped (frame_in f s place) next (below s.stacks.operands)) (record w1 {
+            scope = back_in_entry t.cell t.index g w1.scope;
+            cells = back_in_cell t.cell g w1.cells;
+          })) = rw (to.cell, to.at) (target_written m s t g (name m) (frame_in f s place) w
+          (onward m (frame_in f s place)
+          (stepped (frame_in f s place) next (below s.stacks.operands))) can.free refl) in
+          alike stop u place ∙ (one ∙ rw (
+            clear n.passed (omega arith) (omega arith),
+            clear (n.passed + 1) (omega arith) (omega arith),
+          ) refl);
+    };
+    kept = record {
+      chunk = refl;
+      base = refl;
+      scope = omega (arith, inside, long);
+      room = refl;
+      noted = refl;
+      outer = refl;
+      saved = refl;
+      level = refl;
+      later = omega arith;
+    };
+    lands = (inl refl, height, refl, inr (omega arith, ahead));
+    before = refl;
+  }) where
+    after_is : after ≡ record s {
+      stacks = record s.stacks { operands = below s.stacks.operands };
+      scope = back_in_entry t.cell t.index g s.scope;
+      cells = back_in_cell t.cell g s.cells;
+    }
+    after_is = is ∙ (ap (λ (v : StacksView). put_in (record s { stacks = v }) t g) popped
+        ∙ back_is (record s { stacks = record s.stacks { operands = below s.stacks.operands } })
+        t.index t.cell g)
+
+    long : length (back_in_entry t.cell t.index g s.scope) ≡ length s.scope
+    long = ap (λ (q : Run H). length q.scope) (sym (back_is s t.index t.cell g))
+        ∙ long_as s t.index t.cell g
+
+    height : length (below s.stacks.operands) ≡ length s.stacks.operands - 1 + 0
+    height = omega
+        (arith, length-take-le (length s.stacks.operands - 1) s.stacks.operands (omega arith))
+
+  -- the same where the target was written first
+  pub writes_first : (g : Held) (name : Setup H → List ℕ) (mid : Run H) (stacks : StacksView)
+      {rule : Computation H} → mid ≡ put_in s t g →
+      stacks ≡ record mid.stacks { operands = below mid.stacks.operands } →
+      ((stop : Option ℕ) (u : Environment) (place : Option Place) →
+      rule (stopped (setup law p engine) stop) place (world (abstraction s n host) u)
+      ≡ write_entry (stopped (setup law p engine) stop) h slot g
+      (name (stopped (setup law p engine) stop)) next (frame_in f s place)
+      (world (abstraction s n host) u)) →
+      Implements law p engine f s n rule (next ∷ []) 1 0 s.stacks.handlers (Ok progress.Continues)
+      (moved f next) (record mid { stacks = stacks }) (marked_once (marked_once n)) host host
+  writes_first g name mid stacks written popped alike =
+      writes g name stacks (record mid { stacks = stacks })
+      (popped ∙ ap (λ (v : StacksView). record v { operands = below v.operands }) same)
+      (ap (λ (q : Run H). record q { stacks = stacks }) written
+      ∙ put_stacks s stacks t.index t.cell g) alike where
+        same : mid.stacks ≡ s.stacks
+        same = ap (λ (q : Run H). q.stacks) written ∙ put_keeps s t.index t.cell g

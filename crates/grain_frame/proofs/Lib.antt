@@ -6,13 +6,17 @@ pub mod Branching
 pub mod Evaluated
 pub mod Pairs
 pub mod Calling
+pub mod Found
 pub mod AssignedEntries
 pub mod Failing
+pub mod Flattening
 pub mod Charging
 pub mod Serving
 pub mod Signing
 pub mod Jumping
 pub mod Handing
+pub mod Targeting
+pub mod Sharing
 pub mod Lending
 pub mod Handled
 pub mod Offering

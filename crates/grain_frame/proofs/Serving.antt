@@ -4,6 +4,7 @@ use Rattle.grain_value.specs.Tree.{Tree}
 use Rattle.grain_value.specs.declared.values.Dynamic.{Dynamic}
 use Rattle.grain_value.specs.declared.values.Held.{Held}
 use Rattle.grain_value.specs.declared.scopes.Entry.{Entry}
+use Rattle.grain_value.specs.declared.stores.Cell.{Cell}
 use Rattle.grain_value.specs.declared.memory.OutOfMemory.{OutOfMemory}
 use Rattle.grain_value.specs.Operands.{values_in}
 use Rattle.grain_fault.specs.declared.places.Position.{Position}
@@ -54,12 +55,13 @@ seeks_none law host name word args a q x describes none same is = inl (
 
 -- no native takes what is lent and this argument
 pub lent_none : {H : Type 0} (law : Law H) (host : H) (name word : List ℕ) (index : ℕ)
-    (h v : Held) (kinds : List ℕ) (values : List Tree) (q : Position) (x : EvalAltResult) →
+    (cell : Option ℕ) (h v : Held) (kinds : List ℕ) (values : List Tree) (q : Position) (x : EvalAltResult) →
     kinds ≡ kinds_in (h ∷ v ∷ []) → values ≡ trees_in (h ∷ v ∷ []) →
     native_of law host word kinds ≡ None → word ≡ name →
     problem_of x ≡ not_found name (map value_of values) q →
-    Seeks law host name (Some (record { index = index; held = h })) (v ∷ []) q (sought.Fault x)
-lent_none law host name word index h v kinds values q x kinds_are trees_are none same is = inl (
+    Seeks law host name (Some (record { index = index; cell = cell; held = h })) (v ∷ []) q
+    (sought.Fault x)
+lent_none law host name word index cell h v kinds values q x kinds_are trees_are none same is = inl (
   subst (λ (w : List ℕ). native_of law host w (kinds_in (h ∷ v ∷ [])) ≡ None) same
       (subst (λ (ks : List ℕ). native_of law host word ks ≡ None) kinds_are none),
   is ∙ ap (λ (vs : List Dynamic). not_found name vs q)
@@ -188,10 +190,11 @@ module _ {H : Type 0} (law : Law H) (p : View) (engine : Engine) (f : Activation
         before = does.before ∙ before;
       }
 
-  -- the frame stays where only the scope differs, which is as long
-  pub scope_kept : (scope : List Entry) → t ≡ record s { scope = scope } →
+  -- the frame stays where only the cells and the scope differ, which is as long
+  pub scope_kept : (scope : List Entry) (cells : List Cell) →
+      t ≡ record s { scope = scope; cells = cells } →
       length scope ≡ length s.scope → f.base ≤ length s.scope → KeepsFrame f s f t
-  scope_kept scope et long inside = rw et (record {
+  scope_kept scope cells et long inside = rw et (record {
     chunk = refl;
     base = refl;
     scope = omega (arith, long, inside);
@@ -206,7 +209,7 @@ module _ {H : Type 0} (law : Law H) (p : View) (engine : Engine) (f : Activation
   module _ {rule : Computation H} {ts : List ℕ} {takes gives : ℕ} {hs : List Handler}
       (go : Setup H → Option Place → Dynamic → World H → Act H)
       (fails : Setup H → Option Place → Problem → World H → Act H) (scope : List Entry)
-      (run : t ≡ record s { scope = scope }) (long : length scope ≡ length s.scope)
+      (cells : List Cell) (run : t ≡ record s { scope = scope; cells = cells }) (long : length scope ≡ length s.scope)
       (before : k.before ≡ n.before) (inside : f.base ≤ length s.scope) where
     -- memory is out
     pub native_wants : (e : OutOfMemory) (r : Result Progress OutOfMemory) → is_out r ≡ true →
@@ -220,7 +223,7 @@ module _ {H : Type 0} (law : Law H) (p : View) (engine : Engine) (f : Activation
         order = (rw run at does).order;
         equal = λ stop clear halts u place. (rw run at does).equal stop clear halts u place;
       });
-      kept = scope_kept scope run long inside;
+      kept = scope_kept scope cells run long inside;
       lands = tt;
       before = before;
     }
@@ -233,7 +236,7 @@ module _ {H : Type 0} (law : Law H) (p : View) (engine : Engine) (f : Activation
         Implements law p engine f s n rule ts takes gives hs (Ok progress.Failed) f s' n' host mid
     native_raised x s' n' does es en = record {
       same = then_exactly does second;
-      kept = kept_on f f f s t s' (scope_kept scope run long inside) (rw (es, run) (record {
+      kept = kept_on f f f s t s' (scope_kept scope cells run long inside) (rw (es, run) (record {
         chunk = refl;
         base = refl;
         scope = omega (arith, long, inside);

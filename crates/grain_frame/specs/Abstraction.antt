@@ -373,10 +373,15 @@ pub record StandsAt {H : Type 0} (program : View) (f : Activation) (s : Run H) (
   pub seen : Verified program f.chunk f.address (length s.stacks.operands)
       (tries_in s.stacks.handlers) o width
 
--- the instruction at which the frame stands is no call
+-- the instruction is none of those that may call a function
+abbrev pub IsNoCall : Op → Type 0
+IsNoCall o = ((name count : ℕ) → o ≡ op.Call name count → ⊥)
+    × ((count : ℕ) → o ≡ op.CallFnPtr count → ⊥)
+
+-- the instruction at which the frame stands calls no function
 abbrev pub CallsNothing : View → Activation → Type 0
 CallsNothing program f =
-    (name count width : ℕ) → op_at program.code f.address ≡ Some (op.Call name count, width) → ⊥
+    (o : Op) (width : ℕ) → op_at program.code f.address ≡ Some (o, width) → IsNoCall o
 
 -- the frame stands at a jump to this address
 abbrev pub StandsAtJump : {H : Type 0} → View → Activation → Run H → ℕ → Type 0
@@ -386,6 +391,8 @@ StandsAtJump program f s target = (next : ℕ) × StandsAt program f s (op.Jump 
 abbrev pub IsPending : {H : Type 0} → View → Activation → Run H → Pending → Type 0
 IsPending program f s (pending.Call name count next) =
     StandsAt program f s (op.Call name count) next
+IsPending program f s (pending.Pointer count next) =
+    StandsAt program f s (op.CallFnPtr count) next
 IsPending program f s pending.Other = CallsNothing program f
 
 -- What came of an instruction that the loop tried first: it is done, or nothing was done.

@@ -8,6 +8,9 @@ pub mod Catching
 pub mod Following
 pub mod Operated
 pub mod Natives
+pub mod Targets
+pub mod Pointers
+pub mod Finding
 pub use Rattle.grain_means.specs.Means
 pub use Rattle.grain_means.specs.Causes
 pub use Rattle.grain_means.specs.Comes

@@ -11,7 +11,7 @@ use Rattle.grain_fault.specs.Problems.{Problem, Plain, NonPureCall, problem_of}
 use Rattle.grain_host.specs.Law.{Law, Reply, native_of}
 use Rattle.grain_host.specs.Law as reply
 use Rattle.grain_means.specs.Signatures.{not_found}
-use Rattle.grain_means.specs.Rules.{Receiver, lent, given, given_back, kinds_in, trees_in, first_is_read_only}
+use Rattle.grain_means.specs.Rules.{Receiver, lent, given, given_back, cells_given_back, kinds_in, trees_in, first_is_read_only}
 use Rattle.grain_frame.specs.Counts.{Counts}
 use Rattle.grain_frame.specs.declared.native_calls.Arguments.{Arguments}
 use Rattle.grain_frame.specs.declared.native_calls.Sought.{Sought}
@@ -54,7 +54,10 @@ EndsBy said p (Err e) n n' = (said ≡ None) × (n' ≡ n)
 -- the run once the host has answered
 abbrev pub served_run : {H : Type 0} → Law H → Run H → H → ℕ → Option Receiver → List Tree → Run H
 served_run law s host key r values =
-    record s { scope = given_back law host key values r s.scope }
+    record s {
+      scope = given_back law host key values r s.scope;
+      cells = cells_given_back law host key values r s.cells;
+    }
 
 -- the host was called with a key, what is lent and values: two marks are passed; where memory is
 -- out, nothing changed

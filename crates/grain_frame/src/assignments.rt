@@ -1,258 +1,289 @@
-//! Op-assignments that no built-in does, so that the host does them.
+//! Assignments to an entry of the scope, or to the cell that it is.
 
-ghost use Rattle.std.specs.Prelude.{◌≡◌, ◌<◌, ◌≤◌, ◌+◌, ◌-◌, ◌∷◌, [], ℕ, List, Option, Some, length, IfOk};
-ghost use Rattle.grain_value.specs.declared.values.Dynamic.{Dynamic};
+ghost use Rattle.std.specs.Prelude.{◌≡◌, ◌<◌, ◌≤◌, ◌+◌, ◌∷◌, [], ℕ, length, Ok, Some, None, IfOk, is_some, true, slice_get};
 ghost use Rattle.grain_value.specs.declared.values.Held.{Held};
+ghost use Rattle.grain_value.specs.Cells.{flat, idle};
 ghost use Rattle.grain_value.specs.Operands.{top};
-ghost use Rattle.grain_value.specs.View.{tree};
-ghost use Rattle.grain_value.specs.Writing.{kind_of};
-ghost use Rattle.grain_fault.specs.Problems.{Problem};
-ghost use Rattle.grain_program.specs.View.{name_of, position_of};
-ghost use Rattle.grain_means.specs.Worlds.{Setup, Frame, Place, World, Act};
-ghost use Rattle.grain_means.specs.Rules.{held_at, native, native_assigned, operator_assigned};
-ghost use Rattle.grain_means.specs.Simulation.{SimulatesExactly};
-ghost use Rattle.grain_frame.specs.Abstraction.{abstraction, frame_in, is_out, native_continuation, Implements};
-ghost use Rattle.grain_frame.specs.Natives.{Seeks, Serves};
+ghost use Rattle.grain_program.specs.Indices.{InPools};
+ghost use Rattle.grain_program.specs.declared.code.instructions.Op.TheVariants as op;
+ghost use Rattle.grain_means.specs.Rules.{flag_of_cell, held_at, if_fast, op_assigned, store_outcome};
+ghost use Rattle.grain_ops.specs.Operators.{assignment};
+ghost use Rattle.grain_frame.specs.Abstraction.{frame_in, Implements, Performs, Ready};
+ghost use Rattle.grain_frame.specs.Targets.{FreeCell, CanBeLent, HoldsAt, AssignedTarget, AssignsHere, content_at, kept_operand, kept_value};
 
 use crate::activations::Activation;
 use crate::contexts::Context;
-use crate::native_calls::{Arguments, NativeEnd, Sought, seek, served};
+use crate::operated::{OpAssigned, assign_entry, op_assigned};
 use crate::runs::{Progress, Run};
-use crate::signatures::{not_found, says_missing};
 use crate::steps::Steps;
-use grain_fault::{EvalAltResult, Position};
-use grain_host::{Args, Host};
+use crate::targets::Target;
+use grain_host::Host;
 use grain_program::AssignOp;
-use grain_value::{Array, Dynamic, Held, Kinds, OutOfMemory, Store, Text};
-use std::alloc::Global;
-use std::mem;
+use grain_stack::Stacks;
+use grain_value::{Dynamic, Held, OutOfMemory, Token};
 use std::sync::ledger::Ledger;
 
-// Copies of two values.
-fn pair(alloc: Global, first: &Dynamic, second: &Dynamic) -> Result<Array, OutOfMemory>
-    ensures { IfOk result (λ values. values ≡ tree first.now ∷ tree second.now ∷ []) }
+/// The last operand as it was read: the copy of its cell's content that was kept, or the operand
+/// itself, if it is no cell.
+#[inline(always)]
+pub fn operand<'a>(stacks: &'a Stacks, kept: &'a Option<Dynamic>) -> &'a Dynamic
+    requires { 0 < length stacks.now.operands }
+    ensures { result.now ≡ kept_value kept.now (top stacks.now.operands).value }
 {
-    let mut values = Array::new(alloc);
-    values.push(first.copy(alloc)?)?;
-    values.push(second.copy(alloc)?)?;
-    Ok(values)
-}
-
-// The kinds of two values.
-fn kinds_of(
-    alloc: Global,
-    cells: &Store,
-    first: &Dynamic,
-    second: &Dynamic,
-) -> Result<Kinds, OutOfMemory>
-    ensures { IfOk result (λ kinds. kinds ≡ kind_of first.now ∷ kind_of second.now ∷ []) }
-{
-    let mut kinds = Kinds::new(alloc);
-    kinds.push(first.kind(cells))?;
-    kinds.push(second.kind(cells))?;
-    Ok(kinds)
-}
-
-// What the host has for a name, what is lent at an index and a value, where a fault has this
-// position. What is lent is not copied for a native that is there.
-fn seek_lent<H: Host>(
-    alloc: Global,
-    cells: &Store,
-    host: &H,
-    name: &Text,
-    lent: &Held,
-    operand: &Held,
-    position: Position,
-) -> Result<Sought, OutOfMemory>
-    ensures { (index : ℕ) → IfOk result (λ s. Seeks H.law host.now name.now
-        (Some (record { index = index; held = lent.now })) (operand.now ∷ []) position s) }
-{
-    let kinds = kinds_of(alloc, cells, &lent.value, &operand.value)?;
-    let Some(native) = host.resolve(name.as_str(), &kinds) else {
-        let values = pair(alloc, &lent.value, &operand.value)?;
-        return Ok(Sought::Fault(not_found(alloc, cells, name, &values, position)?));
-    };
-    if native.writes && lent.read_only {
-        let name = name.copy(alloc)?;
-        let fault = EvalAltResult::ErrorNonPureMethodCallOnConstant(name, position);
-        return Ok(Sought::Fault(fault));
+    match kept {
+        Some(value) => value,
+        None => &stacks.top().value,
     }
-    let mut values = Array::new(alloc);
-    values.push(operand.value.copy(alloc)?)?;
-    Ok(Sought::Native(native.key, values))
 }
 
 impl<H: Host> Run<H> {
-    // Calls the native of a key, to which what the entry at the index holds is lent.
-    #[tactic(auto, using(grain_means::specs::lemmas::Scopes::length_set_held))]
-    fn lend<L: Ledger>(
+    // `assign_local`: an assignment to an entry.
+    pub(crate) fn assign_local<L: Ledger>(
         &mut self,
-        host: &mut H,
+        context: Context<'_>,
         steps: &mut Steps<L>,
-        key: u64,
-        index: usize,
-        values: Array,
-        position: Position,
-    ) -> Result<NativeEnd, OutOfMemory>
-        requires entry { index < length self.old.scope }
-        ensures same { (h : Held) → held_at self.old.scope index ≡ Some h →
-            Serves H.law self.old steps.old host.old key (Some (record { index = index; held = h }))
-            values position result self.new steps.new host.new }
-        ensures run { self.new ≡ record self.old { scope = self.new.scope } }
-        ensures long { length self.new.scope ≡ length self.old.scope }
-        ensures before { steps.new.before ≡ steps.old.before }
+        frame: &mut Activation,
+        slot: u16,
+        name: u16,
+        next: usize,
+    ) -> Result<Progress, OutOfMemory>
+        requires ready { Ready frame.old self.old (op.AssignLocal slot name) next }
+        requires pools { InPools context.program.now (op.AssignLocal slot name) }
+        ensures performs { (host : H) →
+            Performs H.law context.entry.program.now context.entry.engine.now frame.old self.old
+            steps.old (op.AssignLocal slot name) next result frame.new self.new steps.new host
+            host }
     {
-        let held = match self.scope.get_mut(index) {
-            Some(place) => mem::replace(place, Held::read_write(Dynamic::Unit)),
-            None => unreachable!(),
+        let index = self.slot_index(frame, slot);
+        let Some(held) = self.scope.get(index) else {
+            return Ok(self.slot_past_scope(context, steps, frame.address, index));
         };
-        let mut args = Args {
-            receiver: Some(held),
-            values,
-        };
-        let answer = host.call(self.alloc, key, &mut args);
-        let Args { receiver, .. } = args;
-        match receiver {
-            Some(held) => self.scope.set(index, held),
-            None => unreachable!(),
+        let cell = held.value.as_cell();
+        let free = held.value.flat(&self.cells).is_some();
+        let read_only = held.read_only | self.is_constant(cell);
+        if !self.is_readable() {
+            return Ok(self.variable_lent(context, steps, frame.address, name)?);
         }
-        served(steps, answer, position)
+        if read_only {
+            return Ok(self.assignment_to_constant(context, steps, frame.address, name)?);
+        }
+        if !free {
+            return Ok(self.variable_lent(context, steps, frame.address, name)?);
+        }
+        let value = self.take_flat()?;
+        self.write(Target { index, cell }, Held::read_write(value));
+        steps.mark();
+        frame.address = next;
+        steps.mark();
+        Ok(Progress::Continues)
     }
 
-    // Calls the native that was sought, to which what the entry at the index holds is lent, or
-    // gives the fault that there is none. A fault of the host's without a position has this one.
-    fn call_lent<L: Ledger>(
-        &mut self,
-        host: &mut H,
-        steps: &mut Steps<L>,
-        sought: Sought,
-        index: usize,
-        position: Position,
-    ) -> Result<NativeEnd, OutOfMemory>
-        requires entry { index < length self.old.scope }
-        ensures same { (m : Setup H) (name : List ℕ) (h : Held) (args : List Held)
-            (f : Option Place → Frame)
-            (go : Setup H → Option Place → Dynamic → World H → Act H)
-            (fails : Setup H → Option Place → Problem → World H → Act H) → m.law ≡ H.law →
-            ((place : Option Place) → position_of m.program (f place).address ≡ position) →
-            held_at self.old.scope index ≡ Some h →
-            Seeks H.law host.old name (Some (record { index = index; held = h })) args position
-            sought → SimulatesExactly m (abstraction self.old steps.old host.old)
-            (λ m place w. native m name (Some (record { index = index; held = h })) args (f place) w
-            (go m place) (fails m place))
-            (is_out result) (abstraction self.new steps.new host.new)
-            (native_continuation result f go fails) }
-        ensures run { self.new ≡ record self.old { scope = self.new.scope } }
-        ensures long { length self.new.scope ≡ length self.old.scope }
-        ensures before { steps.new.before ≡ steps.old.before }
-    {
-        match sought {
-            Sought::Fault(fault) => Ok(NativeEnd::Fault(fault)),
-            Sought::Native(key, values) => self.lend(host, steps, key, index, values, position),
-        }
-    }
-
-    // The host's op-assignment, to which the entry at the index is lent; where it has none of that
-    // name, the host's operator.
-    #[cold]
+    // `assign_local_op`: an op-assignment to an entry.
     #[inline(never)]
-    pub(crate) fn native_assigned<L: Ledger>(
+    pub(crate) fn assign_local_op<L: Ledger>(
         &mut self,
         context: Context<'_>,
         host: &mut H,
         steps: &mut Steps<L>,
         frame: &mut Activation,
-        index: usize,
+        slot: u16,
+        name: u16,
+        assign_op: u16,
+        next: usize,
+    ) -> Result<Progress, OutOfMemory>
+        requires ready { Ready frame.old self.old (op.AssignLocalOp slot name assign_op) next }
+        requires pools { InPools context.program.now (op.AssignLocalOp slot name assign_op) }
+        ensures performs { Performs H.law context.entry.program.now context.entry.engine.now
+            frame.old self.old steps.old (op.AssignLocalOp slot name assign_op) next result
+            frame.new self.new steps.new host.old host.new }
+    {
+        let index = self.slot_index(frame, slot);
+        let Some(held) = self.scope.get(index) else {
+            return Ok(self.slot_past_scope(context, steps, frame.address, index));
+        };
+        let cell = held.value.as_cell();
+        let free = held.value.flat(&self.cells).is_some();
+        let read_only = held.read_only | self.is_constant(cell);
+        if !self.is_readable() {
+            return Ok(self.variable_lent(context, steps, frame.address, name)?);
+        }
+        if read_only {
+            return Ok(self.assignment_to_constant(context, steps, frame.address, name)?);
+        }
+        if !free {
+            return Ok(self.variable_lent(context, steps, frame.address, name)?);
+        }
+        let kept = self.kept_operand()?;
+        let target = Target { index, cell };
+        let assign_op = context.program.assign_op(u32::from(assign_op));
+        self.op_assign_target(
+            context, host, steps, frame, target, name, assign_op, &kept, next,
+        )
+    }
+
+    // Whether the content of a cell, if it is one, can only be read.
+    #[inline(always)]
+    fn is_constant(&self, cell: Option<usize>) -> bool
+        ensures { result ≡ flag_of_cell cell self.now.cells }
+    {
+        match cell {
+            Some(cell) => self.cells.is_constant(cell),
+            None => false,
+        }
+    }
+
+    // A copy of what the last operand's cell holds, if it is a cell. So the operand is read once,
+    // whatever is written into the cell then.
+    #[inline(always)]
+    fn kept_operand(&self) -> Result<Option<Dynamic>, OutOfMemory>
+        requires operand { 0 < length self.now.stacks.operands }
+        requires readable { is_some (flat self.now.cells (top self.now.stacks.operands).value)
+            ≡ true }
+        ensures { IfOk result (λ kept. flat self.now.cells (top self.now.stacks.operands).value
+            ≡ Some (kept_value kept (top self.now.stacks.operands).value)) }
+    {
+        match self.stacks.top().value.as_cell() {
+            None => Ok(None),
+            Some(cell) => Ok(Some(self.copy_of_cell(cell)?)),
+        }
+    }
+
+    // An op-assignment of the last operand, as it was read, to a target that can be written. The
+    // variable has the name at the index.
+    #[inline(always)]
+    fn op_assign_target<L: Ledger>(
+        &mut self,
+        context: Context<'_>,
+        host: &mut H,
+        steps: &mut Steps<L>,
+        frame: &mut Activation,
+        target: Target,
+        variable: u16,
         assign_op: &AssignOp,
+        kept: &Option<Dynamic>,
         next: usize,
     ) -> Result<Progress, OutOfMemory>
         requires inside { frame.old.base ≤ length self.old.scope }
-        requires entry { index < length self.old.scope }
+        requires target { CanBeLent self.old target }
         requires operand { 0 < length self.old.stacks.operands }
         requires ahead { frame.old.address < next }
         requires first { assign_op.now.op_assign_name < length context.program.now.names }
         requires second { assign_op.now.op_name < length context.program.now.names }
-        ensures implements { (h : Held) → held_at self.old.scope index ≡ Some h →
-            (slot : ℕ) → frame.old.base + slot ≡ index → Implements H.law
-            context.entry.program.now context.entry.engine.now frame.old self.old steps.old
-            (λ m place w. native_assigned m assign_op.now h slot next
+        requires variable { variable < length context.program.now.names }
+        ensures implements { (h : Held) (slot : ℕ) → AssignsHere self.old frame.old target slot h →
+            Implements H.law context.entry.program.now context.entry.engine.now frame.old self.old
+            steps.old (λ m place w. store_outcome m
+            (op_assigned m.engine assign_op.now (content_at self.old target)
+            (kept_operand kept.now self.old.stacks.operands).value)
+            assign_op.now h (content_at self.old target)
+            (kept_operand kept.now self.old.stacks.operands) slot variable next
             (frame_in frame.old self.old place) w)
-            (next ∷ []) 1 0 self.old.stacks.handlers result
-            frame.new self.new steps.new host.old host.new }
+            (next ∷ []) 1 0 self.old.stacks.handlers result frame.new self.new
+            steps.new host.old host.new }
     {
-        let held = match self.scope.get(index) {
-            Some(held) => held,
-            None => unreachable!(),
-        };
-        let name = context.program.name(assign_op.op_assign_name);
-        let position = context.program.position(frame.address);
-        let operand = self.stacks.top();
-        let sought = seek_lent(self.alloc, &self.cells, host, name, held, operand, position)?;
-        match self.call_lent(host, steps, sought, index, position)? {
-            NativeEnd::Value(_) => {
+        match self.assign_target(context, assign_op.op_assign, target, kept)? {
+            OpAssigned::Done => {
                 let _value = self.stacks.pop();
+                steps.mark();
                 frame.address = next;
                 steps.mark();
                 Ok(Progress::Continues)
             }
-            NativeEnd::Fault(fault) => {
-                if says_missing(name, &fault) {
-                    let name = assign_op.op_name;
-                    self.operator_assigned(context, host, steps, frame, index, name, next)
-                } else {
-                    Ok(self.raise(steps, fault))
-                }
+            OpAssigned::Arithmetic(text) => Ok(self.arithmetic(
+                context,
+                steps,
+                frame.address,
+                text,
+            )),
+            OpAssigned::TooLarge(what) => {
+                Ok(self.data_too_large(context, steps, frame.address, what))
             }
+            OpAssigned::NotBuiltIn => self.native_assigned(
+                context, host, steps, frame, target, variable, assign_op, kept, next,
+            ),
         }
     }
 
-    // The host's native of a name on copies of what an entry holds and of the last operand, whose
-    // value the entry takes.
-    #[tactic(auto, using(grain_means::specs::lemmas::Scopes::length_set_held))]
-    fn operator_assigned<L: Ledger>(
+    // What an op-assignment of the last operand, as it was read, to the target gives, if operators
+    // are fast.
+    #[inline(always)]
+    fn assign_target(
         &mut self,
         context: Context<'_>,
-        host: &mut H,
-        steps: &mut Steps<L>,
-        frame: &mut Activation,
-        index: usize,
-        name: u32,
-        next: usize,
-    ) -> Result<Progress, OutOfMemory>
-        requires inside { frame.old.base ≤ length self.old.scope }
-        requires entry { index < length self.old.scope }
+        token: Token,
+        target: Target,
+        kept: &Option<Dynamic>,
+    ) -> Result<OpAssigned, OutOfMemory>
+        requires target { CanBeLent self.old target }
         requires operand { 0 < length self.old.stacks.operands }
-        requires ahead { frame.old.address < next }
-        requires pool { name < length context.program.now.names }
-        ensures implements { (h : Held) → held_at self.old.scope index ≡ Some h →
-            (slot : ℕ) → frame.old.base + slot ≡ index → Implements H.law
-            context.entry.program.now context.entry.engine.now frame.old self.old steps.old
-            (λ m place w. operator_assigned m (name_of m.program name) h slot next
-            (frame_in frame.old self.old place) w)
-            (next ∷ []) 1 0 self.old.stacks.handlers result
-            frame.new self.new steps.new host.old host.new }
+        ensures assigned { (h : Held) → HoldsAt self.old target h →
+            AssignedTarget result (if_fast context.entry.engine.now.fast_operators
+            (assignment context.entry.engine.now.limits token h.value
+            (kept_operand kept.now self.old.stacks.operands).value)) self.old self.new target h }
     {
-        let held = match self.scope.get(index) {
-            Some(held) => held,
-            None => unreachable!(),
-        };
-        let read_only = held.read_only;
-        let mut arguments = Arguments::new(self.alloc);
-        arguments.push(self.alloc, &self.cells, held)?;
-        arguments.push(self.alloc, &self.cells, self.stacks.top())?;
-        let name = context.program.name(name);
-        let position = context.program.position(frame.address);
-        let sought = seek(self.alloc, &self.cells, host, name, arguments, position)?;
-        match self.call_native(host, steps, sought, position)? {
-            NativeEnd::Value(value) => {
-                let _value = self.stacks.pop();
-                self.scope.set(index, Held { value, read_only });
-                steps.mark();
-                frame.address = next;
-                steps.mark();
-                Ok(Progress::Continues)
-            }
-            NativeEnd::Fault(fault) => Ok(self.raise(steps, fault)),
+        match target.cell {
+            None => self.assign_variable(context, token, target.index, kept),
+            Some(cell) => self.assign_content(context, token, cell, kept),
         }
+    }
+
+    // The same for an entry.
+    #[inline(always)]
+    fn assign_variable(
+        &mut self,
+        context: Context<'_>,
+        token: Token,
+        index: usize,
+        kept: &Option<Dynamic>,
+    ) -> Result<OpAssigned, OutOfMemory>
+        requires there { index < length self.old.scope }
+        requires operand { 0 < length self.old.stacks.operands }
+        ensures assigned { (h : Held) → held_at self.old.scope index ≡ Some h →
+            AssignedTarget result (if_fast context.entry.engine.now.fast_operators
+            (assignment context.entry.engine.now.limits token h.value
+            (kept_operand kept.now self.old.stacks.operands).value)) self.old self.new
+            (record { index = index; cell = None }) h }
+    {
+        let value = operand(&self.stacks, kept);
+        assign_entry(
+            self.alloc,
+            context.engine,
+            token,
+            &mut self.scope,
+            index,
+            value,
+        )
+    }
+
+    // The same for a cell.
+    #[cold]
+    #[inline(never)]
+    fn assign_content(
+        &mut self,
+        context: Context<'_>,
+        token: Token,
+        cell: usize,
+        kept: &Option<Dynamic>,
+    ) -> Result<OpAssigned, OutOfMemory>
+        requires free { FreeCell self.old (Some cell) }
+        requires operand { 0 < length self.old.stacks.operands }
+        ensures assigned { (i : ℕ) (h : Held) →
+            slice_get self.old.cells cell ≡ Some (idle h) →
+            AssignedTarget result (if_fast context.entry.engine.now.fast_operators
+            (assignment context.entry.engine.now.limits token h.value
+            (kept_operand kept.now self.old.stacks.operands).value)) self.old self.new
+            (record { index = i; cell = Some cell }) h }
+    {
+        if !context.engine.fast_operators {
+            return Ok(OpAssigned::NotBuiltIn);
+        }
+        let mut held = match self.cells.lend(cell) {
+            Ok(held) => held,
+            Err(_) => unreachable!(),
+        };
+        let value = operand(&self.stacks, kept);
+        let assigned = op_assigned(self.alloc, context.engine, token, &mut held.value, value);
+        self.cells.give_back(cell, held);
+        assigned
     }
 }

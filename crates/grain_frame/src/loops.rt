@@ -2,26 +2,29 @@
 
 ghost use Rattle.std.specs.Prelude.{◌≡◌, ◌<◌, ◌≤◌, ◌+◌, ◌-◌, ◌++◌, ◌∷◌, [], length, take, Ok, None, true, false};
 ghost use Rattle.grain_value.specs.Operands.{top};
-ghost use Rattle.grain_program.specs.Indices.{InPools};
+ghost use Rattle.grain_program.specs.Indices.{InPools, IsNamed};
+ghost use Rattle.grain_program.specs.TypedAt.{IsTypedAt};
 ghost use Rattle.grain_program.specs.Typing.{IsProgram};
 ghost use Rattle.grain_program.specs.View.{View};
 ghost use Rattle.grain_global.specs.declared.engines.Engine.{Engine};
 ghost use Rattle.grain_stack.specs.Views.{IsLeft};
 ghost use Rattle.grain_program.specs.declared.code.instructions.Op.TheVariants as op;
 ghost use Rattle.grain_means.specs.Worlds.{Go, InFrame, Setup};
-ghost use Rattle.grain_means.specs.Rules.{called, closed, instr};
+ghost use Rattle.grain_means.specs.Rules.{called, closed, enter_function};
 ghost use Rattle.grain_means.specs.Simulation.{Simulates, SimulatesExactly, StopPersists};
 ghost use Rattle.grain_means.specs.Means.{setup};
 ghost use Rattle.grain_frame.specs.Catching.{standing, stop_continuation, StopsSo};
+ghost use Rattle.grain_frame.specs.Finding.{FindsHere};
 ghost use Rattle.grain_frame.specs.Abstraction.{abstraction, frame_in, is_out, finished_with, frame_over, frame_answer, answer_of, continuation, entry_of, KeepsFrame, ContinuesAt, Ready, Runs, Stepped, Attempted, CallsNothing, IsPending, StandsAtJump, attempt_of, attempt_or};
 
 use crate::activations::Activation;
 use crate::contexts::Context;
+use crate::finding::Found;
 use crate::runs::{FrameEnd, Progress, Run};
 use crate::steps::Steps;
 use grain_fault::{Fault, RhaiResult};
 use grain_host::Host;
-use grain_program::{Chunk, Op};
+use grain_program::{Chunk, Function, Op};
 use grain_value::{Dynamic, OutOfMemory};
 use std::sync::ledger::Ledger;
 
@@ -53,6 +56,9 @@ pub enum Pending {
     /// A call of the function with the name of this index and this number of arguments, after which
     /// the frame goes on at this address.
     Call(u16, u8, usize),
+    /// A call of the pointer under this number of operands, after which the frame goes on at this
+    /// address.
+    Pointer(u8, usize),
     /// One that calls nothing.
     Other,
 }
@@ -120,6 +126,9 @@ impl<H: Host> Run<H> {
             (Op::Call(name, count), width) => {
                 Attempt::Pending(Pending::Call(name, count, address + width))
             }
+            (Op::CallFnPtr(count), width) => {
+                Attempt::Pending(Pending::Pointer(count, address + width))
+            }
             (Op::Return, width) => {
                 self.return_value(steps, frame, address + width);
                 Attempt::Returned
@@ -159,10 +168,14 @@ impl<H: Host> Run<H> {
                 self.load_local(context, steps, frame, slot, address + width)
             }
             (Op::StoreLocal(slot), width) => {
-                Ok(self.store(context, steps, frame, slot, false, address + width))
+                self.store(context, steps, frame, slot, false, address + width)
             }
             (Op::StoreConst(slot), width) => {
-                Ok(self.store(context, steps, frame, slot, true, address + width))
+                self.store(context, steps, frame, slot, true, address + width)
+            }
+            (Op::StoreShared(slot), width) => {
+                let read_only = self.stacks.top().read_only;
+                self.store(context, steps, frame, slot, read_only, address + width)
             }
             (Op::DeclareLocal(name), width) => {
                 self.declare(context, steps, frame, name, false, address + width)
@@ -176,6 +189,11 @@ impl<H: Host> Run<H> {
             (Op::AssignLocalOp(slot, name, op), width) => {
                 self.assign_local_op(context, host, steps, frame, slot, name, op, address + width)
             }
+            (Op::LoadShared(slot), width) => {
+                self.load_shared(context, steps, frame, slot, address + width)
+            }
+            (Op::Share(slot), width) => self.share(context, steps, frame, slot, address + width),
+            (Op::IsShared, width) => Ok(self.is_shared(steps, frame, address + width)),
             (Op::Pop, width) => Ok(self.pop_on(steps, frame, address + width)),
             (Op::Rotate(under), width) => Ok(self.rotate(steps, frame, under, address + width)),
             (Op::Jump(target), _) => self.jump_to(context, host, steps, frame, target as usize),
@@ -201,6 +219,13 @@ impl<H: Host> Run<H> {
                     address + width,
                 )
             }
+            (Op::MakeClosure(name), width) => {
+                self.make_closure(context, steps, frame, name, address + width)
+            }
+            (Op::Curry(count), width) => {
+                self.curry(context, steps, frame, count, address + width)
+            }
+            (Op::CallFnPtr(_), _) => unreachable!(),
             (Op::UnwindTo(depth), width) => {
                 Ok(self.unwind_to(context, steps, frame, depth, address + width))
             }
@@ -215,7 +240,7 @@ impl<H: Host> Run<H> {
                 self.push_handler(steps, frame, target, variable, address + width)
             }
             (Op::PopHandler, width) => Ok(self.pop_handler(steps, frame, address + width)),
-            (Op::Throw, width) => Ok(self.throw(context, steps, frame, address + width)),
+            (Op::Throw, width) => self.throw(context, steps, frame, address + width),
             (Op::Return, width) => Ok(self.return_value(steps, frame, address + width)),
         }
     }
@@ -238,7 +263,47 @@ impl<H: Host> Run<H> {
         self.jump_to(context, host, steps, frame, target as usize)
     }
 
-    // `call`: a function on the last `count` operands, in a frame of its own.
+    // What the instruction at which the frame stands comes to, which is a call or was not soon done.
+    // The frame is copied for one that was not, so that the loop can hold its own in registers. Of the
+    // copy only what an instruction can change is taken back, so that the rest need not be held in
+    // them.
+    #[inline(always)]
+    fn find<L: Ledger>(
+        &mut self,
+        context: Context<'_>,
+        host: &mut H,
+        steps: &mut Steps<L>,
+        frame: &mut Activation,
+        pending: Pending,
+    ) -> Result<Found, OutOfMemory>
+        requires runs { Runs context.program.now frame.old self.old }
+        requires pending { IsPending context.program.now frame.old self.old pending }
+        ensures finds { FindsHere H.law context.entry.program.now context.entry.engine.now
+            frame.old self.old steps.old result frame.new self.new steps.new host.old host.new }
+    {
+        match pending {
+            Pending::Call(name, count, next) => {
+                self.find_named(context, host, steps, frame, name, count, next)
+            }
+            Pending::Pointer(count, next) => {
+                let mut copy = *frame;
+                let found = self.find_pointed(context, host, steps, &mut copy, count, next);
+                frame.address = copy.address;
+                frame.floor = copy.floor;
+                found
+            }
+            Pending::Other => {
+                let mut copy = *frame;
+                let progress = self.step(context, host, steps, &mut copy);
+                frame.address = copy.address;
+                frame.floor = copy.floor;
+                Ok(Found::Done(progress?))
+            }
+        }
+    }
+
+    // A function on the last operands, in a frame of its own, after which the frame goes on at an
+    // address. It is called in one place, so that the loop around it is built once.
     #[cycle(run)]
     #[inline(always)]
     fn call<L: Ledger>(
@@ -247,27 +312,27 @@ impl<H: Host> Run<H> {
         host: &mut H,
         steps: &mut Steps<L>,
         frame: &mut Activation,
-        name: u16,
-        count: u8,
+        function: &Function,
         next: usize,
     ) -> Result<Progress, OutOfMemory>
-        requires ready { Ready frame.old self.old (op.Call name count) next }
-        requires pools { InPools context.program.now (op.Call name count) }
+        requires inside { frame.old.base ≤ length self.old.scope }
+        requires operands { length function.now.params ≤ length self.old.stacks.operands }
+        requires room { length self.old.stacks.operands - length function.now.params + 1
+            ≤ self.old.stacks.room }
+        requires enters { IsTypedAt context.program.now function.now.chunk
+            function.now.chunk.entry 0 [] }
+        requires named { IsNamed context.program.now function.now }
         ensures goes { Simulates (setup H.law context.entry.program.now context.entry.engine.now)
             (abstraction self.old steps.old host.old)
-            (λ m place w. instr m (op.Call name count) next (frame_in frame.old self.old place) w)
+            (λ m place w. enter_function m function.now (length function.now.params)
+            (frame_in frame.old self.old place) next w)
             (is_out result) (abstraction self.new steps.new host.new)
             (continuation result self.new.fault (frame_in frame.new self.new)) }
         ensures kept { KeepsFrame frame.old self.old frame.new self.new }
         ensures lands { ContinuesAt context.entry.engine.now self.old frame.old self.new frame.new
-            (next ∷ []) count 1 self.old.stacks.handlers result }
+            (next ∷ []) (length function.now.params) 1 self.old.stacks.handlers result }
         ensures before { steps.new.before ≡ steps.old.before }
     {
-        let count = usize::from(count);
-        let Some(number) = context.program.function(u32::from(name), count) else {
-            return self.native_on_copy(context, host, steps, frame, name, count, next);
-        };
-        let function = context.program.function_at(number);
         match self.begin(context, host, steps, frame, function) {
             Err(e) => Err(e),
             Ok(begun) => {
@@ -281,9 +346,7 @@ impl<H: Host> Run<H> {
         }
     }
 
-    // The instruction at which the frame stands, which is a call or was not soon done. The frame is
-    // copied for one that was not, so that the loop can hold its own in registers. Of the copy only
-    // what an instruction can change is taken back, so that the rest need not be held in them.
+    // The instruction at which the frame stands, which is a call or was not soon done.
     #[cycle(run)]
     #[inline(always)]
     fn proceed<L: Ledger>(
@@ -299,17 +362,15 @@ impl<H: Host> Run<H> {
         ensures stepped { Stepped H.law context.entry.program.now context.entry.engine.now
             frame.old self.old steps.old result frame.new self.new steps.new host.old host.new }
     {
-        match pending {
-            Pending::Call(name, count, next) => {
-                self.call(context, host, steps, frame, name, count, next)
-            }
-            Pending::Other => {
-                let mut copy = *frame;
-                let progress = self.step(context, host, steps, &mut copy);
-                frame.address = copy.address;
-                frame.floor = copy.floor;
-                progress
-            }
+        match self.find(context, host, steps, frame, pending) {
+            Err(e) => Err(e),
+            Ok(found) => match found {
+                Found::Done(progress) => Ok(progress),
+                Found::Function(number, next) => {
+                    let function = context.program.function_at(number);
+                    self.call(context, host, steps, frame, function, next)
+                }
+            },
         }
     }
 

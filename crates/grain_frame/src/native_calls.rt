@@ -1,11 +1,11 @@
 //! Natives: what the host is asked for, and how it is called.
 
-ghost use Rattle.std.specs.Prelude.{◌≡◌, ◌++◌, ◌∷◌, [], ℕ, List, Option, None, IfOk};
+ghost use Rattle.std.specs.Prelude.{◌≡◌, ◌++◌, ◌∷◌, [], ℕ, List, Option, None, Some, true, is_some, IfOk};
 ghost use Rattle.grain_program.specs.View.{position_of};
 ghost use Rattle.grain_value.specs.declared.values.Dynamic.{Dynamic};
 ghost use Rattle.grain_value.specs.declared.values.Held.{Held};
 ghost use Rattle.grain_means.specs.Worlds.{Setup, Frame, Place, World, Act};
-ghost use Rattle.grain_means.specs.Rules.{native};
+ghost use Rattle.grain_means.specs.Rules.{native, flat_all};
 ghost use Rattle.grain_means.specs.Simulation.{SimulatesExactly};
 ghost use Rattle.grain_frame.specs.Abstraction.{abstraction, is_out, native_continuation};
 ghost use Rattle.grain_frame.specs.Natives.{Describes, Seeks, Serves, EndsBy};
@@ -60,34 +60,56 @@ impl Arguments {
         }
     }
 
-    /// One argument more.
-    pub fn push(&mut self, alloc: Global, cells: &Store, held: &Held) -> Result<(), OutOfMemory>
+    /// One argument more: a value that is no cell, and whether it can only be read.
+    pub fn push(
+        &mut self,
+        alloc: Global,
+        value: &Dynamic,
+        read_only: bool,
+    ) -> Result<(), OutOfMemory>
         ensures { IfOk result (λ _. (args : List Held) → Describes self.old args →
-            Describes self.new (args ++ held.now ∷ [])) }
+            Describes self.new
+            (args ++ record { value = value.now; read_only = read_only } ∷ [])) }
     {
         if self.values.is_empty() {
-            self.read_only = held.read_only;
+            self.read_only = read_only;
         }
-        self.kinds.push(held.value.kind(cells))?;
-        self.values.push(held.value.copy(alloc)?)
+        self.kinds.push(value.own_kind())?;
+        self.values.push(value.copy(alloc)?)
     }
 
-    /// These arguments.
+    /// These arguments, as they are read. None of them is a cell that is lent.
     pub fn of(alloc: Global, cells: &Store, held: &[Held]) -> Result<Arguments, OutOfMemory>
-        ensures { IfOk result (λ a. Describes a held.now) }
+        requires readable { is_some (flat_all cells.now held.now) ≡ true }
+        ensures { (args : List Held) → flat_all cells.now held.now ≡ Some args →
+            IfOk result (λ a. Describes a args) }
     {
         let mut arguments = Arguments::new(alloc);
-        for one in held {
-            arguments.push(alloc, cells, one)?;
+        'arguments: for one in held {
+            match one.value.flat(cells) {
+                Some(value) => arguments.push(alloc, value, one.read_only)?,
+                None => unreachable!(),
+            }
         }
         Ok(arguments)
     }
 }
 
+/// Whether none of these is a cell that is lent.
+pub fn are_readable(cells: &Store, held: &[Held]) -> bool
+    ensures { result ≡ is_some (flat_all cells.now held.now) }
+{
+    'operands: for one in held {
+        if one.value.flat(cells).is_none() {
+            return false;
+        }
+    }
+    true
+}
+
 /// What the host has for a name and arguments, where a fault has this position.
 pub fn seek<H: Host>(
     alloc: Global,
-    cells: &Store,
     host: &H,
     name: &Text,
     arguments: Arguments,
@@ -102,7 +124,7 @@ pub fn seek<H: Host>(
         read_only,
     } = arguments;
     match host.resolve(name.as_str(), &kinds) {
-        None => Ok(Sought::Fault(not_found(alloc, cells, name, &values, position)?)),
+        None => Ok(Sought::Fault(not_found(alloc, name, &values, position)?)),
         Some(native) => {
             if native.writes && read_only {
                 let name = name.copy(alloc)?;

@@ -1,25 +1,26 @@
 //! Instructions on operands alone.
 
-ghost use Rattle.std.specs.Prelude.{◌≡◌, ◌<◌, ◌≤◌, ◌+◌, ◌-◌, ◌∷◌, [], length, Ok, IfOk, IfSome, None};
+ghost use Rattle.std.specs.Prelude.{◌≡◌, ◌<◌, ◌≤◌, ◌+◌, ◌-◌, ◌∷◌, [], List, length, Ok, IfOk, IfSome, None, Some, is_some, true};
 ghost use Rattle.grain_program.specs.View.{View, name_of};
 ghost use Rattle.grain_program.specs.declared.code.instructions.Op.TheVariants as op;
 ghost use Rattle.grain_value.specs.declared.values.Dynamic.TheVariants as dynamic;
 ghost use Rattle.grain_value.specs.Operands.{arguments, under};
 ghost use Rattle.grain_global.specs.declared.engines.Engine.{Engine};
 ghost use Rattle.grain_ops.specs.Outcomes.{Gave};
-ghost use Rattle.grain_means.specs.Rules.{pushed, operated, native, raised};
+ghost use Rattle.grain_means.specs.Rules.{pushed, operated, native, raised, flat_all, call_function};
+ghost use Rattle.grain_value.specs.declared.values.Held.{Held};
 ghost use Rattle.grain_frame.specs.Abstraction.{frame_in, Implements, Performs, Ready};
 ghost use Rattle.grain_frame.specs.Operated.{outcome_of};
 ghost use Rattle.grain_program.specs.Indices.{InPools};
 
 use crate::activations::Activation;
 use crate::contexts::Context;
-use crate::native_calls::{Arguments, NativeEnd, seek};
+use crate::native_calls::{Arguments, NativeEnd, are_readable, seek};
 use crate::operated::{Operated, operate};
 use crate::runs::{Progress, Run};
 use crate::steps::Steps;
 use grain_host::Host;
-use grain_value::{Dynamic, Held, OutOfMemory};
+use grain_value::{Array, Dynamic, FnPtr, Held, OutOfMemory, Text};
 use std::sync::ledger::Ledger;
 
 impl<H: Host> Run<H> {
@@ -128,6 +129,9 @@ impl<H: Host> Run<H> {
             steps.new host.old host.new }
     {
         let arguments = usize::from(count);
+        if !self.are_readable(arguments) {
+            return Ok(self.operand_lent(context, steps, frame.address)?);
+        }
         match self.operate(context, token, arguments)? {
             Operated::Value(value) => {
                 self.stacks.cut(self.stacks.height() - arguments);
@@ -138,12 +142,25 @@ impl<H: Host> Run<H> {
                 Ok(self.data_too_large(context, steps, frame.address, what))
             }
             Operated::NotBuiltIn => {
+                let name = context.program.name(u32::from(name));
                 self.native_on(context, host, steps, frame, name, arguments, next)
             }
         }
     }
 
-    // The host's native of a name on the last `count` operands, in whose place its value stands.
+    // Whether none of the last `count` operands is a cell that is lent.
+    #[inline(always)]
+    fn are_readable(&self, count: usize) -> bool
+        requires { count ≤ length self.now.stacks.operands }
+        ensures { result ≡ is_some
+            (flat_all self.now.cells (arguments count self.now.stacks.operands)) }
+    {
+        let operands = self.stacks.frame_operands();
+        are_readable(&self.cells, &operands[operands.len() - count..])
+    }
+
+    // The host's native of a name on the last `count` operands, none of which is a lent cell, as they
+    // are read. Its value stands in their place.
     #[cold]
     #[inline(never)]
     pub(crate) fn native_on<L: Ledger>(
@@ -152,19 +169,21 @@ impl<H: Host> Run<H> {
         host: &mut H,
         steps: &mut Steps<L>,
         frame: &mut Activation,
-        name: u16,
+        name: &Text,
         count: usize,
         next: usize,
     ) -> Result<Progress, OutOfMemory>
         requires inside { frame.old.base ≤ length self.old.scope }
         requires operands { count ≤ length self.old.stacks.operands }
+        requires readable { is_some
+            (flat_all self.old.cells (arguments count self.old.stacks.operands)) ≡ true }
         requires room { length self.old.stacks.operands - count < self.old.stacks.room }
         requires ahead { frame.old.address < next }
-        requires pool { name < length context.program.now.names }
-        ensures implements { Implements H.law context.entry.program.now context.entry.engine.now
+        ensures implements { (args : List Held) →
+            flat_all self.old.cells (arguments count self.old.stacks.operands) ≡ Some args →
+            Implements H.law context.entry.program.now context.entry.engine.now
             frame.old self.old steps.old
-            (λ m place w. native m (name_of m.program name) None
-            (arguments count self.old.stacks.operands) (frame_in frame.old self.old place) w
+            (λ m place w. native m name.now None args (frame_in frame.old self.old place) w
             (λ v w1. pushed m (frame_in frame.old self.old place) next
             (under count self.old.stacks.operands) v w1)
             (raised m (frame_in frame.old self.old place)))
@@ -174,9 +193,8 @@ impl<H: Host> Run<H> {
         let operands = self.stacks.frame_operands();
         let given = &operands[operands.len() - count..];
         let arguments = Arguments::of(self.alloc, &self.cells, given)?;
-        let name = context.program.name(u32::from(name));
         let position = context.program.position(frame.address);
-        let sought = seek(self.alloc, &self.cells, host, name, arguments, position)?;
+        let sought = seek(self.alloc, host, name, arguments, position)?;
         match self.call_native(host, steps, sought, position)? {
             NativeEnd::Value(value) => {
                 self.stacks.cut(self.stacks.height() - count);
@@ -186,7 +204,8 @@ impl<H: Host> Run<H> {
         }
     }
 
-    // The same on a copy of the frame, so that the loop can hold its own in registers.
+    // What follows where no function has the name: the native, or the fault that an operand is a lent
+    // cell. It is done on a copy of the frame, so that the loop can hold its own in registers.
     #[inline(always)]
     pub(crate) fn native_on_copy<L: Ledger>(
         &mut self,
@@ -194,7 +213,7 @@ impl<H: Host> Run<H> {
         host: &mut H,
         steps: &mut Steps<L>,
         frame: &mut Activation,
-        name: u16,
+        name: &Text,
         count: usize,
         next: usize,
     ) -> Result<Progress, OutOfMemory>
@@ -202,25 +221,51 @@ impl<H: Host> Run<H> {
         requires operands { count ≤ length self.old.stacks.operands }
         requires room { length self.old.stacks.operands - count < self.old.stacks.room }
         requires ahead { frame.old.address < next }
-        requires pool { name < length context.program.now.names }
         ensures implements { Implements H.law context.entry.program.now context.entry.engine.now
             frame.old self.old steps.old
-            (λ m place w. native m (name_of m.program name) None
-            (arguments count self.old.stacks.operands) (frame_in frame.old self.old place) w
-            (λ v w1. pushed m (frame_in frame.old self.old place) next
-            (under count self.old.stacks.operands) v w1)
-            (raised m (frame_in frame.old self.old place)))
+            (λ m place w. call_function m None name.now count
+            (frame_in frame.old self.old place) next w)
             (next ∷ []) count 1 self.old.stacks.handlers result
             frame.new self.new steps.new host.old host.new }
     {
         let mut copy = *frame;
-        let progress = self.native_on(context, host, steps, &mut copy, name, count, next);
+        let progress = self.native_called(context, host, steps, &mut copy, name, count, next);
         frame.address = copy.address;
         frame.floor = copy.floor;
         progress
     }
 
-    // What an operator makes of the last `count` operands, if operators are fast.
+    // The same on the frame itself.
+    #[cold]
+    #[inline(never)]
+    pub(crate) fn native_called<L: Ledger>(
+        &mut self,
+        context: Context<'_>,
+        host: &mut H,
+        steps: &mut Steps<L>,
+        frame: &mut Activation,
+        name: &Text,
+        count: usize,
+        next: usize,
+    ) -> Result<Progress, OutOfMemory>
+        requires inside { frame.old.base ≤ length self.old.scope }
+        requires operands { count ≤ length self.old.stacks.operands }
+        requires room { length self.old.stacks.operands - count < self.old.stacks.room }
+        requires ahead { frame.old.address < next }
+        ensures implements { Implements H.law context.entry.program.now context.entry.engine.now
+            frame.old self.old steps.old
+            (λ m place w. call_function m None name.now count
+            (frame_in frame.old self.old place) next w)
+            (next ∷ []) count 1 self.old.stacks.handlers result
+            frame.new self.new steps.new host.old host.new }
+    {
+        if !self.are_readable(count) {
+            return Ok(self.operand_lent(context, steps, frame.address)?);
+        }
+        self.native_on(context, host, steps, frame, name, count, next)
+    }
+
+    // What an operator makes of the last `count` operands, as they are read, if operators are fast.
     #[inline(never)]
     fn operate(
         &self,
@@ -230,9 +275,10 @@ impl<H: Host> Run<H> {
     ) -> Result<Operated, OutOfMemory>
         requires operands { count ≤ length self.now.stacks.operands }
         requires pool { token < length context.program.now.tokens }
-        ensures { IfOk result
-            (λ r. outcome_of r ≡ operated context.entry.program.now context.entry.engine.now token
-            (arguments count self.now.stacks.operands)) }
+        ensures { (args : List Held) →
+            flat_all self.now.cells (arguments count self.now.stacks.operands) ≡ Some args →
+            IfOk result (λ r. outcome_of r
+            ≡ operated context.entry.program.now context.entry.engine.now token args) }
     {
         if !context.engine.fast_operators {
             return Ok(Operated::NotBuiltIn);
@@ -243,7 +289,48 @@ impl<H: Host> Run<H> {
             self.alloc,
             context.engine,
             token,
+            &self.cells,
             &operands[operands.len() - count..],
         )
+    }
+
+    // `is_shared`: whether the last operand is a cell.
+    pub(crate) fn is_shared<L: Ledger>(
+        &mut self,
+        steps: &mut Steps<L>,
+        frame: &mut Activation,
+        next: usize,
+    ) -> Progress
+        requires ready { Ready frame.old self.old op.IsShared next }
+        ensures performs { (program : View) (engine : Engine) (host : H) →
+            Performs H.law program engine frame.old self.old steps.old op.IsShared next
+            (Ok result) frame.new self.new steps.new host host }
+    {
+        let shared = self.stacks.pop().value.as_cell().is_some();
+        self.stacks.push(Held::read_write(Dynamic::Bool(shared)));
+        frame.address = next;
+        steps.mark();
+        Progress::Continues
+    }
+
+    // `make_closure`: a pointer to the functions of a name, with no values.
+    pub(crate) fn make_closure<L: Ledger>(
+        &mut self,
+        context: Context<'_>,
+        steps: &mut Steps<L>,
+        frame: &mut Activation,
+        name: u16,
+        next: usize,
+    ) -> Result<Progress, OutOfMemory>
+        requires ready { Ready frame.old self.old (op.MakeClosure name) next }
+        requires pools { InPools context.program.now (op.MakeClosure name) }
+        ensures performs { (host : H) →
+            Performs H.law context.entry.program.now context.entry.engine.now frame.old self.old
+            steps.old (op.MakeClosure name) next result frame.new self.new steps.new host host }
+    {
+        let name = context.program.name(u32::from(name)).copy(self.alloc)?;
+        let curry = Array::new(self.alloc);
+        let pointer = Dynamic::Pointer(FnPtr { name, curry });
+        Ok(self.push_on(steps, frame, pointer, next))
     }
 }

@@ -1,20 +1,21 @@
 //! What the built-in operators give, as the frame goes on with it.
 
-ghost use Rattle.std.specs.Prelude.{◌≡◌, ◌<◌, ◌≤◌, length, IfOk, IfSome, Some};
+ghost use Rattle.std.specs.Prelude.{◌≡◌, ◌<◌, ◌≤◌, List, length, IfOk, IfSome, Some};
 ghost use Rattle.grain_value.specs.Operands.{arguments, values_in};
 ghost use Rattle.grain_value.specs.declared.values.Dynamic.TheVariants as dynamic;
-ghost use Rattle.grain_means.specs.Rules.{if_fast, held_at};
+ghost use Rattle.grain_means.specs.Rules.{if_fast, held_at, flat_all};
 ghost use Rattle.grain_value.specs.declared.values.Held.{Held};
 ghost use Rattle.grain_value.specs.declared.values.Dynamic.{Dynamic};
 ghost use Rattle.grain_ops.specs.Outcomes.{Outcome, Gave};
 ghost use Rattle.grain_ops.specs.Operators.{operation, assignment};
+ghost use Rattle.grain_ops.specs.Agreement.{AreIntegers};
 ghost use Rattle.grain_ops.specs.Answers.{Answers, Assigns};
 ghost use Rattle.grain_frame.specs.Operated.{outcome_of, Assigned, AssignedEntry};
 
 use grain_fault::OperatorFault;
 use grain_global::Engine;
 use grain_ops::{AssignAnswer, OpAnswer, assign, binary, unary};
-use grain_value::{Dynamic, Held, OutOfMemory, Scope, Text, Token};
+use grain_value::{Dynamic, Held, OutOfMemory, Scope, Store, Text, Token};
 use std::alloc::Global;
 
 /// What an operator gives.
@@ -43,20 +44,31 @@ pub enum OpAssigned {
     TooLarge(Text),
 }
 
-/// What an operator gives for these arguments.
+/// What an operator gives for these arguments, as they are read.
 pub fn operate(
     alloc: Global,
     engine: &Engine,
     token: Token,
+    cells: &Store,
     arguments: &[Held],
 ) -> Result<Operated, OutOfMemory>
-    ensures { IfOk result
-        (λ r. outcome_of r ≡ operation engine.now.limits token (values_in arguments.now)) }
+    ensures { (args : List Held) → flat_all cells.now arguments.now ≡ Some args → IfOk result
+        (λ r. outcome_of r ≡ operation engine.now.limits token (values_in args)) }
 {
     match arguments {
-        [x] => operated_from(unary(alloc, token, &x.value)),
-        [x, y] => operated_from(binary(alloc, token, &x.value, &y.value, &engine.limits)),
-        _ => Ok(Operated::NotBuiltIn),
+        [] => Ok(Operated::NotBuiltIn),
+        [x] => match x.value.flat(cells) {
+            Some(x) => operated_from(unary(alloc, token, x)),
+            None => Ok(Operated::NotBuiltIn),
+        },
+        [x, y] => match x.value.flat(cells) {
+            Some(x) => match y.value.flat(cells) {
+                Some(y) => operated_from(binary(alloc, token, x, y, &engine.limits)),
+                None => Ok(Operated::NotBuiltIn),
+            },
+            None => Ok(Operated::NotBuiltIn),
+        },
+        [_, _, _, ..] => Ok(Operated::NotBuiltIn),
     }
 }
 
@@ -130,9 +142,10 @@ pub fn quick_assigned(
     target: &Dynamic,
     value: &Dynamic,
 ) -> Option<i64>
-    ensures { IfSome result
+    ensures assigned { IfSome result
         (λ z. if_fast engine.now.fast_operators
         (assignment engine.now.limits token target.now value.now) ≡ Gave (dynamic.Int z)) }
+    ensures integers { IfSome result (λ _. AreIntegers target.now value.now) }
 {
     if engine.fast_operators {
         grain_ops::quick_assigned(token, target, value)

@@ -2,13 +2,13 @@
 //! call nothing, so that the loop over them holds what it needs. Each says whether it did its
 //! instruction; where it did not, it changed nothing, and the instruction's own method does it.
 
-ghost use Rattle.std.specs.Prelude.{◌≡◌, ◌<◌, ◌≤◌, ◌+◌, ◌-◌, ◌∷◌, [], length, Ok, cond, nat_lt};
+ghost use Rattle.std.specs.Prelude.{◌≡◌, ◌<◌, ◌≤◌, ◌+◌, ◌-◌, ◌∷◌, [], length, Ok, Some, cond, nat_lt};
 ghost use Rattle.grain_program.specs.Indices.{InPools};
 ghost use Rattle.grain_program.specs.TypedAt.{IsTypedAt};
 ghost use Rattle.grain_program.specs.declared.code.instructions.Op.TheVariants as op;
 ghost use Rattle.grain_value.specs.Operands.{arguments};
 ghost use Rattle.grain_ops.specs.Agreement.{Agrees, IsGiven};
-ghost use Rattle.grain_means.specs.Rules.{jumped, stepped, jump_if, operated};
+ghost use Rattle.grain_means.specs.Rules.{jumped, stepped, jump_if, operated, flat_all};
 ghost use Rattle.grain_frame.specs.Abstraction.{frame_in, tries_in, Implements, Performs, Ready, Runs, Unchanged, OnTrue, OnFalse};
 ghost use Rattle.grain_frame.specs.Following.{PerformsOn};
 
@@ -191,6 +191,9 @@ impl<H: Host> Run<H> {
         requires pool { token < length context.program.now.tokens }
         ensures agrees { Agrees result (operated context.entry.program.now context.entry.engine.now
             token (arguments count self.now.stacks.operands)) }
+        ensures readable { IsGiven result → flat_all self.now.cells
+            (arguments count self.now.stacks.operands)
+            ≡ Some (arguments count self.now.stacks.operands) }
         ensures two { IsGiven result → count ≡ 2 }
     {
         if count != 2 || !context.engine.fast_operators {
@@ -252,8 +255,8 @@ impl<H: Host> Run<H> {
             (Unchanged frame.old self.old steps.old frame.new self.new steps.new) }
     {
         let target = target as usize;
-        match self.stacks.top().value.as_bool() {
-            Some(truth) => {
+        match self.stacks.top().value {
+            Dynamic::Bool(truth) => {
                 if !agrees(wanted, truth) {
                     self.stacks.drop_top();
                     frame.address = next;
@@ -268,7 +271,7 @@ impl<H: Host> Run<H> {
                     false
                 }
             }
-            None => false,
+            _ => false,
         }
     }
 }

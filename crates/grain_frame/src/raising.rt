@@ -3,8 +3,7 @@
 
 ghost use Rattle.std.specs.Prelude.{◌≡◌, ◌<◌, ◌≤◌, ◌+◌, ◌∷◌, [], length, codes, Ok, IfOk, Some};
 ghost use Rattle.grain_program.specs.View.{position_of, name_of};
-ghost use Rattle.grain_value.specs.Operands.{top};
-ghost use Rattle.grain_value.specs.Writing.{type_name_of};
+ghost use Rattle.grain_means.specs.Rules.{race_text, name_at};
 ghost use Rattle.grain_fault.specs.declared.faults.EvalAltResult.TheVariants as fault;
 ghost use Rattle.grain_fault.specs.declared.faults.MalformedKind.TheVariants as kind;
 ghost use Rattle.grain_frame.specs.Abstraction.{Raises};
@@ -15,6 +14,7 @@ use crate::steps::Steps;
 use grain_fault::{EvalAltResult, MalformedKind};
 use grain_host::Host;
 use grain_value::{OutOfMemory, Text};
+use std::alloc::Global;
 use std::sync::ledger::Ledger;
 
 impl<H: Host> Run<H> {
@@ -158,7 +158,88 @@ impl<H: Host> Run<H> {
         ))
     }
 
-    // A last operand that is no truth value.
+    // An entry that is a cell, which is lent.
+    #[cold]
+    #[inline(never)]
+    pub(crate) fn entry_lent<L: Ledger>(
+        &mut self,
+        context: Context<'_>,
+        steps: &mut Steps<L>,
+        address: usize,
+        index: usize,
+    ) -> Result<Progress, OutOfMemory>
+        ensures { Raises self.old steps.old
+            (fault.ErrorDataRace (race_text (name_at self.old.scope index))
+            (position_of context.entry.program.now address)) result self.new steps.new }
+    {
+        let text = match self.scope.name(index) {
+            Some(name) => race_text(self.alloc, name.as_str())?,
+            None => race_text(self.alloc, "")?,
+        };
+        let position = context.program.position(address);
+        Ok(self.raise(steps, EvalAltResult::ErrorDataRace(text, position)))
+    }
+
+    // A cell that is lent, in an assignment to the variable of this name.
+    #[cold]
+    #[inline(never)]
+    pub(crate) fn variable_lent<L: Ledger>(
+        &mut self,
+        context: Context<'_>,
+        steps: &mut Steps<L>,
+        address: usize,
+        name: u16,
+    ) -> Result<Progress, OutOfMemory>
+        requires { name < length context.program.now.names }
+        ensures { Raises self.old steps.old
+            (fault.ErrorDataRace (race_text (name_of context.entry.program.now name))
+            (position_of context.entry.program.now address)) result self.new steps.new }
+    {
+        let name = context.program.name(u32::from(name));
+        let text = race_text(self.alloc, name.as_str())?;
+        let position = context.program.position(address);
+        Ok(self.raise(steps, EvalAltResult::ErrorDataRace(text, position)))
+    }
+
+    // An operand that is a cell, which is lent.
+    #[cold]
+    #[inline(never)]
+    pub(crate) fn operand_lent<L: Ledger>(
+        &mut self,
+        context: Context<'_>,
+        steps: &mut Steps<L>,
+        address: usize,
+    ) -> Result<Progress, OutOfMemory>
+        ensures { Raises self.old steps.old
+            (fault.ErrorDataRace (race_text [])
+            (position_of context.entry.program.now address)) result self.new steps.new }
+    {
+        let text = race_text(self.alloc, "")?;
+        let position = context.program.position(address);
+        Ok(self.raise(steps, EvalAltResult::ErrorDataRace(text, position)))
+    }
+
+    // A value that is no pointer to a function.
+    #[cold]
+    #[inline(never)]
+    pub(crate) fn not_a_pointer<L: Ledger>(
+        &mut self,
+        context: Context<'_>,
+        steps: &mut Steps<L>,
+        address: usize,
+        type_name: Text,
+    ) -> Result<Progress, OutOfMemory>
+        ensures { Raises self.old steps.old
+            (fault.ErrorMismatchDataType (codes "Fn") type_name
+            (position_of context.entry.program.now address)) result self.new steps.new }
+    {
+        let requested = Text::copy_of(self.alloc, "Fn")?;
+        let position = context.program.position(address);
+        let fault = EvalAltResult::ErrorMismatchDataType(requested, type_name, position);
+        Ok(self.raise(steps, fault))
+    }
+
+    // A value that is no truth value.
     #[cold]
     #[inline(never)]
     pub(crate) fn not_a_bool<L: Ledger>(
@@ -166,17 +247,15 @@ impl<H: Host> Run<H> {
         context: Context<'_>,
         steps: &mut Steps<L>,
         address: usize,
+        type_name: Text,
     ) -> Result<Progress, OutOfMemory>
-        requires { 0 < length self.old.stacks.operands }
         ensures { Raises self.old steps.old
-            (fault.ErrorMismatchDataType (codes "bool")
-            (type_name_of (top self.old.stacks.operands).value)
+            (fault.ErrorMismatchDataType (codes "bool") type_name
             (position_of context.entry.program.now address)) result self.new steps.new }
     {
         let requested = Text::copy_of(self.alloc, "bool")?;
-        let actual = self.stacks.top().value.type_name(self.alloc, &self.cells)?;
         let position = context.program.position(address);
-        let fault = EvalAltResult::ErrorMismatchDataType(requested, actual, position);
+        let fault = EvalAltResult::ErrorMismatchDataType(requested, type_name, position);
         Ok(self.raise(steps, fault))
     }
 
@@ -215,4 +294,14 @@ impl<H: Host> Run<H> {
         let position = context.program.position(address);
         self.raise(steps, EvalAltResult::ErrorDataTooLarge(what, position))
     }
+}
+
+// The text of a fault that the cell of a variable is lent.
+fn race_text(alloc: Global, name: &str) -> Result<Text, OutOfMemory>
+    ensures { IfOk result (λ text. text ≡ race_text name.now) }
+{
+    let mut text = Text::copy_of(alloc, "variable '")?;
+    text.push_str(name)?;
+    text.push_str("'")?;
+    Ok(text)
 }

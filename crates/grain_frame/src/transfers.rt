@@ -113,7 +113,10 @@ impl<H: Host> Run<H> {
             1 0 self.old.stacks.handlers result frame.new self.new steps.new host.old
             host.new }
     {
-        match self.stacks.top().value.as_bool() {
+        let Some(value) = self.stacks.top().value.flat(&self.cells) else {
+            return Ok(self.operand_lent(context, steps, frame.address)?);
+        };
+        match value.as_bool() {
             Some(truth) => {
                 let _value = self.stacks.pop();
                 if agrees(wanted, truth) {
@@ -122,7 +125,10 @@ impl<H: Host> Run<H> {
                     Ok(self.go_on(steps, frame, next))
                 }
             }
-            None => { Ok(self.not_a_bool(context, steps, frame.address)?) }
+            None => {
+                let type_name = value.own_type_name(self.alloc)?;
+                Ok(self.not_a_bool(context, steps, frame.address, type_name)?)
+            }
         }
     }
 
@@ -155,16 +161,19 @@ impl<H: Host> Run<H> {
         steps: &mut Steps<L>,
         frame: &mut Activation,
         next: usize,
-    ) -> Progress
+    ) -> Result<Progress, OutOfMemory>
         requires ready { Ready frame.old self.old op.Throw next }
         ensures performs { (host : H) →
             Performs H.law context.entry.program.now context.entry.engine.now frame.old self.old
-            steps.old op.Throw next (Ok result) frame.new self.new steps.new host host }
+            steps.old op.Throw next result frame.new self.new steps.new host host }
     {
         let _next = next;
+        if !self.is_readable() {
+            return Ok(self.operand_lent(context, steps, frame.address)?);
+        }
         let position = context.program.position(frame.address);
-        let value = self.stacks.pop().value;
-        self.raise(steps, EvalAltResult::ErrorRuntime(value, position))
+        let value = self.take_flat()?;
+        Ok(self.raise(steps, EvalAltResult::ErrorRuntime(value, position)))
     }
 
     // `return`: the frame gives its last operand, or unit if it has none.

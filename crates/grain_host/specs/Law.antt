@@ -1,11 +1,14 @@
 -- The law of a host: what it answers, writes and becomes are functions of its state and of what it
 -- is given.
-use Rattle.std.specs.Prelude.{ℕ, Bool, false, List, Option, ◌≡◌, if◌then◌else◌, option_map}
-use Rattle.grain_value.specs.Tree.{Tree}
+use Rattle.std.specs.Prelude.{ℕ, ◌≤◌, max, Bool, false, List, Option, Some, None, ◌≡◌, if◌then◌else◌, option_map}
+use Rattle.grain_value.specs.Tree.{Tree, array, pack}
+use Rattle.grain_value.specs.View.{tree}
+use Rattle.grain_value.specs.Cells.{cell_bound}
 use Rattle.grain_value.specs.declared.values.Dynamic.{Dynamic}
 use Rattle.grain_value.specs.declared.values.Held.{Held}
 use Rattle.grain_value.specs.declared.natives.Native.{Native}
 use Rattle.grain_fault.specs.Problems.{Problem}
+use Rattle.grain_fault.specs.Cells.{problem_bound}
 use Rattle.grain_host.specs.Faults.{handed_back}
 
 -- the answer to a call
@@ -36,6 +39,9 @@ pub record Law (S : Type 0) : Type 0 where
   -- what is answered, and the state afterwards, where a run has taken a number of operations
   pub progress_reply : S → ℕ → Verdict
   pub progress_after : S → ℕ → S
+  -- The cells below this number may be handed over, beside those that a call is given. No call gives
+  -- the number.
+  pub reach : S → ℕ
 
 -- the native of a name and of its arguments' kinds
 abbrev pub native_of : {S : Type 0} → Law S → S → List ℕ → List ℕ → Option Native
@@ -62,6 +68,26 @@ abbrev pub MayBeAnswered : Reply → Type 0
 MayBeAnswered (Done v) = Unit
 MayBeAnswered (Failed x) = handed_back x ≡ false
 
+-- one more than the greatest cell that a receiver names, and 0 where it names none
+abbrev pub receiver_bound : Option Held → ℕ
+receiver_bound None = 0
+receiver_bound (Some h) = cell_bound (tree h.value)
+
+-- the cells that the host may hand over in a call, and keep after it, are below this number: they are
+-- below its reach, or it is given them
+abbrev pub call_bound : {S : Type 0} → Law S → S → Option Held → List Tree → ℕ
+call_bound law s receiver values =
+    max (law.reach s) (max (receiver_bound receiver) (cell_bound (array (pack values))))
+
+-- one more than the greatest cell that an answer names, and 0 where it names none
+abbrev pub reply_bound : Reply → ℕ
+reply_bound (Done v) = cell_bound (tree v)
+reply_bound (Failed x) = problem_bound x
+
+abbrev pub verdict_bound : Verdict → ℕ
+verdict_bound GoOn = 0
+verdict_bound (Stop v) = cell_bound (tree v)
+
 -- what every host's law keeps to
 pub record IsLawful {S : Type 0} (law : Law S) : Type 0 where
   pub call_keeps : (s : S) (key : ℕ) (receiver : Option Held) (values : List Tree) →
@@ -69,3 +95,12 @@ pub record IsLawful {S : Type 0} (law : Law S) : Type 0 where
   pub progress_keeps : (s : S) (count : ℕ) → KeepsTable law s (law.progress_after s count)
   pub faults : (s : S) (key : ℕ) (receiver : Option Held) (values : List Tree) →
       MayBeAnswered (law.call_reply s key receiver values)
+  pub replies_within : (s : S) (key : ℕ) (receiver : Option Held) (values : List Tree) →
+      reply_bound (law.call_reply s key receiver values) ≤ call_bound law s receiver values
+  pub writes_within : (s : S) (key : ℕ) (h : Held) (values : List Tree) →
+      cell_bound (tree (law.call_written s key h values)) ≤ call_bound law s (Some h) values
+  pub stays_within : (s : S) (key : ℕ) (receiver : Option Held) (values : List Tree) →
+      law.reach (law.call_after s key receiver values) ≤ call_bound law s receiver values
+  pub stops_within : (s : S) (count : ℕ) →
+      verdict_bound (law.progress_reply s count) ≤ law.reach s
+  pub hears_within : (s : S) (count : ℕ) → law.reach (law.progress_after s count) ≤ law.reach s

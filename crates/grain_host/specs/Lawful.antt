@@ -1,10 +1,12 @@
 -- The host in memory is lawful.
 use Rattle.std.specs.Prelude.{ℕ, ◌==◌, Bool, true, false, List, Option, Some, None, refl, if◌then◌else◌}
+use Rattle.std.proofs.Common.{arith}
 use Rattle.grain_value.specs.declared.values.Dynamic.{Dynamic}
 use Rattle.grain_value.specs.declared.values.Dynamic.TheVariants as dynamic
 use Rattle.grain_host.specs.Law.{Reply, MayBeAnswered, IsLawful}
 use Rattle.grain_host.specs.declared.tables.Turn.{Turn}
 use Rattle.grain_host.specs.declared.tables.Turn.TheVariants as turns
+use Rattle.grain_host.specs.Reaching.{table_replies, table_writes, table_stays, table_stops}
 use Rattle.grain_host.specs.Tables.{print_reply, push_reply, counted, entries_in, len_reply, exit_reply, native_reply, sole, first_of_two, unknown, reply_at, turn, arguments, table_law}
 
 either : (b : Bool) (x y : Reply) → MayBeAnswered x → MayBeAnswered y →
@@ -49,4 +51,9 @@ table_lawful = record {
   call_keeps = λ s key receiver values. (λ name kinds. refl, λ key. refl);
   progress_keeps = λ s count. (λ name kinds. refl, λ key. refl);
   faults = λ s key receiver values. may_reply (turn s) key (arguments receiver values);
+  replies_within = table_replies;
+  writes_within = table_writes;
+  stays_within = table_stays;
+  stops_within = table_stops;
+  hears_within = λ s count. omega arith;
 }

@@ -16,19 +16,17 @@ later_lines =
 -- instructions that read and write variables
 abbrev pub later_variables : List (List ℕ)
 later_variables =
-    codes "store_shared" ∷ codes "load_named" ∷ codes "load_shared_named" ∷ codes "assign_named" ∷
+    codes "load_named" ∷ codes "load_shared_named" ∷ codes "assign_named" ∷
     codes "assign_named_op" ∷
     codes "declare_global_const" ∷ codes "load_this" ∷ codes "load_this_shared" ∷
     codes "require_this" ∷ codes "assign_this" ∷
-    codes "assign_this_op" ∷ codes "load_shared" ∷ codes "share" ∷ codes "share_named" ∷
-    codes "is_shared" ∷ []
+    codes "assign_this_op" ∷ codes "share_named" ∷
+    []
 
 -- instructions that call and make what is called
 abbrev pub later_calls : List (List ℕ)
 later_calls =
-    codes "call_local_ref" ∷ codes "call_named_ref" ∷ codes "call_this_ref" ∷ codes "make_closure" ∷
-    codes "make_fn_ptr" ∷ codes "curry" ∷
-    codes "call_fn_ptr" ∷ codes "call_fn_ptr_capture" ∷ codes "call_fn_ptr_method" ∷
+    codes "call_local_ref" ∷ codes "call_named_ref" ∷ codes "call_this_ref" ∷ codes "make_fn_ptr" ∷ codes "call_fn_ptr_capture" ∷ codes "call_fn_ptr_method" ∷
     codes "call_fn_ptr_on_local" ∷ codes "call_fn_ptr_on_named" ∷
     codes "call_fn_ptr_on_this" ∷ []
 

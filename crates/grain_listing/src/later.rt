@@ -12,8 +12,7 @@ const LINES: [&str; 15] = [
 ];
 
 /// Instructions that read and write variables.
-const VARIABLES: [&str; 15] = [
-    "store_shared",
+const VARIABLES: [&str; 11] = [
     "load_named",
     "load_shared_named",
     "assign_named",
@@ -24,21 +23,15 @@ const VARIABLES: [&str; 15] = [
     "require_this",
     "assign_this",
     "assign_this_op",
-    "load_shared",
-    "share",
     "share_named",
-    "is_shared",
 ];
 
 /// Instructions that call and make what is called.
-const CALLS: [&str; 12] = [
+const CALLS: [&str; 9] = [
     "call_local_ref",
     "call_named_ref",
     "call_this_ref",
-    "make_closure",
     "make_fn_ptr",
-    "curry",
-    "call_fn_ptr",
     "call_fn_ptr_capture",
     "call_fn_ptr_method",
     "call_fn_ptr_on_local",

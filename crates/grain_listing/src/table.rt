@@ -60,7 +60,7 @@ pub enum Line {
 }
 
 /// The instructions of values and variables, by their words.
-const VALUES: [(&str, Op); 13] = [
+const VALUES: [(&str, Op); 17] = [
     ("load_const", Op::LoadConst(0)),
     ("unit", Op::Unit),
     ("false", Op::False),
@@ -68,22 +68,29 @@ const VALUES: [(&str, Op); 13] = [
     ("load_local", Op::LoadLocal(0)),
     ("store_local", Op::StoreLocal(0)),
     ("store_const", Op::StoreConst(0)),
+    ("store_shared", Op::StoreShared(0)),
     ("declare_local", Op::DeclareLocal(0)),
     ("declare_const", Op::DeclareConst(0)),
     ("assign_local", Op::AssignLocal(0, 0)),
     ("assign_local_op", Op::AssignLocalOp(0, 0, 0)),
+    ("load_shared", Op::LoadShared(0)),
+    ("share", Op::Share(0)),
+    ("is_shared", Op::IsShared),
     ("pop", Op::Pop),
     ("rotate", Op::Rotate(0)),
 ];
 
 /// The instructions that go elsewhere, call, count, cut or catch, by their words.
-const FLOW: [(&str, Op); 15] = [
+const FLOW: [(&str, Op); 18] = [
     ("jump", Op::Jump(0)),
     ("jump_if_false", Op::JumpIfFalse(0)),
     ("jump_if_true", Op::JumpIfTrue(0)),
     ("skip_if_not_unit", Op::SkipIfNotUnit(0)),
     ("call", Op::Call(0, 0)),
     ("call_op", Op::CallOp(0, 0, 0)),
+    ("make_closure", Op::MakeClosure(0)),
+    ("curry", Op::Curry(0)),
+    ("call_fn_ptr", Op::CallFnPtr(0)),
     ("unwind_to", Op::UnwindTo(0)),
     ("tick", Op::Tick),
     ("checkpoint", Op::Checkpoint),

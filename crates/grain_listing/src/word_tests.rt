@@ -42,7 +42,6 @@ fn later_lines(rt: HostRuntime) -> Result<(), OutOfMemory> {
 #[test]
 fn later_variables(rt: HostRuntime) -> Result<(), OutOfMemory> {
     let words = [
-        "store_shared",
         "load_named",
         "load_shared_named",
         "assign_named",
@@ -53,10 +52,7 @@ fn later_variables(rt: HostRuntime) -> Result<(), OutOfMemory> {
         "require_this",
         "assign_this",
         "assign_this_op",
-        "load_shared",
-        "share",
         "share_named",
-        "is_shared",
     ];
     not_built(&rt, rt.alloc(), "", words.as_slice(), "\n")
 }
@@ -67,10 +63,7 @@ fn later_calls(rt: HostRuntime) -> Result<(), OutOfMemory> {
         "call_local_ref",
         "call_named_ref",
         "call_this_ref",
-        "make_closure",
         "make_fn_ptr",
-        "curry",
-        "call_fn_ptr",
         "call_fn_ptr_capture",
         "call_fn_ptr_method",
         "call_fn_ptr_on_local",

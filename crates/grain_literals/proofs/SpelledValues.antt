@@ -4,7 +4,7 @@ use Rattle.std.proofs.lemmas.List.{length-append}
 use Rattle.std.specs.Fmt.{decimal, signed_decimal}
 use Rattle.std.specs.List.{flat_map}
 use Rattle.std.specs.Str.{chars}
-use Rattle.grain_value.specs.Tree.{Tree, Trees, Fields, unit, boolean, integer, character, text, array, blob, dict, pointer, range, foreign, no_trees, more_trees, no_fields, more_fields}
+use Rattle.grain_value.specs.Tree.{Tree, Trees, Fields, unit, boolean, integer, character, text, array, blob, dict, pointer, range, foreign, cell, no_trees, more_trees, no_fields, more_fields}
 use Rattle.grain_value.specs.Writing.{truth, hex_byte, range_word}
 use Rattle.grain_words.specs.Spelled.{between_quotes, between_apostrophes}
 
@@ -28,6 +28,7 @@ abbrev mutual
   spell (pointer name ts) rest = codes "fn(" ++ spell_text name (spell_others ts (41 ∷ rest))
   spell (range a b i) rest = range_word i ++ spell_pair (signed_decimal a) (signed_decimal b) rest
   spell (foreign k n) rest = codes "foreign(" ++ spell_pair (decimal k) (decimal n) rest
+  spell (cell n) rest = rest
 
   pub spell_items : Trees → List ℕ → List ℕ
   spell_items no_trees rest = rest
@@ -75,6 +76,7 @@ mutual
       ap (λ l. range_word i ++ l) (pair_append (signed_decimal x) (signed_decimal y) a b)
   spell_append (foreign k n) a b =
       ap (λ l. codes "foreign(" ++ l) (pair_append (decimal k) (decimal n) a b)
+  spell_append (cell n) a b = refl
 
   items_append : (ts : Trees) (a b : List ℕ) → spell_items ts a ++ b ≡ spell_items ts (a ++ b)
   items_append no_trees a b = refl

@@ -5,7 +5,7 @@ use Rattle.std.specs.List.{flat_map}
 use Rattle.std.specs.Str.{chars, IsUtf8}
 use Rattle.std.proofs.lemmas.Str.{encodes-chars}
 use Rattle.grain_value.specs.laws.Same.{pack-unpack, pack-unpack_fields}
-use Rattle.grain_value.specs.Tree.{Tree, Trees, Fields, unit, boolean, integer, character, text, array, blob, dict, pointer, range, foreign, no_trees, more_trees, no_fields, more_fields, pack, unpack, pack_fields, unpack_fields}
+use Rattle.grain_value.specs.Tree.{Tree, Trees, Fields, unit, boolean, integer, character, text, array, blob, dict, pointer, range, foreign, cell, no_trees, more_trees, no_fields, more_fields, pack, unpack, pack_fields, unpack_fields}
 use Rattle.grain_value.specs.Writing.{quoted_tree}
 use Rattle.grain_words.specs.lemmas.Spelling.{spells_none}
 use Rattle.grain_words.specs.Spelled.{IsLong, begins_integer, between_quotes}
@@ -75,6 +75,7 @@ value_opens laws levels (pointer name ts) l rest = refl
 value_opens laws levels (range a b true) l rest = refl
 value_opens laws levels (range a b false) l rest = refl
 value_opens laws levels (foreign k n) l rest = refl
+value_opens laws levels (cell n) l rest = absurd l
 
 no_gaps : (cs : List ℕ) → opens cs ≡ true → skip_gaps cs ≡ cs
 no_gaps [] h = absurd cc
@@ -255,6 +256,7 @@ mutual
   value_read laws levels (foreign k n) l rest e =
       flat_value levels (spell (foreign k n) rest) refl refl refl ∙
       ap (made (λ x. foreign x.0 x.1)) (kind_read laws k n rest l.0 l.1.0 l.1.1)
+  value_read laws levels (cell n) l rest e = absurd l
 
   others_read : Laws → (levels : ℕ) (ts : Trees) → AreListed levels ts → (c : ℕ) (rest : List ℕ) →
       (c == c) ≡ true → (44 == c) ≡ false → ends_integer c ≡ true → (m : ℕ) →

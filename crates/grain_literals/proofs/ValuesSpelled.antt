@@ -6,7 +6,7 @@ use Rattle.std.specs.Fmt.{decimal, signed_decimal}
 use Rattle.std.specs.List.{flat_map, list_all, AllByRecursion}
 use Rattle.std.specs.Str.{chars, IsUtf8, encode_utf8_all}
 use Rattle.grain_value.specs.Quoting.{quoted_text, quoted_character}
-use Rattle.grain_value.specs.Tree.{Tree, Trees, Fields, unit, boolean, integer, character, text, array, blob, dict, pointer, range, foreign, no_trees, more_trees, no_fields, more_fields}
+use Rattle.grain_value.specs.Tree.{Tree, Trees, Fields, unit, boolean, integer, character, text, array, blob, dict, pointer, range, foreign, cell, no_trees, more_trees, no_fields, more_fields}
 use Rattle.grain_value.specs.Writing.{quoted_tree, items_text, fields_text, hex_byte, range_word}
 use Rattle.grain_words.specs.lemmas.Spelling.{spells_append, one_ascii}
 use Rattle.grain_words.specs.Characters as characters
@@ -173,6 +173,7 @@ mutual
       (decimal k ++ 44 ∷ 32 ∷ (decimal n ++ 41 ∷ bytes)) refl
       (pair_front (decimal k) (decimal n) rest bytes (laws.number_spelled k kind)
       (laws.number_spelled n l.1.1) h))
+  spells laws levels (cell n) l rest bytes h = absurd l
 
   items_spelled : Laws → (levels : ℕ) (ts : Trees) → AreListed levels ts → (rest bytes : List ℕ) →
       Spells rest bytes → Spells (spell_items ts rest) (items_text [] ts ++ bytes)

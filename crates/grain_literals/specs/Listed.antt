@@ -3,13 +3,14 @@ use Rattle.std.specs.Prelude.{◌≤◌, ◌<◌, ◌^◌, ℕ, zero, suc}
 use Rattle.std.specs.Char.{IsScalar}
 use Rattle.std.specs.List.{AllByRecursion}
 use Rattle.std.specs.Str.{IsUtf8}
-use Rattle.grain_value.specs.Tree.{Tree, Trees, Fields, unit, boolean, integer, character, text, array, blob, dict, pointer, range, foreign, no_trees, more_trees, no_fields, more_fields, unpack_fields}
+use Rattle.grain_value.specs.Tree.{Tree, Trees, Fields, unit, boolean, integer, character, text, array, blob, dict, pointer, range, foreign, cell, no_trees, more_trees, no_fields, more_fields, unpack_fields}
 use Rattle.grain_value.specs.Maps.{IsAscending}
 use Rattle.grain_words.specs.Spelled.{IsLong}
 
 -- The value has at most n arrays, maps and pointers inside one another. Texts, keys and names
 -- are UTF-8, characters are scalar values, integers have 64 bits, bytes have 8, a host's kind has
--- 32 bits and is 16 or more, its number has 64 bits, and the keys of a map ascend.
+-- 32 bits and is 16 or more, its number has 64 bits, and the keys of a map ascend. No cell is listed:
+-- its number means nothing without its store.
 abbrev mutual
   pub IsListed : ℕ → Tree → Type 0
   IsListed levels unit = Unit {0}
@@ -27,6 +28,7 @@ abbrev mutual
   IsListed levels (range from to inclusive) = IsLong from × IsLong to
   IsListed levels (foreign kind number) =
       (16 ≤ kind) × ((kind < 2 ^ 32) × (number < 2 ^ 64))
+  IsListed levels (cell n) = ⊥
 
   pub AreListed : ℕ → Trees → Type 0
   AreListed levels no_trees = Unit {0}

@@ -14,7 +14,7 @@ use Rattle.grain_means.specs.Worlds.{Act, Go, End, Then, Answer, Came, Failed, W
 use Rattle.grain_means.specs.Rules.{if_armed, is_stop, kind_throws_unit, outer_handlers, position, throws_unit, thrown_anew}
 use Rattle.grain_means.specs.Comes.{ProgramPoint, CatchPoint, Comes, ComesToCatch, Meets, try_of, tries}
 use Rattle.grain_means.specs.Leavings.{Keeps, Cut, Cuts}
-use Rattle.grain_means.specs.Causes.{HasPosition, Why, Throws, Raises, LeftCall, Tells, ThrowsUnit, ThrownAnew, Raised, Row, FailsToCatch, CatchRow, RaisedByCatch, Cause, Caused}
+use Rattle.grain_means.specs.Causes.{HasPosition, Why, Throws, Raises, LeftCall, Tells, ThrowsUnit, ThrownAnew, Raised, Row, FailsToCatch, CatchRow, RaisedByCatch, Cause, Caused, ThrowsUnitAt}
 use Rattle.grain_means.proofs.Moving.{placed_twice, caught_anywhere, unit_anywhere, unit_placed}
 use Rattle.grain_means.proofs.Standing.{Fitting, Covered}
 
@@ -174,11 +174,11 @@ module _ {S : Type 0} (m : Setup S) where
 
   -- where an instruction throws unit
   unit_thrown : (x : Problem) (s : ProgramPoint S) → Row m x s → throws_unit x ≡ true →
-      Throws s.instruction × (is_unit (top s.frame.operands).value ≡ true)
+      Throws s.instruction × ThrowsUnitAt s.frame s.world
   unit_thrown (Plain k p) s row e = of_kind k row e where
     of_kind : (k : FaultKind) → Raises m k s → kind_throws_unit k ≡ true →
-        Throws s.instruction × (is_unit (top s.frame.operands).value ≡ true)
-    of_kind (Runtime v) row e = (row.1, sym (ap is_unit row.0) ∙ e)
+        Throws s.instruction × ThrowsUnitAt s.frame s.world
+    of_kind (Runtime v) row e = (row.1, (v, row.0, e))
     of_kind k row e = is_false e
   unit_thrown (InFunctionCall t u x p) s row e = is_false e
   unit_thrown (InModule t x p) s row e = is_false e

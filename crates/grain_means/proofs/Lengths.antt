@@ -1,11 +1,14 @@
 -- Lengths of scopes and operands.
 use Rattle.std.proofs.Common.{◌≡◌, ◌≤◌, ◌+◌, ◌-◌, ℕ, zero, suc, List, [], ◌∷◌, ◌++◌, Some, None, arith, length, take, drop, length-drop}
-use Rattle.std.proofs.lemmas.List.{length-take, length-append}
+use Rattle.std.proofs.lemmas.List.{length-take, length-append, length-map}
 use Rattle.grain_value.specs.declared.values.Dynamic.{Dynamic}
 use Rattle.grain_value.specs.declared.values.Held.{Held}
 use Rattle.grain_value.specs.declared.scopes.Entry.{Entry}
-use Rattle.grain_value.specs.Operands.{under, rotated, read_write}
-use Rattle.grain_means.specs.Rules.{held_at}
+use Rattle.grain_value.specs.declared.values.FnPtr.{FnPtr}
+use Rattle.grain_value.specs.View.{value_of}
+use Rattle.grain_value.specs.Tree.{Tree}
+use Rattle.grain_value.specs.Operands.{under, arguments, rotated, read_write}
+use Rattle.grain_means.specs.Rules.{held_at, curried_in}
 
 -- where no entry is, the scope has ended
 pub past_scope : (scope : List Entry) (i : ℕ) → held_at scope i ≡ None → length scope ≤ i
@@ -39,4 +42,33 @@ length_rotated n xs =
       length-drop n others,
       length-take n others,
       length-drop (length xs - (n + 1)) xs,
+    )
+
+-- the operands once a pointer was replaced by its values
+spread_many : (p : FnPtr) (n : ℕ) (xs : List Held) →
+    length (under (n + 1) xs ++ curried_in p ++ arguments n xs)
+    ≡ length xs - (n + 1) + length p.curry + (length xs - (length xs - n))
+spread_many p n xs =
+    omega (
+      arith,
+      length-append (under (n + 1) xs ++ curried_in p) (arguments n xs),
+      length-append (under (n + 1) xs) (curried_in p),
+      length_under (n + 1) xs,
+      length-map p.curry (λ (t : Tree). read_write (value_of t)),
+      length-drop (length xs - n) xs,
+    )
+
+pub spread_length : (p : FnPtr) (n : ℕ) (xs : List Held) →
+    length xs - (n + 1) ≤ length (under (n + 1) xs ++ curried_in p ++ arguments n xs)
+spread_length p n xs = omega (arith, spread_many p n xs)
+
+-- without them there are as many as under the pointer
+pub spread_under : (p : FnPtr) (n : ℕ) (xs : List Held) →
+    length (under (length p.curry + n) (under (n + 1) xs ++ curried_in p ++ arguments n xs))
+    ≡ length xs - (n + 1)
+spread_under p n xs =
+    omega (
+      arith,
+      spread_many p n xs,
+      length_under (length p.curry + n) (under (n + 1) xs ++ curried_in p ++ arguments n xs),
     )

@@ -7,4 +7,5 @@ pub mod Catching
 pub mod Tally
 pub mod Called
 pub mod Moving
+pub mod Readable
 pub mod Missing

@@ -4,7 +4,10 @@ use Rattle.std.specs.Prelude.{◌≡◌, ◌⊎◌, ◌<◌, ◌≤◌, ◌+◌,
 use Rattle.grain_value.specs.declared.values.Dynamic.{Dynamic}
 use Rattle.grain_value.specs.declared.values.Held.{Held}
 use Rattle.grain_value.specs.declared.scopes.Entry.{Entry}
-use Rattle.grain_value.specs.Looking.{truth_of, is_unit}
+use Rattle.grain_value.specs.declared.values.FnPtr.{FnPtr}
+use Rattle.grain_value.specs.declared.stores.Cell.{Cell}
+use Rattle.grain_value.specs.Cells.{flat}
+use Rattle.grain_value.specs.Looking.{truth_of, is_unit, cell_of, pointer_of}
 use Rattle.grain_value.specs.Operands.{top, arguments, values_in}
 use Rattle.grain_value.specs.Writing.{type_name_of}
 use Rattle.grain_fault.specs.Classes.{catchable}
@@ -13,7 +16,7 @@ use Rattle.grain_fault.specs.declared.places.Position.{Position}
 use Rattle.grain_fault.specs.declared.faults.MalformedKind.TheVariants as kind
 use Rattle.grain_fault.specs.declared.faults.EvalAltResult.{EvalAltResult}
 use Rattle.grain_fault.specs.declared.faults.EvalAltResult.TheVariants as fault
-use Rattle.grain_fault.specs.Problems.{FaultKind, FunctionNotFound, MismatchDataType, AssignmentToConstant, IndexingType, NonPureCall, DotExpr, Arithmetic, Runtime, TooManyOperations, TooManyVariables, StackOverflow, DataTooLarge, Terminated, Malformed, Problem, Plain, InFunctionCall, InModule, SystemError, NoMemory, problem_of}
+use Rattle.grain_fault.specs.Problems.{FaultKind, FunctionNotFound, MismatchDataType, AssignmentToConstant, DataRace, IndexingType, NonPureCall, DotExpr, Arithmetic, Runtime, TooManyOperations, TooManyVariables, StackOverflow, DataTooLarge, Terminated, Malformed, Problem, Plain, InFunctionCall, InModule, SystemError, NoMemory, problem_of}
 use Rattle.grain_program.specs.declared.code.instructions.Op.{Op}
 use Rattle.grain_program.specs.declared.code.instructions.Op.TheVariants as op
 use Rattle.grain_program.specs.declared.code.functions.Function.{Function}
@@ -26,41 +29,68 @@ use Rattle.grain_means.specs.Signatures.{missing_kind, not_found, says_missing}
 use Rattle.grain_host.specs.Law.{Law, Reply, Stop, native_of}
 use Rattle.grain_host.specs.Law as reply
 use Rattle.grain_value.specs.declared.natives.Native.{Native}
-use Rattle.grain_means.specs.Rules.{Receiver, lent, given, given_back, held_or, kinds_in, trees_in, first_is_read_only, throws_unit, bound, frame_at, held_at, function_found, is_stop, position, main, operated, op_assigned}
+use Rattle.grain_means.specs.Rules.{Receiver, lent, given, given_back, cells_given_back, content_now, name_at, flat_all, curried_in, spread, operand_under, race_text, is_read_only, function_by_name, kinds_in, trees_in, first_is_read_only, throws_unit, bound, frame_at, held_at, function_found, is_stop, position, main, operated, op_assigned}
 use Rattle.grain_means.specs.Means.{Begin, setup, first_world}
 use Rattle.grain_means.specs.Comes.{ProgramPoint, CatchPoint, Comes, ComesToCatch, Meets}
 
+-- the truth value that is read, if it is one
+abbrev pub truth_read : Option Dynamic → Option Bool
+truth_read None = None
+truth_read (Some v) = truth_of v
+
+-- the truth value that the last operand is, as it is read
+abbrev pub truth_on_top : {S : Type 0} → Frame → World S → Option Bool
+truth_on_top f w = truth_read (flat w.cells (top f.operands).value)
+
+-- the operand under the last n is this pointer, as it is read
+abbrev pub Points : {S : Type 0} → FnPtr → ℕ → Frame → World S → Type 0
+Points p n f w = (v : Dynamic) × (flat w.cells (operand_under n f.operands).value ≡ Some v)
+    × (pointer_of v ≡ Some p)
+
+-- a call of this function on these arguments
+abbrev pub CallsOn : {S : Type 0} → View → Function → List Held → Op → Frame → World S → Type 0
+CallsOn program g args (op.Call n k) f w =
+    (function_found program n k ≡ Some g) × (args ≡ arguments k f.operands)
+CallsOn program g args (op.CallFnPtr n) f w = (p : FnPtr) × Points p n f w
+    × (function_by_name program p.name (length p.curry + n) ≡ Some g)
+    × (args ≡ arguments (length p.curry + n) (spread p n f).operands)
+CallsOn program g args o f w = ⊥
+
 -- a call of a function that exists
-abbrev pub Calls : View → Op → Type 0
-Calls program (op.Call n k) = (g : Function) × (function_found program n k ≡ Some g)
-Calls program o = ⊥
+abbrev pub Calls : {S : Type 0} → View → Op → Frame → World S → Type 0
+Calls program o f w = (g : Function) × (args : List Held) × CallsOn program g args o f w
 
 -- it costs an operation: a transfer that is taken to a target that does not lie ahead, a call of a
 -- function that exists, or a tick
-abbrev pub Charges : View → Op → Frame → Type 0
-Charges program (op.Jump t) f = t ≤ f.address
-Charges program (op.JumpIfFalse t) f =
-    (t ≤ f.address) × (truth_of (top f.operands).value ≡ Some false)
-Charges program (op.JumpIfTrue t) f =
-    (t ≤ f.address) × (truth_of (top f.operands).value ≡ Some true)
-Charges program (op.SkipIfNotUnit t) f = (t ≤ f.address) × (is_unit (top f.operands).value ≡ false)
-Charges program (op.Call n k) f = Calls program (op.Call n k)
-Charges program op.Tick f = Unit {0}
-Charges program o f = ⊥
+abbrev pub Charges : {S : Type 0} → View → Op → Frame → World S → Type 0
+Charges program (op.Jump t) f w = t ≤ f.address
+Charges program (op.JumpIfFalse t) f w = (t ≤ f.address) × (truth_on_top f w ≡ Some false)
+Charges program (op.JumpIfTrue t) f w = (t ≤ f.address) × (truth_on_top f w ≡ Some true)
+Charges program (op.SkipIfNotUnit t) f w =
+    (t ≤ f.address) × (is_unit (top f.operands).value ≡ false)
+Charges program (op.Call n k) f w = Calls program (op.Call n k) f w
+Charges program (op.CallFnPtr n) f w = Calls program (op.CallFnPtr n) f w
+Charges program op.Tick f w = Unit {0}
+Charges program o f w = ⊥
 
 -- a declaration finds the scope full, or the parameters of a function that is called pass the limit
-abbrev pub Overfills : {S : Type 0} → View → ℕ → Op → World S → Type 0
-Overfills program limit (op.DeclareLocal n) w = limit ≤ length w.scope
-Overfills program limit (op.DeclareConst n) w = limit ≤ length w.scope
-Overfills program limit (op.Call n k) w =
-    (g : Function) × (function_found program n k ≡ Some g) × (limit < length g.params)
-Overfills program limit o w = ⊥
+abbrev pub Overfills : {S : Type 0} → View → ℕ → Op → Frame → World S → Type 0
+Overfills program limit (op.DeclareLocal n) f w = limit ≤ length w.scope
+Overfills program limit (op.DeclareConst n) f w = limit ≤ length w.scope
+Overfills program limit (op.Call n k) f w = (g : Function) × (args : List Held) ×
+    CallsOn program g args (op.Call n k) f w × (limit < length g.params)
+Overfills program limit (op.CallFnPtr n) f w = (g : Function) × (args : List Held) ×
+    CallsOn program g args (op.CallFnPtr n) f w × (limit < length g.params)
+Overfills program limit o f w = ⊥
 
 -- it reads or writes the entry at this index, by its slot
 abbrev pub UsesEntry : ℕ → Op → Frame → Type 0
 UsesEntry i (op.LoadLocal s) f = i ≡ f.base + s
 UsesEntry i (op.StoreLocal s) f = i ≡ f.base + s
 UsesEntry i (op.StoreConst s) f = i ≡ f.base + s
+UsesEntry i (op.StoreShared s) f = i ≡ f.base + s
+UsesEntry i (op.LoadShared s) f = i ≡ f.base + s
+UsesEntry i (op.Share s) f = i ≡ f.base + s
 UsesEntry i (op.AssignLocal s n) f = i ≡ f.base + s
 UsesEntry i (op.AssignLocalOp s n a) f = i ≡ f.base + s
 UsesEntry i o f = ⊥
@@ -76,6 +106,12 @@ Tests (op.JumpIfFalse t) = Unit {0}
 Tests (op.JumpIfTrue t) = Unit {0}
 Tests o = ⊥
 
+-- it asks for a pointer, under the last n operands
+abbrev pub AsksPointer : ℕ → Op → Type 0
+AsksPointer n (op.Curry k) = n ≡ k
+AsksPointer n (op.CallFnPtr k) = n ≡ k
+AsksPointer n o = ⊥
+
 -- it throws the last operand
 abbrev pub Throws : Op → Type 0
 Throws op.Throw = Unit {0}
@@ -83,7 +119,7 @@ Throws o = ⊥
 
 -- the entry at this index holds this, which can only be read if the flag says so
 abbrev pub Holds : {S : Type 0} → World S → ℕ → Bool → Held → Type 0
-Holds w i read_only h = (held_at w.scope i ≡ Some h) × (h.read_only ≡ read_only)
+Holds w i read_only h = (held_at w.scope i ≡ Some h) × (is_read_only w h ≡ read_only)
 
 -- it assigns to an entry that can only be read, and tells this name
 abbrev pub AssignsConstant : {S : Type 0} → View → List ℕ → Op → Frame → World S → Type 0
@@ -94,34 +130,40 @@ AssignsConstant program s (op.AssignLocalOp slot n a) f w =
 AssignsConstant program s o f w = ⊥
 
 -- a call looks for a function of this name with these arguments, and there is none
-abbrev pub Misses : View → List ℕ → List Held → Op → Frame → Type 0
-Misses program name args (op.Call n k) f = (name ≡ name_of program n) ×
-    (args ≡ arguments k f.operands) × (function_found program n k ≡ None)
-Misses program name args o f = ⊥
+abbrev pub Misses : {S : Type 0} → View → List ℕ → List Held → Op → Frame → World S → Type 0
+Misses program name args (op.Call n k) f w = (name ≡ name_of program n) ×
+    (flat_all w.cells (arguments k f.operands) ≡ Some args) × (function_found program n k ≡ None)
+Misses program name args (op.CallFnPtr n) f w = (p : FnPtr) × Points p n f w × (name ≡ p.name) ×
+    (flat_all w.cells (arguments (length p.curry + n) (spread p n f).operands) ≡ Some args) ×
+    (function_by_name program p.name (length p.curry + n) ≡ None)
+Misses program name args o f w = ⊥
 
 -- an operator or an op-assignment of this name asks the built-in of these operands, which says this
 abbrev pub Operates : {S : Type 0} → Setup S → Outcome → List ℕ → List Held → Op → Frame →
     World S → Type 0
 Operates m said name args (op.CallOp n k t) f w = (name ≡ name_of m.program n) ×
-    (args ≡ arguments k f.operands) ×
-    (operated m.program m.engine t (arguments k f.operands) ≡ said)
+    (flat_all w.cells (arguments k f.operands) ≡ Some args) ×
+    (operated m.program m.engine t args ≡ said)
 Operates m said name args (op.AssignLocalOp slot n a) f w =
     (name ≡ name_of m.program (assign_op_of m.program a).op_name) ×
-    ((h : Held) × Holds w (f.base + slot) false h × (args ≡ h ∷ top f.operands ∷ []) ×
-    (op_assigned m.engine (assign_op_of m.program a) h (top f.operands).value ≡ said))
+    ((h : Held) × (u : Dynamic) × (v : Dynamic) × Holds w (f.base + slot) false h ×
+    (flat w.cells h.value ≡ Some u) × (flat w.cells (top f.operands).value ≡ Some v) ×
+    (args ≡ record h { value = u } ∷ record (top f.operands) { value = v } ∷ []) ×
+    (op_assigned m.engine (assign_op_of m.program a) u v ≡ said))
 Operates m said name args o f w = ⊥
 
 -- an operator asks the built-in of these operands, which says that it is none
-abbrev pub HasNoBuiltIn : {S : Type 0} → Setup S → List ℕ → List Held → Op → Frame → Type 0
-HasNoBuiltIn m name args (op.CallOp n k t) f = (name ≡ name_of m.program n) ×
-    (args ≡ arguments k f.operands) ×
-    (operated m.program m.engine t (arguments k f.operands) ≡ NotBuiltIn)
-HasNoBuiltIn m name args o f = ⊥
+abbrev pub HasNoBuiltIn : {S : Type 0} → Setup S → List ℕ → List Held → Op → Frame → World S →
+    Type 0
+HasNoBuiltIn m name args (op.CallOp n k t) f w = (name ≡ name_of m.program n) ×
+    (flat_all w.cells (arguments k f.operands) ≡ Some args) ×
+    (operated m.program m.engine t args ≡ NotBuiltIn)
+HasNoBuiltIn m name args o f w = ⊥
 
 -- an op-assignment of this value to the entry at this index, which holds this and can be written,
--- asks the built-in, which says that it is none
-pub record AssignsByHost {S : Type 0} (m : Setup S) (a : AssignOp) (i : ℕ) (h v : Held) (o : Op)
-    (f : Frame) (w : World S) : Type 0 where
+-- asks the built-in on what they are as they are read, and it says that it is none
+pub record AssignsByHost {S : Type 0} (m : Setup S) (a : AssignOp) (i : ℕ) (h : Held)
+    (u : Dynamic) (v : Held) (o : Op) (f : Frame) (w : World S) : Type 0 where
   pub slot : ℕ
   pub name : ℕ
   pub assigns : ℕ
@@ -129,13 +171,17 @@ pub record AssignsByHost {S : Type 0} (m : Setup S) (a : AssignOp) (i : ℕ) (h 
   pub operator : a ≡ assign_op_of m.program assigns
   pub index : i ≡ f.base + slot
   pub holds : Holds w i false h
-  pub value : v ≡ top f.operands
-  pub none : op_assigned m.engine a h v.value ≡ NotBuiltIn
+  pub content : flat w.cells h.value ≡ Some u
+  pub value : flat w.cells (top f.operands).value ≡ Some v.value
+  pub flag : v.read_only ≡ (top f.operands).read_only
+  pub none : op_assigned m.engine a u v.value ≡ NotBuiltIn
 
 -- what an instruction asks the host for: a native of this name, on what is lent and on these
 -- arguments, where the host stands so
 pub record Question (S : Type 0) : Type 0 where
   pub host : S
+  -- the cells of the store then
+  pub cells : List Cell
   pub name : List ℕ
   pub lent : Option Receiver
   pub args : List Held
@@ -152,25 +198,29 @@ abbrev pub reply_to : {S : Type 0} → Setup S → Question S → ℕ → Reply
 reply_to m q key = m.law.call_reply q.host key (lent q.lent) (trees_in q.args)
 
 -- the question ended with this fault in a frame: there is no native, or the host answered it; and
--- this is then the host, and this the scope
-abbrev pub EndsWith : {S : Type 0} → Setup S → Frame → List Entry → Question S → Problem → S →
-    List Entry → Type 0
-EndsWith m f scope q x host left =
+-- this is then the host, and this the scope and the cells
+abbrev pub EndsWith : {S : Type 0} → Setup S → Frame → World S → Question S → Problem → S →
+    List Entry → List Cell → Type 0
+EndsWith m f w q x host left cells =
     ((native_asked m q ≡ None) ×
     (x ≡ not_found q.name (values_in (all_args q)) (position m f)) × (host ≡ q.host) ×
-    (left ≡ scope))
+    (left ≡ w.scope) × (cells ≡ w.cells))
     ⊎ ((n : Native) × (native_asked m q ≡ Some n) ×
     ((y : Problem) × (reply_to m q n.key ≡ reply.Failed y) ×
     (x ≡ at_position_if_none (position m f) y) ×
     (host ≡ m.law.call_after q.host n.key (lent q.lent) (trees_in q.args)) ×
-    (left ≡ given_back m.law q.host n.key (trees_in q.args) q.lent scope)))
+    (left ≡ given_back m.law q.host n.key (trees_in q.args) q.lent w.scope) ×
+    (cells ≡ cells_given_back m.law q.host n.key (trees_in q.args) q.lent w.cells)))
 
--- an op-assignment asks for the host's op-assignment, to which the entry is lent
-abbrev pub asks_first : {S : Type 0} → Setup S → AssignOp → ℕ → Held → Held → World S → Question S
-asks_first m a i h v w = record {
+-- an op-assignment asks for the host's op-assignment, to which the entry is lent, or what its cell
+-- holds
+abbrev pub asks_first : {S : Type 0} → Setup S → AssignOp → ℕ → Held → Dynamic → Held → World S →
+    Question S
+asks_first m a i h u v w = record {
   host = w.host;
+  cells = w.cells;
   name = name_of m.program a.op_assign_name;
-  lent = Some (record { index = i; held = h });
+  lent = Some (record { index = i; cell = cell_of h.value; held = record h { value = u } });
   args = v ∷ [];
 }
 
@@ -179,26 +229,27 @@ asks_first m a i h v w = record {
 -- its name is found.
 abbrev pub AsksToAssign : {S : Type 0} → Setup S → Question S → ProgramPoint S → Type 0
 AsksToAssign {S = S} m q at =
-    (a : AssignOp) × (i : ℕ) × (h : Held) × (v : Held) ×
-    AssignsByHost m a i h v at.instruction at.frame at.world ×
-    ((q ≡ asks_first m a i h v at.world)
-    ⊎ ((x : Problem) × (host : S) × (left : List Entry) ×
-    EndsWith m at.frame at.world.scope (asks_first m a i h v at.world) x host left ×
+    (a : AssignOp) × (i : ℕ) × (h : Held) × (u : Dynamic) × (v : Held) ×
+    AssignsByHost m a i h u v at.instruction at.frame at.world ×
+    ((q ≡ asks_first m a i h u v at.world)
+    ⊎ ((x : Problem) × (host : S) × (left : List Entry) × (cells : List Cell) ×
+    EndsWith m at.frame at.world (asks_first m a i h u v at.world) x host left cells ×
     (says_missing (name_of m.program a.op_assign_name) x ≡ true) ×
     (q ≡ record {
       host = host;
+      cells = cells;
       name = name_of m.program a.op_name;
       lent = None;
-      args = held_or h (held_at left i) ∷ v ∷ [];
+      args = record h { value = content_now (cell_of h.value) i h left cells } ∷ v ∷ [];
     })))
 
 -- it asks the host for a native: no function is found for a call, or no built-in for an operator or
 -- for an op-assignment
 abbrev pub AsksNative : {S : Type 0} → Setup S → Question S → ProgramPoint S → Type 0
 AsksNative m q at =
-    ((q.host ≡ at.world.host) × (q.lent ≡ None) ×
-    (Misses m.program q.name q.args at.instruction at.frame
-    ⊎ HasNoBuiltIn m q.name q.args at.instruction at.frame))
+    ((q.host ≡ at.world.host) × (q.cells ≡ at.world.cells) × (q.lent ≡ None) ×
+    (Misses m.program q.name q.args at.instruction at.frame at.world
+    ⊎ HasNoBuiltIn m q.name q.args at.instruction at.frame at.world))
     ⊎ AsksToAssign m q at
 
 -- it asks for a native that is not there, and a fault of this kind says so
@@ -234,20 +285,14 @@ FromHost m x at = (y : Problem) × (p : Position) × HostAnswers m y at × (x �
 abbrev pub IsStopped : {S : Type 0} → Setup S → Dynamic → ProgramPoint S → Type 0
 IsStopped m v at = (at.world.count < m.engine.limits.operations)
     × (m.law.progress_reply at.world.host (at.world.count + 1) ≡ Stop v)
-    × Charges m.program at.instruction at.frame
-
--- it calls this function with these arguments
-abbrev pub CallsOn : View → Function → List Held → Op → Frame → Type 0
-CallsOn program g args (op.Call n k) f =
-    (function_found program n k ≡ Some g) × (args ≡ arguments k f.operands)
-CallsOn program g args o f = ⊥
+    × Charges m.program at.instruction at.frame at.world
 
 -- the instruction at the point calls this function; its run comes to the function's body, on its
 -- arguments and one level up, and of the run of the body this holds
 pub record Enters {S : Type 0} (m : Setup S) (g : Function) (Runs : Act S → Type 0)
     (at : ProgramPoint S) : Type 0 where
   pub arguments : List Held
-  pub calls : CallsOn m.program g arguments at.instruction at.frame
+  pub calls : CallsOn m.program g arguments at.instruction at.frame at.world
   pub inside : World S
   pub comes : Comes m (InFrame (frame_at g.chunk 0 None)) inside (Go (InFrame at.frame) at.world)
   pub scope : inside.scope ≡ bound m.program g.params arguments
@@ -280,6 +325,11 @@ abbrev pub TellsHere : {S : Type 0} → Setup S → ℕ → ProgramPoint S → P
 TellsHere m level at x = (at.world.level ≡ level)
     × (HasPosition (position m at.frame) x ⊎ AnsweredSo m at x)
 
+-- the last operand is unit, as it is read
+abbrev pub ThrowsUnitAt : {S : Type 0} → Frame → World S → Type 0
+ThrowsUnitAt f w =
+    (v : Dynamic) × (flat w.cells (top f.operands).value ≡ Some v) × (is_unit v ≡ true)
+
 -- the run of an act comes to a frame of this level in which unit is thrown, at this position: by the
 -- instruction, or by the host
 pub record ThrowsUnit {S : Type 0} (m : Setup S) (act : Act S) (level : ℕ) (p : Position) : Type 0
@@ -287,7 +337,8 @@ pub record ThrowsUnit {S : Type 0} (m : Setup S) (act : Act S) (level : ℕ) (p 
     pub point : ProgramPoint S
     pub met : Meets m point act
     pub own : point.world.level ≡ level
-    pub how : (Throws point.instruction × (is_unit (top point.frame.operands).value ≡ true) ×
+    pub how : (Throws point.instruction ×
+        ThrowsUnitAt point.frame point.world ×
         (p ≡ position m point.frame))
         ⊎ ((z : Problem) × (throws_unit z ≡ true) × AnsweredSo m point z ×
         (p ≡ position_of_problem z))
@@ -321,6 +372,71 @@ pub record Raised {S : Type 0} (m : Setup S) (act : Act S) (level : ℕ) (x : Pr
   pub why : Why point
   pub tells : Tells m act level point x
 
+-- it asks for a value of the type of the first name, and reads one of the type of the second
+abbrev pub Mistypes : {S : Type 0} → List ℕ → List ℕ → Op → Frame → World S → Type 0
+Mistypes r a o f w =
+    ((v : Dynamic) × (flat w.cells (top f.operands).value ≡ Some v) × (r ≡ codes "bool") ×
+    (a ≡ type_name_of v) × (truth_of v ≡ None) × Tests o)
+    ⊎ ((n : ℕ) × (v : Dynamic) × (flat w.cells (operand_under n f.operands).value ≡ Some v) ×
+    (r ≡ codes "Fn") × (a ≡ type_name_of v) × (pointer_of v ≡ None) × AsksPointer n o)
+
+-- what is held is a cell whose content is lent, or that is not there
+abbrev pub IsLent : {S : Type 0} → World S → Held → Type 0
+IsLent w h = flat w.cells h.value ≡ None
+
+-- of an op-assignment: the value that it assigns, or what it assigns to, is a lent cell
+abbrev pub AssignsLent : {S : Type 0} → ℕ → Frame → World S → Type 0
+AssignsLent i f w = IsLent w (top f.operands) ⊎ ((h : Held) × (held_at w.scope i ≡ Some h) ×
+    IsLent w h)
+
+-- it reads or writes a cell whose content is lent, at the variable of this name
+abbrev pub ReadsLent : {S : Type 0} → View → List ℕ → Op → Frame → World S → Type 0
+ReadsLent program name (op.LoadLocal s) f w = (name ≡ name_at w.scope (f.base + s)) ×
+    ((h : Held) × (held_at w.scope (f.base + s) ≡ Some h) × IsLent w h)
+ReadsLent program name (op.StoreLocal s) f w = (name ≡ []) × AssignsLent (f.base + s) f w
+ReadsLent program name (op.StoreConst s) f w = (name ≡ []) × AssignsLent (f.base + s) f w
+ReadsLent program name (op.StoreShared s) f w = (name ≡ []) × AssignsLent (f.base + s) f w
+ReadsLent program name (op.DeclareLocal n) f w = (name ≡ []) × IsLent w (top f.operands)
+ReadsLent program name (op.DeclareConst n) f w = (name ≡ []) × IsLent w (top f.operands)
+ReadsLent program name (op.AssignLocal s n) f w =
+    (name ≡ name_of program n) × AssignsLent (f.base + s) f w
+ReadsLent program name (op.AssignLocalOp s n a) f w =
+    (name ≡ name_of program n) × AssignsLent (f.base + s) f w
+ReadsLent program name (op.JumpIfFalse t) f w = (name ≡ []) × IsLent w (top f.operands)
+ReadsLent program name (op.JumpIfTrue t) f w = (name ≡ []) × IsLent w (top f.operands)
+ReadsLent program name (op.Call n k) f w =
+    (name ≡ []) × (flat_all w.cells (arguments k f.operands) ≡ None)
+ReadsLent program name (op.CallOp n k t) f w =
+    (name ≡ []) × (flat_all w.cells (arguments k f.operands) ≡ None)
+ReadsLent program name (op.Curry n) f w = (name ≡ []) × IsLent w (operand_under n f.operands)
+ReadsLent program name (op.CallFnPtr n) f w = (name ≡ []) ×
+    (IsLent w (operand_under n f.operands) ⊎ ((p : FnPtr) × Points p n f w ×
+    (flat_all w.cells (arguments (length p.curry + n) (spread p n f).operands) ≡ None)))
+ReadsLent program name op.Throw f w = (name ≡ []) × IsLent w (top f.operands)
+ReadsLent program name o f w = ⊥
+
+-- the host answers the operator of an op-assignment to the variable of this name with a cell whose
+-- content is lent
+pub record AnswersLent {S : Type 0} (m : Setup S) (name : List ℕ) (at : ProgramPoint S) : Type 0
+  where
+    pub slot : ℕ
+    pub index : ℕ
+    pub assigns : ℕ
+    pub is : at.instruction ≡ op.AssignLocalOp slot index assigns
+    pub named : name ≡ name_of m.program index
+    pub question : Question S
+    pub asks : AsksToAssign m question at
+    pub native : Native
+    pub found : native_asked m question ≡ Some native
+    pub answer : Dynamic
+    pub answers : reply_to m question native.key ≡ reply.Done answer
+    pub lent : flat question.cells answer ≡ None
+
+-- where a fault says that the content of a cell is lent
+abbrev pub Races : {S : Type 0} → Setup S → List ℕ → ProgramPoint S → Type 0
+Races m s at = (name : List ℕ) × (s ≡ race_text name) ×
+    (ReadsLent m.program name at.instruction at.frame at.world ⊎ AnswersLent m name at)
+
 -- where an instruction raises a fault of this kind; it raises no other kind than these
 abbrev pub Raises : {S : Type 0} → Setup S → FaultKind → ProgramPoint S → Type 0
 Raises m (FunctionNotFound s) at = FindsNone m (FunctionNotFound s) at
@@ -328,20 +444,20 @@ Raises m (IndexingType s) at = FindsNone m (IndexingType s) at
 Raises m (DotExpr s) at = FindsNone m (DotExpr s) at
 Raises m (NonPureCall s) at = WritesConstant m s at
 Raises m (Terminated v) at = IsStopped m v at
-Raises m (MismatchDataType r a) at = (r ≡ codes "bool") ×
-    (a ≡ type_name_of (top at.frame.operands).value) ×
-    (truth_of (top at.frame.operands).value ≡ None) × Tests at.instruction
+Raises m (MismatchDataType r a) at = Mistypes r a at.instruction at.frame at.world
+Raises m (DataRace s) at = Races m s at
 Raises m (AssignmentToConstant s) at =
     AssignsConstant m.program s at.instruction at.frame at.world
 Raises m (Arithmetic s) at = (name : List ℕ) × (args : List Held) ×
     Operates m (ArithmeticFault s) name args at.instruction at.frame at.world
-Raises m (Runtime v) at = (v ≡ (top at.frame.operands).value) × Throws at.instruction
-Raises m TooManyOperations at =
-    (m.engine.limits.operations ≤ at.world.count) × Charges m.program at.instruction at.frame
+Raises m (Runtime v) at =
+    (flat at.world.cells (top at.frame.operands).value ≡ Some v) × Throws at.instruction
+Raises m TooManyOperations at = (m.engine.limits.operations ≤ at.world.count) ×
+    Charges m.program at.instruction at.frame at.world
 Raises m TooManyVariables at =
-    Overfills m.program m.engine.limits.variables at.instruction at.world
+    Overfills m.program m.engine.limits.variables at.instruction at.frame at.world
 Raises m StackOverflow at = (at.world.count < m.engine.limits.operations) ×
-    (m.engine.limits.levels ≤ at.world.level) × Calls m.program at.instruction
+    (m.engine.limits.levels ≤ at.world.level) × Calls m.program at.instruction at.frame at.world
 Raises m (DataTooLarge t) at = (name : List ℕ) × (args : List Held) ×
     Operates m (TooLarge t) name args at.instruction at.frame at.world
 Raises m (Malformed (kind.SlotPastScope i n)) at =

@@ -1,14 +1,17 @@
 -- The meaning of the machine: what one instruction does. Every rule is a definition by cases.
-use Rattle.std.specs.Prelude.{ℕ, ◌+◌, not, List, [], ◌∷◌, ◌++◌, Option, Some, None, Bool, true, false, if◌then◌else◌, nat_lt, nat_le, nat_eq, ◌&&◌, length, take, map, option_map, slice_get, codes}
+use Rattle.std.specs.Prelude.{ℕ, ◌+◌, not, ◌||◌, is_some, slice_set, List, [], ◌∷◌, ◌++◌, Option, Some, None, Bool, true, false, if◌then◌else◌, nat_lt, nat_le, nat_eq, ◌&&◌, length, take, map, option_map, slice_get, codes}
 use Rattle.grain_value.specs.declared.values.Dynamic.{Dynamic}
 use Rattle.grain_value.specs.declared.values.Dynamic.TheVariants as dynamic
 use Rattle.grain_value.specs.declared.values.Held.{Held}
 use Rattle.grain_value.specs.declared.scopes.Entry.{Entry}
 use Rattle.grain_value.specs.Scopes.{held_of, set_held, new_entry}
-use Rattle.grain_value.specs.Looking.{truth_of, is_unit}
+use Rattle.grain_value.specs.Looking.{truth_of, is_unit, cell_of, pointer_of}
+use Rattle.grain_value.specs.Cells.{flat, standing, idle, content_flag}
+use Rattle.grain_value.specs.declared.stores.Cell.{Cell}
+use Rattle.grain_value.specs.declared.values.FnPtr.{FnPtr}
 use Rattle.grain_value.specs.Operands.{top, below, under, arguments, rotated, read_write, values_in, bound_entries}
 use Rattle.grain_value.specs.Tree.{Tree}
-use Rattle.grain_value.specs.View.{tree}
+use Rattle.grain_value.specs.View.{tree, value_of}
 use Rattle.grain_value.specs.declared.natives.Native.{Native}
 use Rattle.grain_value.specs.Writing.{kind_of, type_name_of}
 use Rattle.grain_fault.specs.declared.places.Position.{Position}
@@ -17,14 +20,14 @@ use Rattle.grain_fault.specs.declared.faults.MalformedKind.TheVariants as kind
 use Rattle.grain_fault.specs.Classes.{catchable}
 use Rattle.grain_fault.specs.Exits.{exit_value}
 use Rattle.grain_fault.specs.Positions.{at_position, at_position_if_none, position_of_problem}
-use Rattle.grain_fault.specs.Problems.{FaultKind, Problem, Plain, InModule, SystemError, MismatchDataType, InFunctionCall, AssignmentToConstant, NonPureCall, Terminated, Arithmetic, Runtime, TooManyOperations, TooManyVariables, StackOverflow, DataTooLarge, Malformed, NoMemory}
+use Rattle.grain_fault.specs.Problems.{FaultKind, Problem, Plain, InModule, SystemError, MismatchDataType, InFunctionCall, AssignmentToConstant, DataRace, NonPureCall, Terminated, Arithmetic, Runtime, TooManyOperations, TooManyVariables, StackOverflow, DataTooLarge, Malformed, NoMemory}
 use Rattle.grain_program.specs.declared.code.parts.AssignOp.{AssignOp}
 use Rattle.grain_program.specs.declared.code.parts.Chunk.{Chunk}
 use Rattle.grain_program.specs.declared.code.functions.Function.{Function}
-use Rattle.grain_program.specs.Lookups.{function_of}
+use Rattle.grain_program.specs.Lookups.{function_of, function_by_text}
 use Rattle.grain_program.specs.declared.code.instructions.Op.{Op}
 use Rattle.grain_program.specs.declared.code.instructions.Op.TheVariants as op
-use Rattle.grain_program.specs.View.{View, const_of, name_of, token_of, assign_op_of, position_of, source_text}
+use Rattle.grain_program.specs.View.{View, const_of, name_of, token_of, assign_op_of, position_of, source_text, or_empty}
 use Rattle.grain_program.specs.Decoding.{op_at}
 use Rattle.grain_global.specs.declared.engines.Engine.{Engine}
 use Rattle.grain_ops.specs.Outcomes.{Outcome, NotBuiltIn, Gave, ArithmeticFault, TooLarge}
@@ -90,6 +93,10 @@ function_numbered p (Some i) = slice_get p.functions i
 abbrev pub function_found : View → ℕ → ℕ → Option Function
 function_found p name n = function_numbered p (function_of p name n)
 
+-- the first function that has a name of this text, with n parameters
+abbrev pub function_by_name : View → List ℕ → ℕ → Option Function
+function_by_name p name n = function_numbered p (function_by_text p name n)
+
 abbrev pub is_full : ℕ → List Entry → Bool
 is_full limit scope = nat_le limit (length scope)
 
@@ -99,10 +106,10 @@ operated program engine token args =
     if_fast engine.fast_operators
     (operation engine.limits (token_of program token) (values_in args))
 
--- what an op-assignment of a value to an entry gives, if operators are fast
-abbrev pub op_assigned : Engine → AssignOp → Held → Dynamic → Outcome
-op_assigned engine a h v =
-    if_fast engine.fast_operators (assignment engine.limits a.op_assign h.value v)
+-- what an op-assignment of the second value to the first gives, if operators are fast
+abbrev pub op_assigned : Engine → AssignOp → Dynamic → Dynamic → Outcome
+op_assigned engine a u v =
+    if_fast engine.fast_operators (assignment engine.limits a.op_assign u v)
 
 -- the kinds and the trees of what is held
 abbrev pub kinds_in : List Held → List ℕ
@@ -116,9 +123,10 @@ abbrev pub first_is_read_only : List Held → Bool
 first_is_read_only [] = false
 first_is_read_only (h ∷ hs) = h.read_only
 
--- what an entry of a scope holds, at its index, as a native is lent it
+-- what an entry of a scope holds, at its index, or what its cell holds, as a native is lent it
 pub record Receiver : Type 0 where
   pub index : ℕ
+  pub cell : Option ℕ
   pub held : Held
 
 abbrev pub lent : Option Receiver → Option Held
@@ -129,17 +137,79 @@ abbrev pub given : Option Receiver → List Held → List Held
 given None args = args
 given (Some r) args = r.held ∷ args
 
+-- the scope once this is back in the entry; where the entry is a cell it stays
+abbrev pub back_in_entry : Option ℕ → ℕ → Held → List Entry → List Entry
+back_in_entry None i h scope = set_held scope i h
+back_in_entry (Some n) i h scope = scope
+
+-- the cells once this is back in the cell, if the entry is one
+abbrev pub back_in_cell : Option ℕ → Held → List Cell → List Cell
+back_in_cell None h cells = cells
+back_in_cell (Some n) h cells = slice_set cells n (idle h)
+
 -- the scope once what was lent is back, as the native left it
 abbrev pub given_back : {S : Type 0} → Law S → S → ℕ → List Tree → Option Receiver →
     List Entry → List Entry
 given_back law s key values None scope = scope
 given_back law s key values (Some r) scope =
-    set_held scope r.index (reply.written law s key values r.held)
+    back_in_entry r.cell r.index (reply.written law s key values r.held) scope
+
+-- and the cells
+abbrev pub cells_given_back : {S : Type 0} → Law S → S → ℕ → List Tree → Option Receiver →
+    List Cell → List Cell
+cells_given_back law s key values None cells = cells
+cells_given_back law s key values (Some r) cells =
+    back_in_cell r.cell (reply.written law s key values r.held) cells
+
+-- the name of the entry at an index of a scope, if there is one
+abbrev pub name_at : List Entry → ℕ → List ℕ
+name_at scope i = or_empty (option_map (λ e. e.name) (slice_get scope i))
+
+abbrev pub flag_of_cell : Option ℕ → List Cell → Bool
+flag_of_cell None cells = false
+flag_of_cell (Some n) cells = content_flag (slice_get cells n)
+
+-- whether what is held can only be read: by its own flag, or by that of the cell's content
+abbrev pub is_read_only : {S : Type 0} → World S → Held → Bool
+is_read_only w h = h.read_only || flag_of_cell (cell_of h.value) w.cells
+
+-- what is held, as it is read, before others
+abbrev pub flat_before : Option Dynamic → Held → Option (List Held) → Option (List Held)
+flat_before None h rest = None
+flat_before (Some v) h None = None
+flat_before (Some v) h (Some hs) = Some (record h { value = v } ∷ hs)
+
+-- all that is held, as it is read, unless the content of a cell among it is lent
+abbrev pub flat_all : List Cell → List Held → Option (List Held)
+flat_all cells [] = Some []
+flat_all cells (h ∷ hs) = flat_before (flat cells h.value) h (flat_all cells hs)
+
+-- the values that stand before the arguments of a pointer's call, as arguments
+abbrev pub curried_in : FnPtr → List Held
+curried_in p = map (λ t. read_write (value_of t)) p.curry
+
+-- the frame whose last operand but n, a pointer, is replaced by the pointer's values
+abbrev pub spread : FnPtr → ℕ → Frame → Frame
+spread p n f =
+    record f { operands = under (n + 1) f.operands ++ curried_in p ++ arguments n f.operands }
+
+-- the operand under the last n
+abbrev pub operand_under : ℕ → List Held → Held
+operand_under n hs = top (under n hs)
 
 -- what is held, or else the other
 abbrev pub held_or : Held → Option Held → Held
 held_or h None = h
 held_or h (Some g) = g
+
+-- what an entry at an index, which held this, holds now, or what its cell holds
+abbrev pub content_now : Option ℕ → ℕ → Held → List Entry → List Cell → Dynamic
+content_now None i h scope cells = (held_or h (held_at scope i)).value
+content_now (Some n) i h scope cells = standing (slice_get cells n)
+
+-- the text of a fault that the cell of a variable is lent
+abbrev pub race_text : List ℕ → List ℕ
+race_text name = codes "variable '" ++ name ++ codes "'"
 
 -- whether a fault of this kind is a throw of unit; no other kind is
 abbrev pub kind_throws_unit : FaultKind → Bool
@@ -290,18 +360,40 @@ module _ {S : Type 0} (m : Setup S) where
   abbrev pub pushed : Frame → ℕ → List Held → Dynamic → World S → Act S
   pushed f next operands v w = onward f (stepped f next (operands ++ read_write v ∷ [])) w
 
-  -- what an operand or an entry holds, as a value, and then what follows from it
+  -- the fault that the cell of a variable is lent
+  abbrev pub data_race : List ℕ → Frame → World S → Act S
+  data_race name f w = raised f (Plain (DataRace (race_text name)) (position f)) w
+
+  abbrev pub flat_or_race : Option Dynamic → List ℕ → Frame → World S → (Dynamic → Act S) → Act S
+  flat_or_race None name f w go = data_race name f w
+  flat_or_race (Some v) name f w go = go v
+
+  -- what an operand or an entry holds, as it is read, and then what follows from it
   abbrev pub flattened : Held → List ℕ → Frame → World S → (Dynamic → Act S) → Act S
-  flattened h name f w go = go h.value
+  flattened h name f w go = flat_or_race (flat w.cells h.value) name f w go
 
-  -- whether what is held can only be read
-  abbrev pub is_read_only : World S → Held → Bool
-  is_read_only w h = h.read_only
+  abbrev pub all_or_race : Option (List Held) → Frame → World S → (List Held → Act S) → Act S
+  all_or_race None f w go = data_race [] f w
+  all_or_race (Some hs) f w go = go hs
 
-  -- a value is written in the place of what the entry at the index holds
-  abbrev pub written : Bool → ℕ → Held → Dynamic → World S → World S
-  written read_only i h v w =
-      record w { scope = set_held w.scope i (record { value = v; read_only = read_only }) }
+  -- what operands hold, each as it is read, and then what follows from it
+  abbrev pub flattened_all : List Held → Frame → World S → (List Held → Act S) → Act S
+  flattened_all hs f w go = all_or_race (flat_all w.cells hs) f w go
+
+  -- a cell is written, unless its content is lent
+  abbrev pub cell_written : Option Cell → ℕ → Held → List ℕ → Frame → World S →
+      (World S → Act S) → Act S
+  cell_written None n h name f w go = data_race name f w
+  cell_written (Some c) n h name f w go =
+      if c.busy then data_race name f w
+      else marked f w (λ w1. go (record w1 { cells = slice_set w1.cells n (idle h) }))
+
+  -- this is written into the entry at the index, or into the cell that the entry is
+  abbrev pub written : Option ℕ → ℕ → Held → List ℕ → Frame → World S → (World S → Act S) →
+      Act S
+  written None i h name f w go =
+      marked f w (λ w1. go (record w1 { scope = set_held w1.scope i h }))
+  written (Some n) i h name f w go = cell_written (slice_get w.cells n) n h name f w go
 
   -- a slot past the scope
   abbrev pub slot_past_scope : Frame → ℕ → World S → Act S
@@ -331,6 +423,7 @@ module _ {S : Type 0} (m : Setup S) where
       marked f (record w1 {
         host = m.law.call_after w1.host key (lent r) (trees_in args);
         scope = given_back m.law w1.host key (trees_in args) r w1.scope;
+        cells = cells_given_back m.law w1.host key (trees_in args) r w1.cells;
       }) (λ w2.
       answered (m.law.call_reply w1.host key (lent r) (trees_in args)) f w2 go fails))
 
@@ -357,16 +450,34 @@ module _ {S : Type 0} (m : Setup S) where
 
   abbrev pub load_local : ℕ → ℕ → Frame → World S → Act S
   load_local slot next f w =
-      at_slot f slot w (λ h. flattened h [] f w (λ v. pushed f next f.operands v w))
+      at_slot f slot w
+      (λ h. flattened h (name_at w.scope (f.base + slot)) f w (λ v. pushed f next f.operands v w))
+
+  -- what an entry holds, of which a cell stays a cell
+  abbrev pub load_shared : ℕ → ℕ → Frame → World S → Act S
+  load_shared slot next f w = at_slot f slot w (λ h. pushed f next f.operands h.value w)
+
+  -- what an entry holds goes to a new cell, which the entry then is; an entry that is a cell stays
+  abbrev pub shared : Option ℕ → Held → ℕ → ℕ → Frame → World S → Act S
+  shared None h slot next f w =
+      marked f w (λ w1. marked f (record w1 { cells = w1.cells ++ idle h ∷ [] }) (λ w2.
+      onward f (stepped f next f.operands) (record w2 {
+        scope = set_held w2.scope (f.base + slot)
+            (read_write (dynamic.Cell (length w1.cells)));
+      })))
+  shared (Some n) h slot next f w = onward f (stepped f next f.operands) w
+
+  abbrev pub share : ℕ → ℕ → Frame → World S → Act S
+  share slot next f w = at_slot f slot w (λ h. shared (cell_of h.value) h slot next f w)
 
   -- one entry more, which can only be read where the flag says so
   abbrev pub declare : Bool → List ℕ → ℕ → Frame → World S → Act S
   declare read_only name next f w =
+      flattened (top f.operands) [] f w (λ v.
       if is_full m.engine.limits.variables w.scope
       then raised f (Plain TooManyVariables (position f)) w
       else
-      flattened (top f.operands) name f w
-      (λ v. marked f w (λ w1. onward f (stepped f next (below f.operands)) (record w1 {
+      marked f w (λ w1. onward f (stepped f next (below f.operands)) (record w1 {
         scope = w1.scope ++
             new_entry name (record { value = v; read_only = read_only }) ∷ [];
       })))
@@ -376,62 +487,80 @@ module _ {S : Type 0} (m : Setup S) where
   assignment_to_constant n f w =
       raised f (Plain (AssignmentToConstant (name_of m.program n)) (position f)) w
 
-  -- a value into the entry of a slot, with which the last operand is used up
-  abbrev pub write_entry : Bool → ℕ → Held → Dynamic → ℕ → Frame → World S → Act S
-  write_entry read_only slot h v next f w =
-      marked f w
-      (λ w1. onward f (stepped f next (below f.operands))
-      (written read_only (f.base + slot) h v w1))
+  -- this into the entry of a slot, which holds something so far, or into the cell that it is; with
+  -- which the last operand is used up
+  abbrev pub write_entry : Held → ℕ → Held → List ℕ → ℕ → Frame → World S → Act S
+  write_entry before slot h name next f w =
+      written (cell_of before.value) (f.base + slot) h name f w
+      (onward f (stepped f next (below f.operands)))
 
-  -- the last operand into the entry, whatever stands there
+  -- the last operand, as it is written into an entry that is a cell, or into any other
+  abbrev pub operand_for : Option ℕ → Frame → World S → (Dynamic → Act S) → Act S
+  operand_for None f w go = go (top f.operands).value
+  operand_for (Some n) f w go = flattened (top f.operands) [] f w go
+
+  -- the last operand into the entry, whatever stands there, with this flag
   abbrev pub store_local : Bool → ℕ → ℕ → Frame → World S → Act S
   store_local read_only slot next f w =
-      at_slot f slot w
-      (λ h. flattened (top f.operands) [] f w (λ v. write_entry read_only slot h v next f w))
+      at_slot f slot w (λ h. operand_for (cell_of h.value) f w
+      (λ v. write_entry h slot (record { value = v; read_only = read_only }) [] next f w))
 
   abbrev pub assign : ℕ → ℕ → ℕ → Frame → World S → Act S
   assign slot n next f w =
-      at_slot f slot w (λ h. if is_read_only w h then assignment_to_constant n f w else
-      flattened (top f.operands) (name_of m.program n) f w
-      (λ v. write_entry h.read_only slot h v next f w))
+      at_slot f slot w (λ h. flattened (top f.operands) (name_of m.program n) f w (λ v.
+      if is_read_only w h then assignment_to_constant n f w else
+      write_entry h slot (record h { value = v }) (name_of m.program n) next f w))
 
-  -- the host's operator on copies of what is held and of the last operand, whose value the entry
-  -- takes
-  abbrev pub operator_assigned : List ℕ → Held → ℕ → ℕ → Frame → World S → Act S
-  operator_assigned name h slot next f w =
-      native name None (h ∷ top f.operands ∷ []) f w
-      (λ v w1. write_entry h.read_only slot h v next f w1) (raised f)
+  -- the host's operator on copies of what is held and of the operand, whose value is assigned
+  abbrev pub operator_assigned : List ℕ → Held → Held → Held → ℕ → ℕ → ℕ → Frame → World S →
+      Act S
+  operator_assigned name h u v slot n next f w =
+      native name None (u ∷ v ∷ []) f w
+      (λ r w1. flattened (read_write r) (name_of m.program n) f w1 (λ q.
+      write_entry h slot (record h { value = q }) (name_of m.program n) next f w1)) (raised f)
 
-  -- the fault of the host's op-assignment; where there is none of its name, its operator is asked
-  abbrev pub op_assign_failed : AssignOp → Held → ℕ → ℕ → Frame → Problem → World S → Act S
-  op_assign_failed a h slot next f x w =
+  -- the fault of the host's op-assignment; where there is none of its name, its operator is asked,
+  -- on what the entry then holds
+  abbrev pub op_assign_failed : AssignOp → Held → Held → ℕ → ℕ → ℕ → Frame → Problem → World S →
+      Act S
+  op_assign_failed a h v slot n next f x w =
       if says_missing (name_of m.program a.op_assign_name) x then
-      operator_assigned (name_of m.program a.op_name)
-      (held_or h (held_at w.scope (f.base + slot))) slot next f w
+      operator_assigned (name_of m.program a.op_name) h
+      (record h { value = content_now (cell_of h.value) (f.base + slot) h w.scope w.cells }) v slot n
+      next f w
       else raised f x w
 
-  -- the host's op-assignment, to which the entry is lent
-  abbrev pub native_assigned : AssignOp → Held → ℕ → ℕ → Frame → World S → Act S
-  native_assigned a h slot next f w =
+  -- the host's op-assignment, to which the entry is lent, or what its cell holds
+  abbrev pub native_assigned : AssignOp → Held → Dynamic → Held → ℕ → ℕ → ℕ → Frame → World S →
+      Act S
+  native_assigned a h u v slot n next f w =
       native (name_of m.program a.op_assign_name)
-      (Some (record { index = f.base + slot; held = h })) (top f.operands ∷ []) f w
-      (λ v w1. onward f (stepped f next (below f.operands)) w1)
-      (op_assign_failed a h slot next f)
+      (Some (record {
+        index = f.base + slot;
+        cell = cell_of h.value;
+        held = record h { value = u };
+      })) (v ∷ []) f w
+      (λ r w1. onward f (stepped f next (below f.operands)) w1)
+      (op_assign_failed a h v slot n next f)
 
   -- what an op-assignment gives, in the entry
-  abbrev pub store_outcome : Outcome → AssignOp → Held → ℕ → ℕ → Frame → World S → Act S
-  store_outcome NotBuiltIn a h slot next f w = native_assigned a h slot next f w
-  store_outcome (Gave v) a h slot next f w = write_entry h.read_only slot h v next f w
-  store_outcome (ArithmeticFault text) a h slot next f w =
+  abbrev pub store_outcome : Outcome → AssignOp → Held → Dynamic → Held → ℕ → ℕ → ℕ → Frame →
+      World S → Act S
+  store_outcome NotBuiltIn a h u v slot n next f w = native_assigned a h u v slot n next f w
+  store_outcome (Gave r) a h u v slot n next f w =
+      write_entry h slot (record h { value = r }) (name_of m.program n) next f w
+  store_outcome (ArithmeticFault text) a h u v slot n next f w =
       raised f (Plain (Arithmetic text) (position f)) w
-  store_outcome (TooLarge what) a h slot next f w =
+  store_outcome (TooLarge what) a h u v slot n next f w =
       raised f (Plain (DataTooLarge what) (position f)) w
 
   abbrev pub assign_op : AssignOp → ℕ → ℕ → ℕ → Frame → World S → Act S
   assign_op a slot n next f w =
-      at_slot f slot w (λ h. if is_read_only w h then assignment_to_constant n f w else
-      flattened (top f.operands) (name_of m.program n) f w
-      (λ v. store_outcome (op_assigned m.engine a h v) a h slot next f w))
+      at_slot f slot w (λ h. flattened (top f.operands) (name_of m.program n) f w (λ v.
+      if is_read_only w h then assignment_to_constant n f w else
+      flattened h (name_of m.program n) f w (λ u.
+      store_outcome (op_assigned m.engine a u v) a h u (record (top f.operands) { value = v })
+      slot n next f w)))
 
   -- what an operator gives, as the last operand
   abbrev pub push_outcome : Outcome → List ℕ → List Held → ℕ → List Held → Frame → World S →
@@ -514,9 +643,38 @@ module _ {S : Type 0} (m : Setup S) where
   -- the function on the last operands, if there is one, and else a native
   abbrev pub call_function : Option Function → List ℕ → ℕ → Frame → ℕ → World S → Act S
   call_function None name count f next w =
-      native name None (arguments count f.operands) f w
-      (λ v w1. pushed f next (under count f.operands) v w1) (raised f)
+      flattened_all (arguments count f.operands) f w (λ args. native name None args f w
+      (λ v w1. pushed f next (under count f.operands) v w1) (raised f))
   call_function (Some g) name count f next w = enter_function g count f next w
+
+  -- a value that is no pointer
+  abbrev pub not_a_pointer : Dynamic → Frame → World S → Act S
+  not_a_pointer v f w =
+      raised f (Plain (MismatchDataType (codes "Fn") (type_name_of v)) (position f)) w
+
+  -- the last n operands go behind the values of a pointer
+  abbrev pub curried : Option FnPtr → Dynamic → ℕ → ℕ → Frame → World S → Act S
+  curried None v n next f w = not_a_pointer v f w
+  curried (Some p) v n next f w =
+      pushed f next (under (n + 1) f.operands) (dynamic.Pointer (record p {
+        curry = p.curry ++ trees_in (arguments n f.operands);
+      })) w
+
+  abbrev pub curry : ℕ → ℕ → Frame → World S → Act S
+  curry n next f w =
+      flattened (operand_under n f.operands) [] f w (λ v. curried (pointer_of v) v n next f w)
+
+  -- the function of a pointer, on its values and the last n operands
+  abbrev pub pointer_called : Option FnPtr → Dynamic → ℕ → ℕ → Frame → World S → Act S
+  pointer_called None v n next f w = not_a_pointer v f w
+  pointer_called (Some p) v n next f w =
+      let count = length p.curry + n in
+      call_function (function_by_name m.program p.name count) p.name count (spread p n f) next w
+
+  abbrev pub call_pointer : ℕ → ℕ → Frame → World S → Act S
+  call_pointer n next f w =
+      flattened (operand_under n f.operands) [] f w
+      (λ v. pointer_called (pointer_of v) v n next f w)
 
   -- an armed handler more, with as many operands and entries of the scope as there are
   abbrev pub push_handler : ℕ → Option ℕ → ℕ → Frame → World S → Act S
@@ -541,10 +699,15 @@ module _ {S : Type 0} (m : Setup S) where
   instr (op.LoadLocal slot) next f w = load_local slot next f w
   instr (op.StoreLocal slot) next f w = store_local false slot next f w
   instr (op.StoreConst slot) next f w = store_local true slot next f w
+  instr (op.StoreShared slot) next f w = store_local (top f.operands).read_only slot next f w
   instr (op.DeclareLocal n) next f w = declare false (name_of m.program n) next f w
   instr (op.DeclareConst n) next f w = declare true (name_of m.program n) next f w
   instr (op.AssignLocal slot n) next f w = assign slot n next f w
   instr (op.AssignLocalOp slot n a) next f w = assign_op (assign_op_of m.program a) slot n next f w
+  instr (op.LoadShared slot) next f w = load_shared slot next f w
+  instr (op.Share slot) next f w = share slot next f w
+  instr op.IsShared next f w =
+      pushed f next (below f.operands) (dynamic.Bool (is_some (cell_of (top f.operands).value))) w
   instr op.Pop next f w = onward f (stepped f next (below f.operands)) w
   instr (op.Rotate n) next f w = onward f (stepped f next (rotated n f.operands)) w
   instr (op.Jump target) next f w = jumped f (stepped f target f.operands) w
@@ -554,8 +717,14 @@ module _ {S : Type 0} (m : Setup S) where
   instr (op.Call n count) next f w =
       call_function (function_found m.program n count) (name_of m.program n) count f next w
   instr (op.CallOp n count o) next f w =
-      push_outcome (operated m.program m.engine o (arguments count f.operands))
-      (name_of m.program n) (arguments count f.operands) next (under count f.operands) f w
+      flattened_all (arguments count f.operands) f w (λ args.
+      push_outcome (operated m.program m.engine o args) (name_of m.program n) args next
+      (under count f.operands) f w)
+  instr (op.MakeClosure n) next f w =
+      pushed f next f.operands (dynamic.Pointer (record { name = name_of m.program n; curry = [] }))
+      w
+  instr (op.Curry n) next f w = curry n next f w
+  instr (op.CallFnPtr n) next f w = call_pointer n next f w
   instr (op.UnwindTo depth) next f w = unwind (f.base + depth) next f w
   instr op.Tick next f w = charged f w (onward f (stepped f next f.operands))
   instr op.Checkpoint next f w = onward f (record f { address = next; floor = length w.scope }) w

@@ -1,5 +1,6 @@
 -- What is quickly said of an operator on two integers.
-use Rattle.std.specs.Prelude.{◌≡◌}
+use Rattle.std.specs.Prelude.{◌≡◌, ℤ}
+use Rattle.grain_value.specs.declared.values.Dynamic.{Dynamic}
 use Rattle.grain_value.specs.declared.values.Dynamic.TheVariants as dynamic
 use Rattle.grain_ops.specs.Outcomes.{Outcome, Gave}
 use Rattle.grain_ops.specs.declared.quick.Quick.{Quick}
@@ -10,6 +11,10 @@ abbrev pub Agrees : Quick → Outcome → Type 0
 Agrees (quick.Int z) o = o ≡ Gave (dynamic.Int z)
 Agrees (quick.Bool b) o = o ≡ Gave (dynamic.Bool b)
 Agrees quick.None o = Unit {0}
+
+-- both values are integers
+abbrev pub AreIntegers : Dynamic → Dynamic → Type 0
+AreIntegers u v = (x : ℤ) × (y : ℤ) × (u ≡ dynamic.Int x) × (v ≡ dynamic.Int y)
 
 -- something is given
 abbrev pub IsGiven : Quick → Type 0

@@ -5,7 +5,7 @@ ghost use Rattle.std.specs.Prelude.{◌≡◌, IfSome};
 ghost use Rattle.grain_value.specs.declared.values.Dynamic.TheVariants as dynamic;
 ghost use Rattle.grain_value.specs.declared.values.Limits.{Limits};
 ghost use Rattle.grain_ops.specs.Outcomes.{Outcome, Gave};
-ghost use Rattle.grain_ops.specs.Agreement.{Agrees};
+ghost use Rattle.grain_ops.specs.Agreement.{Agrees, AreIntegers, IsGiven};
 ghost use Rattle.grain_ops.specs.Operators.{integers, binary, assignment, assigned_by, operator_of};
 
 use crate::calculations::Calculation;
@@ -25,7 +25,8 @@ pub enum Quick {
 /// What an operator makes of two values, if they are integers and the result fits.
 #[inline(always)]
 pub fn quick_operated(token: Token, lhs: &Dynamic, rhs: &Dynamic) -> Quick
-    ensures { (limits : Limits) → Agrees result (binary limits token lhs.now rhs.now) }
+    ensures agrees { (limits : Limits) → Agrees result (binary limits token lhs.now rhs.now) }
+    ensures integers { IsGiven result → AreIntegers lhs.now rhs.now }
 {
     match lhs {
         Dynamic::Int(x) => match rhs {
@@ -68,8 +69,9 @@ fn quick_sum(number: Option<i64>) -> Quick
 /// The integer that an op-assignment makes of a target and a value that are integers, if it fits.
 #[inline(always)]
 pub fn quick_assigned(token: Token, target: &Dynamic, value: &Dynamic) -> Option<i64>
-    ensures { (limits : Limits) →
+    ensures assigned { (limits : Limits) →
         IfSome result (λ z. assignment limits token target.now value.now ≡ Gave (dynamic.Int z)) }
+    ensures integers { IfSome result (λ _. AreIntegers target.now value.now) }
 {
     match target {
         Dynamic::Int(x) => match value {

@@ -61,6 +61,9 @@ no_capability = 0
 abbrev pub function_calls : ℕ
 function_calls = 1
 
+abbrev pub closures : ℕ
+closures = 4
+
 -- an instruction that needs no capability
 abbrev pub plain : List ℕ → ℕ → List Field → ℕ → ℕ → Transfer → Row
 plain word tag fields takes gives transfer =
@@ -80,6 +83,7 @@ row op.True = plain (codes "true") 0x04 [] 0 1 falls_through
 row (op.LoadLocal s) = plain (codes "load_local") 0x05 (field.Slot s ∷ []) 0 1 falls_through
 row (op.StoreLocal s) = plain (codes "store_local") 0x06 (field.Slot s ∷ []) 1 0 falls_through
 row (op.StoreConst s) = plain (codes "store_const") 0x07 (field.Slot s ∷ []) 1 0 falls_through
+row (op.StoreShared s) = plain (codes "store_shared") 0x08 (field.Slot s ∷ []) 1 0 falls_through
 row (op.DeclareLocal n) = plain (codes "declare_local") 0x0d (field.Name n ∷ []) 1 0 falls_through
 row (op.DeclareConst n) = plain (codes "declare_const") 0x0e (field.Name n ∷ []) 1 0 falls_through
 row (op.AssignLocal s n) =
@@ -87,6 +91,10 @@ row (op.AssignLocal s n) =
 row (op.AssignLocalOp s n a) =
     let fields : List Field = field.Slot s ∷ field.Name n ∷ field.Assignment a ∷ [] in
     plain (codes "assign_local_op") 0x11 fields 1 0 falls_through
+row (op.LoadShared s) = plain (codes "load_shared") 0x17 (field.Slot s ∷ []) 0 1 falls_through
+row (op.Share s) =
+    entry (codes "share") 0x18 (field.Slot s ∷ []) 0 0 falls_through closures
+row op.IsShared = entry (codes "is_shared") 0x1a [] 1 1 falls_through closures
 row op.Pop = plain (codes "pop") 0x1b [] 1 0 falls_through
 row (op.Rotate u) = plain (codes "rotate") 0x1c (field.Count u ∷ []) (u + 1) (u + 1) falls_through
 row (op.Jump t) = plain (codes "jump") 0x1d (field.Target t ∷ []) 0 0 jumps
@@ -98,6 +106,12 @@ row (op.Call n k) =
 row (op.CallOp n k o) =
     let fields : List Field = field.Name n ∷ field.Count k ∷ field.Token o ∷ [] in
     plain (codes "call_op") 0x23 fields k 1 falls_through
+row (op.MakeClosure n) =
+    entry (codes "make_closure") 0x27 (field.Name n ∷ []) 0 1 falls_through function_calls
+row (op.Curry k) =
+    entry (codes "curry") 0x29 (field.Count k ∷ []) (k + 1) 1 falls_through function_calls
+row (op.CallFnPtr k) =
+    entry (codes "call_fn_ptr") 0x2a (field.Count k ∷ []) (k + 1) 1 falls_through function_calls
 row (op.UnwindTo d) = plain (codes "unwind_to") 0x38 (field.Number d ∷ []) 0 0 falls_through
 row op.Tick = plain (codes "tick") 0x39 [] 0 0 falls_through
 row op.Checkpoint = plain (codes "checkpoint") 0x3a [] 0 0 falls_through
@@ -131,10 +145,14 @@ instructions =
     (λ n. op.LoadLocal (first n)) ∷
     (λ n. op.StoreLocal (first n)) ∷
     (λ n. op.StoreConst (first n)) ∷
+    (λ n. op.StoreShared (first n)) ∷
     (λ n. op.DeclareLocal (first n)) ∷
     (λ n. op.DeclareConst (first n)) ∷
     (λ n. op.AssignLocal (first n) (second n)) ∷
     (λ n. op.AssignLocalOp (first n) (second n) (third n)) ∷
+    (λ n. op.LoadShared (first n)) ∷
+    (λ n. op.Share (first n)) ∷
+    (λ n. op.IsShared) ∷
     (λ n. op.Pop) ∷
     (λ n. op.Rotate (first n)) ∷
     (λ n. op.Jump (first n)) ∷
@@ -143,6 +161,9 @@ instructions =
     (λ n. op.SkipIfNotUnit (first n)) ∷
     (λ n. op.Call (first n) (second n)) ∷
     (λ n. op.CallOp (first n) (second n) (third n)) ∷
+    (λ n. op.MakeClosure (first n)) ∷
+    (λ n. op.Curry (first n)) ∷
+    (λ n. op.CallFnPtr (first n)) ∷
     (λ n. op.UnwindTo (first n)) ∷
     (λ n. op.Tick) ∷
     (λ n. op.Checkpoint) ∷

@@ -1,3 +1,4 @@
 pub mod Lists
 pub mod Nesting
 pub mod Handling
+pub mod Spreading

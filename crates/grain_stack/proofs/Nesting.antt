@@ -46,6 +46,23 @@ same_sound s t i eo co eb er en ef et ct eh = record {
   handlers = rw (ef, eh) i.handlers;
 }
 
+-- the same where the frame has more operands
+pub grown_sound : (s t : Inside) → IsSound s →
+    length s.slots.operands ≤ length t.slots.operands →
+    s.slots.slots ≤ t.slots.slots → t.bottom ≡ s.bottom → t.room ≡ s.room →
+    t.noted ≡ s.noted → t.outer.items ≡ s.outer.items → t.trace.items ≡ s.trace.items →
+    vec_capacity s.trace ≤ vec_capacity t.trace → t.handlers ≡ s.handlers → IsSound t
+grown_sound s t i longer co eb er en ef et ct eh = record {
+  bottom = rw eb (omega (arith, i.bottom, longer));
+  room = omega (arith, i.room, co, eb, er);
+  nested = rw (eb, ef) (nested_up (s.slots.slots) (t.slots.slots) s.bottom (floors s) co i.nested);
+  notes =
+      let long : length t.trace.items ≡ length s.trace.items = ap length et in
+      let free : unnoted t.noted (floors t) ≡ unnoted s.noted (floors s) = rw (en, ef) refl in
+      omega (arith, i.notes, ct, long, free);
+  handlers = rw (ef, eh) i.handlers;
+}
+
 -- a frame more, around which the others keep their room
 pub entered_sound : (s t : Inside) (f : Floor) → IsSound s → t.slots.operands ≡ s.slots.operands →
     s.slots.slots ≤ t.slots.slots → t.bottom ≡ length s.slots.operands → t.bottom + t.room ≤

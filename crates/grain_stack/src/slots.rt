@@ -1,6 +1,6 @@
 //! The operands of all frames, in slots that are made ahead.
 
-ghost use Rattle.std.specs.Prelude.{◌≡◌, ◌<◌, ◌≤◌, ◌+◌, ◌-◌, ◌++◌, ◌∷◌, [], length, take, is_ok, OnOk, slice_set, if◌then◌else◌};
+ghost use Rattle.std.specs.Prelude.{◌≡◌, ◌<◌, ◌≤◌, ◌+◌, ◌-◌, ◌++◌, ◌∷◌, [], length, take, is_ok, OnOk, slice_set, if◌then◌else◌, reverse};
 ghost use Rattle.grain_value.specs.declared.values.Dynamic.TheVariants as dynamic;
 ghost use Rattle.grain_value.specs.Scopes.{new_entry};
 ghost use Rattle.grain_value.specs.Operands.{top, below, under, rotated, read_write};
@@ -127,6 +127,19 @@ impl Slots {
         slot.read_only = false;
         self.height = place + 1;
         true
+    }
+
+    /// More operands, the newest first, for which there are slots.
+    pub fn push_all(&mut self, taken: Vec<Held>)
+        requires room { length self.old.operands + length taken.items ≤ self.old.slots }
+        ensures { self.new ≡ record self.old {
+          operands = self.old.operands ++ reverse taken.items;
+        } }
+    {
+        let mut taken = taken;
+        'push: while let Some(held) = taken.pop() {
+            self.push(held);
+        }
     }
 
     /// Takes the last operand.

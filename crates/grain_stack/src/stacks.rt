@@ -1,6 +1,6 @@
 //! One stack of operands for all frames, their handlers, and the trace of a fault.
 
-ghost use Rattle.std.specs.Prelude.{◌≡◌, ◌<◌, ◌≤◌, ◌+◌, ◌++◌, ◌∷◌, [], length, take, is_ok, if◌then◌else◌, option_map, OnOk, All, true, false};
+ghost use Rattle.std.specs.Prelude.{◌≡◌, ◌<◌, ◌≤◌, ◌+◌, ◌++◌, ◌∷◌, [], length, take, is_ok, if◌then◌else◌, option_map, OnOk, IfOk, All, true, false, map, reverse};
 ghost use Rattle.grain_value.specs.declared.values.Dynamic.TheVariants as dynamic;
 ghost use Rattle.grain_value.specs.Operands.{top, below, under, rotated, read_write, arguments, bound_entries};
 ghost use Rattle.grain_stack.specs.Handlers.{first_of};
@@ -339,6 +339,53 @@ impl Stacks {
         Ok(())
     }
 
+    /// Puts values, which can be written, in the place of the operand that has `depth` others above
+    /// it. The frame may then have more operands than room for them. After want of memory it is not
+    /// said what the operands are; all else is as it was.
+    pub fn spread(
+        &mut self,
+        alloc: Global,
+        depth: usize,
+        values: Vec<Dynamic>,
+    ) -> Result<(), OutOfMemory>
+        requires there { depth < length self.old.operands }
+        ensures operands { OnOk result (self.new.operands ≡ under (depth + 1) self.old.operands
+            ++ map read_write values.items ++ arguments depth self.old.operands) }
+        ensures others { self.new ≡ record self.old { operands = self.new.operands } }
+    {
+        let mut above = self.take_off(alloc, depth)?;
+        drop(self.pop());
+        add_values(&mut above, values)?;
+        self.put_back(above)
+    }
+
+    // Gives the frame operands, the newest first. After want of memory the stacks are as they were.
+    fn put_back(&mut self, taken: Vec<Held>) -> Result<(), OutOfMemory>
+        ensures { self.new ≡ (if is_ok result
+            then record self.old { operands = self.old.operands ++ reverse taken.items }
+            else self.old) }
+    {
+        self.slots.reserve(taken.len())?;
+        self.slots.push_all(taken);
+        Ok(())
+    }
+
+    // Takes the last `count` operands, the newest first. After want of memory it is not said what
+    // the operands are.
+    fn take_off(&mut self, alloc: Global, count: usize) -> Result<Vec<Held>, OutOfMemory>
+        requires there { count ≤ length self.old.operands }
+        ensures taken { IfOk result
+            (λ taken. taken.items ≡ reverse (arguments count self.old.operands)) }
+        ensures left { OnOk result (self.new.operands ≡ under count self.old.operands) }
+        ensures others { self.new ≡ record self.old { operands = self.new.operands } }
+    {
+        let mut taken = Vec::with_capacity(alloc, count)?;
+        'take: for _ in 0..count {
+            taken.push(self.pop())?;
+        }
+        Ok(taken)
+    }
+
     /// Writes an integer in the place of the last two operands.
     #[inline(always)]
     pub fn answer_int(&mut self, integer: i64)
@@ -434,4 +481,16 @@ impl Stacks {
     {
         self.entered
     }
+}
+
+// Adds values, the last one first, held so that they can be written.
+fn add_values(held: &mut Vec<Held>, values: Vec<Dynamic>) -> Result<(), OutOfMemory>
+    ensures { OnOk result
+        (held.new.items ≡ held.old.items ++ reverse (map read_write values.items)) }
+{
+    let mut values = values;
+    'values: while let Some(value) = values.pop() {
+        held.push(Held::read_write(value))?;
+    }
+    Ok(())
 }

@@ -54,6 +54,7 @@ left_behind (dynamic.Map es) = dynamic.Unit
 left_behind (dynamic.Pointer p) = dynamic.Unit
 left_behind (dynamic.Range from to inclusive) = dynamic.Range from to inclusive
 left_behind (dynamic.Foreign kind number) = dynamic.Foreign kind number
+left_behind (dynamic.Cell number) = dynamic.Cell number
 
 -- an operand as an entry of a scope, which can be written, under the name of an index
 abbrev pub bound_entry : List (List ℕ) → ℕ → Held → Entry

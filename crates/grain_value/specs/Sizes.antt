@@ -1,6 +1,6 @@
 -- How much a value holds: the elements of arrays, the values of maps, and the bytes of texts.
 use Rattle.std.specs.Prelude.{ℕ, ◌+◌, ◌-◌, ◌^◌, List, length, min}
-use Rattle.grain_value.specs.Tree.{Tree, Trees, Fields, unit, boolean, integer, character, text, array, blob, dict, pointer, range, foreign, no_trees, more_trees, no_fields, more_fields, pack, pack_fields}
+use Rattle.grain_value.specs.Tree.{Tree, Trees, Fields, unit, boolean, integer, character, text, array, blob, dict, pointer, range, foreign, cell, no_trees, more_trees, no_fields, more_fields, pack, pack_fields}
 use Rattle.grain_value.specs.Maps.{Entries}
 use Rattle.grain_value.specs.declared.values.Dynamic.{Dynamic}
 use Rattle.grain_value.specs.declared.values.Dynamic.TheVariants as dynamic
@@ -36,6 +36,7 @@ abbrev mutual
   inner_sizes (pointer name ts) = nothing
   inner_sizes (range a b i) = nothing
   inner_sizes (foreign k n) = nothing
+  inner_sizes (cell n) = nothing
 
   pub element_sizes : Trees → Sizes
   element_sizes no_trees = nothing
@@ -64,6 +65,7 @@ data_sizes (dynamic.Map es) = map_sizes es
 data_sizes (dynamic.Pointer p) = nothing
 data_sizes (dynamic.Range from to inclusive) = nothing
 data_sizes (dynamic.Foreign kind number) = nothing
+data_sizes (dynamic.Cell number) = nothing
 
 -- a number as a `usize` counts: it stops at the greatest
 abbrev pub stopped : ℕ → ℕ

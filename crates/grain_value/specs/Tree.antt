@@ -21,6 +21,8 @@ mutual
     range : ℤ → ℤ → Bool → Tree
     -- a host's value: its kind and its number
     foreign : ℕ → ℕ → Tree
+    -- a cell of the store, by its number
+    cell : ℕ → Tree
 
   pub data Trees : Type 0 where
     no_trees : Trees
@@ -62,6 +64,7 @@ abbrev mutual
   weight (pointer name ts) = weights ts + 1
   weight (range a b i) = 0
   weight (foreign k n) = 0
+  weight (cell n) = 0
 
   pub weights : Trees → ℕ
   weights no_trees = 0

@@ -4,11 +4,12 @@ use Rattle.std.specs.Fmt.{decimal, signed_decimal, digit_glyph}
 use Rattle.std.specs.List.{flat_map}
 use Rattle.std.specs.Char.{encode_utf8}
 use Rattle.grain_value.specs.Quoting.{quoted_text, quoted_character}
-use Rattle.grain_value.specs.Tree.{Tree, Trees, Fields, unit, boolean, integer, character, text, array, blob, dict, pointer, range, foreign, no_trees, more_trees, no_fields, more_fields}
+use Rattle.grain_value.specs.Tree.{Tree, Trees, Fields, unit, boolean, integer, character, text, array, blob, dict, pointer, range, foreign, cell, no_trees, more_trees, no_fields, more_fields}
 use Rattle.grain_value.specs.View.{tree}
 use Rattle.grain_value.specs.declared.values.Dynamic.{Dynamic}
 use Rattle.grain_value.specs.declared.values.Dynamic.TheVariants as dynamic
 
+-- the kind of a value; that of a cell is the kind of its content, which is asked instead
 abbrev pub kind_of : Dynamic → ℕ
 kind_of dynamic.Unit = 0
 kind_of (dynamic.Bool b) = 1
@@ -21,11 +22,13 @@ kind_of (dynamic.Map es) = 7
 kind_of (dynamic.Pointer p) = 8
 kind_of (dynamic.Range from to inclusive) = 9
 kind_of (dynamic.Foreign kind number) = kind
+kind_of (dynamic.Cell number) = 0
 
 -- the name of the type of a host's values of a kind
 abbrev pub foreign_name : ℕ → List ℕ
 foreign_name kind = codes "foreign(" ++ decimal kind ++ codes ")"
 
+-- the name of the type of a value, of which the same is so
 abbrev pub type_name_of : Dynamic → List ℕ
 type_name_of dynamic.Unit = codes "()"
 type_name_of (dynamic.Bool b) = codes "bool"
@@ -38,6 +41,7 @@ type_name_of (dynamic.Map es) = codes "map"
 type_name_of (dynamic.Pointer p) = codes "Fn"
 type_name_of (dynamic.Range from to inclusive) = codes "range"
 type_name_of (dynamic.Foreign kind number) = foreign_name kind
+type_name_of (dynamic.Cell number) = codes "()"
 
 abbrev pub truth : Bool → List ℕ
 truth true = codes "true"
@@ -62,7 +66,10 @@ abbrev pub quoted_foreign : ℕ → ℕ → List ℕ
 quoted_foreign kind number =
     codes "foreign(" ++ decimal kind ++ codes ", " ++ decimal number ++ codes ")"
 
--- the text that a listing has for the value
+abbrev pub quoted_cell : ℕ → List ℕ
+quoted_cell number = codes "cell(" ++ decimal number ++ codes ")"
+
+-- the text that a listing has for the value; a listing has no cells
 abbrev mutual
   pub quoted_tree : Tree → List ℕ
   quoted_tree unit = codes "()"
@@ -77,6 +84,7 @@ abbrev mutual
       codes "fn(" ++ quoted_text name ++ items_text (codes ", ") ts ++ codes ")"
   quoted_tree (range a b i) = quoted_range a b i
   quoted_tree (foreign k n) = quoted_foreign k n
+  quoted_tree (cell n) = quoted_cell n
 
   -- each value after the lead, which is a comma from the second on
   pub items_text : List ℕ → Trees → List ℕ
@@ -105,3 +113,4 @@ plain (dynamic.Map es) = quoted (dynamic.Map es)
 plain (dynamic.Pointer p) = quoted (dynamic.Pointer p)
 plain (dynamic.Range from to inclusive) = quoted_range from to inclusive
 plain (dynamic.Foreign kind number) = quoted_foreign kind number
+plain (dynamic.Cell number) = quoted_cell number

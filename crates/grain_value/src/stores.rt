@@ -1,7 +1,8 @@
 //! The store of cells: the values that closures share.
 
-ghost use Rattle.std.specs.Prelude.{◌≡◌, ◌==◌, ◌<◌, ◌++◌, ◌∷◌, [], true, length, Some, IfOk, IfErr, if◌then◌else◌, is_ok, option_map, slice_get, slice_set};
-ghost use Rattle.grain_value.specs.Cells.{idle, lent, is_busy, is_read_only};
+ghost use Rattle.std.specs.Prelude.{◌≡◌, ◌==◌, ◌<◌, ◌++◌, ◌∷◌, [], true, false, length, Some, IfOk, IfErr, if◌then◌else◌, is_ok, option_map, slice_get, slice_set};
+ghost use Rattle.std.specs.Option.{option_copied};
+ghost use Rattle.grain_value.specs.Cells.{idle, lent, is_busy, is_read_only, content, held_value, content_flag};
 ghost use Rattle.grain_value.specs.declared.values.pointers.ValueFault.TheVariants as fault;
 
 use crate::memory::OutOfMemory;
@@ -80,6 +81,38 @@ impl Store {
         self.cells[cell].held.read_only
     }
 
+    /// What the cell holds, if it is there and its content is not lent. A cell need not be in the
+    /// store for this call.
+    pub fn find(&self, cell: usize) -> Option<&Dynamic>
+        ensures { option_copied result ≡ content (slice_get self.now cell) }
+    {
+        match self.cells.get(cell) {
+            Some(Cell { held, busy: false }) => Some(&held.value),
+            _ => None,
+        }
+    }
+
+    /// Whether the content of the cell can only be read. A cell need not be in the store for this
+    /// call: one that is not there can be written.
+    pub fn is_constant(&self, cell: usize) -> bool
+        ensures { result ≡ content_flag (slice_get self.now cell) }
+    {
+        match self.cells.get(cell) {
+            Some(place) => place.held.read_only,
+            None => false,
+        }
+    }
+
+    // What the cell has, if it is there: unit while its content is lent.
+    pub(crate) fn standing(&self, cell: usize) -> Option<&Dynamic>
+        ensures { option_copied result ≡ option_map held_value (slice_get self.now cell) }
+    {
+        match self.cells.get(cell) {
+            Some(place) => Some(&place.held.value),
+            None => None,
+        }
+    }
+
     /// A new cell that holds this. It gives the cell's number, which is the next. Where there is no
     /// memory the store is as it was, and what was to be held comes back.
     pub fn add(&mut self, held: Held) -> Result<usize, (OutOfMemory, Held)>
@@ -127,6 +160,14 @@ impl Store {
             busy: true,
         };
         Ok(mem::replace(&mut self.cells[cell], lent).held)
+    }
+
+    /// Writes what the cell holds, which is not lent.
+    pub fn set(&mut self, cell: usize, held: Held)
+        requires { option_map is_busy (slice_get self.old cell) ≡ Some false }
+        ensures { self.new ≡ slice_set self.old cell (idle held) }
+    {
+        self.cells[cell].held = held;
     }
 
     /// Puts back what was lent of the cell, or what came of it. The cell is not lent from then on.

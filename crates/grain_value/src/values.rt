@@ -45,6 +45,8 @@ pub enum Dynamic {
     Range { from: i64, to: i64, inclusive: bool },
     /// A value of the host's own: its kind, which is 16 or more, and its number.
     Foreign { kind: u32, number: u64 },
+    /// A cell of the store, by its number. Closures share what it holds.
+    Cell(usize),
 }
 
 /// A pointer to a function: its name, and the values that stand before the arguments of a call.

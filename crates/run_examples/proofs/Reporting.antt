@@ -3,6 +3,7 @@ use Rattle.std.proofs.Common.{◌≡◌, ℕ, List, Result, Ok, Err, IfOk}
 use Rattle.grain_value.specs.declared.memory.OutOfMemory.{OutOfMemory}
 use Rattle.grain_value.specs.declared.values.Dynamic.{Dynamic}
 use Rattle.grain_value.specs.declared.scopes.Entry.{Entry}
+use Rattle.grain_value.specs.declared.stores.Cell.{Cell}
 use Rattle.grain_fault.specs.declared.faults.EvalAltResult.{EvalAltResult}
 use Rattle.grain_fault.specs.declared.traces.Fault.{Fault}
 use Rattle.grain_host.specs.Law.{Law}
@@ -13,18 +14,19 @@ use Rattle.run_examples.specs.Rules.{Ran}
 use Rattle.run_examples.specs.Reports.{Reported, report}
 
 pub reported : {S : Type 0} (law : Law S) (said_of : S → List ℕ) (p : View) (e : Engine)
-    (first : Begin S) (scope : List Entry) (host : S) (said : List ℕ)
+    (first : Begin S) (scope : List Entry) (cells : List Cell) (host : S) (said : List ℕ)
     (r : Result Dynamic EvalAltResult) (trace : List Fault) →
-    Ran law p e first scope host r trace → said ≡ said_of host →
-    (text : Result (List ℕ) OutOfMemory) → IfOk text (λ t. t ≡ report said r trace) →
+    Ran law p e first scope cells host r trace → said ≡ said_of host →
+    (text : Result (List ℕ) OutOfMemory) → IfOk text (λ t. t ≡ report said cells r trace) →
     IfOk text (Reported law said_of p e first)
-reported law said_of p e first scope host said r trace ran same (Ok t) written =
+reported law said_of p e first scope cells host said r trace ran same (Ok t) written =
     record {
       scope = scope;
+      cells = cells;
       host = host;
       result = r;
       trace = trace;
       ran = ran;
       written = rw same at written;
     }
-reported law said_of p e first scope host said r trace ran same (Err m) written = tt
+reported law said_of p e first scope cells host said r trace ran same (Err m) written = tt

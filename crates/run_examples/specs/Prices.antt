@@ -1,11 +1,16 @@
 -- A price list: what its natives answer, and what they leave.
-use Rattle.std.specs.Prelude.{ℕ, ◌^◌, ℤ, pos, negsuc, ◌+ℤ◌, ◌-ℤ◌, ◌*ℤ◌, int_lt, int_div, false, ◌&&◌, ◌||◌, List, [], ◌∷◌, ◌++◌, Option, Some, None, Result, Ok, Err, refl, codes, bytes_eq, ◌==◌, slice_get, option_and_then, if◌then◌else◌}
+use Rattle.std.specs.Prelude.{ℕ, max, ◌≤◌, ◌^◌, ℤ, pos, negsuc, ◌+ℤ◌, ◌-ℤ◌, ◌*ℤ◌, int_lt, int_div, false, ◌&&◌, ◌||◌, List, [], ◌∷◌, ◌++◌, Option, Some, None, Result, Ok, Err, refl, codes, bytes_eq, ◌==◌, slice_get, option_and_then, if◌then◌else◌}
+use Rattle.std.proofs.Common.{arith}
+use Rattle.std.proofs.Math.Nat.{le-max_left, le-max_right}
+use Rattle.grain_value.specs.Tree.{array, pack}
+use Rattle.grain_value.specs.View.{tree}
+use Rattle.grain_value.specs.Cells.{cell_bound}
 use Rattle.grain_value.specs.Looking.{integer_of, text_of}
 use Rattle.grain_value.specs.declared.values.Dynamic.{Dynamic}
 use Rattle.grain_value.specs.declared.values.Dynamic.TheVariants as dynamic
 use Rattle.grain_fault.specs.Places.{nowhere}
 use Rattle.grain_fault.specs.Problems.{Problem, Plain, Runtime, SystemError}
-use Rattle.grain_host.specs.Law.{Law, Reply, Done, Failed, GoOn, MayBeAnswered, IsLawful}
+use Rattle.grain_host.specs.Law.{Law, Reply, Done, Failed, GoOn, MayBeAnswered, IsLawful, call_bound, reply_bound}
 use Rattle.grain_host.specs.Tables.{arguments}
 use Rattle.run_examples.specs.declared.prices.Line.{Line}
 use Rattle.run_examples.specs.declared.prices.PriceList.{PriceList}
@@ -96,7 +101,7 @@ abbrev pub reply : Result ℤ Reason → Reply
 reply (Ok n) = Done (dynamic.Int n)
 reply (Err r) = Failed (problem r)
 
--- No native writes its first argument, and a run always goes on.
+-- No native writes its first argument, and a run always goes on. The list has no cells.
 abbrev pub price_law : Law PriceList
 price_law = record {
   resolves = λ s name kinds. key_of name kinds;
@@ -106,6 +111,7 @@ price_law = record {
   call_written = λ s key h values. h.value;
   progress_reply = λ s count. GoOn;
   progress_after = λ s count. s;
+  reach = λ s. 0;
 }
 
 -- the list is a lawful host
@@ -115,9 +121,25 @@ may_reply (Err reason.Unknown) = refl
 may_reply (Err reason.NoSuchArticle) = refl
 may_reply (Err reason.OutOfRange) = refl
 
+reply_within : (r : Result ℤ Reason) (n : ℕ) → reply_bound (reply r) ≤ n
+reply_within (Ok k) n = omega arith
+reply_within (Err reason.Unknown) n = omega arith
+reply_within (Err reason.NoSuchArticle) n = omega arith
+reply_within (Err reason.OutOfRange) n = omega arith
+
 pub price_lawful : IsLawful price_law
 price_lawful = record {
   call_keeps = λ s key receiver values. (λ name kinds. refl, λ key. refl);
   progress_keeps = λ s count. (λ name kinds. refl, λ key. refl);
   faults = λ s key receiver values. may_reply (gives s key (arguments receiver values));
+  replies_within = λ s key receiver values.
+      reply_within (gives s key (arguments receiver values)) (call_bound price_law s receiver values);
+  writes_within = λ s key h values. omega (
+    arith,
+    le-max_left (cell_bound (tree h.value)) (cell_bound (array (pack values))),
+    le-max_right 0 (max (cell_bound (tree h.value)) (cell_bound (array (pack values)))),
+  );
+  stays_within = λ s key receiver values. omega arith;
+  stops_within = λ s count. omega arith;
+  hears_within = λ s count. omega arith;
 }

@@ -58,12 +58,11 @@ abbrev pub start : {S : Type 0} → List Entry → S → Begin S
 start scope host = begin scope [] host (record { num_operations = 0; level = 0 })
 
 -- The program's run under the engine, from the beginning on, ends with this result and this trace,
--- and leaves the scope and the host. Where memory was out, it is the run stopped at some point.
+-- and leaves the scope, the cells and the host. Where memory was out, it is the run stopped at some point.
 pub record Ran {S : Type 0} (law : Law S) (program : View) (engine : Engine) (first : Begin S)
-    (scope : List Entry) (host : S) (result : Result Dynamic EvalAltResult)
+    (scope : List Entry) (cells : List Cell) (host : S) (result : Result Dynamic EvalAltResult)
     (trace : List Fault) : Type 0 where
   pub instructions : ℕ
-  pub cells : List Cell
   pub global : GlobalRuntimeState
   pub evaluates : Evaluates law program engine first result (finish trace scope cells host global)
       instructions

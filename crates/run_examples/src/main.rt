@@ -36,12 +36,13 @@ enum ExampleHost {
 
 /// The examples, with their hosts. NAME.grain is the listing, and NAME.out the report that is
 /// expected.
-const EXAMPLES: [(&str, ExampleHost); 6] = [
+const EXAMPLES: [(&str, ExampleHost); 7] = [
     ("sum", ExampleHost::Table),
     ("fibonacci", ExampleHost::Table),
     ("limit", ExampleHost::Table),
     ("fault", ExampleHost::Table),
     ("caught", ExampleHost::Table),
+    ("closure", ExampleHost::Table),
     ("prices", ExampleHost::Prices),
 ];
 
@@ -161,7 +162,7 @@ fn is_as_expected<R: Files + Print + AllocGlobal, L: Ledger>(
 fn run_all<R: Files + Print + AllocGlobal, L: Ledger>(rt: &R, blank: Blank) -> io::Result<bool>
     requires name { blank.name ≡ L.name }
     requires parts { blank.parts ≡ L.parts }
-    requires enough { 5 < blank.parts }
+    requires enough { 6 < blank.parts }
 {
     let mut steps = Steps::<L>::new(blank);
     let mut all = true;

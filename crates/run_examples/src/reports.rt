@@ -37,13 +37,13 @@ fn push_fault(out: &mut Text, fault: &EvalAltResult) -> Result<(), OutOfMemory>
 /// The report of a run: what is said of its host, and its end.
 pub fn report(alloc: Global, said: &Text, outcome: &Outcome) -> Result<Text, OutOfMemory>
     ensures { IfOk result (λ t.
-        t ≡ report said.now outcome.now.result outcome.now.trace.items) }
+        t ≡ report said.now outcome.now.cells outcome.now.result outcome.now.trace.items) }
 {
     let mut out = said.copy(alloc)?;
     match &outcome.result {
         Ok(value) => {
             out.push_str("value ")?;
-            value.write_quoted(&mut out)?;
+            value.write_content(&mut out, &outcome.cells)?;
         }
         Err(fault) => {
             push_fault(&mut out, fault)?;

@@ -80,6 +80,8 @@ pub struct Outcome {
     pub result: RhaiResult,
     /// After a fault, the instruction at which each frame stopped, the innermost first.
     pub trace: Vec<Fault>,
+    /// The cells that the run made. A value may be one, or a pointer's value.
+    pub cells: Store,
 }
 
 /// The limits of a listing, with no more operations than the host allows.
@@ -144,7 +146,8 @@ pub fn run<H: Host, L: Ledger>(
 ) -> Result<Outcome, OutOfMemory>
     requires { 0 < limits.operations }
     ensures { IfOk result (λ o. Ran H.law program.now (engine_of limits fast_operators)
-        (start scope.old host.old) scope.new host.new o.result o.trace.items) }
+        (start scope.old host.old) scope.new o.cells host.new o.result
+        o.trace.items) }
 {
     let mut engine = Engine::new(alloc, limits);
     engine.fast_operators = fast_operators;
@@ -152,5 +155,9 @@ pub fn run<H: Host, L: Ledger>(
     let mut cells = Store::new(alloc);
     let result = vm.eval_with_callbacks(alloc, host, &mut cells, scope, program, steps);
     let trace = Vec::from_slice(alloc, vm.fault_trace())?;
-    Ok(Outcome { result, trace })
+    Ok(Outcome {
+        result,
+        trace,
+        cells,
+    })
 }

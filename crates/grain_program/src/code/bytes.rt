@@ -74,6 +74,10 @@ fn tagged(tag: u8, rest: &[u8], op: &mut Op) -> usize
             *op = Op::StoreConst(two_there(rest));
             3
         }
+        0x08 => {
+            *op = Op::StoreShared(two_there(rest));
+            3
+        }
         0x0d => {
             *op = Op::DeclareLocal(two_there(rest));
             3
@@ -92,6 +96,18 @@ fn tagged(tag: u8, rest: &[u8], op: &mut Op) -> usize
             let assign = &name[2..];
             *op = Op::AssignLocalOp(two_there(rest), two_there(name), two_there(assign));
             7
+        }
+        0x17 => {
+            *op = Op::LoadShared(two_there(rest));
+            3
+        }
+        0x18 => {
+            *op = Op::Share(two_there(rest));
+            3
+        }
+        0x1a => {
+            *op = Op::IsShared;
+            1
         }
         0x1b => {
             *op = Op::Pop;
@@ -127,6 +143,18 @@ fn tagged(tag: u8, rest: &[u8], op: &mut Op) -> usize
             let token = &count[1..];
             *op = Op::CallOp(two_there(rest), one_there(count), two_there(token));
             6
+        }
+        0x27 => {
+            *op = Op::MakeClosure(two_there(rest));
+            3
+        }
+        0x29 => {
+            *op = Op::Curry(one_there(rest));
+            2
+        }
+        0x2a => {
+            *op = Op::CallFnPtr(one_there(rest));
+            2
         }
         0x38 => {
             *op = Op::UnwindTo(two_there(rest));

@@ -55,6 +55,17 @@ fn plain(tag: u8, fields: Fields, takes: u32, gives: u32, flow: Flow) -> Descrip
     }
 }
 
+/// An instruction that needs this capability, and is else as in this row.
+#[inline(always)]
+fn needing(capability: Caps, row: Descriptor) -> Descriptor
+    ensures tag { result.tag ≡ row.tag }
+    ensures fields { result.fields ≡ row.fields }
+    ensures effect { result.effect ≡ row.effect }
+    ensures capability { result.capability ≡ capability }
+{
+    Descriptor { capability, ..row }
+}
+
 /// An instruction on handlers, which needs no capability, and takes and gives no operand.
 #[inline(always)]
 fn on_handlers(tag: u8, fields: Fields, flow: Flow, handling: Handling) -> Descriptor
@@ -108,6 +119,7 @@ impl Op {
             Op::LoadLocal(slot) => plain(0x05, Fields::one(Field::Slot(slot)), 0, 1, Flow::Next),
             Op::StoreLocal(slot) => plain(0x06, Fields::one(Field::Slot(slot)), 1, 0, Flow::Next),
             Op::StoreConst(slot) => plain(0x07, Fields::one(Field::Slot(slot)), 1, 0, Flow::Next),
+            Op::StoreShared(slot) => plain(0x08, Fields::one(Field::Slot(slot)), 1, 0, Flow::Next),
             Op::DeclareLocal(name) => plain(0x0d, Fields::one(Field::Name(name)), 1, 0, Flow::Next),
             Op::DeclareConst(name) => plain(0x0e, Fields::one(Field::Name(name)), 1, 0, Flow::Next),
             Op::AssignLocal(slot, name) => {
@@ -118,6 +130,15 @@ impl Op {
                 let assign = Field::Assignment(assign);
                 let fields = Fields::three(Field::Slot(slot), Field::Name(name), assign);
                 plain(0x11, fields, 1, 0, Flow::Next)
+            }
+            Op::LoadShared(slot) => plain(0x17, Fields::one(Field::Slot(slot)), 0, 1, Flow::Next),
+            Op::Share(slot) => {
+                let share = plain(0x18, Fields::one(Field::Slot(slot)), 0, 0, Flow::Next);
+                needing(Caps::CLOSURE, share)
+            }
+            Op::IsShared => {
+                let is_shared = plain(0x1a, Fields::none(), 1, 1, Flow::Next);
+                needing(Caps::CLOSURE, is_shared)
             }
             Op::Pop => plain(0x1b, Fields::none(), 1, 0, Flow::Next),
             Op::Rotate(under) => {
@@ -149,15 +170,26 @@ impl Op {
             Op::Call(name, count) => {
                 let fields = Fields::two(Field::Name(name), Field::Count(count));
                 let call = plain(0x22, fields, u32::from(count), 1, Flow::Next);
-                Descriptor {
-                    capability: Caps::FUNCTION,
-                    ..call
-                }
+                needing(Caps::FUNCTION, call)
             }
             Op::CallOp(name, count, token) => {
                 let token = Field::Token(token);
                 let fields = Fields::three(Field::Name(name), Field::Count(count), token);
                 plain(0x23, fields, u32::from(count), 1, Flow::Next)
+            }
+            Op::MakeClosure(name) => {
+                let closure = plain(0x27, Fields::one(Field::Name(name)), 0, 1, Flow::Next);
+                needing(Caps::FUNCTION, closure)
+            }
+            Op::Curry(count) => {
+                let taken = u32::from(count) + 1;
+                let curry = plain(0x29, Fields::one(Field::Count(count)), taken, 1, Flow::Next);
+                needing(Caps::FUNCTION, curry)
+            }
+            Op::CallFnPtr(count) => {
+                let taken = u32::from(count) + 1;
+                let pointer = plain(0x2a, Fields::one(Field::Count(count)), taken, 1, Flow::Next);
+                needing(Caps::FUNCTION, pointer)
             }
             Op::UnwindTo(depth) => plain(0x38, Fields::one(Field::Number(depth)), 0, 0, Flow::Next),
             Op::Tick => plain(0x39, Fields::none(), 0, 0, Flow::Next),

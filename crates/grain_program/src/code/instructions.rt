@@ -19,6 +19,8 @@ pub enum Op {
     StoreLocal(u16),
     /// `store_const S`: writes the entry, which can only be read afterwards.
     StoreConst(u16),
+    /// `store_shared S`: writes the entry, which keeps the operand's read-only flag.
+    StoreShared(u16),
     /// `declare_local N`: a new entry of that name.
     DeclareLocal(u16),
     /// `declare_const N`: a new entry of that name, which can only be read.
@@ -27,6 +29,12 @@ pub enum Op {
     AssignLocal(u16, u16),
     /// `assign_local_op S N A`: an op-assignment to the entry.
     AssignLocalOp(u16, u16, u16),
+    /// `load_shared S`: what the entry holds; a cell stays a cell.
+    LoadShared(u16),
+    /// `share S`: makes the entry a cell, unless it is one.
+    Share(u16),
+    /// `is_shared`: whether the last operand is a cell.
+    IsShared,
     /// `pop`: takes the last operand away.
     Pop,
     /// `rotate U`: the last operand goes under U others.
@@ -43,6 +51,13 @@ pub enum Op {
     Call(u16, u8),
     /// `call_op N n O`: the operator on the n last operands.
     CallOp(u16, u8, u16),
+    /// `make_closure N`: a pointer to the functions of that name.
+    MakeClosure(u16),
+    /// `curry n`: the n last operands go to the values of the pointer below them.
+    Curry(u8),
+    /// `call_fn_ptr n`: the function of the pointer below the n last operands, on its values and
+    /// on these.
+    CallFnPtr(u8),
     /// `unwind_to d`: cuts the scope to d entries above the base.
     UnwindTo(u16),
     /// `tick`: costs an operation.

@@ -6,7 +6,7 @@ use denote.Param.Weighed.{most}
 use Rattle.grain_value.specs.Tree.{weight, weights, field_weights, pack, pack_fields}
 use Rattle.grain_value.specs.View.{tree, trees, entries_view}
 use Rattle.grain_value.specs.declared.values.Dynamic.{Dynamic}
-use Rattle.grain_value.specs.declared.values.Dynamic.TheVariants.{Unit, Bool, Int, Char, Text, Array, Blob, Map, Pointer, Range, Foreign}
+use Rattle.grain_value.specs.declared.values.Dynamic.TheVariants.{Unit, Bool, Int, Char, Text, Array, Blob, Map, Pointer, Range, Foreign, Cell}
 use Rattle.grain_value.specs.declared.values.Array.TheDeep.{deep-Dynamic}
 
 pub deep_le-weight : (d : Dynamic) → deep-Dynamic d ≤ weight (tree d)
@@ -21,6 +21,7 @@ deep_le-weight (Map es) = omega arith
 deep_le-weight (Pointer p) = omega arith
 deep_le-weight (Range a b i) = omega arith
 deep_le-weight (Foreign k n) = omega arith
+deep_le-weight (Cell n) = omega arith
 
 pub most_le-weights : (ds : List Dynamic) → most (λ d. deep-Dynamic d) ds ≤
     weights (pack (trees ds))

@@ -1,10 +1,10 @@
 -- A value and its tree give each other back, so values are equal where their trees are.
 use Rattle.std.specs.Prelude.{◌≡◌, ℕ, List, [], ◌∷◌, refl}
 use Rattle.std.proofs.Common.{sym, ap, ◌∙◌}
-use Rattle.grain_value.specs.Tree.{Tree, Trees, Fields, unit, boolean, integer, character, text, array, blob, dict, pointer, range, foreign, no_trees, more_trees, no_fields, more_fields, pack, pack_fields, unpack, unpack_fields}
+use Rattle.grain_value.specs.Tree.{Tree, Trees, Fields, unit, boolean, integer, character, text, array, blob, dict, pointer, range, foreign, cell, no_trees, more_trees, no_fields, more_fields, pack, pack_fields, unpack, unpack_fields}
 use Rattle.grain_value.specs.View.{tree, value_of}
 use Rattle.grain_value.specs.declared.values.Dynamic.{Dynamic}
-use Rattle.grain_value.specs.declared.values.Dynamic.TheVariants.{Unit, Bool, Int, Char, Text, Array, Blob, Map, Pointer, Range, Foreign}
+use Rattle.grain_value.specs.declared.values.Dynamic.TheVariants.{Unit, Bool, Int, Char, Text, Array, Blob, Map, Pointer, Range, Foreign, Cell}
 
 pub unpack-pack : (ts : List Tree) → unpack (pack ts) ≡ ts
 unpack-pack [] = refl
@@ -35,6 +35,7 @@ value_of-tree (Pointer p) =
     ap (λ ts. Pointer (record { name = p.name; curry = ts })) (unpack-pack p.curry)
 value_of-tree (Range a b i) = refl
 value_of-tree (Foreign k n) = refl
+value_of-tree (Cell n) = refl
 
 pub tree-value_of : (t : Tree) → tree (value_of t) ≡ t
 tree-value_of unit = refl
@@ -48,6 +49,7 @@ tree-value_of (dict es) = ap dict (pack-unpack_fields es)
 tree-value_of (pointer name ts) = ap (pointer name) (pack-unpack ts)
 tree-value_of (range a b i) = refl
 tree-value_of (foreign k n) = refl
+tree-value_of (cell n) = refl
 
 pub tree_inj : (d e : Dynamic) → tree d ≡ tree e → d ≡ e
 tree_inj d e h = sym (value_of-tree d) ∙ ap value_of h ∙ value_of-tree e

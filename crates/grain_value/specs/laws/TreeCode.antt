@@ -3,7 +3,7 @@
 use Rattle.std.specs.Prelude.{◌≡◌, ℕ, zero, suc, ℤ, pos, negsuc, Bool, true, false, List, [], ◌∷◌, refl}
 use Rattle.std.specs.Coded.{Coded, code_by, coded_list, coded×, coded_ℕ}
 use base.Stored.{Gv, gnil, gnum, gcons}
-use Rattle.grain_value.specs.Tree.{Tree, Trees, Fields, unit, boolean, integer, character, text, array, blob, dict, pointer, range, foreign, no_trees, more_trees, no_fields, more_fields}
+use Rattle.grain_value.specs.Tree.{Tree, Trees, Fields, unit, boolean, integer, character, text, array, blob, dict, pointer, range, foreign, cell, no_trees, more_trees, no_fields, more_fields}
 
 abbrev num : Gv → ℕ
 num gnil = 0
@@ -74,6 +74,7 @@ abbrev mutual
   code_tree (pointer name ts) = gcons (gnum 7) (gcons (code_n name) (code_trees ts))
   code_tree (range a b i) = gcons (gnum 8) (gcons (gcons (code_z a) (code_z b)) (gnum (bit i)))
   code_tree (foreign k n) = gcons (gnum 9) (gcons (gnum k) (gnum n))
+  code_tree (cell n) = gcons (gnum 10) (gnum n)
 
   code_trees : Trees → Gv
   code_trees no_trees = gnil
@@ -99,8 +100,9 @@ by_tag (suc (suc (suc (suc (suc (suc (suc zero))))))) g ts es =
     pointer (back_n (head g)) (all_but_first ts)
 by_tag (suc (suc (suc (suc (suc (suc (suc (suc zero)))))))) g ts es =
     range (back_z (head (head g))) (back_z (tail (head g))) (unbit (num (tail g)))
-by_tag (suc (suc (suc (suc (suc (suc (suc (suc (suc n))))))))) g ts es =
+by_tag (suc (suc (suc (suc (suc (suc (suc (suc (suc zero))))))))) g ts es =
     foreign (num (head g)) (num (tail g))
+by_tag (suc (suc (suc (suc (suc (suc (suc (suc (suc (suc n)))))))))) g ts es = cell (num g)
 
 abbrev mutual
   back_tree : Gv → Tree
@@ -135,6 +137,7 @@ mutual
   back_tree-code_tree (range a b c) =
       λ i. range (back_z-code_z a i) (back_z-code_z b i) (unbit-bit c i)
   back_tree-code_tree (foreign k n) = refl
+  back_tree-code_tree (cell n) = refl
 
   pub back_trees-code_trees : (ts : Trees) → back_trees (code_trees ts) ≡ ts
   back_trees-code_trees no_trees = refl

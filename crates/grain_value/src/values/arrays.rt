@@ -1,7 +1,7 @@
 //! Lists of script values.
 
 ghost use Rattle.std.specs.Prelude.{◌≡◌, ◌==◌, ◌<◌, ◌^◌, ◌++◌, ◌∷◌, [], length, Some, is_ok, if◌then◌else◌, option_map, slice_get};
-ghost use Rattle.grain_value.specs.View.{tree};
+ghost use Rattle.grain_value.specs.View.{tree, trees};
 
 use super::{Array, Dynamic, MOST_LEVELS};
 use crate::memory::OutOfMemory;
@@ -46,6 +46,13 @@ impl Array {
         ensures { slice_get self.now index ≡ Some (tree result.now) }
     {
         &self.values[index]
+    }
+
+    /// The values, moved out of the list.
+    pub fn into_vec(self) -> Vec<Dynamic>
+        ensures { trees result.items ≡ self }
+    {
+        self.values
     }
 
     /// Puts a value at the end. After want of memory, and where the value nests too deep

@@ -22,11 +22,7 @@ impl Dynamic {
             Dynamic::Array(array) => Ok(Dynamic::Array(array.copy(alloc)?)),
             Dynamic::Blob(blob) => Ok(Dynamic::Blob(blob.copy(alloc)?)),
             Dynamic::Map(map) => Ok(Dynamic::Map(map.copy(alloc)?)),
-            Dynamic::Pointer(pointer) => {
-                let name = pointer.name.copy(alloc)?;
-                let curry = pointer.curry.copy(alloc)?;
-                Ok(Dynamic::Pointer(FnPtr { name, curry }))
-            }
+            Dynamic::Pointer(pointer) => Ok(Dynamic::Pointer(pointer.copy(alloc)?)),
             Dynamic::Range {
                 from,
                 to,
@@ -40,7 +36,20 @@ impl Dynamic {
                 kind: *kind,
                 number: *number,
             }),
+            Dynamic::Cell(number) => Ok(Dynamic::Cell(*number)),
         }
+    }
+}
+
+impl FnPtr {
+    /// An equal pointer.
+    #[cycle(copy)]
+    pub fn copy(&self, alloc: Global) -> Result<FnPtr, OutOfMemory>
+        ensures { IfOk result (λ pointer. pointer ≡ self.now) }
+    {
+        let name = self.name.copy(alloc)?;
+        let curry = self.curry.copy(alloc)?;
+        Ok(FnPtr { name, curry })
     }
 }
 

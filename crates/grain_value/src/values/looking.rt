@@ -1,11 +1,13 @@
 //! What a value is, and values that are replaced.
 
 ghost use Rattle.std.specs.Prelude.{◌≡◌, option_copied};
-ghost use Rattle.grain_value.specs.Looking.{is_unit, truth_of, integer_of, character_of, text_of, owns_no_memory};
+ghost use Rattle.grain_value.specs.Looking.{is_unit, truth_of, integer_of, character_of, text_of, cell_of, pointer_of, owns_no_memory};
+ghost use Rattle.grain_value.specs.Cells.{flat};
 ghost use Rattle.grain_value.specs.Operands.{left_behind};
 ghost use Rattle.grain_value.specs.declared.values.Dynamic.TheVariants as dynamic;
 
 use super::{Dynamic, FnPtr};
+use crate::stores::Store;
 use crate::texts::Text;
 use std::mem;
 
@@ -57,8 +59,40 @@ impl Dynamic {
         }
     }
 
-    /// Whether the value owns no memory: a unit, a truth value, an integer, a character, a range
-    /// and a host's value own none.
+    /// The pointer to a function, if the value is one.
+    pub fn as_pointer(&self) -> Option<&FnPtr>
+        ensures { option_copied result ≡ pointer_of self.now }
+    {
+        match self {
+            Dynamic::Pointer(pointer) => Some(pointer),
+            _ => None,
+        }
+    }
+
+    /// The number of the cell, if the value is one.
+    pub fn as_cell(&self) -> Option<usize>
+        ensures { result ≡ cell_of self.now }
+    {
+        match self {
+            Dynamic::Cell(number) => Some(*number),
+            _ => None,
+        }
+    }
+
+    /// The value as it is read: of a cell what the cell holds, and any other value itself. There is
+    /// nothing where the content of the cell is lent.
+    #[inline(always)]
+    pub fn flat<'v>(&'v self, cells: &'v Store) -> Option<&'v Dynamic>
+        ensures { option_copied result ≡ flat cells.now self.now }
+    {
+        match self {
+            Dynamic::Cell(cell) => cells.find(*cell),
+            value => Some(value),
+        }
+    }
+
+    /// Whether the value owns no memory: a unit, a truth value, an integer, a character, a range,
+    /// a host's value and a cell own none.
     #[inline(always)]
     pub fn owns_no_memory(&self) -> bool
         ensures { result ≡ owns_no_memory self.now }

@@ -1,6 +1,7 @@
 //! The types of values.
 
 ghost use Rattle.std.specs.Prelude.{◌≡◌, IfOk};
+ghost use Rattle.grain_value.specs.Cells.{seen};
 ghost use Rattle.grain_value.specs.Writing.{kind_of, type_name_of, foreign_name};
 
 use super::Dynamic;
@@ -11,13 +12,26 @@ use std::alloc::Global;
 
 impl Dynamic {
     /// The number of the value's kind: 0 unit, 1 bool, 2 integer, 3 character, 4 text, 5 array,
-    /// 6 blob, 7 map, 8 pointer, 9 range, and that of a host's value, which is 16 or more.
+    /// 6 blob, 7 map, 8 pointer, 9 range, and that of a host's value, which is 16 or more. A cell
+    /// has the kind of its content, which has to be there; while it is lent unit stands for it.
     pub fn kind(&self, cells: &Store) -> u32
+        ensures { result ≡ kind_of (seen cells.now self.now) }
+    {
+        match self {
+            Dynamic::Cell(cell) => match cells.standing(*cell) {
+                Some(content) => content.own_kind(),
+                None => 0,
+            },
+            value => value.own_kind(),
+        }
+    }
+
+    /// The same of a value that is no cell: a cell counts as unit.
+    pub fn own_kind(&self) -> u32
         ensures { result ≡ kind_of self.now }
     {
-        let _cells = cells;
         match self {
-            Dynamic::Unit => 0,
+            Dynamic::Unit | Dynamic::Cell(_) => 0,
             Dynamic::Bool(_) => 1,
             Dynamic::Int(_) => 2,
             Dynamic::Char(_) => 3,
@@ -32,13 +46,25 @@ impl Dynamic {
     }
 
     /// The name of the value's type, as `i64`, `string`, `Fn` or, of a host's value of kind 16,
-    /// `foreign(16)`.
+    /// `foreign(16)`. Of a cell it is that of its content, as with `kind`.
     pub fn type_name(&self, alloc: Global, cells: &Store) -> Result<Text, OutOfMemory>
+        ensures { IfOk result (λ name. name ≡ type_name_of (seen cells.now self.now)) }
+    {
+        match self {
+            Dynamic::Cell(cell) => match cells.standing(*cell) {
+                Some(content) => content.own_type_name(alloc),
+                None => Text::copy_of(alloc, "()"),
+            },
+            value => value.own_type_name(alloc),
+        }
+    }
+
+    /// The same of a value that is no cell: a cell counts as unit.
+    pub fn own_type_name(&self, alloc: Global) -> Result<Text, OutOfMemory>
         ensures { IfOk result (λ name. name ≡ type_name_of self.now) }
     {
-        let _cells = cells;
         match self {
-            Dynamic::Unit => Text::copy_of(alloc, "()"),
+            Dynamic::Unit | Dynamic::Cell(_) => Text::copy_of(alloc, "()"),
             Dynamic::Bool(_) => Text::copy_of(alloc, "bool"),
             Dynamic::Int(_) => Text::copy_of(alloc, "i64"),
             Dynamic::Char(_) => Text::copy_of(alloc, "char"),

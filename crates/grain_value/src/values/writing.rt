@@ -3,12 +3,14 @@
 ghost use Rattle.std.specs.Prelude.{◌≡◌, ◌<◌, ◌++◌, [], Some, false, is_ok, if◌then◌else◌};
 ghost use Rattle.std.specs.Fmt.{WritesOnOk, digit_glyph};
 ghost use Rattle.std.specs.List.{flat_map};
+ghost use Rattle.grain_value.specs.Cells.{seen};
 ghost use Rattle.grain_value.specs.Tree.{pack, pack_fields};
 ghost use Rattle.grain_value.specs.Writing.{plain, quoted, items_text, fields_text, hex_byte, quoted_blob, quoted_range};
 
 use super::{Array, Dynamic, FnPtr, Map};
 use crate::memory::OutOfMemory;
 use crate::quoting::{Quoted, QuotedCharacter};
+use crate::stores::Store;
 use crate::texts::Text;
 use std::fmt;
 
@@ -28,6 +30,21 @@ impl Dynamic {
         ensures { out.new ≡ (if is_ok result then out.old ++ quoted self.now else out.old) }
     {
         out.push_display(&QuotedValue(self))
+    }
+
+    /// The same of what a cell has: unit while its content is lent. Of any other value it is the
+    /// value's own text.
+    pub fn write_content(&self, out: &mut Text, cells: &Store) -> Result<(), OutOfMemory>
+        ensures { out.new ≡
+            (if is_ok result then out.old ++ quoted (seen cells.now self.now) else out.old) }
+    {
+        match self {
+            Dynamic::Cell(cell) => match cells.standing(*cell) {
+                Some(content) => content.write_quoted(out),
+                None => Dynamic::Unit.write_quoted(out),
+            },
+            value => value.write_quoted(out),
+        }
     }
 }
 
@@ -98,6 +115,7 @@ fn write_value<W: fmt::Write>(value: &Dynamic, f: &mut fmt::Formatter<W>) -> fmt
             inclusive,
         } => write_range(*from, *to, *inclusive, f),
         Dynamic::Foreign { kind, number } => write!(f, "foreign({kind}, {number})"),
+        Dynamic::Cell(number) => write!(f, "cell({number})"),
     }
 }
 

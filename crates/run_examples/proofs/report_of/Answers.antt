@@ -9,6 +9,6 @@ returns g c =
     let outcome = c.in_ok-outcome.outcome in
     reported table_law printed_by c.args.rule.program
     (engine_of c.args.rule.limits c.args.rule.fast_operators)
-    (start c.args.rule.scope c.args.rule.host) c.run.new.scope c.run.new.host
+    (start c.args.rule.scope c.args.rule.host) c.run.new.scope outcome.cells c.run.new.host
     c.printed.result.now outcome.result outcome.trace.items c.in_ok-outcome.ensures
     c.printed.ensures c.report.result c.report.ensures

@@ -24,8 +24,8 @@ returns-in-Ok g c =
     (finish c.eval_with_callbacks.new.self.trace c.eval_with_callbacks.new.scope
     c.eval_with_callbacks.new.cells c.eval_with_callbacks.new.host
     c.eval_with_callbacks.new.self.global) c.eval_with_callbacks.new.host.printed
-    c.eval_with_callbacks.new.self.trace run.0 c.value_reply.result engine begun
-    (λ a. (refl, refl, refl))
+    c.eval_with_callbacks.new.self.trace c.eval_with_callbacks.new.cells run.0 c.value_reply.result engine begun
+    (λ a. (refl, refl, refl, refl))
     run.1.0 c.value_reply.ensures.status text
 
 pub returns : goal.returns
@@ -45,6 +45,6 @@ returns g c =
     (finish c.eval_with_callbacks.new.self.trace c.eval_with_callbacks.new.scope
     c.eval_with_callbacks.new.cells c.eval_with_callbacks.new.host
     c.eval_with_callbacks.new.self.global) c.eval_with_callbacks.new.host.printed
-    c.eval_with_callbacks.new.self.trace run.0 c.fault_reply.result engine begun
-    (λ a. (refl, refl, refl))
+    c.eval_with_callbacks.new.self.trace c.eval_with_callbacks.new.cells run.0 c.fault_reply.result engine begun
+    (λ a. (refl, refl, refl, refl))
     run.1.0 c.fault_reply.ensures.status text c.fault_reply.ensures.memory

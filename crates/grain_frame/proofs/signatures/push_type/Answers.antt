@@ -6,8 +6,8 @@ use Rattle.grain_means.specs.Signatures.{type_at}
 use Rattle.grain_frame.proofs.Signing.{type_there, type_nowhere}
 use Rattle.grain_frame.proofs.signatures.push_type.Goals as goal
 
-pub returns-in_ok-type_name-in-Some : goal.returns-in_ok-type_name-in-Some
-returns-in_ok-type_name-in-Some c =
+pub returns-in_ok-own_type_name-in-Some : goal.returns-in_ok-own_type_name-in-Some
+returns-in_ok-own_type_name-in-Some c =
     let there : slice_get c.args.values.now c.args.index ≡ Some (tree c.in-Some.value.now) =
     sym (rw c.in-Some.is at c.get.ensures) in
     let is : type_at c.args.index (map value_of c.args.values.now) ≡

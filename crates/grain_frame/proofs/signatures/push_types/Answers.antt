@@ -10,5 +10,5 @@ loop-index-preserved c = (
       c.loop-index.out
       c.push_str.new.self c.push_str-in-loop-index.new.self c.at.ensures c.in_ok-push_str.ensures
       (c.in_ok-push_str-2.ensures ∙ ap (λ t. c.push_str.new.self ++ t)
-      (c.as_str-in-loop-index.ensures ∙ c.in_ok-type_name.ensures)) ∙ c.loop-index.invariant.1,
+      (c.as_str-in-loop-index.ensures ∙ c.in_ok-own_type_name.ensures)) ∙ c.loop-index.invariant.1,
 )

@@ -32,11 +32,10 @@ ran : {S : Type 0} (law : Law S) (p : View) (under : Engine) (first : Begin S) (
     (r : Result Dynamic EvalAltResult) (e : Engine) (b : Begin S) (m : VmView) (cells : List Cell)
     (host : S) (trace : List Fault) (n : ℕ) → e ≡ under → b ≡ first → trace ≡ m.trace →
     Evaluates law p e b r (finish m.trace after cells host m.global) n →
-    Ran law p under first after host r trace
+    Ran law p under first after cells host r trace
 ran law p under first after r e b m cells host trace n engine begun same h =
     rw same record {
       instructions = n;
-      cells = cells;
       global = m.global;
       evaluates = rw (engine, begun) at h;
     }

@@ -1,100 +1,67 @@
-use Rattle.std.proofs.Common.{◌∙◌, ℕ, Option, Ok, Err, refl, sym, ap, subst, arith}
+use Rattle.std.proofs.Common.{◌∙◌, ℕ, Option, Ok, Err, length, refl, sym, ap, subst, arith}
 use Rattle.grain_frame.specs.Counts.{Counts}
-use Rattle.grain_frame.specs.Abstraction.{abstraction, frame_in, IsPending, Stepped, StaysTyped}
+use Rattle.grain_frame.specs.Abstraction.{abstraction, frame_in, Stepped, StaysTyped}
 use Rattle.grain_frame.specs.declared.activations.Activation.{Activation}
 use Rattle.grain_frame.specs.declared.runs.Progress.{Progress}
 use Rattle.grain_frame.specs.declared.runs.Run.{Run}
-use Rattle.grain_frame.specs.declared.loops.Pending.{Pending}
-use Rattle.grain_frame.proofs.Arms.{call_stepped}
-use Rattle.grain_frame.proofs.Calling.{call_over, call_ran, has_begun, not_begun, entered_with, kept_with, refused_here, found_is, params_are, there_is, outer_is}
+use Rattle.grain_frame.proofs.Found.{found_stepped, is_function}
+use Rattle.grain_frame.proofs.Calling.{call_ran, has_begun, not_begun, entered_with, kept_with, refused_here, there_is, outer_is}
 use Rattle.grain_frame.proofs.Measure.{falls, taken}
-use Rattle.grain_frame.proofs.Turns.{moved_back, turn, flowed, left_out, next_runs, taken_back}
+use Rattle.grain_frame.proofs.Turns.{moved_back, turn, flowed, left_out, next_runs}
 use Rattle.grain_frame.specs.Catching.{standing, StopsSo, Caught, CaughtAt}
 use Rattle.grain_frame.specs.declared.loops.Stop.{Stop}
 use Rattle.grain_frame.proofs.CatchSteps.{caught_runs, offered_so, stopped_at, stopped_so}
-use Rattle.grain_means.specs.lemmas.Stretches.{compose}
+use Rattle.grain_means.specs.lemmas.Stretches.{compose, same}
 use Rattle.grain_frame.proofs.runs.Run.+run.Goals as goal
 
 pub call-returns-in-Err-clause-goes : goal.call-returns-in-Err-clause-goes
-call-returns-in-Err-clause-goes g t c =
-    let p = c.args.context.program.now in
-    let function = c.function_at-function.result.now in
-    let f = frame_in c.args.frame.now c.args.self.now in
-    let found = found_is p c.args.name c.args.count c.from.result c.from-count.result
-    c.in-Some.number function c.from.ensures c.from-count.ensures c.in-Some.ensures.exact
-    c.function_at-function.ensures.value in
-    let all = params_are p c.from.result c.args.count c.from-count.result c.in-Some.number function
-    c.from-count.ensures c.in-Some.ensures.called c.function_at-function.ensures.value in
-    call_over f c.args.name c.args.count c.args.next function found all
-    (c.in-Err.ensures.same c.args.next)
+call-returns-in-Err-clause-goes g t c = same (c.in-Err.ensures.same c.args.next)
 
 pub call-returns-else-begun-clause-goes : goal.call-returns-else-begun-clause-goes
 call-returns-else-begun-clause-goes g t c =
-    let p = c.args.context.program.now in
-    let function = c.function_at-function.result.now in
+    let function = c.args.function.now in
     let f = frame_in c.args.frame.now c.args.self.now in
-    let found = found_is p c.args.name c.args.count c.from.result c.from-count.result
-    c.in-Some.number function c.from.ensures c.from-count.ensures c.in-Some.ensures.exact
-    c.function_at-function.ensures.value in
-    let all = params_are p c.from.result c.args.count c.from-count.result c.in-Some.number function
-    c.from-count.ensures c.in-Some.ensures.called c.function_at-function.ensures.value in
     let kept = kept_with c.args.context.engine.now function c.args.self.now c.begin.new.self
     c.in-Ok.begun c.if-begun.false c.in-Ok.ensures.enters in
-    call_over f c.args.name c.args.count c.args.next function found all
-    (refused_here c.args.frame.now c.args.self.now c.begin.new.self kept
+    same (refused_here c.args.frame.now c.args.self.now c.begin.new.self kept
     (not_begun c.in-Ok.begun c.args.self.now c.begin.new.self function f c.args.next
     c.if-begun.false (c.in-Ok.ensures.same c.args.next)))
 
 pub call-returns-then-begun-clause-goes : goal.call-returns-then-begun-clause-goes
 call-returns-then-begun-clause-goes g t c =
-    let p = c.args.context.program.now in
-    let function = c.function_at-function.result.now in
+    let function = c.args.function.now in
     let f = frame_in c.args.frame.now c.args.self.now in
-    let found = found_is p c.args.name c.args.count c.from.result c.from-count.result
-    c.in-Some.number function c.from.ensures c.from-count.ensures c.in-Some.ensures.exact
-    c.function_at-function.ensures.value in
-    let all = params_are p c.from.result c.args.count c.from-count.result c.in-Some.number function
-    c.from-count.ensures c.in-Some.ensures.called c.function_at-function.ensures.value in
     let entered = entered_with c.args.context.engine.now function c.args.self.now c.begin.new.self
     c.in-Ok.begun c.if-begun.true c.in-Ok.ensures.enters in
     let ran = c.run_frame-end in
-    call_ran f c.args.name c.args.count c.args.next function found c.args.self.now.scope
-    c.args.self.now.level all
+    call_ran f c.args.next function c.args.self.now.scope c.args.self.now.level
     (has_begun c.in-Ok.begun c.args.self.now c.begin.new.self function f c.args.next
-    c.if-begun.true (c.in-Ok.ensures.same c.args.next)) all
+    c.if-begun.true (c.in-Ok.ensures.same c.args.next))
     (λ place. rw (entered.operands, entered.handlers) refl) refl ran.ensures.goes
     (there_is c.args.context.engine.now c.args.frame.now c.resume_caller.new.frame c.args.self.now
-    c.begin.new.self ran.new.self c.resume_caller.new.self function c.args.count c.args.next
-    entered ran.ensures.outer ran.ensures.saved ran.ensures.level ran.new.steps ran.new.host)
+    c.begin.new.self ran.new.self c.resume_caller.new.self function (length function.params)
+    c.args.next entered ran.ensures.outer ran.ensures.saved ran.ensures.level ran.new.steps
+    ran.new.host)
     (outer_is c.args.context.engine.now c.args.frame.now c.resume_caller.new.frame c.args.self.now
-    c.begin.new.self ran.new.self c.resume_caller.new.self function c.args.count c.args.next
-    entered ran.ensures.outer ran.ensures.saved ran.ensures.level all)
+    c.begin.new.self ran.new.self c.resume_caller.new.self function (length function.params)
+    c.args.next entered ran.ensures.outer ran.ensures.saved ran.ensures.level refl)
     (c.resume_caller.ensures.same ran.new.host) c.resume_caller.ensures.persists
 
-pub proceed-returns-in-Call : goal.proceed-returns-in-Call
-proceed-returns-in-Call g t c =
+pub proceed-returns-in-Function : goal.proceed-returns-in-Function
+proceed-returns-in-Function g t c =
     let p = c.args.context.program.now in
-    let at = subst (λ (q : Pending). IsPending p c.args.frame.now c.args.self.now q) c.in-Call.is
-    c.requires.pending in
+    let here = is_function g.H.Host.law p c.args.context.engine.now c.args.frame.now
+    c.find.new.frame c.args.self.now c.find.new.self c.args.steps.now c.find.new.steps
+    c.in-Ok.found c.in-Function.number c.in-Function.next c.args.host.now c.find.new.host
+    c.in-Function.is c.in-Ok.ensures.finds in
     record {
-      stepped = call_stepped g.H.Host.law p c.args.context.engine.now c.args.frame.now
-          c.args.self.now c.in-Call.name c.in-Call.count c.in-Call.next at c.requires.runs
-          c.args.steps.now c.call.new.frame c.call.new.self c.call.new.steps c.args.host.now
-          c.call.new.host c.call.ensures.goes c.call.ensures.kept c.call.ensures.lands
-          c.call.ensures.before;
-    }
-
-pub proceed-returns-in-Other : goal.proceed-returns-in-Other
-proceed-returns-in-Other g t c =
-    let did = c.step-progress.ensures.stepped in
-    let same = taken_back c.args.frame.now c.step-progress.new.frame did.kept.chunk did.kept.base in
-    record {
-      stepped =
-          subst (λ (f : Activation). Stepped g.H.Host.law c.args.context.program.now
-          c.args.context.engine.now c.args.frame.now c.args.self.now c.args.steps.now
-          c.step-progress.result f c.step-progress.new.self c.step-progress.new.steps
-          c.args.host.now
-          c.step-progress.new.host) same did;
+      stepped = found_stepped g.H.Host.law p c.args.context.engine.now c.args.frame.now
+          c.find.new.frame c.call.new.frame c.args.self.now c.find.new.self c.call.new.self
+          c.args.steps.now c.find.new.steps c.call.new.steps c.in-Function.number
+          c.in-Function.next c.args.host.now c.find.new.host c.call.new.host
+          c.function_at-function.result.now c.requires.runs here
+          c.function_at-function.ensures.value c.call.ensures.goes c.call.ensures.kept
+          c.call.ensures.lands c.call.ensures.before;
     }
 
 pub run_from-turn-smaller-in-Done : goal.run_from-turn-smaller-in-Done

@@ -1,18 +1,50 @@
-use Rattle.std.proofs.Common.{rules, refl}
-use Rattle.grain_frame.proofs.Arms.{kept_write}
+-- The entry, or its cell, has the operand's value.
+use Rattle.std.proofs.Common.{◌≡◌, ◌+◌, ◌∙◌, Some, true, false, refl, sym, ap, rules}
+use Rattle.std.specs.Prelude.{◌||◌, is_some}
+use Rattle.grain_value.specs.Cells.{flat}
+use Rattle.grain_value.specs.Looking.{cell_of}
+use Rattle.grain_value.specs.Operands.{below, read_write}
+use Rattle.grain_program.specs.View.{name_of}
+use Rattle.grain_means.specs.Rules.{flag_of_cell, held_at}
+use Rattle.grain_frame.specs.Targets.{Assigns, CanBeLent, put_in}
+use Rattle.grain_frame.specs.declared.runs.Run.{Run}
+use Rattle.grain_frame.specs.declared.targets.Target.{Target}
+use Rattle.grain_frame.proofs.AssignedEntries.{is_within}
+use Rattle.grain_frame.proofs.Lending.{writes}
+use Rattle.grain_frame.proofs.Targeting.{left_plain, readable_free}
 use Rattle.grain_frame.proofs.runs.Run.assign_local.Goals as goal
 
-pub returns-else-read_only : goal.returns-else-read_only
-returns-else-read_only g c =
-    record {
-      performs =
-          λ host. record {
-            same = search rules;
-            kept = kept_write c.args.frame.now _ c.args.self.now
-                c.pop-value.new.self _ c.set.new.self _ _ refl refl c.pop-value.ensures.rest
-                c.set.ensures
-                c.requires.ready.inside;
-            lands = search rules;
-            before = search rules;
-          };
-    }
+pub returns : goal.returns
+returns g c =
+    let p = c.args.context.program.now in
+    let engine = c.args.context.engine.now in
+    let s = c.args.self.now in
+    let f = c.args.frame.now in
+    let held = c.in-Some.held.now in
+    let t : Target = record { index = c.slot_index-index.result; cell = c.as_cell-cell.result } in
+    let there : held_at s.scope t.index ≡ Some held = search rules in
+    let at : held_at s.scope (f.base + c.args.slot) ≡ Some held = search rules in
+    let is_cell : cell_of held.value ≡ t.cell = search rules in
+    let free : is_some (flat s.cells held.value) ≡ true = search rules in
+    let writable : (held.read_only || flag_of_cell (cell_of held.value) s.cells) ≡ false =
+    search rules in
+    let plain = left_plain held.read_only (flag_of_cell (cell_of held.value) s.cells) writable in
+    let v = c.in_ok-value.value in
+    let to : Assigns f t c.args.slot held =
+    record { cell = is_cell; plain = plain; at = sym c.slot_index-index.ensures } in
+    let can : CanBeLent s t = record {
+      entry = is_within s.scope t.index held there;
+      free = readable_free s held.value t.cell is_cell free;
+    } in
+    let written : c.write.new.self ≡ put_in c.take_flat.new.self t (read_write v) =
+    search rules in
+    rw (c.mark-2.ensures, c.mark.ensures) (record {
+      performs = λ host.
+          writes g.H.Host.law p engine f s c.args.steps.now host t held c.args.slot c.args.next to
+          can c.requires.ready.inside c.requires.ready.operands c.requires.ready.ahead
+          (read_write v) (λ m. name_of m.program c.args.name)
+          (record s.stacks { operands = below s.stacks.operands }) c.write.new.self refl
+          (written ∙ ap (λ (r : Run g.row.H.Denot). put_in r t (read_write v))
+          c.in_ok-value.ensures.rest)
+          (λ stop u place. rw (at, c.in_ok-value.ensures.value, writable, plain) refl);
+    })

@@ -1,5 +1,6 @@
 use Rattle.std.proofs.Common.{rules, refl, arith, ◌≡◌, ◌-◌, length, true, false, Some}
 use Rattle.grain_value.specs.Operands.{top, below}
+use Rattle.grain_value.specs.Cells.{flat}
 use Rattle.grain_value.specs.Looking.{truth_of}
 use Rattle.grain_means.specs.Rules.{agrees}
 use Rattle.std.proofs.lemmas.List.{length-take}
@@ -12,9 +13,10 @@ use Rattle.grain_frame.proofs.runs.Run.jump_if.Goals as goal
 
 pub returns-then-agrees : goal.returns-then-agrees
 returns-then-agrees g c =
-    let truth : truth_of (top c.args.self.now.stacks.operands).value ≡ Some c.in-Some.truth =
-    search rules in
-    let agreed : agrees c.args.wanted c.in-Some.truth ≡ true = search rules in
+    let read : flat c.args.self.now.cells (top c.args.self.now.stacks.operands).value
+    ≡ Some c.in-Some.value.now = search rules in
+    let truth : truth_of c.in-Some.value.now ≡ Some c.in-Some-as_bool.truth = search rules in
+    let agreed : agrees c.args.wanted c.in-Some-as_bool.truth ≡ true = search rules in
     let long =
     length-take (length c.args.self.now.stacks.operands - 1) c.args.self.now.stacks.operands in
     record {
@@ -27,18 +29,19 @@ returns-then-agrees g c =
           if_jumps (stopped
           (setup g.H.Host.law c.args.context.program.now c.args.context.engine.now) stop)
           c.args.frame.now c.args.self.now c.pop-value.new.self c.args.wanted c.args.target
-          c.args.next c.in-Some.truth place
-          (world (abstraction c.args.self.now c.args.steps.now c.args.host.now) u) truth agreed
+          c.args.next c.in-Some.value.now c.in-Some-as_bool.truth place
+          (world (abstraction c.args.self.now c.args.steps.now c.args.host.now) u) read truth agreed
           c.pop-value.ensures.rest)
           (to_target c.args.target c.args.next)
           (omega (arith, long)) (omega (arith, long));
     }
 
-pub returns-in-Some : goal.returns-in-Some
-returns-in-Some g c =
-    let truth : truth_of (top c.args.self.now.stacks.operands).value ≡ Some c.in-Some.truth =
-    search rules in
-    let agreed : agrees c.args.wanted c.in-Some.truth ≡ false = search rules in
+pub returns-in-Some-as_bool : goal.returns-in-Some-as_bool
+returns-in-Some-as_bool g c =
+    let read : flat c.args.self.now.cells (top c.args.self.now.stacks.operands).value
+    ≡ Some c.in-Some.value.now = search rules in
+    let truth : truth_of c.in-Some.value.now ≡ Some c.in-Some-as_bool.truth = search rules in
+    let agreed : agrees c.args.wanted c.in-Some-as_bool.truth ≡ false = search rules in
     let long =
     length-take (length c.args.self.now.stacks.operands - 1) c.args.self.now.stacks.operands in
     record {
@@ -50,7 +53,7 @@ returns-in-Some g c =
           (c.go_on.ensures.implements c.args.context.program.now c.args.context.engine.now
           c.args.host.now)
           (λ stop u place.
-          rw (truth, agreed, c.pop-value.ensures.rest) refl)
+          rw (read, truth, agreed, c.pop-value.ensures.rest) refl)
           (to_next c.args.target c.args.next)
           (omega (arith, long)) (omega (arith, long));
     }

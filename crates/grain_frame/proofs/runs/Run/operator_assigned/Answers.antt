@@ -1,135 +1,144 @@
-use Rattle.std.proofs.Common.{◌≡◌, ◌∷◌, [], None, Some, true, refl, sym, rules}
+-- The host's operator on what the target holds and on the operand as it was read.
+use Rattle.std.proofs.Common.{◌≡◌, ◌∷◌, [], List, None, true, refl, sym, rules}
+use Rattle.grain_value.specs.Operands.{read_write}
+use Rattle.grain_value.specs.declared.values.Held.{Held}
 use Rattle.grain_program.specs.View.{name_of}
-use Rattle.grain_value.specs.Operands.{top}
-use Rattle.grain_means.specs.Rules.{held_at, raised, write_entry}
+use Rattle.grain_means.specs.Rules.{flattened, raised, write_entry}
 use Rattle.grain_means.specs.Means.{setup}
-use Rattle.grain_frame.specs.Abstraction.{frame_in, is_out}
+use Rattle.grain_means.specs.Simulation.{stopped, world}
+use Rattle.grain_frame.specs.Abstraction.{abstraction, frame_in, is_out}
 use Rattle.grain_frame.specs.Natives.{Describes, Seeks}
-use Rattle.grain_frame.proofs.Serving.{native_raised, native_wants}
-use Rattle.grain_frame.specs.Following.{moved, marked_once}
+use Rattle.grain_frame.specs.Targets.{content_at, kept_operand}
 use Rattle.grain_frame.proofs.Arms.{implements_as}
-use Rattle.grain_frame.proofs.Handing.{native_written, one_held}
+use Rattle.grain_frame.proofs.Lending.{native_then, operator_at}
+use Rattle.grain_frame.proofs.Serving.{native_raised, native_wants}
 use Rattle.grain_frame.proofs.runs.Run.operator_assigned.Goals as goal
 
 pub returns-in_err-value : goal.returns-in_err-value
 returns-in_err-value g c =
     let p = c.args.context.program.now in
+    let engine = c.args.context.engine.now in
     let s = c.args.self.now in
     let f = c.args.frame.now in
-    let held = c.in-Some.held.now in
-    let there : held_at s.scope c.args.index ≡ Some held = search rules in
-    let one : Describes c.push.new.self (held ∷ []) =
-    c.in_ok-push.ensures [] c.new-arguments.ensures in
-    let two : Describes c.push-2.new.self (held ∷ top s.stacks.operands ∷ []) =
-    rw c.top.ensures at (c.in_ok-push-2.ensures (held ∷ []) one) in
-    let args = held ∷ top s.stacks.operands ∷ [] in
+    let t = c.args.target in
+    let u = read_write (content_at s t) in
+    let v = kept_operand c.args.kept.now s.stacks.operands in
+    let args : List Held = u ∷ v ∷ [] in
+    let one : Describes c.push.new.self (u ∷ []) =
+    rw c.content.ensures at (c.in_ok-push.ensures [] c.new-arguments.ensures) in
+    let two : Describes c.push-2.new.self args =
+    rw (c.operand-value.ensures, c.top.ensures) at (c.in_ok-push-2.ensures (u ∷ []) one) in
     let seeks : Seeks g.H.Host.law c.args.host.now (name_of p c.args.name) None args
     c.position-position.result c.in_ok-sought.sought =
     rw c.name-name.ensures at (c.in_ok-sought.ensures args two) in
-    let m = setup g.H.Host.law p c.args.context.engine.now in
+    let m = setup g.H.Host.law p engine in
     let out : is_out c.from_residual-in_err-value.result ≡ true = search rules in
     record {
-      implements = λ h is slot at.
+      implements = λ h slot to.
           let did = c.in_err-value.ensures.same m (name_of p c.args.name) args (frame_in f s)
-          (λ n place v w. write_entry n held.read_only slot held v c.args.next (frame_in f s place)
-          w)
+          (λ n place r w. flattened n (read_write r) (name_of n.program c.args.variable)
+          (frame_in f s place) w (λ q. write_entry n h slot (read_write q)
+          (name_of n.program c.args.variable) c.args.next (frame_in f s place) w))
           (λ n place x w. raised n (frame_in f s place) x w) refl
           (λ place. sym c.position-position.ensures) seeks in
-          rw (← one_held (held_at s.scope c.args.index) held h there is)
-          (implements_as g.H.Host.law c.args.context.program.now c.args.context.engine.now
-          f f s s c.call_native.new.self c.args.steps.now c.call_native.new.steps c.args.host.now
-          c.call_native.new.host refl
-          (native_wants g.H.Host.law c.args.context.program.now c.args.context.engine.now
-          f s c.call_native.new.self c.args.steps.now c.call_native.new.steps c.args.host.now
-          c.call_native.new.host
-          (λ n place v w. write_entry n held.read_only slot held v c.args.next (frame_in f s place)
-          w)
+          implements_as g.H.Host.law p engine f f s s c.call_native.new.self c.args.steps.now
+          c.call_native.new.steps c.args.host.now c.call_native.new.host refl
+          (native_wants g.H.Host.law p engine f s c.call_native.new.self c.args.steps.now
+          c.call_native.new.steps c.args.host.now c.call_native.new.host
+          (λ n place r w. flattened n (read_write r) (name_of n.program c.args.variable)
+          (frame_in f s place) w (λ q. write_entry n h slot (read_write q)
+          (name_of n.program c.args.variable) c.args.next (frame_in f s place) w))
           (λ n place x w. raised n (frame_in f s place) x w)
-          s.scope c.call_native.ensures.run refl c.call_native.ensures.before
-          c.requires.inside
-          c.in_err-value.field-0.0 c.from_residual-in_err-value.result out did)
-          (λ stop u place. refl));
+          s.scope s.cells c.call_native.ensures.run refl c.call_native.ensures.before
+          c.requires.inside c.in_err-value.field-0.0 c.from_residual-in_err-value.result out did)
+          (λ stop w place. operator_at (stopped m stop) (name_of p c.args.name) h u v slot
+          c.args.variable c.args.next (frame_in f s place)
+          (world (abstraction s c.args.steps.now c.args.host.now) w) to.plain);
     }
 
 pub returns-in-Fault : goal.returns-in-Fault
 returns-in-Fault g c =
     let p = c.args.context.program.now in
+    let engine = c.args.context.engine.now in
     let s = c.args.self.now in
     let f = c.args.frame.now in
-    let held = c.in-Some.held.now in
-    let there : held_at s.scope c.args.index ≡ Some held = search rules in
-    let one : Describes c.push.new.self (held ∷ []) =
-    c.in_ok-push.ensures [] c.new-arguments.ensures in
-    let two : Describes c.push-2.new.self (held ∷ top s.stacks.operands ∷ []) =
-    rw c.top.ensures at (c.in_ok-push-2.ensures (held ∷ []) one) in
-    let args = held ∷ top s.stacks.operands ∷ [] in
+    let t = c.args.target in
+    let u = read_write (content_at s t) in
+    let v = kept_operand c.args.kept.now s.stacks.operands in
+    let args : List Held = u ∷ v ∷ [] in
+    let one : Describes c.push.new.self (u ∷ []) =
+    rw c.content.ensures at (c.in_ok-push.ensures [] c.new-arguments.ensures) in
+    let two : Describes c.push-2.new.self args =
+    rw (c.operand-value.ensures, c.top.ensures) at (c.in_ok-push-2.ensures (u ∷ []) one) in
     let seeks : Seeks g.H.Host.law c.args.host.now (name_of p c.args.name) None args
     c.position-position.result c.in_ok-sought.sought =
     rw c.name-name.ensures at (c.in_ok-sought.ensures args two) in
-    let m = setup g.H.Host.law p c.args.context.engine.now in
-    record {
-      implements = λ h is slot at.
+    let m = setup g.H.Host.law p engine in
+    rw c.raise.ensures.progress
+    (record {
+      implements = λ h slot to.
           let did = c.in_ok-value.ensures.same m (name_of p c.args.name) args (frame_in f s)
-          (λ n place v w. write_entry n held.read_only slot held v c.args.next (frame_in f s place)
-          w)
+          (λ n place r w. flattened n (read_write r) (name_of n.program c.args.variable)
+          (frame_in f s place) w (λ q. write_entry n h slot (read_write q)
+          (name_of n.program c.args.variable) c.args.next (frame_in f s place) w))
           (λ n place x w. raised n (frame_in f s place) x w) refl
           (λ place. sym c.position-position.ensures) seeks in
-          rw (← one_held (held_at s.scope c.args.index) held h there is, c.raise.ensures.progress)
-          (implements_as g.H.Host.law c.args.context.program.now c.args.context.engine.now
-          f f s s c.raise.new.self c.args.steps.now c.raise.new.steps c.args.host.now
-          c.call_native.new.host refl
-          (native_raised g.H.Host.law c.args.context.program.now c.args.context.engine.now
-          f s c.call_native.new.self c.args.steps.now c.call_native.new.steps c.args.host.now
-          c.call_native.new.host
-          (λ n place v w. write_entry n held.read_only slot held v c.args.next (frame_in f s place)
-          w)
+          implements_as g.H.Host.law p engine f f s s c.raise.new.self c.args.steps.now
+          c.raise.new.steps c.args.host.now c.call_native.new.host refl
+          (native_raised g.H.Host.law p engine f s c.call_native.new.self c.args.steps.now
+          c.call_native.new.steps c.args.host.now c.call_native.new.host
+          (λ n place r w. flattened n (read_write r) (name_of n.program c.args.variable)
+          (frame_in f s place) w (λ q. write_entry n h slot (read_write q)
+          (name_of n.program c.args.variable) c.args.next (frame_in f s place) w))
           (λ n place x w. raised n (frame_in f s place) x w)
-          s.scope c.call_native.ensures.run refl c.call_native.ensures.before
+          s.scope s.cells c.call_native.ensures.run refl c.call_native.ensures.before
           c.requires.inside c.in-Fault.fault c.raise.new.self c.raise.new.steps
           (rw c.in-Fault.is at did) c.raise.ensures.after c.raise.ensures.marked)
-          (λ stop u place. refl));
-    }
+          (λ stop w place. operator_at (stopped m stop) (name_of p c.args.name) h u v slot
+          c.args.variable c.args.next (frame_in f s place)
+          (world (abstraction s c.args.steps.now c.args.host.now) w) to.plain);
+    })
 
 pub returns-in-Value : goal.returns-in-Value
 returns-in-Value g c =
     let p = c.args.context.program.now in
+    let engine = c.args.context.engine.now in
     let s = c.args.self.now in
     let f = c.args.frame.now in
-    let held = c.in-Some.held.now in
-    let there : held_at s.scope c.args.index ≡ Some held = search rules in
-    let one : Describes c.push.new.self (held ∷ []) =
-    c.in_ok-push.ensures [] c.new-arguments.ensures in
-    let two : Describes c.push-2.new.self (held ∷ top s.stacks.operands ∷ []) =
-    rw c.top.ensures at (c.in_ok-push-2.ensures (held ∷ []) one) in
-    let args = held ∷ top s.stacks.operands ∷ [] in
+    let t = c.args.target in
+    let u = read_write (content_at s t) in
+    let v = kept_operand c.args.kept.now s.stacks.operands in
+    let args : List Held = u ∷ v ∷ [] in
+    let one : Describes c.push.new.self (u ∷ []) =
+    rw c.content.ensures at (c.in_ok-push.ensures [] c.new-arguments.ensures) in
+    let two : Describes c.push-2.new.self args =
+    rw (c.operand-value.ensures, c.top.ensures) at (c.in_ok-push-2.ensures (u ∷ []) one) in
     let seeks : Seeks g.H.Host.law c.args.host.now (name_of p c.args.name) None args
     c.position-position.result c.in_ok-sought.sought =
     rw c.name-name.ensures at (c.in_ok-sought.ensures args two) in
-    let m = setup g.H.Host.law p c.args.context.engine.now in
+    let m = setup g.H.Host.law p engine in
     record {
-      implements = λ h is slot at.
+      implements = λ h slot to.
           let did = c.in_ok-value.ensures.same m (name_of p c.args.name) args (frame_in f s)
-          (λ n place v w. write_entry n held.read_only slot held v c.args.next (frame_in f s place)
-          w)
+          (λ n place r w. flattened n (read_write r) (name_of n.program c.args.variable)
+          (frame_in f s place) w (λ q. write_entry n h slot (read_write q)
+          (name_of n.program c.args.variable) c.args.next (frame_in f s place) w))
           (λ n place x w. raised n (frame_in f s place) x w) refl
           (λ place. sym c.position-position.ensures) seeks in
-          rw (
-            ← one_held (held_at s.scope c.args.index) held h there is,
-            c.mark-in-Value.ensures,
-            c.mark.ensures,
-          )
-          (implements_as g.H.Host.law c.args.context.program.now c.args.context.engine.now
-          f (moved f c.args.next) s s
-          (record c.call_native.new.self
-          { stacks = c.pop-value.new.self; scope = c.set.new.self }) c.args.steps.now
-          (marked_once (marked_once c.call_native.new.steps)) c.args.host.now
+          implements_as g.H.Host.law p engine f c.assign_answer.new.frame s s
+          c.assign_answer.new.self c.args.steps.now c.assign_answer.new.steps c.args.host.now
           c.call_native.new.host refl
-          (native_written g.H.Host.law c.args.context.program.now c.args.context.engine.now
-          f s c.call_native.new.self c.args.steps.now c.call_native.new.steps c.args.host.now
-          c.call_native.new.host
-          c.call_native.ensures.run c.call_native.ensures.before
-          c.requires.inside
-          held slot c.args.index c.args.next c.in-Value.value c.pop-value.new.self c.set.new.self
-          (rw c.in-Value.is at did) c.pop-value.ensures.rest c.set.ensures at c.requires.ahead)
-          (λ stop u place. refl));
+          (native_then g.H.Host.law p engine f s c.call_native.new.self c.args.steps.now
+          c.call_native.new.steps c.args.host.now c.call_native.new.host s.scope s.cells
+          c.call_native.ensures.run refl c.call_native.ensures.before c.requires.inside
+          (λ q n place w. flattened n (read_write c.in-Value.value)
+          (name_of n.program c.args.variable) (frame_in f (record s { stacks = q }) place) w
+          (λ x. write_entry n h slot (read_write x) (name_of n.program c.args.variable) c.args.next
+          (frame_in f (record s { stacks = q }) place) w))
+          c.assign_answer.new.frame c.assign_answer.new.self c.assign_answer.new.steps
+          c.call_native.new.host (rw c.in-Value.is at did)
+          (c.assign_answer.ensures.implements c.call_native.new.host h slot to))
+          (λ stop w place. operator_at (stopped m stop) (name_of p c.args.name) h u v slot
+          c.args.variable c.args.next (frame_in f s place)
+          (world (abstraction s c.args.steps.now c.args.host.now) w) to.plain);
     }

@@ -17,7 +17,7 @@ returns-in-LoadConst-default g c =
     c.requires.runs c.fetch.ensures.verified c.fetch.ensures.read refl c.args.steps.now
     c.quick_const.new.frame c.quick_const.new.self c.quick_const.new.steps c.quick_const.result
     c.of.result c.of.ensures c.quick_const.ensures.performs c.quick_const.ensures.undone
-    (λ name count e. cc)
+    ((λ name count e. cc), (λ count e. cc))
 
 pub returns-in-LoadLocal-default : goal.returns-in-LoadLocal-default
 returns-in-LoadLocal-default g c =
@@ -27,7 +27,7 @@ returns-in-LoadLocal-default g c =
     c.fetch.ensures.verified c.fetch.ensures.read refl c.args.steps.now c.quick_local.new.frame
     c.quick_local.new.self c.quick_local.new.steps c.quick_local.result
     c.of-in-LoadLocal-default.result c.of-in-LoadLocal-default.ensures
-    c.quick_local.ensures.performs c.quick_local.ensures.undone (λ name count e. cc)
+    c.quick_local.ensures.performs c.quick_local.ensures.undone ((λ name count e. cc), (λ count e. cc))
 
 pub returns-in-AssignLocalOp-default : goal.returns-in-AssignLocalOp-default
 returns-in-AssignLocalOp-default g c =
@@ -39,7 +39,7 @@ returns-in-AssignLocalOp-default g c =
     c.fetch.ensures.verified c.fetch.ensures.read refl c.args.steps.now c.quick_assign.new.frame
     c.quick_assign.new.self c.quick_assign.new.steps c.quick_assign.result
     c.of-in-AssignLocalOp-default.result c.of-in-AssignLocalOp-default.ensures
-    c.quick_assign.ensures.performs c.quick_assign.ensures.undone (λ name count e. cc)
+    c.quick_assign.ensures.performs c.quick_assign.ensures.undone ((λ name count e. cc), (λ count e. cc))
 
 pub returns-in-Jump-default : goal.returns-in-Jump-default
 returns-in-Jump-default g c =
@@ -65,7 +65,7 @@ returns-in-JumpIfFalse-default g c =
     c.quick_jump_if.new.frame c.quick_jump_if.new.self c.quick_jump_if.new.steps
     c.quick_jump_if.result c.of-in-JumpIfFalse-default.result
     c.of-in-JumpIfFalse-default.ensures c.quick_jump_if.ensures.implements
-    c.quick_jump_if.ensures.undone (λ name count e. cc)
+    c.quick_jump_if.ensures.undone ((λ name count e. cc), (λ count e. cc))
 
 pub returns-in-JumpIfTrue-default : goal.returns-in-JumpIfTrue-default
 returns-in-JumpIfTrue-default g c =
@@ -78,7 +78,7 @@ returns-in-JumpIfTrue-default g c =
     c.quick_jump_if-in-JumpIfTrue-default.new.steps c.quick_jump_if-in-JumpIfTrue-default.result
     c.of-in-JumpIfTrue-default.result c.of-in-JumpIfTrue-default.ensures
     c.quick_jump_if-in-JumpIfTrue-default.ensures.implements
-    c.quick_jump_if-in-JumpIfTrue-default.ensures.undone (λ name count e. cc)
+    c.quick_jump_if-in-JumpIfTrue-default.ensures.undone ((λ name count e. cc), (λ count e. cc))
 
 pub returns-in-CallOp-default : goal.returns-in-CallOp-default
 returns-in-CallOp-default g c =
@@ -89,7 +89,7 @@ returns-in-CallOp-default g c =
     c.requires.runs c.fetch.ensures.verified c.fetch.ensures.read refl c.args.steps.now
     c.quick_op.new.frame c.quick_op.new.self c.quick_op.new.steps c.quick_op.result
     c.of-in-CallOp-default.result c.of-in-CallOp-default.ensures c.quick_op.ensures.performs
-    c.quick_op.ensures.undone (λ name count e. cc)
+    c.quick_op.ensures.undone ((λ name count e. cc), (λ count e. cc))
 
 pub quick_op-requires-clause-typed : goal.quick_op-requires-clause-typed
 quick_op-requires-clause-typed g c =
@@ -116,5 +116,15 @@ returns-in-Call-default g c = (
       c.args.frame.now c.args.self.now c.fetch.result.0
       (op.Call c.in-Call-default.name c.in-Call-default.count) c.fetch.result.1
       c.height-depth.result c.in-Call-default.is-0 c.height-depth.ensures c.requires.runs
+      c.fetch.ensures.verified c.fetch.ensures.read,
+)
+
+pub returns-in-CallFnPtr-default : goal.returns-in-CallFnPtr-default
+returns-in-CallFnPtr-default g c = (
+  (refl, refl, refl),
+  stands g.H.Host.law c.args.context.program.now c.args.context.engine.now
+      c.args.frame.now c.args.self.now c.fetch.result.0
+      (op.CallFnPtr c.in-CallFnPtr-default.count) c.fetch.result.1
+      c.height-depth.result c.in-CallFnPtr-default.is-0 c.height-depth.ensures c.requires.runs
       c.fetch.ensures.verified c.fetch.ensures.read,
 )

@@ -19,6 +19,7 @@ returns-then-quick_branch-clause-performs g c =
       run = answered s truth;
       counts = marked_once c.args.steps.now;
       first = answers g.H.Host.law p e f s truth c.args.name c.args.count c.args.token next
-          c.args.steps.now host c.requires.ready is two c.in-Bool.ensures.agrees;
+          c.args.steps.now host c.requires.ready is two
+          (c.in-Bool.ensures.readable tt) c.in-Bool.ensures.agrees;
       second = rw c.mark-in-Bool.ensures at (c.if-quick_branch.ensures.stepped host);
     })

@@ -1,6 +1,6 @@
 use Rattle.std.proofs.Common.{◌≡◌, ◌≤◌, ◌∙◌, true, ap, length, arith, rules}
 use Rattle.grain_program.specs.View.{token_of}
-use Rattle.grain_frame.proofs.Pairs.{arguments_two}
+use Rattle.grain_frame.proofs.Pairs.{arguments_two, two_read}
 use Rattle.grain_frame.proofs.runs.Run.quick_operation.Goals as goal
 
 pub returns-clause-agrees : goal.returns-clause-agrees
@@ -20,4 +20,13 @@ returns-clause-agrees g c =
       ← c.peek.ensures,
       ← c.top.ensures,
     )
-    (c.quick_operated.ensures c.args.context.engine.now.limits)
+    (c.quick_operated.ensures.agrees c.args.context.engine.now.limits)
+
+pub returns-clause-readable : goal.returns-clause-readable
+returns-clause-readable g c = λ given.
+    let two : c.args.count ≡ 2 = search rules in
+    let some : 2 ≤ length c.args.self.now.stacks.operands =
+    omega (arith, c.requires.operands, two) in
+    rw (two, arguments_two c.args.self.now.stacks.operands some, ← c.peek.ensures, ← c.top.ensures)
+    (two_read c.args.self.now.cells c.peek.result.now c.top.result.now
+    (c.quick_operated.ensures.integers given))

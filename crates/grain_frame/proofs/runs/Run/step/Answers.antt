@@ -14,9 +14,18 @@ fetch-requires g c =
 
 pub unreachable-requires : goal.unreachable-requires
 unreachable-requires g c =
-    c.requires.calls_nothing c.in-Call-default.field-0-0 c.in-Call-default.field-1-0
-    c.fetch.result.1
-    (c.fetch.ensures.read ∙ ap (λ (q : Op). Some (q, c.fetch.result.1)) c.in-Call-default.is-0)
+    (c.requires.calls_nothing
+    (op.Call c.in-Call-default.field-0-0 c.in-Call-default.field-1-0) c.fetch.result.1
+    (c.fetch.ensures.read ∙ ap (λ (q : Op). Some (q, c.fetch.result.1)) c.in-Call-default.is-0)).0
+    c.in-Call-default.field-0-0 c.in-Call-default.field-1-0 refl
+
+pub unreachable-requires-in-CallFnPtr-default :
+    goal.unreachable-requires-in-CallFnPtr-default
+unreachable-requires-in-CallFnPtr-default g c =
+    (c.requires.calls_nothing (op.CallFnPtr c.in-CallFnPtr-default.field-0-0) c.fetch.result.1
+    (c.fetch.ensures.read ∙ ap (λ (q : Op). Some (q, c.fetch.result.1))
+    c.in-CallFnPtr-default.is-0)).1
+    c.in-CallFnPtr-default.field-0-0 refl
 
 pub returns-in-LoadConst-default : goal.returns-in-LoadConst-default
 returns-in-LoadConst-default g c =
@@ -374,4 +383,75 @@ returns-in-Return-default g c =
           c.return_value.new.self c.return_value.new.steps c.args.host.now c.args.host.now
           (c.return_value.ensures.performs c.args.context.program.now c.args.context.engine.now
           c.args.host.now);
+    }
+
+pub returns-in-LoadShared-default : goal.returns-in-LoadShared-default
+returns-in-LoadShared-default g c =
+    record {
+      stepped = stepped g.H.Host.law c.args.context.program.now c.args.context.engine.now
+          c.args.frame.now c.args.self.now c.fetch.result.0 (op.LoadShared c.in-LoadShared-default.slot) c.fetch.result.1
+          c.height-depth.result c.in-LoadShared-default.is-0 c.height-depth.ensures c.requires.runs
+          c.fetch.ensures.verified c.fetch.ensures.read refl c.args.steps.now
+          c.load_shared.new.frame c.load_shared.new.self c.load_shared.new.steps c.args.host.now c.args.host.now
+          (c.load_shared.ensures.performs c.args.host.now);
+    }
+
+pub returns-in-Share-default : goal.returns-in-Share-default
+returns-in-Share-default g c =
+    record {
+      stepped = stepped g.H.Host.law c.args.context.program.now c.args.context.engine.now
+          c.args.frame.now c.args.self.now c.fetch.result.0 (op.Share c.in-Share-default.slot) c.fetch.result.1
+          c.height-depth.result c.in-Share-default.is-0 c.height-depth.ensures c.requires.runs
+          c.fetch.ensures.verified c.fetch.ensures.read refl c.args.steps.now
+          c.share.new.frame c.share.new.self c.share.new.steps c.args.host.now c.args.host.now
+          (c.share.ensures.performs c.args.host.now);
+    }
+
+pub returns-in-IsShared-default : goal.returns-in-IsShared-default
+returns-in-IsShared-default g c =
+    record {
+      stepped = stepped g.H.Host.law c.args.context.program.now c.args.context.engine.now
+          c.args.frame.now c.args.self.now c.fetch.result.0 op.IsShared c.fetch.result.1
+          c.height-depth.result c.in-IsShared-default.is-0 c.height-depth.ensures c.requires.runs
+          c.fetch.ensures.verified c.fetch.ensures.read refl c.args.steps.now
+          c.is_shared.new.frame c.is_shared.new.self c.is_shared.new.steps c.args.host.now c.args.host.now
+          (c.is_shared.ensures.performs c.args.context.program.now
+          c.args.context.engine.now c.args.host.now);
+    }
+
+pub returns-in-MakeClosure-default : goal.returns-in-MakeClosure-default
+returns-in-MakeClosure-default g c =
+    record {
+      stepped = stepped g.H.Host.law c.args.context.program.now c.args.context.engine.now
+          c.args.frame.now c.args.self.now c.fetch.result.0 (op.MakeClosure c.in-MakeClosure-default.name) c.fetch.result.1
+          c.height-depth.result c.in-MakeClosure-default.is-0 c.height-depth.ensures c.requires.runs
+          c.fetch.ensures.verified c.fetch.ensures.read refl c.args.steps.now
+          c.make_closure.new.frame c.make_closure.new.self c.make_closure.new.steps c.args.host.now c.args.host.now
+          (c.make_closure.ensures.performs c.args.host.now);
+    }
+
+pub returns-in-Curry-default : goal.returns-in-Curry-default
+returns-in-Curry-default g c =
+    record {
+      stepped = stepped g.H.Host.law c.args.context.program.now c.args.context.engine.now
+          c.args.frame.now c.args.self.now c.fetch.result.0 (op.Curry c.in-Curry-default.count) c.fetch.result.1
+          c.height-depth.result c.in-Curry-default.is-0 c.height-depth.ensures c.requires.runs
+          c.fetch.ensures.verified c.fetch.ensures.read refl c.args.steps.now
+          c.curry.new.frame c.curry.new.self c.curry.new.steps c.args.host.now c.args.host.now
+          (c.curry.ensures.performs c.args.host.now);
+    }
+
+pub returns-in-StoreShared-default : goal.returns-in-StoreShared-default
+returns-in-StoreShared-default g c =
+    record {
+      stepped = stepped g.H.Host.law c.args.context.program.now c.args.context.engine.now
+          c.args.frame.now c.args.self.now c.fetch.result.0
+          (op.StoreShared c.in-StoreShared-default.slot) c.fetch.result.1 c.height-depth.result
+          c.in-StoreShared-default.is-0 c.height-depth.ensures c.requires.runs
+          c.fetch.ensures.verified
+          c.fetch.ensures.read refl c.args.steps.now c.store-in-StoreShared-default.new.frame
+          c.store-in-StoreShared-default.new.self c.store-in-StoreShared-default.new.steps
+          c.args.host.now c.args.host.now
+          (rw c.top.ensures at
+          (c.store-in-StoreShared-default.ensures.implements c.args.host.now));
     }

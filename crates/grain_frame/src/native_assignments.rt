@@ -1,0 +1,336 @@
+//! Op-assignments that no built-in does, so that the host does them.
+
+ghost use Rattle.std.specs.Prelude.{◌≡◌, ◌<◌, ◌≤◌, ◌+◌, ◌-◌, ◌∷◌, [], ℕ, List, Option, Some, None, length, IfOk, false};
+ghost use Rattle.grain_value.specs.declared.values.Dynamic.{Dynamic};
+ghost use Rattle.grain_value.specs.declared.values.Held.{Held};
+ghost use Rattle.grain_value.specs.Cells.{flat};
+ghost use Rattle.grain_value.specs.Operands.{read_write};
+ghost use Rattle.grain_value.specs.View.{tree};
+ghost use Rattle.grain_value.specs.Writing.{kind_of};
+ghost use Rattle.grain_fault.specs.Problems.{Problem, problem_of};
+ghost use Rattle.grain_program.specs.View.{name_of, position_of};
+ghost use Rattle.grain_means.specs.Worlds.{Setup, Frame, Place, World, Act};
+ghost use Rattle.grain_means.specs.Rules.{flattened, native, native_assigned, op_assign_failed, operator_assigned, write_entry};
+ghost use Rattle.grain_means.specs.Simulation.{SimulatesExactly};
+ghost use Rattle.grain_frame.specs.Abstraction.{abstraction, frame_in, is_out, native_continuation, Implements};
+ghost use Rattle.grain_frame.specs.Natives.{Seeks, Serves};
+ghost use Rattle.grain_frame.specs.Targets.{Assigns, AssignsHere, CanBeLent, HoldsAt, content_at, kept_operand, receiver_at};
+ghost use Rattle.grain_frame.specs.declared.targets.Target.{Target};
+
+use crate::activations::Activation;
+use crate::assignments::operand;
+use crate::contexts::Context;
+use crate::native_calls::{Arguments, NativeEnd, Sought, seek, served};
+use crate::runs::{Progress, Run};
+use crate::signatures::{not_found, says_missing};
+use crate::steps::Steps;
+use crate::targets::Target;
+use grain_fault::{EvalAltResult, Position};
+use grain_host::{Args, Host};
+use grain_program::AssignOp;
+use grain_value::{Array, Dynamic, Held, Kinds, OutOfMemory, Text};
+use std::alloc::Global;
+use std::sync::ledger::Ledger;
+
+// Copies of two values.
+fn pair(alloc: Global, first: &Dynamic, second: &Dynamic) -> Result<Array, OutOfMemory>
+    ensures { IfOk result (λ values. values ≡ tree first.now ∷ tree second.now ∷ []) }
+{
+    let mut values = Array::new(alloc);
+    values.push(first.copy(alloc)?)?;
+    values.push(second.copy(alloc)?)?;
+    Ok(values)
+}
+
+// The kinds of two values.
+fn kinds_of(alloc: Global, first: &Dynamic, second: &Dynamic) -> Result<Kinds, OutOfMemory>
+    ensures { IfOk result (λ kinds. kinds ≡ kind_of first.now ∷ kind_of second.now ∷ []) }
+{
+    let mut kinds = Kinds::new(alloc);
+    kinds.push(first.own_kind())?;
+    kinds.push(second.own_kind())?;
+    Ok(kinds)
+}
+
+// What the host has for a name, what is lent at a target and a value, where a fault has this
+// position. What is lent, which can be written, is not copied for a native that is there.
+fn seek_lent<H: Host>(
+    alloc: Global,
+    host: &H,
+    name: &Text,
+    lent: &Dynamic,
+    operand: &Dynamic,
+    position: Position,
+) -> Result<Sought, OutOfMemory>
+    ensures { (target : Target) (h v : Held) → h.value ≡ lent.now → h.read_only ≡ false →
+        v.value ≡ operand.now → IfOk result (λ s. Seeks H.law host.now name.now
+        (Some (receiver_at target h)) (v ∷ []) position s) }
+{
+    let kinds = kinds_of(alloc, lent, operand)?;
+    let Some(native) = host.resolve(name.as_str(), &kinds) else {
+        let values = pair(alloc, lent, operand)?;
+        return Ok(Sought::Fault(not_found(alloc, name, &values, position)?));
+    };
+    let mut values = Array::new(alloc);
+    values.push(operand.copy(alloc)?)?;
+    Ok(Sought::Native(native.key, values))
+}
+
+impl<H: Host> Run<H> {
+    // Calls the native of a key, to which what the target holds is lent.
+    #[tactic(auto, using(grain_means::specs::lemmas::Scopes::length_set_held))]
+    fn lend<L: Ledger>(
+        &mut self,
+        host: &mut H,
+        steps: &mut Steps<L>,
+        key: u64,
+        target: Target,
+        values: Array,
+        position: Position,
+    ) -> Result<NativeEnd, OutOfMemory>
+        requires target { CanBeLent self.old target }
+        ensures same { (h : Held) → HoldsAt self.old target h →
+            Serves H.law self.old steps.old host.old key (Some (receiver_at target h))
+            values position result self.new steps.new host.new }
+        ensures run { self.new ≡ record self.old {
+          scope = self.new.scope;
+          cells = self.new.cells;
+        } }
+        ensures long { length self.new.scope ≡ length self.old.scope }
+        ensures again { CanBeLent self.new target }
+        ensures before { steps.new.before ≡ steps.old.before }
+    {
+        let held = self.take_out(target);
+        let mut args = Args {
+            receiver: Some(held),
+            values,
+        };
+        let answer = host.call(self.alloc, key, &mut args);
+        let Args { receiver, .. } = args;
+        match receiver {
+            Some(held) => self.put_back(target, held),
+            None => unreachable!(),
+        }
+        served(steps, answer, position)
+    }
+
+    // Calls the native that was sought, to which what the target holds is lent, or gives the fault
+    // that there is none. A fault of the host's without a position has this one.
+    fn call_lent<L: Ledger>(
+        &mut self,
+        host: &mut H,
+        steps: &mut Steps<L>,
+        sought: Sought,
+        target: Target,
+        position: Position,
+    ) -> Result<NativeEnd, OutOfMemory>
+        requires target { CanBeLent self.old target }
+        ensures same { (m : Setup H) (name : List ℕ) (h : Held) (args : List Held)
+            (f : Option Place → Frame)
+            (go : Setup H → Option Place → Dynamic → World H → Act H)
+            (fails : Setup H → Option Place → Problem → World H → Act H) → m.law ≡ H.law →
+            ((place : Option Place) → position_of m.program (f place).address ≡ position) →
+            HoldsAt self.old target h →
+            Seeks H.law host.old name (Some (receiver_at target h)) args position
+            sought → SimulatesExactly m (abstraction self.old steps.old host.old)
+            (λ m place w. native m name (Some (receiver_at target h)) args (f place) w
+            (go m place) (fails m place))
+            (is_out result) (abstraction self.new steps.new host.new)
+            (native_continuation result f go fails) }
+        ensures run { self.new ≡ record self.old {
+          scope = self.new.scope;
+          cells = self.new.cells;
+        } }
+        ensures long { length self.new.scope ≡ length self.old.scope }
+        ensures again { CanBeLent self.new target }
+        ensures before { steps.new.before ≡ steps.old.before }
+    {
+        match sought {
+            Sought::Fault(fault) => Ok(NativeEnd::Fault(fault)),
+            Sought::Native(key, values) => self.lend(host, steps, key, target, values, position),
+        }
+    }
+
+    // The host's op-assignment of the last operand, as it was read, to which what the target holds is
+    // lent; where it has none of that name, the host's operator. The variable has the name at the
+    // index.
+    #[cold]
+    #[inline(never)]
+    pub(crate) fn native_assigned<L: Ledger>(
+        &mut self,
+        context: Context<'_>,
+        host: &mut H,
+        steps: &mut Steps<L>,
+        frame: &mut Activation,
+        target: Target,
+        variable: u16,
+        assign_op: &AssignOp,
+        kept: &Option<Dynamic>,
+        next: usize,
+    ) -> Result<Progress, OutOfMemory>
+        requires inside { frame.old.base ≤ length self.old.scope }
+        requires target { CanBeLent self.old target }
+        requires operand { 0 < length self.old.stacks.operands }
+        requires ahead { frame.old.address < next }
+        requires first { assign_op.now.op_assign_name < length context.program.now.names }
+        requires second { assign_op.now.op_name < length context.program.now.names }
+        requires variable { variable < length context.program.now.names }
+        ensures implements { (h : Held) (slot : ℕ) → AssignsHere self.old frame.old target slot h →
+            Implements H.law context.entry.program.now context.entry.engine.now frame.old self.old
+            steps.old (λ m place w. native_assigned m assign_op.now h (content_at self.old target)
+            (kept_operand kept.now self.old.stacks.operands) slot variable next
+            (frame_in frame.old self.old place) w)
+            (next ∷ []) 1 0 self.old.stacks.handlers result
+            frame.new self.new steps.new host.old host.new }
+    {
+        let name = context.program.name(assign_op.op_assign_name);
+        let position = context.program.position(frame.address);
+        let value = operand(&self.stacks, kept);
+        let lent = self.content(target);
+        let sought = seek_lent(self.alloc, host, name, lent, value, position)?;
+        match self.call_lent(host, steps, sought, target, position)? {
+            NativeEnd::Value(_) => {
+                let _value = self.stacks.pop();
+                frame.address = next;
+                steps.mark();
+                Ok(Progress::Continues)
+            }
+            NativeEnd::Fault(fault) => self.op_assign_failed(
+                context, host, steps, frame, target, variable, assign_op, kept, fault, next,
+            ),
+        }
+    }
+
+    // What follows from a fault of the host's op-assignment: where it has none of that name, its
+    // operator is asked.
+    fn op_assign_failed<L: Ledger>(
+        &mut self,
+        context: Context<'_>,
+        host: &mut H,
+        steps: &mut Steps<L>,
+        frame: &mut Activation,
+        target: Target,
+        variable: u16,
+        assign_op: &AssignOp,
+        kept: &Option<Dynamic>,
+        fault: EvalAltResult,
+        next: usize,
+    ) -> Result<Progress, OutOfMemory>
+        requires inside { frame.old.base ≤ length self.old.scope }
+        requires target { CanBeLent self.old target }
+        requires operand { 0 < length self.old.stacks.operands }
+        requires ahead { frame.old.address < next }
+        requires first { assign_op.now.op_assign_name < length context.program.now.names }
+        requires second { assign_op.now.op_name < length context.program.now.names }
+        requires variable { variable < length context.program.now.names }
+        ensures implements { (h : Held) (slot : ℕ) → Assigns frame.old target slot h →
+            Implements H.law context.entry.program.now context.entry.engine.now frame.old self.old
+            steps.old (λ m place w. op_assign_failed m assign_op.now h
+            (kept_operand kept.now self.old.stacks.operands) slot variable next
+            (frame_in frame.old self.old place) (problem_of fault) w)
+            (next ∷ []) 1 0 self.old.stacks.handlers result
+            frame.new self.new steps.new host.old host.new }
+    {
+        let name = context.program.name(assign_op.op_assign_name);
+        if says_missing(name, &fault) {
+            let name = assign_op.op_name;
+            self.operator_assigned(
+                context, host, steps, frame, target, variable, name, kept, next,
+            )
+        } else {
+            Ok(self.raise(steps, fault))
+        }
+    }
+
+    // The host's native of a name on copies of what the target holds and of the last operand, as it
+    // was read, whose value the target takes.
+    fn operator_assigned<L: Ledger>(
+        &mut self,
+        context: Context<'_>,
+        host: &mut H,
+        steps: &mut Steps<L>,
+        frame: &mut Activation,
+        target: Target,
+        variable: u16,
+        name: u32,
+        kept: &Option<Dynamic>,
+        next: usize,
+    ) -> Result<Progress, OutOfMemory>
+        requires inside { frame.old.base ≤ length self.old.scope }
+        requires target { CanBeLent self.old target }
+        requires operand { 0 < length self.old.stacks.operands }
+        requires ahead { frame.old.address < next }
+        requires pool { name < length context.program.now.names }
+        requires variable { variable < length context.program.now.names }
+        ensures implements { (h : Held) (slot : ℕ) → Assigns frame.old target slot h →
+            Implements H.law context.entry.program.now context.entry.engine.now frame.old self.old
+            steps.old (λ m place w. operator_assigned m (name_of m.program name) h
+            (read_write (content_at self.old target))
+            (kept_operand kept.now self.old.stacks.operands) slot variable next
+            (frame_in frame.old self.old place) w)
+            (next ∷ []) 1 0 self.old.stacks.handlers result
+            frame.new self.new steps.new host.old host.new }
+    {
+        let mut arguments = Arguments::new(self.alloc);
+        arguments.push(self.alloc, self.content(target), false)?;
+        let value = operand(&self.stacks, kept);
+        arguments.push(self.alloc, value, self.stacks.top().read_only)?;
+        let name = context.program.name(name);
+        let position = context.program.position(frame.address);
+        let sought = seek(self.alloc, host, name, arguments, position)?;
+        match self.call_native(host, steps, sought, position)? {
+            NativeEnd::Value(value) => {
+                self.assign_answer(context, steps, frame, target, variable, value, next)
+            }
+            NativeEnd::Fault(fault) => Ok(self.raise(steps, fault)),
+        }
+    }
+
+    // The target takes a native's value, as it is read, and the operand is used up.
+    fn assign_answer<L: Ledger>(
+        &mut self,
+        context: Context<'_>,
+        steps: &mut Steps<L>,
+        frame: &mut Activation,
+        target: Target,
+        variable: u16,
+        value: Dynamic,
+        next: usize,
+    ) -> Result<Progress, OutOfMemory>
+        requires inside { frame.old.base ≤ length self.old.scope }
+        requires target { CanBeLent self.old target }
+        requires operand { 0 < length self.old.stacks.operands }
+        requires ahead { frame.old.address < next }
+        requires variable { variable < length context.program.now.names }
+        ensures implements { (host : H) (h : Held) (slot : ℕ) → Assigns frame.old target slot h →
+            Implements H.law context.entry.program.now context.entry.engine.now frame.old self.old
+            steps.old (λ m place w. flattened m (read_write value) (name_of m.program variable)
+            (frame_in frame.old self.old place) w (λ v. write_entry m h slot (read_write v)
+            (name_of m.program variable) next (frame_in frame.old self.old place) w))
+            (next ∷ []) 1 0 self.old.stacks.handlers result
+            frame.new self.new steps.new host host }
+    {
+        let Some(value) = self.read_of(value)? else {
+            return Ok(self.variable_lent(context, steps, frame.address, variable)?);
+        };
+        let _operand = self.stacks.pop();
+        self.write(target, Held::read_write(value));
+        steps.mark();
+        frame.address = next;
+        steps.mark();
+        Ok(Progress::Continues)
+    }
+
+    // A value as it is read: of a cell a copy of what it holds, and nothing if that is lent.
+    fn read_of(&self, value: Dynamic) -> Result<Option<Dynamic>, OutOfMemory>
+        ensures { IfOk result (λ x. x ≡ flat self.now.cells value) }
+    {
+        match value.as_cell() {
+            None => Ok(Some(value)),
+            Some(cell) => match self.cells.find(cell) {
+                Some(content) => Ok(Some(content.copy(self.alloc)?)),
+                None => Ok(None),
+            },
+        }
+    }
+}

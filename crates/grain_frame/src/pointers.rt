@@ -1,0 +1,187 @@
+//! Pointers to functions: values that are added to one, and its call.
+
+ghost use Rattle.std.specs.Prelude.{◌≡◌, ◌<◌, ◌≤◌, ◌+◌, ◌-◌, ◌++◌, length, codes, Ok, IfOk, Some};
+ghost use Rattle.grain_value.specs.declared.values.Dynamic.{Dynamic};
+ghost use Rattle.grain_value.specs.Writing.{type_name_of};
+ghost use Rattle.grain_value.specs.Operands.{arguments};
+ghost use Rattle.grain_fault.specs.declared.faults.EvalAltResult.TheVariants as fault;
+ghost use Rattle.grain_program.specs.View.{position_of};
+ghost use Rattle.grain_value.specs.Cells.{flat};
+ghost use Rattle.grain_value.specs.Looking.{pointer_of};
+ghost use Rattle.grain_program.specs.declared.code.instructions.Op.TheVariants as op;
+ghost use Rattle.grain_means.specs.Rules.{operand_under, trees_in};
+ghost use Rattle.grain_frame.specs.Abstraction.{Performs, Raises, Ready};
+ghost use Rattle.grain_frame.specs.Finding.{Finds};
+ghost use Rattle.grain_frame.specs.Pointers.{StandsUnder};
+
+use crate::activations::Activation;
+use crate::contexts::Context;
+use crate::finding::Found;
+use crate::runs::{Progress, Run};
+use crate::steps::Steps;
+use grain_host::Host;
+use grain_value::{Dynamic, FnPtr, Held, OutOfMemory};
+use std::alloc::Global;
+use std::sync::ledger::Ledger;
+
+/// What stands under the operands of a pointer's instruction.
+#[derive(Clone, Copy, Debug, PartialEq, Eq)]
+pub enum Under {
+    /// A pointer to a function, or a cell that holds one.
+    Pointer,
+    /// A cell that is lent.
+    Lent,
+    /// Any other value.
+    Other,
+}
+
+// Copies of what is held go behind the values of a pointer.
+fn add_copies(alloc: Global, pointer: &mut FnPtr, held: &[Held]) -> Result<(), OutOfMemory>
+    ensures { IfOk result (λ _. pointer.new ≡ record pointer.old {
+      curry = pointer.old.curry ++ trees_in held.now;
+    }) }
+{
+    'values: for one in held {
+        pointer.add_curry(one.value.copy(alloc)?)?;
+    }
+    Ok(())
+}
+
+impl<H: Host> Run<H> {
+    // What stands under the last `count` operands.
+    fn under(&self, count: usize) -> Under
+        requires { count < length self.now.stacks.operands }
+        ensures { StandsUnder result
+            (flat self.now.cells (operand_under count self.now.stacks.operands).value) }
+    {
+        match self.stacks.peek(count).value.flat(&self.cells) {
+            None => Under::Lent,
+            Some(Dynamic::Pointer(_)) => Under::Pointer,
+            Some(_) => Under::Other,
+        }
+    }
+
+    // A copy of the pointer under the last `count` operands.
+    fn pointer_under(&self, count: usize) -> Result<FnPtr, OutOfMemory>
+        requires there { count < length self.now.stacks.operands }
+        requires pointer { StandsUnder Under.Pointer
+            (flat self.now.cells (operand_under count self.now.stacks.operands).value) }
+        ensures { IfOk result (λ p. (v : Dynamic)
+            × (flat self.now.cells (operand_under count self.now.stacks.operands).value ≡ Some v)
+            × (pointer_of v ≡ Some p)) }
+    {
+        match self.stacks.peek(count).value.flat(&self.cells) {
+            Some(Dynamic::Pointer(pointer)) => pointer.copy(self.alloc),
+            _ => unreachable!(),
+        }
+    }
+
+    // The fault that what stands under the last `count` operands is no pointer.
+    #[cold]
+    #[inline(never)]
+    fn no_pointer<L: Ledger>(
+        &mut self,
+        context: Context<'_>,
+        steps: &mut Steps<L>,
+        address: usize,
+        count: usize,
+    ) -> Result<Progress, OutOfMemory>
+        requires there { count < length self.old.stacks.operands }
+        requires other { StandsUnder Under.Other
+            (flat self.old.cells (operand_under count self.old.stacks.operands).value) }
+        ensures { (v : Dynamic) →
+            flat self.old.cells (operand_under count self.old.stacks.operands).value ≡ Some v →
+            Raises self.old steps.old (fault.ErrorMismatchDataType (codes "Fn") (type_name_of v)
+            (position_of context.entry.program.now address)) result self.new steps.new }
+    {
+        let type_name = match self.stacks.peek(count).value.flat(&self.cells) {
+            Some(value) => value.own_type_name(self.alloc)?,
+            None => unreachable!(),
+        };
+        self.not_a_pointer(context, steps, address, type_name)
+    }
+
+    // `curry`: the last `count` operands go behind the values of the pointer under them.
+    pub(crate) fn curry<L: Ledger>(
+        &mut self,
+        context: Context<'_>,
+        steps: &mut Steps<L>,
+        frame: &mut Activation,
+        count: u8,
+        next: usize,
+    ) -> Result<Progress, OutOfMemory>
+        requires ready { Ready frame.old self.old (op.Curry count) next }
+        ensures performs { (host : H) →
+            Performs H.law context.entry.program.now context.entry.engine.now frame.old self.old
+            steps.old (op.Curry count) next result frame.new self.new steps.new host host }
+    {
+        let count = usize::from(count);
+        match self.under(count) {
+            Under::Lent => return Ok(self.operand_lent(context, steps, frame.address)?),
+            Under::Other => {
+                return Ok(self.no_pointer(context, steps, frame.address, count)?);
+            }
+            Under::Pointer => {}
+        }
+        let mut pointer = self.pointer_under(count)?;
+        self.add_to(&mut pointer, count)?;
+        self.stacks.cut(self.stacks.height() - (count + 1));
+        Ok(self.push_on(steps, frame, Dynamic::Pointer(pointer), next))
+    }
+
+    // Copies of the last `count` operands go behind the values of a pointer.
+    fn add_to(&self, pointer: &mut FnPtr, count: usize) -> Result<(), OutOfMemory>
+        requires { count ≤ length self.now.stacks.operands }
+        ensures { IfOk result (λ _. pointer.new ≡ record pointer.old {
+          curry = pointer.old.curry ++ trees_in (arguments count self.now.stacks.operands);
+        }) }
+    {
+        let operands = self.stacks.frame_operands();
+        add_copies(self.alloc, pointer, &operands[operands.len() - count..])
+    }
+
+    // `call_fn_ptr`: the function of the name of the pointer under the last `count` operands, with as
+    // many parameters as the pointer has values and there are operands. The pointer's values take its
+    // place. If there is no such function, the native of that name is called on all of them.
+    #[inline(never)]
+    pub(crate) fn find_pointed<L: Ledger>(
+        &mut self,
+        context: Context<'_>,
+        host: &mut H,
+        steps: &mut Steps<L>,
+        frame: &mut Activation,
+        count: u8,
+        next: usize,
+    ) -> Result<Found, OutOfMemory>
+        requires ready { Ready frame.old self.old (op.CallFnPtr count) next }
+        ensures finds { Finds H.law context.entry.program.now context.entry.engine.now frame.old
+            self.old steps.old (op.CallFnPtr count) next result frame.new self.new steps.new
+            host.old host.new }
+    {
+        let count = usize::from(count);
+        match self.under(count) {
+            Under::Lent => {
+                let progress = self.operand_lent(context, steps, frame.address)?;
+                Ok(Found::Done(progress))
+            }
+            Under::Other => {
+                let progress = self.no_pointer(context, steps, frame.address, count)?;
+                Ok(Found::Done(progress))
+            }
+            Under::Pointer => {
+                let FnPtr { name, curry } = self.pointer_under(count)?;
+                let total = curry.len() + count;
+                self.stacks.spread(self.alloc, count, curry.into_vec())?;
+                match context.program.function_named(name.as_str(), total) {
+                    Some(number) => Ok(Found::Function(number, next)),
+                    None => {
+                        let progress = self.native_called(
+                            context, host, steps, frame, &name, total, next,
+                        )?;
+                        Ok(Found::Done(progress))
+                    }
+                }
+            }
+        }
+    }
+}
