@@ -1,6 +1,7 @@
 //! The machine that runs a program's main on its stacks.
 
 ghost use Rattle.std.specs.Prelude.{◌≡◌, ◌+◌, ◌<◌, ℕ};
+ghost use Rattle.grain_means.specs.Contained.{KeepsToStore};
 ghost use Rattle.grain_means.specs.Causes.{HasCause};
 ghost use Rattle.grain_means.specs.Comes.{Provided};
 ghost use Rattle.grain_means.specs.Leavings.{Leaves};
@@ -75,7 +76,8 @@ impl<'e> Machine<'e> {
     /// Runs a program's main on a scope. The operations that are charged count on from the state's,
     /// and the entries that main declares stay after a value; a fault cuts the scope back to its
     /// length. After want of memory the run is the one that is stopped at a mark. The scope's
-    /// entries keep their names and order, whatever the end is.
+    /// entries keep their names and order, whatever the end is. Where nothing that is given names a
+    /// cell outside of the store, nothing that is left does, and no cell stays lent.
     pub fn run_main<H: Host, L: Ledger>(
         &mut self,
         alloc: Global,
@@ -98,6 +100,8 @@ impl<'e> Machine<'e> {
             (begin scope.old cells.old host.old global.old) }
         ensures leaves { Leaves H.law program.now self.old.engine
             (begin scope.old cells.old host.old global.old) result scope.new self.new.stacks.trace }
+        ensures store { KeepsToStore H.law program.now
+            (begin scope.old cells.old host.old global.old) result scope.new cells.new host.new }
         ensures level { global.new.level ≡ global.old.level }
         ensures clean { IsLeft self.old.stacks self.new.stacks }
         ensures engine { self.new.engine ≡ self.old.engine }
@@ -138,6 +142,7 @@ impl<'e> Machine<'e> {
         global.num_operations = count;
         global.level = level;
         grain_means::counted::<H>();
+        grain_means::contained::<H>();
         grain_means::provided::<H>();
         answered(back)
     }

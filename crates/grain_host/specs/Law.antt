@@ -4,6 +4,7 @@ use Rattle.std.specs.Prelude.{ℕ, ◌≤◌, max, Bool, false, List, Option, So
 use Rattle.grain_value.specs.Tree.{Tree, array, pack}
 use Rattle.grain_value.specs.View.{tree}
 use Rattle.grain_value.specs.Cells.{cell_bound}
+use Rattle.grain_value.specs.Looking.{cell_of}
 use Rattle.grain_value.specs.declared.values.Dynamic.{Dynamic}
 use Rattle.grain_value.specs.declared.values.Held.{Held}
 use Rattle.grain_value.specs.declared.natives.Native.{Native}
@@ -99,6 +100,8 @@ pub record IsLawful {S : Type 0} (law : Law S) : Type 0 where
       reply_bound (law.call_reply s key receiver values) ≤ call_bound law s receiver values
   pub writes_within : (s : S) (key : ℕ) (h : Held) (values : List Tree) →
       cell_bound (tree (law.call_written s key h values)) ≤ call_bound law s (Some h) values
+  pub writes_content : (s : S) (key : ℕ) (h : Held) (values : List Tree) →
+      cell_of h.value ≡ None → cell_of (law.call_written s key h values) ≡ None
   pub stays_within : (s : S) (key : ℕ) (receiver : Option Held) (values : List Tree) →
       law.reach (law.call_after s key receiver values) ≤ call_bound law s receiver values
   pub stops_within : (s : S) (count : ℕ) →

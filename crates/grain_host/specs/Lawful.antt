@@ -6,7 +6,7 @@ use Rattle.grain_value.specs.declared.values.Dynamic.TheVariants as dynamic
 use Rattle.grain_host.specs.Law.{Reply, MayBeAnswered, IsLawful}
 use Rattle.grain_host.specs.declared.tables.Turn.{Turn}
 use Rattle.grain_host.specs.declared.tables.Turn.TheVariants as turns
-use Rattle.grain_host.specs.Reaching.{table_replies, table_writes, table_stays, table_stops}
+use Rattle.grain_host.specs.Reaching.{table_replies, table_writes, table_contents, table_stays, table_stops}
 use Rattle.grain_host.specs.Tables.{print_reply, push_reply, counted, entries_in, len_reply, exit_reply, native_reply, sole, first_of_two, unknown, reply_at, turn, arguments, table_law}
 
 either : (b : Bool) (x y : Reply) → MayBeAnswered x → MayBeAnswered y →
@@ -53,6 +53,7 @@ table_lawful = record {
   faults = λ s key receiver values. may_reply (turn s) key (arguments receiver values);
   replies_within = table_replies;
   writes_within = table_writes;
+  writes_content = table_contents;
   stays_within = table_stays;
   stops_within = table_stops;
   hears_within = λ s count. omega arith;

@@ -5,6 +5,7 @@ use Rattle.std.proofs.Math.Nat.{le-max_left, le-max_right, max-le}
 use Rattle.grain_value.specs.Tree.{Tree, array, pack}
 use Rattle.grain_value.specs.View.{tree, value_of}
 use Rattle.grain_value.specs.Cells.{cell_bound, items_bound}
+use Rattle.grain_value.specs.Looking.{cell_of}
 use Rattle.grain_value.specs.laws.Same.{tree-value_of}
 use Rattle.grain_value.specs.declared.values.Dynamic.{Dynamic}
 use Rattle.grain_value.specs.declared.values.Dynamic.TheVariants as dynamic
@@ -143,6 +144,23 @@ table_writes s key h values =
       le-max_right own given,
       le-max_right reach (max own given),
     ))
+
+-- what is written is no cell where the receiver is none
+pushed_content : (u : Dynamic) (v : Option Dynamic) → cell_of u ≡ None →
+    cell_of (pushed u v) ≡ None
+pushed_content (dynamic.Array ts) (Some v) plain = refl
+pushed_content u _ plain = plain
+
+content_at : (t : Turn) (h : Held) (values : List Tree) → cell_of h.value ≡ None →
+    cell_of (written_at t h values) ≡ None
+content_at turns.Full h values plain = plain
+content_at (turns.Failing n) h values plain = plain
+content_at (turns.Ready n) h values plain =
+    pushed_content h.value (sole (map value_of values)) plain
+
+pub table_contents : (s : TableHost) (key : ℕ) (h : Held) (values : List Tree) →
+    cell_of h.value ≡ None → cell_of (table_law.call_written s key h values) ≡ None
+table_contents s key h values plain = content_at (turn s) h values plain
 
 -- no call changes the lines
 stops_stay : (t : Turn) (s : TableHost) (key : ℕ) (vs : List Dynamic) →

@@ -2,8 +2,6 @@
 -- act to another and through handlers.
 use Rattle.std.proofs.Common.{◌≡◌, ◌≤◌, ◌⊎◌, ℕ, List, [], ◌∷◌, Option, Some, None, Bool, true, false, refl, sym, subst, ap, ◌∙◌, inl, inr, if◌then◌else◌}
 use Rattle.grain_value.specs.declared.scopes.Entry.{Entry}
-use Rattle.grain_value.specs.Looking.{is_unit}
-use Rattle.grain_value.specs.Operands.{top}
 use Rattle.grain_fault.specs.Classes.{catchable}
 use Rattle.grain_fault.specs.Positions.{at_position, position_of_problem}
 use Rattle.grain_fault.specs.declared.places.Position.{Position}

@@ -9,3 +9,7 @@ pub mod Called
 pub mod Moving
 pub mod Readable
 pub mod Missing
+pub mod Plain
+pub mod Naming
+pub mod Caught
+pub mod Containing

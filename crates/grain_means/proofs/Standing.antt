@@ -11,12 +11,11 @@ use Rattle.grain_program.specs.Effects.{takes_of, gives_of, leads_of, handling_o
 use Rattle.grain_program.specs.Shapes.{TryHandler, handled, outer}
 use Rattle.grain_program.specs.TypedAt.{IsTypedAt, IsCovered}
 use Rattle.grain_program.specs.laws.TypedAt.{stands, verified, begins, enters, covers_height, uncovered, catches}
-use Rattle.grain_program.specs.Lookups.{function_of}
 use Rattle.grain_program.specs.Decoding.{op_at}
 use Rattle.grain_program.specs.Typing.{In, IsProgram}
 use Rattle.grain_program.specs.View.{View}
 use Rattle.grain_means.specs.Worlds.{Frame, Handler, Place}
-use Rattle.grain_means.specs.Rules.{frame_at, function_found, function_numbered, outer_handlers, catching}
+use Rattle.grain_means.specs.Rules.{frame_at, function_numbered, outer_handlers, catching}
 use Rattle.grain_means.specs.Comes.{Stands, try_of, tries}
 
 -- the typing of a chunk knows the frame

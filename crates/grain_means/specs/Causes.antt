@@ -29,7 +29,7 @@ use Rattle.grain_means.specs.Signatures.{missing_kind, not_found, says_missing}
 use Rattle.grain_host.specs.Law.{Law, Reply, Stop, native_of}
 use Rattle.grain_host.specs.Law as reply
 use Rattle.grain_value.specs.declared.natives.Native.{Native}
-use Rattle.grain_means.specs.Rules.{Receiver, lent, given, given_back, cells_given_back, content_now, name_at, flat_all, curried_in, spread, operand_under, race_text, is_read_only, function_by_name, kinds_in, trees_in, first_is_read_only, throws_unit, bound, frame_at, held_at, function_found, is_stop, position, main, operated, op_assigned}
+use Rattle.grain_means.specs.Rules.{Receiver, lent, given, given_back, cells_given_back, content_now, name_at, flat_all, spread, operand_under, race_text, is_read_only, function_by_name, kinds_in, trees_in, first_is_read_only, throws_unit, bound, frame_at, held_at, function_found, is_stop, position, main, operated, op_assigned}
 use Rattle.grain_means.specs.Means.{Begin, setup, first_world}
 use Rattle.grain_means.specs.Comes.{ProgramPoint, CatchPoint, Comes, ComesToCatch, Meets}
 

@@ -13,6 +13,7 @@ pub mod Comes
 pub mod Causes
 pub mod Leavings
 pub mod CatchBlocks
+pub mod Contained
 pub mod lemmas
 pub use Rattle.grain_value.specs.Operands
 pub use Rattle.grain_ops.specs.Outcomes

@@ -1,6 +1,6 @@
 //! Laws of the meaning alone. Each is a function that does nothing, whose contract is the law.
 
-ghost use Rattle.std.specs.Prelude.{◌≡◌, ◌+◌, [], length, ℕ, Option, Some};
+ghost use Rattle.std.specs.Prelude.{◌≡◌, ◌≤◌, ◌+◌, [], length, ℕ, Option, Some};
 ghost use Rattle.grain_means.specs.Worlds.{Act, Answer, World, Setup, Place, Frame, InFrame};
 ghost use Rattle.grain_means.specs.CatchBlocks.{Catches};
 ghost use Rattle.grain_means.specs.Rules.{called};
@@ -12,7 +12,8 @@ ghost use Rattle.grain_means.specs.Length.{run_length};
 ghost use Rattle.grain_means.specs.Means.{Begin, Finish, Means, Over, slowly};
 ghost use Rattle.grain_global.specs.declared.engines.Engine.{Engine};
 ghost use Rattle.grain_program.specs.View.{View};
-ghost use Rattle.grain_host.specs.Law.{Law};
+ghost use Rattle.grain_host.specs.Law.{Law, IsLawful};
+ghost use Rattle.grain_means.specs.Contained.{AnswerNames, ConstantsName, Contained};
 ghost use Rattle.grain_program.specs.Typing.{IsProgram};
 
 /// A run has at most one end.
@@ -53,6 +54,16 @@ pub fn provided<S>()
 pub fn catches<S>()
     ensures { (m : Setup S) (this : Option Place) (w : World S) (at : CatchPoint S) →
         IsProgram m.program → w.trace ≡ [] → ComesToCatch m at (called m this w) → Catches m at }
+{}
+
+/// A call keeps to its store: where its scope, the contents of its cells, the constants and the host
+/// name cells of the store only, none of which is lent and none of which holds a cell, so it is when
+/// the call is over, also of its answer. No cell is gone.
+pub fn contained<S>()
+    ensures { (m : Setup S) (this : Option Place) (w v : World S) (a : Answer) (n : ℕ) →
+        IsLawful m.law → ConstantsName n m.program →
+        Contained n w.scope w.cells (m.law.reach w.host) → Ends m (called m this w) a v →
+        (k : ℕ) × (n ≤ k) × Contained k v.scope v.cells (m.law.reach v.host) × AnswerNames k a }
 {}
 
 /// A program has at most one meaning at a beginning: one end, after one number of instructions.

@@ -3,4 +3,4 @@
 
 mod laws;
 
-pub use laws::{catches, counted, one_end, one_meaning, provided, slow_end};
+pub use laws::{catches, contained, counted, one_end, one_meaning, provided, slow_end};

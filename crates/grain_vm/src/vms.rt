@@ -1,6 +1,7 @@
 //! The machine that an embedder calls.
 
 ghost use Rattle.std.specs.Prelude.{◌≡◌, ◌+◌, ◌<◌, ℕ, [], IfOk, option_map, slice_get};
+ghost use Rattle.grain_means.specs.Contained.{KeepsToStore};
 ghost use Rattle.grain_means.specs.Causes.{HasCause};
 ghost use Rattle.grain_means.specs.Comes.{Provided};
 ghost use Rattle.grain_means.specs.Leavings.{Leaves};
@@ -98,11 +99,12 @@ impl<'e> Vm<'e> {
         }
     }
 
-    /// Runs a program's main on a scope, with a host, and with cells, which no instruction reaches
-    /// yet. The operations that are charged count on from the state's, and the host hears of each.
-    /// The entries that main declares stay after a value; a fault cuts the scope back to its
-    /// length. After want of memory the run is the one that is stopped at a mark. The scope's
-    /// entries keep their names and order, whatever the end is.
+    /// Runs a program's main on a scope, with a host, and with the cells that closures share. The
+    /// operations that are charged count on from the state's, and the host hears of each. The
+    /// entries that main declares stay after a value; a fault cuts the scope back to its length.
+    /// After want of memory the run is the one that is stopped at a mark. The scope's entries keep
+    /// their names and order, whatever the end is. Where nothing that is given names a cell outside
+    /// of the store, nothing that is left does, and no cell stays lent.
     pub fn eval_with_callbacks<H: Host, L: Ledger>(
         &mut self,
         alloc: Global,
@@ -124,6 +126,9 @@ impl<'e> Vm<'e> {
             (begin scope.old cells.old host.old self.old.global) }
         ensures leaves { Leaves H.law program.now self.old.engine
             (begin scope.old cells.old host.old self.old.global) result scope.new self.new.trace }
+        ensures store { KeepsToStore H.law program.now
+            (begin scope.old cells.old host.old self.old.global) result scope.new cells.new
+            host.new }
         ensures level { self.new.global.level ≡ self.old.global.level }
         ensures engine { self.new.engine ≡ self.old.engine }
     {

@@ -139,6 +139,7 @@ price_lawful = record {
     le-max_left (cell_bound (tree h.value)) (cell_bound (array (pack values))),
     le-max_right 0 (max (cell_bound (tree h.value)) (cell_bound (array (pack values)))),
   );
+  writes_content = λ s key h values plain. plain;
   stays_within = λ s key receiver values. omega arith;
   stops_within = λ s count. omega arith;
   hears_within = λ s count. omega arith;

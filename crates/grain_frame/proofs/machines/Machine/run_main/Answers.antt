@@ -7,7 +7,7 @@ use Rattle.grain_means.specs.Means.{Begin, setup, first_world}
 use Rattle.grain_frame.specs.Counts.{Counts, instructions}
 use Rattle.grain_frame.specs.Abstraction.{abstraction, is_out, finished_with}
 use Rattle.grain_frame.specs.Machines.{begin}
-use Rattle.grain_frame.proofs.Evaluated.{evaluated, same_level, leaves, has_cause}
+use Rattle.grain_frame.proofs.Evaluated.{evaluated, same_level, keeps_to_store, leaves, has_cause}
 use Rattle.grain_frame.proofs.Mains.{first_state}
 use Rattle.grain_frame.proofs.machines.Machine.run_main.Goals as goal
 
@@ -88,6 +88,29 @@ returns-clause-leaves g c =
     (leaves c.counted.ensures g.H.Host.law c.args.program.now engine b after.stacks.trace
     after.scope after.cells c.run_main-back.new.host after.count after.level steps.begun
     steps.passed back goes)
+
+pub returns-clause-store : goal.returns-clause-store
+returns-clause-store g c =
+    let engine = c.self.inside.engine.now in
+    let after = c.run_main-back.new.self in
+    let steps = c.run_main-back.new.steps in
+    let back = c.run_main-back.result in
+    let b : Begin g.row.H.Denot =
+    begin c.args.scope.now c.args.cells.now c.args.host.now c.args.global.now in
+    let trace = ap (λ (v : StacksView). v.trace) (c.replace.ensures.value ∙ c.cut_trace.ensures) in
+    let first = first_state c.replace.result.trace c.args.scope.now c.replace-2.result
+    c.args.cells.now c.replace-3.result c.args.host.now c.args.global.now.num_operations
+    c.args.global.now.level (instructions c.args.steps.now) c.start.new.self trace
+    c.replace-2.ensures.value c.replace-3.ensures.value c.start.ensures in
+    let goes =
+    subst (λ (q : LocalState g.row.H.Denot).
+    Simulates (setup g.H.Host.law c.args.program.now engine) q (λ m place w. called m place w)
+    (is_out back) (abstraction after steps c.run_main-back.new.host) (finished_with back)) first
+    c.run_main-back.ensures.goes in
+    rw c.answered.ensures
+    (keeps_to_store c.counted.ensures g.H.Host.law c.args.program.now engine b after.stacks.trace
+    after.scope after.cells c.run_main-back.new.host after.count after.level steps.begun
+    steps.passed c.contained.ensures g.met.H.Host.lawful back goes)
 
 pub returns-clause-level : goal.returns-clause-level
 returns-clause-level g c =

@@ -1,0 +1,190 @@
+-- What names cells of a store only goes on to: in parts of lists, in longer stores, as it is read,
+-- and as it is written.
+use Rattle.std.proofs.Common.{◌≡◌, ◌≤◌, ◌+◌, ◌-◌, ℕ, zero, suc, List, [], ◌∷◌, ◌++◌, Option, Some, None, length, map, take, drop, refl, subst, arith}
+use Rattle.std.proofs.Math.Nat.{le-max_left, le-max_right, max-le}
+use Rattle.std.specs.List.{AllByRecursion}
+use Rattle.std.specs.Prelude.{slice_get, slice_set}
+use Rattle.grain_value.specs.Cells.{cell_bound, content, flat, items_bound}
+use Rattle.grain_value.specs.Looking.{cell_of}
+use Rattle.grain_value.specs.Operands.{arguments, bound_entries, read_write, rotated, top, under}
+use Rattle.grain_value.specs.Scopes.{set_held}
+use Rattle.grain_value.specs.Tree.{Tree, pack}
+use Rattle.grain_value.specs.View.{tree, value_of}
+use Rattle.grain_value.specs.laws.Same.{tree-value_of}
+use Rattle.grain_value.specs.declared.scopes.Entry.{Entry}
+use Rattle.grain_value.specs.declared.stores.Cell.{Cell}
+use Rattle.grain_value.specs.declared.values.Dynamic.{Dynamic}
+use Rattle.grain_value.specs.declared.values.Dynamic.TheVariants as dynamic
+use Rattle.grain_value.specs.declared.values.FnPtr.{FnPtr}
+use Rattle.grain_value.specs.declared.values.Held.{Held}
+use Rattle.grain_means.specs.Contained.{CellNames, EntryNames, HeldNames, Names}
+use Rattle.grain_means.specs.Rules.{curried_in, flat_all, flat_before, held_at, trees_in}
+
+-- parts of lists
+module _ {X : Type 0} (P : X → Type 0) where
+  pub all_take : (n : ℕ) (xs : List X) → AllByRecursion P xs → AllByRecursion P (take n xs)
+  all_take zero xs h = tt
+  all_take (suc n) [] h = tt
+  all_take (suc n) (x ∷ xs) h = (h.0, all_take n xs h.1)
+
+  pub all_drop : (n : ℕ) (xs : List X) → AllByRecursion P xs → AllByRecursion P (drop n xs)
+  all_drop zero xs h = h
+  all_drop (suc n) [] h = tt
+  all_drop (suc n) (x ∷ xs) h = all_drop n xs h.1
+
+  pub all_joined : (xs ys : List X) → AllByRecursion P xs → AllByRecursion P ys →
+      AllByRecursion P (xs ++ ys)
+  all_joined [] ys h k = k
+  all_joined (x ∷ xs) ys h k = (h.0, all_joined xs ys h.1 k)
+
+  pub all_got : (xs : List X) (i : ℕ) (x : X) → AllByRecursion P xs → slice_get xs i ≡ Some x → P x
+  all_got [] i x h is = absurd cc
+  all_got (y ∷ ys) zero x h is =
+      let same : y ≡ x = cc in subst P same h.0
+  all_got (y ∷ ys) (suc i) x h is = all_got ys i x h.1 is
+
+  pub all_set : (xs : List X) (i : ℕ) (x : X) → AllByRecursion P xs → P x →
+      AllByRecursion P (slice_set xs i x)
+  all_set [] i x h p = tt
+  all_set (y ∷ ys) zero x h p = (p, h.1)
+  all_set (y ∷ ys) (suc i) x h p = (h.0, all_set ys i x h.1 p)
+
+pub all_wider : {X : Type 0} (P Q : X → Type 0) → ((x : X) → P x → Q x) → (xs : List X) →
+    AllByRecursion P xs → AllByRecursion Q xs
+all_wider P Q f [] h = tt
+all_wider P Q f (x ∷ xs) h = (f x h.0, all_wider P Q f xs h.1)
+
+-- over a longer store
+module _ (n k : ℕ) (le : n ≤ k) where
+  pub held_wider : (h : Held) → HeldNames n h → HeldNames k h
+  held_wider h p = omega (arith, p, le)
+
+  pub entry_wider : (e : Entry) → EntryNames n e → EntryNames k e
+  entry_wider e p = omega (arith, p, le)
+
+  pub cell_wider : (c : Cell) → CellNames n c → CellNames k c
+  cell_wider c p = record { idle = p.idle; flat = p.flat; names = held_wider c.held p.names }
+
+-- operands
+module _ (n : ℕ) where
+  pub top_names : (hs : List Held) → AllByRecursion (HeldNames n) hs → HeldNames n (top hs)
+  top_names [] h = omega arith
+  top_names (x ∷ []) h = h.0
+  top_names (x ∷ y ∷ hs) h = top_names (y ∷ hs) h.1
+
+  pub under_names : (k : ℕ) (hs : List Held) → AllByRecursion (HeldNames n) hs →
+      AllByRecursion (HeldNames n) (under k hs)
+  under_names k hs h = all_take (HeldNames n) (length hs - k) hs h
+
+  pub arguments_name : (k : ℕ) (hs : List Held) → AllByRecursion (HeldNames n) hs →
+      AllByRecursion (HeldNames n) (arguments k hs)
+  arguments_name k hs h = all_drop (HeldNames n) (length hs - k) hs h
+
+  pub rotated_names : (k : ℕ) (hs : List Held) → AllByRecursion (HeldNames n) hs →
+      AllByRecursion (HeldNames n) (rotated k hs)
+  rotated_names k hs h =
+      let at : ℕ = length hs - (k + 1) in
+      let others : List Held = drop at hs in
+      let left = all_drop (HeldNames n) at hs h in
+      all_joined (HeldNames n) (take at hs ++ drop k others) (take k others)
+      (all_joined (HeldNames n) (take at hs) (drop k others) (all_take (HeldNames n) at hs h)
+      (all_drop (HeldNames n) k others left))
+      (all_take (HeldNames n) k others left)
+
+  pub pushed_names : (hs : List Held) (h : Held) → AllByRecursion (HeldNames n) hs →
+      HeldNames n h → AllByRecursion (HeldNames n) (hs ++ h ∷ [])
+  pushed_names hs h all one = all_joined (HeldNames n) hs (h ∷ []) all (one, tt)
+
+  -- what an entry holds
+  pub held_at_names : (scope : List Entry) (i : ℕ) (h : Held) →
+      AllByRecursion (EntryNames n) scope → held_at scope i ≡ Some h → HeldNames n h
+  held_at_names [] i h all is = absurd cc
+  held_at_names (e ∷ es) zero h all is =
+      let same : e.held ≡ h = cc in subst (HeldNames n) same all.0
+  held_at_names (e ∷ es) (suc i) h all is = held_at_names es i h all.1 is
+
+  pub set_names : (scope : List Entry) (i : ℕ) (h : Held) → AllByRecursion (EntryNames n) scope →
+      HeldNames n h → AllByRecursion (EntryNames n) (set_held scope i h)
+  set_names [] i h all one = tt
+  set_names (e ∷ es) zero h all one = (one, all.1)
+  set_names (e ∷ es) (suc i) h all one = (all.0, set_names es i h all.1 one)
+
+  pub bound_names : (names : List (List ℕ)) (ns : List ℕ) (hs : List Held) →
+      AllByRecursion (HeldNames n) hs →
+      AllByRecursion (EntryNames n) (bound_entries names ns hs)
+  bound_names names [] hs all = tt
+  bound_names names (i ∷ ns) [] all = tt
+  bound_names names (i ∷ ns) (h ∷ hs) all = (all.0, bound_names names ns hs all.1)
+
+  -- a value as it is read: it is no cell
+  content_names : (cells : List Cell) (i : ℕ) (c : Option Cell) (v : Dynamic) →
+      AllByRecursion (CellNames n) cells → slice_get cells i ≡ c → content c ≡ Some v →
+      Names n v × (cell_of v ≡ None)
+  content_names cells i None v all at is = absurd cc
+  content_names cells i (Some c) v all at is =
+      let here = all_got (CellNames n) cells i c all at in
+      let plain : content (Some c) ≡ Some c.held.value = rw here.idle refl in
+      let same : c.held.value ≡ v = one_value (content (Some c)) c.held.value v plain is in
+      subst (λ (u : Dynamic). Names n u × (cell_of u ≡ None)) same (here.names, here.flat) where
+        one_value : (o : Option Dynamic) (a b : Dynamic) → o ≡ Some a → o ≡ Some b → a ≡ b
+        one_value o a b is also = cc
+
+  pub flat_names : (cells : List Cell) (u v : Dynamic) → AllByRecursion (CellNames n) cells →
+      Names n u → flat cells u ≡ Some v → Names n v × (cell_of v ≡ None)
+  flat_names cells u v all names is = at (cell_of u) refl where
+    at : (c : Option ℕ) → cell_of u ≡ c → Names n v × (cell_of v ≡ None)
+    at None plain =
+        let same : u ≡ v = by_some u v (rw plain at is) in
+        subst (λ (x : Dynamic). Names n x × (cell_of x ≡ None)) same (names, plain) where
+          by_some : (a b : Dynamic) → Some a ≡ Some b → a ≡ b
+          by_some a b e = cc
+    at (Some i) cell =
+        content_names cells i (slice_get cells i) v all refl (rw cell at is)
+
+  pub flat_all_names : (cells : List Cell) (hs args : List Held) →
+      AllByRecursion (CellNames n) cells → AllByRecursion (HeldNames n) hs →
+      flat_all cells hs ≡ Some args → AllByRecursion (HeldNames n) args
+  flat_all_names cells [] args all names is =
+      let same : [] ≡ args = cc in subst (AllByRecursion (HeldNames n)) same tt
+  flat_all_names cells (h ∷ hs) args all names is =
+      by_first (flat cells h.value) (flat_all cells hs) refl refl
+      (λ gs rest. flat_all_names cells hs gs all names.1 rest) is where
+        by_first : (o : Option Dynamic) (r : Option (List Held)) → flat cells h.value ≡ o →
+            flat_all cells hs ≡ r →
+            ((gs : List Held) → flat_all cells hs ≡ Some gs → AllByRecursion (HeldNames n) gs) →
+            flat_before o h r ≡ Some args → AllByRecursion (HeldNames n) args
+        by_first None r first rest later is = absurd cc
+        by_first (Some v) None first rest later is = absurd cc
+        by_first (Some v) (Some gs) first rest later is =
+            let same : record h { value = v } ∷ gs ≡ args = cc in
+            subst (AllByRecursion (HeldNames n)) same
+            ((flat_names cells h.value v all names.0 first).0, later gs rest)
+
+  -- values of pointers
+  pub trees_name : (hs : List Held) → AllByRecursion (HeldNames n) hs →
+      items_bound (pack (trees_in hs)) ≤ n
+  trees_name [] h = omega arith
+  trees_name (x ∷ hs) h =
+      max-le {a = cell_bound (tree x.value)} {b = items_bound (pack (trees_in hs))} h.0
+      (trees_name hs h.1)
+
+  pub more_names : (ts us : List Tree) → items_bound (pack ts) ≤ n → items_bound (pack us) ≤ n →
+      items_bound (pack (ts ++ us)) ≤ n
+  more_names [] us h k = k
+  more_names (t ∷ ts) us h k =
+      max-le {a = cell_bound t} {b = items_bound (pack (ts ++ us))}
+      (omega (arith, h, le-max_left (cell_bound t) (items_bound (pack ts))))
+      (more_names ts us (omega (arith, h, le-max_right (cell_bound t) (items_bound (pack ts)))) k)
+
+  curry_names : (ts : List Tree) → items_bound (pack ts) ≤ n →
+      AllByRecursion (HeldNames n) (map (λ t. read_write (value_of t)) ts)
+  curry_names [] h = tt
+  curry_names (t ∷ ts) h = (
+    rw (tree-value_of t)
+        (omega (arith, h, le-max_left (cell_bound t) (items_bound (pack ts)))),
+    curry_names ts (omega (arith, h, le-max_right (cell_bound t) (items_bound (pack ts)))),
+  )
+
+  pub curried_names : (p : FnPtr) → Names n (dynamic.Pointer p) →
+      AllByRecursion (HeldNames n) (curried_in p)
+  curried_names p h = curry_names p.curry h

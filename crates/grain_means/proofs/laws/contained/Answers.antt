@@ -1,0 +1,7 @@
+use Rattle.grain_means.proofs.Containing.{called_within}
+use Rattle.std.proofs.Common.{arith}
+use Rattle.grain_means.proofs.laws.contained.Goals as goal
+
+pub returns : goal.returns
+returns g c m this w v a n lawful constants start run =
+    called_within m lawful n constants this w v a n (omega arith) start run
