@@ -1,19 +1,21 @@
 //! Assignments to an entry of the scope, or to the cell that it is.
 
-ghost use Rattle.std.specs.Prelude.{◌≡◌, ◌<◌, ◌≤◌, ◌+◌, ◌∷◌, [], ℕ, length, Ok, Some, None, IfOk, is_some, true, slice_get};
+ghost use Rattle.std.specs.Prelude.{◌≡◌, ◌<◌, ◌≤◌, ◌+◌, ◌∷◌, [], ℕ, length, Ok, Some, None, IfOk, IfSome, is_some, true, slice_get};
 ghost use Rattle.grain_value.specs.declared.values.Held.{Held};
 ghost use Rattle.grain_value.specs.Cells.{flat, idle};
 ghost use Rattle.grain_value.specs.Operands.{top};
 ghost use Rattle.grain_program.specs.Indices.{InPools};
 ghost use Rattle.grain_program.specs.declared.code.instructions.Op.TheVariants as op;
 ghost use Rattle.grain_means.specs.Rules.{flag_of_cell, held_at, if_fast, op_assigned, store_outcome};
+ghost use Rattle.grain_ops.specs.Outcomes.{Gave};
 ghost use Rattle.grain_ops.specs.Operators.{assignment};
+ghost use Rattle.grain_value.specs.declared.values.Dynamic.TheVariants as dynamic;
 ghost use Rattle.grain_frame.specs.Abstraction.{frame_in, Implements, Performs, Ready};
 ghost use Rattle.grain_frame.specs.Targets.{FreeCell, CanBeLent, HoldsAt, AssignedTarget, AssignsHere, content_at, kept_operand, kept_value};
 
 use crate::activations::Activation;
 use crate::contexts::Context;
-use crate::operated::{OpAssigned, assign_entry, op_assigned};
+use crate::operated::{OpAssigned, assign_entry, op_assigned, quick_assigned};
 use crate::runs::{Progress, Run};
 use crate::steps::Steps;
 use crate::targets::Target;
@@ -259,6 +261,56 @@ impl<H: Host> Run<H> {
     #[cold]
     #[inline(never)]
     fn assign_content(
+        &mut self,
+        context: Context<'_>,
+        token: Token,
+        cell: usize,
+        kept: &Option<Dynamic>,
+    ) -> Result<OpAssigned, OutOfMemory>
+        requires free { FreeCell self.old (Some cell) }
+        requires operand { 0 < length self.old.stacks.operands }
+        ensures assigned { (i : ℕ) (h : Held) →
+            slice_get self.old.cells cell ≡ Some (idle h) →
+            AssignedTarget result (if_fast context.entry.engine.now.fast_operators
+            (assignment context.entry.engine.now.limits token h.value
+            (kept_operand kept.now self.old.stacks.operands).value)) self.old self.new
+            (record { index = i; cell = Some cell }) h }
+    {
+        let Some(number) = self.integer_for(context, token, cell, kept) else {
+            return self.assign_lent(context, token, cell, kept);
+        };
+        let read_only = self.cells.is_constant(cell);
+        let value = Dynamic::Int(number);
+        self.cells.set(cell, Held { value, read_only });
+        Ok(OpAssigned::Done)
+    }
+
+    // The integer that an op-assignment makes of a cell's content and of the last operand, as it was
+    // read, where both are integers and it fits.
+    #[inline(always)]
+    fn integer_for(
+        &self,
+        context: Context<'_>,
+        token: Token,
+        cell: usize,
+        kept: &Option<Dynamic>,
+    ) -> Option<i64>
+        requires operand { 0 < length self.now.stacks.operands }
+        ensures { (h : Held) → slice_get self.now.cells cell ≡ Some (idle h) →
+            IfSome result (λ z. if_fast context.entry.engine.now.fast_operators
+            (assignment context.entry.engine.now.limits token h.value
+            (kept_operand kept.now self.now.stacks.operands).value) ≡ Gave (dynamic.Int z)) }
+    {
+        match self.cells.find(cell) {
+            Some(content) => {
+                quick_assigned(context.engine, token, content, operand(&self.stacks, kept))
+            }
+            None => None,
+        }
+    }
+
+    // The same for a cell whose content is lent to the operator.
+    fn assign_lent(
         &mut self,
         context: Context<'_>,
         token: Token,

@@ -2,7 +2,7 @@
 use Rattle.std.proofs.Common.{◌≡◌, true, rules}
 use Rattle.std.specs.Prelude.{slice_get}
 use Rattle.grain_frame.proofs.Targeting.{content_assigned, one_cell}
-use Rattle.grain_frame.proofs.runs.Run.assign_content.Goals as goal
+use Rattle.grain_frame.proofs.runs.Run.assign_lent.Goals as goal
 
 pub returns : goal.returns
 returns g c = record {
