@@ -1,5 +1,5 @@
 -- What a whole call answers is what the program means.
-use Rattle.std.proofs.Common.{◌≡◌, ◌≤◌, ◌+◌, inl, inr, ℕ, List, [], Option, Some, None, true, Result, Ok, Err, length, refl, subst, arith}
+use Rattle.std.proofs.Common.{◌≡◌, ◌≤◌, ◌+◌, inl, inr, ℕ, Bool, List, [], Option, Some, None, true, Result, Ok, Err, length, refl, subst, arith}
 use Rattle.grain_value.specs.declared.memory.OutOfMemory.{OutOfMemory}
 use Rattle.grain_value.specs.declared.values.Dynamic.{Dynamic}
 use Rattle.grain_value.specs.declared.scopes.Entry.{Entry}
@@ -37,10 +37,10 @@ Counted H =
 -- what the law of the store says of them
 abbrev Kept : (H : Type 0) → Type 0
 Kept H =
-    (m : Setup H) (this : Option Place) (w v : World H) (a : Answer) (n : ℕ) → IsLawful m.law →
-    ConstantsName n m.program → Contained n w.scope w.cells (m.law.reach w.host) →
-    Ends m (called m this w) a v →
-    (k : ℕ) × (n ≤ k) × Contained k v.scope v.cells (m.law.reach v.host) × AnswerNames k a
+    (m : Setup H) (this : Option Place) (w v : World H) (a : Answer) (clean : Bool) (n : ℕ) →
+    IsLawful m.law → ConstantsName clean n m.program →
+    Contained m.law clean n w.scope w.cells w.host → Ends m (called m this w) a v →
+    (k : ℕ) × (n ≤ k) × Contained m.law clean k v.scope v.cells v.host × AnswerNames clean k a
 
 module _ {H : Type 0} (counted : Counted H) (law : Law H) (p : View) (e : Engine) (b : Begin H)
     (trace : List Fault) (scope : List Entry) (cells : List Cell) (host : H)
@@ -182,14 +182,14 @@ module _ {H : Type 0} (counted : Counted H) (law : Law H) (p : View) (e : Engine
   pub keeps_to_store : Kept H → IsLawful law →
       (back : Result (Result Dynamic EvalAltResult) OutOfMemory) → Whole back →
       KeepsToStore law p b (answered back) scope cells host
-  keeps_to_store kept lawful back h n constants start =
+  keeps_to_store kept lawful back h clean n constants start =
       let run =
       at_stop back h (Some passed) (clear_before 0 passed) (halts_there (is_out back) passed) in
       let done = kept (stopped_at (Some passed)) None (world at_first no_environment)
-      (world at_last no_environment) (answer_of back) n lawful constants start run in
+      (world at_last no_environment) (answer_of back) clean n lawful constants start run in
       (done.0, done.1, done.2, by_result done.0 back done.3) where
         by_result : (k : ℕ) (back : Result (Result Dynamic EvalAltResult) OutOfMemory) →
-            AnswerNames k (answer_of back) → ResultNames k (answered back)
+            AnswerNames clean k (answer_of back) → ResultNames clean k (answered back)
         by_result k (Ok (Ok v)) named = named
         by_result k (Ok (Err x)) named = named
         by_result k (Err e) named = named

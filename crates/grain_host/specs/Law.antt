@@ -1,15 +1,16 @@
 -- The law of a host: what it answers, writes and becomes are functions of its state and of what it
 -- is given.
-use Rattle.std.specs.Prelude.{ℕ, ◌≤◌, max, Bool, false, List, Option, Some, None, ◌≡◌, if◌then◌else◌, option_map}
+use Rattle.std.specs.Prelude.{ℕ, ◌≤◌, max, Bool, true, false, ◌&&◌, not, List, Option, Some, None, ◌≡◌, if◌then◌else◌, option_map}
+use Rattle.std.specs.List.{list_all}
 use Rattle.grain_value.specs.Tree.{Tree, array, pack}
 use Rattle.grain_value.specs.View.{tree}
-use Rattle.grain_value.specs.Cells.{cell_bound}
+use Rattle.grain_value.specs.Cells.{cell_bound, is_cell, is_clean}
 use Rattle.grain_value.specs.Looking.{cell_of}
 use Rattle.grain_value.specs.declared.values.Dynamic.{Dynamic}
 use Rattle.grain_value.specs.declared.values.Held.{Held}
 use Rattle.grain_value.specs.declared.natives.Native.{Native}
 use Rattle.grain_fault.specs.Problems.{Problem}
-use Rattle.grain_fault.specs.Cells.{problem_bound}
+use Rattle.grain_fault.specs.Cells.{problem_bound, problem_is_clean}
 use Rattle.grain_host.specs.Faults.{handed_back}
 
 -- the answer to a call
@@ -43,6 +44,9 @@ pub record Law (S : Type 0) : Type 0 where
   -- The cells below this number may be handed over, beside those that a call is given. No call gives
   -- the number.
   pub reach : S → ℕ
+  -- Whether all that may be handed over, beside what a call is given, is clean: no cell stands directly
+  -- inside an array or a map. No call asks for it.
+  pub holds_clean : S → Bool
 
 -- the native of a name and of its arguments' kinds
 abbrev pub native_of : {S : Type 0} → Law S → S → List ℕ → List ℕ → Option Native
@@ -89,6 +93,29 @@ abbrev pub verdict_bound : Verdict → ℕ
 verdict_bound GoOn = 0
 verdict_bound (Stop v) = cell_bound (tree v)
 
+-- whether this is a value as a native is given it: clean, and no cell
+abbrev pub is_plain : Tree → Bool
+is_plain t = is_clean t && not (is_cell t)
+
+abbrev pub receiver_is_plain : Option Held → Bool
+receiver_is_plain None = true
+receiver_is_plain (Some h) = is_plain (tree h.value)
+
+-- whether all that the host may hand over in a call, and keep after it, is clean: what it holds is,
+-- and what it is given is plain
+abbrev pub call_is_clean : {S : Type 0} → Law S → S → Option Held → List Tree → Bool
+call_is_clean law s receiver values =
+    law.holds_clean s && (receiver_is_plain receiver && list_all is_plain values)
+
+-- whether the values of an answer are clean
+abbrev pub reply_is_clean : Reply → Bool
+reply_is_clean (Done v) = is_clean (tree v)
+reply_is_clean (Failed x) = problem_is_clean x
+
+abbrev pub verdict_is_clean : Verdict → Bool
+verdict_is_clean GoOn = true
+verdict_is_clean (Stop v) = is_clean (tree v)
+
 -- what every host's law keeps to
 pub record IsLawful {S : Type 0} (law : Law S) : Type 0 where
   pub call_keeps : (s : S) (key : ℕ) (receiver : Option Held) (values : List Tree) →
@@ -107,3 +134,16 @@ pub record IsLawful {S : Type 0} (law : Law S) : Type 0 where
   pub stops_within : (s : S) (count : ℕ) →
       verdict_bound (law.progress_reply s count) ≤ law.reach s
   pub hears_within : (s : S) (count : ℕ) → law.reach (law.progress_after s count) ≤ law.reach s
+  pub replies_clean : (s : S) (key : ℕ) (receiver : Option Held) (values : List Tree) →
+      call_is_clean law s receiver values ≡ true →
+      reply_is_clean (law.call_reply s key receiver values) ≡ true
+  pub writes_clean : (s : S) (key : ℕ) (h : Held) (values : List Tree) →
+      call_is_clean law s (Some h) values ≡ true →
+      is_clean (tree (law.call_written s key h values)) ≡ true
+  pub stays_clean : (s : S) (key : ℕ) (receiver : Option Held) (values : List Tree) →
+      call_is_clean law s receiver values ≡ true →
+      law.holds_clean (law.call_after s key receiver values) ≡ true
+  pub stops_clean : (s : S) (count : ℕ) → law.holds_clean s ≡ true →
+      verdict_is_clean (law.progress_reply s count) ≡ true
+  pub hears_clean : (s : S) (count : ℕ) → law.holds_clean s ≡ true →
+      law.holds_clean (law.progress_after s count) ≡ true

@@ -6,6 +6,7 @@ use Rattle.grain_value.specs.declared.values.Dynamic.TheVariants as dynamic
 use Rattle.grain_host.specs.Law.{Reply, MayBeAnswered, IsLawful}
 use Rattle.grain_host.specs.declared.tables.Turn.{Turn}
 use Rattle.grain_host.specs.declared.tables.Turn.TheVariants as turns
+use Rattle.grain_host.specs.Clean.{table_replies_clean, table_writes_clean, table_stays_clean, table_stops_clean}
 use Rattle.grain_host.specs.Reaching.{table_replies, table_writes, table_contents, table_stays, table_stops}
 use Rattle.grain_host.specs.Tables.{print_reply, push_reply, counted, entries_in, len_reply, exit_reply, native_reply, sole, first_of_two, unknown, reply_at, turn, arguments, table_law}
 
@@ -57,4 +58,9 @@ table_lawful = record {
   stays_within = table_stays;
   stops_within = table_stops;
   hears_within = λ s count. omega arith;
+  replies_clean = table_replies_clean;
+  writes_clean = table_writes_clean;
+  stays_clean = table_stays_clean;
+  stops_clean = table_stops_clean;
+  hears_clean = λ s count clean. clean;
 }

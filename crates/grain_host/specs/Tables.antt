@@ -1,11 +1,11 @@
 -- The host in memory: what its calls answer, print and write, by its tables.
-use Rattle.std.specs.Prelude.{◌≡◌, ℕ, ◌+◌, ◌-◌, ◌^◌, max, pos, Bool, ◌||◌, List, [], ◌∷◌, ◌++◌, Option, Some, None, codes, bytes_eq, ◌==◌, length, map, option_map, if◌then◌else◌}
+use Rattle.std.specs.Prelude.{◌≡◌, ℕ, ◌+◌, ◌-◌, ◌^◌, max, pos, Bool, true, ◌||◌, ◌&&◌, List, [], ◌∷◌, ◌++◌, Option, Some, None, codes, bytes_eq, ◌==◌, length, map, option_map, if◌then◌else◌}
 use Rattle.std.specs.Fmt.{decimal}
 use Rattle.std.specs.Str.{chars}
 use Rattle.std.specs.List.{list_any}
 use Rattle.grain_value.specs.Tree.{Tree}
 use Rattle.grain_value.specs.View.{tree, value_of}
-use Rattle.grain_value.specs.Cells.{cell_bound}
+use Rattle.grain_value.specs.Cells.{cell_bound, is_clean}
 use Rattle.grain_value.specs.Writing.{plain}
 use Rattle.grain_value.specs.declared.values.Dynamic.{Dynamic}
 use Rattle.grain_value.specs.declared.values.Dynamic.TheVariants as dynamic
@@ -193,6 +193,11 @@ abbrev pub stops_bound : List StopLine → ℕ
 stops_bound [] = 0
 stops_bound (l ∷ ls) = max (cell_bound (tree l.value)) (stops_bound ls)
 
+-- whether the tokens of these lines are clean
+abbrev pub stops_clean : List StopLine → Bool
+stops_clean [] = true
+stops_clean (l ∷ ls) = is_clean (tree l.value) && stops_clean ls
+
 abbrev pub table_law : Law TableHost
 table_law = record {
   resolves = λ s name kinds. key_of name kinds;
@@ -204,6 +209,7 @@ table_law = record {
   progress_reply = λ s count. verdict (stop_at count s.stops);
   progress_after = λ s count. s;
   reach = λ s. stops_bound s.stops;
+  holds_clean = λ s. stops_clean s.stops;
 }
 
 -- one call was counted, and then it failed or was done

@@ -10,6 +10,7 @@ pub mod Moving
 pub mod Readable
 pub mod Missing
 pub mod Plain
+pub mod CellFree
 pub mod Naming
 pub mod Caught
 pub mod Containing

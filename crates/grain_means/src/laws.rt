@@ -1,6 +1,6 @@
 //! Laws of the meaning alone. Each is a function that does nothing, whose contract is the law.
 
-ghost use Rattle.std.specs.Prelude.{◌≡◌, ◌≤◌, ◌+◌, [], length, ℕ, Option, Some};
+ghost use Rattle.std.specs.Prelude.{◌≡◌, ◌≤◌, ◌+◌, [], length, ℕ, Bool, Option, Some};
 ghost use Rattle.grain_means.specs.Worlds.{Act, Answer, World, Setup, Place, Frame, InFrame};
 ghost use Rattle.grain_means.specs.CatchBlocks.{Catches};
 ghost use Rattle.grain_means.specs.Rules.{called};
@@ -58,12 +58,14 @@ pub fn catches<S>()
 
 /// A call keeps to its store: where its scope, the contents of its cells, the constants and the host
 /// name cells of the store only, none of which is lent and none of which holds a cell, so it is when
-/// the call is over, also of its answer. No cell is gone.
+/// the call is over, also of its answer. No cell is gone. Where what it begins with is clean, so is what
+/// it leaves: no cell stands directly inside an array or a map.
 pub fn contained<S>()
-    ensures { (m : Setup S) (this : Option Place) (w v : World S) (a : Answer) (n : ℕ) →
-        IsLawful m.law → ConstantsName n m.program →
-        Contained n w.scope w.cells (m.law.reach w.host) → Ends m (called m this w) a v →
-        (k : ℕ) × (n ≤ k) × Contained k v.scope v.cells (m.law.reach v.host) × AnswerNames k a }
+    ensures { (m : Setup S) (this : Option Place) (w v : World S) (a : Answer) (clean : Bool)
+        (n : ℕ) → IsLawful m.law → ConstantsName clean n m.program →
+        Contained m.law clean n w.scope w.cells w.host → Ends m (called m this w) a v →
+        (k : ℕ) × (n ≤ k) × Contained m.law clean k v.scope v.cells v.host
+        × AnswerNames clean k a }
 {}
 
 /// A program has at most one meaning at a beginning: one end, after one number of instructions.

@@ -1,16 +1,18 @@
 -- A price list: what its natives answer, and what they leave.
-use Rattle.std.specs.Prelude.{ℕ, max, ◌≤◌, ◌^◌, ℤ, pos, negsuc, ◌+ℤ◌, ◌-ℤ◌, ◌*ℤ◌, int_lt, int_div, false, ◌&&◌, ◌||◌, List, [], ◌∷◌, ◌++◌, Option, Some, None, Result, Ok, Err, refl, codes, bytes_eq, ◌==◌, slice_get, option_and_then, if◌then◌else◌}
+use Rattle.std.specs.Prelude.{ℕ, max, ◌≤◌, ◌^◌, ℤ, pos, negsuc, ◌+ℤ◌, ◌-ℤ◌, ◌*ℤ◌, int_lt, int_div, false, true, not, ◌≡◌, ◌&&◌, ◌||◌, List, [], ◌∷◌, ◌++◌, Option, Some, None, Result, Ok, Err, refl, codes, bytes_eq, ◌==◌, slice_get, option_and_then, if◌then◌else◌}
+use Rattle.std.specs.List.{list_all}
 use Rattle.std.proofs.Common.{arith}
 use Rattle.std.proofs.Math.Nat.{le-max_left, le-max_right}
 use Rattle.grain_value.specs.Tree.{array, pack}
 use Rattle.grain_value.specs.View.{tree}
-use Rattle.grain_value.specs.Cells.{cell_bound}
+use Rattle.grain_value.specs.Cells.{cell_bound, is_cell, is_clean}
 use Rattle.grain_value.specs.Looking.{integer_of, text_of}
 use Rattle.grain_value.specs.declared.values.Dynamic.{Dynamic}
 use Rattle.grain_value.specs.declared.values.Dynamic.TheVariants as dynamic
 use Rattle.grain_fault.specs.Places.{nowhere}
 use Rattle.grain_fault.specs.Problems.{Problem, Plain, Runtime, SystemError}
-use Rattle.grain_host.specs.Law.{Law, Reply, Done, Failed, GoOn, MayBeAnswered, IsLawful, call_bound, reply_bound}
+use Rattle.grain_host.specs.Clean.{first_true}
+use Rattle.grain_host.specs.Law.{Law, Reply, Done, Failed, GoOn, MayBeAnswered, IsLawful, call_bound, is_plain, reply_bound, reply_is_clean}
 use Rattle.grain_host.specs.Tables.{arguments}
 use Rattle.run_examples.specs.declared.prices.Line.{Line}
 use Rattle.run_examples.specs.declared.prices.PriceList.{PriceList}
@@ -101,7 +103,8 @@ abbrev pub reply : Result ℤ Reason → Reply
 reply (Ok n) = Done (dynamic.Int n)
 reply (Err r) = Failed (problem r)
 
--- No native writes its first argument, and a run always goes on. The list has no cells.
+-- No native writes its first argument, and a run always goes on. The list has no cells, and no arrays
+-- or maps.
 abbrev pub price_law : Law PriceList
 price_law = record {
   resolves = λ s name kinds. key_of name kinds;
@@ -112,6 +115,7 @@ price_law = record {
   progress_reply = λ s count. GoOn;
   progress_after = λ s count. s;
   reach = λ s. 0;
+  holds_clean = λ s. true;
 }
 
 -- the list is a lawful host
@@ -126,6 +130,12 @@ reply_within (Ok k) n = omega arith
 reply_within (Err reason.Unknown) n = omega arith
 reply_within (Err reason.NoSuchArticle) n = omega arith
 reply_within (Err reason.OutOfRange) n = omega arith
+
+reply_clean : (r : Result ℤ Reason) → reply_is_clean (reply r) ≡ true
+reply_clean (Ok k) = refl
+reply_clean (Err reason.Unknown) = refl
+reply_clean (Err reason.NoSuchArticle) = refl
+reply_clean (Err reason.OutOfRange) = refl
 
 pub price_lawful : IsLawful price_law
 price_lawful = record {
@@ -143,4 +153,12 @@ price_lawful = record {
   stays_within = λ s key receiver values. omega arith;
   stops_within = λ s count. omega arith;
   hears_within = λ s count. omega arith;
+  replies_clean = λ s key receiver values clean.
+      reply_clean (gives s key (arguments receiver values));
+  writes_clean = λ s key h values clean.
+      first_true (is_clean (tree h.value)) (not (is_cell (tree h.value)))
+      (first_true (is_plain (tree h.value)) (list_all is_plain values) clean);
+  stays_clean = λ s key receiver values clean. refl;
+  stops_clean = λ s count clean. refl;
+  hears_clean = λ s count clean. refl;
 }

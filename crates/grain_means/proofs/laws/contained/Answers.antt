@@ -3,5 +3,5 @@ use Rattle.std.proofs.Common.{arith}
 use Rattle.grain_means.proofs.laws.contained.Goals as goal
 
 pub returns : goal.returns
-returns g c m this w v a n lawful constants start run =
-    called_within m lawful n constants this w v a n (omega arith) start run
+returns g c m this w v a clean n lawful constants start run =
+    called_within m lawful clean n constants this w v a n (omega arith) start run

@@ -1,0 +1,192 @@
+-- The host in memory hands over what is clean, where its lines hold such values only and it is given
+-- such values, none of which is a cell.
+use Rattle.std.specs.Prelude.{ℕ, ◌≡◌, ◌==◌, Bool, true, false, ◌&&◌, not, List, [], ◌∷◌, ◌++◌, Option, Some, None, map, refl, if◌then◌else◌}
+use Rattle.std.specs.List.{list_all}
+use Rattle.grain_value.specs.Tree.{Tree, array, pack}
+use Rattle.grain_value.specs.View.{tree, value_of}
+use Rattle.grain_value.specs.Cells.{is_cell, is_clean}
+use Rattle.grain_value.specs.laws.Same.{tree-value_of}
+use Rattle.grain_value.specs.declared.values.Dynamic.{Dynamic}
+use Rattle.grain_value.specs.declared.values.Dynamic.TheVariants as dynamic
+use Rattle.grain_value.specs.declared.values.Held.{Held}
+use Rattle.grain_host.specs.Law.{Reply, call_is_clean, is_plain, receiver_is_plain, reply_is_clean, verdict_is_clean}
+use Rattle.grain_host.specs.declared.tables.TableHost.{TableHost}
+use Rattle.grain_host.specs.declared.tables.StopLine.{StopLine}
+use Rattle.grain_host.specs.declared.tables.Turn.{Turn}
+use Rattle.grain_host.specs.declared.tables.Turn.TheVariants as turns
+use Rattle.grain_host.specs.Tables.{print_reply, push_reply, counted, entries_in, len_reply, exit_reply, native_reply, sole, first_of_two, unknown, reply_at, after_at, written_at, pushed, stop_at, stops_clean, verdict, turn, arguments, table_law}
+
+pub first_true : (a b : Bool) → a && b ≡ true → a ≡ true
+first_true true b h = refl
+first_true false b h = absurd cc
+
+pub second_true : (a b : Bool) → a && b ≡ true → b ≡ true
+second_true true b h = h
+second_true false b h = absurd cc
+
+pub both_true : (a b : Bool) → a ≡ true → b ≡ true → a && b ≡ true
+both_true true b h k = k
+both_true false b h k = absurd cc
+
+-- values as a native is given them
+abbrev values_plain : List Dynamic → Bool
+values_plain [] = true
+values_plain (v ∷ vs) = is_plain (tree v) && values_plain vs
+
+abbrev argument_plain : Option Dynamic → Bool
+argument_plain None = true
+argument_plain (Some v) = is_plain (tree v)
+
+values_same : (ts : List Tree) → list_all is_plain ts ≡ true → values_plain (map value_of ts) ≡ true
+values_same [] h = refl
+values_same (t ∷ ts) h =
+    both_true (is_plain (tree (value_of t))) (values_plain (map value_of ts))
+    (rw (tree-value_of t) (first_true (is_plain t) (list_all is_plain ts) h))
+    (values_same ts (second_true (is_plain t) (list_all is_plain ts) h))
+
+module _ (s : TableHost) (receiver : Option Held) (values : List Tree)
+    (clean : call_is_clean table_law s receiver values ≡ true) where
+  stops : stops_clean s.stops ≡ true
+  stops =
+      first_true (stops_clean s.stops) (receiver_is_plain receiver && list_all is_plain values) clean
+
+  given : receiver_is_plain receiver && list_all is_plain values ≡ true
+  given =
+      second_true (stops_clean s.stops) (receiver_is_plain receiver && list_all is_plain values)
+      clean
+
+  others : values_plain (map value_of values) ≡ true
+  others =
+      values_same values (second_true (receiver_is_plain receiver) (list_all is_plain values) given)
+
+given_plain : (s : TableHost) (receiver : Option Held) (values : List Tree) →
+    call_is_clean table_law s receiver values ≡ true →
+    values_plain (arguments receiver values) ≡ true
+given_plain s None values clean = others s None values clean
+given_plain s (Some h) values clean =
+    both_true (is_plain (tree h.value)) (values_plain (map value_of values))
+    (first_true (is_plain (tree h.value)) (list_all is_plain values)
+    (given s (Some h) values clean))
+    (others s (Some h) values clean)
+
+sole_plain : (vs : List Dynamic) → values_plain vs ≡ true → argument_plain (sole vs) ≡ true
+sole_plain [] h = refl
+sole_plain (v ∷ []) h = first_true (is_plain (tree v)) true h
+sole_plain (v ∷ u ∷ vs) h = refl
+
+either : (b : Bool) (x y : Reply) → reply_is_clean x ≡ true → reply_is_clean y ≡ true →
+    reply_is_clean (if b then x else y) ≡ true
+either true x y p q = p
+either false x y p q = q
+
+print_clean : (v : Option Dynamic) → reply_is_clean (print_reply v) ≡ true
+print_clean None = refl
+print_clean (Some v) = refl
+
+push_clean : (v : Option Dynamic) → reply_is_clean (push_reply v) ≡ true
+push_clean (Some (dynamic.Array ts)) = refl
+push_clean _ = refl
+
+count_clean : (o : Option ℕ) → reply_is_clean (counted o) ≡ true
+count_clean None = refl
+count_clean (Some k) = refl
+
+len_clean : (v : Option Dynamic) → reply_is_clean (len_reply v) ≡ true
+len_clean None = refl
+len_clean (Some v) = count_clean (entries_in v)
+
+exit_clean : (v : Option Dynamic) → argument_plain v ≡ true → reply_is_clean (exit_reply v) ≡ true
+exit_clean None h = refl
+exit_clean (Some v) h =
+    both_true (is_clean (tree v) && true) true
+    (both_true (is_clean (tree v)) true
+    (first_true (is_clean (tree v)) (not (is_cell (tree v))) h) refl) refl
+
+native_clean : (key : ℕ) (vs : List Dynamic) → values_plain vs ≡ true →
+    reply_is_clean (native_reply key vs) ≡ true
+native_clean key vs h =
+    either (key == 1) _ _ (print_clean (sole vs))
+    (either (key == 2) _ _ (push_clean (first_of_two vs))
+    (either (key == 3) _ _ (len_clean (sole vs))
+    (either (key == 5) _ unknown (exit_clean (sole vs) (sole_plain vs h)) refl)))
+
+reply_clean : (t : Turn) (key : ℕ) (vs : List Dynamic) → values_plain vs ≡ true →
+    reply_is_clean (reply_at t key vs) ≡ true
+reply_clean turns.Full key vs h = refl
+reply_clean (turns.Failing k) key vs h = refl
+reply_clean (turns.Ready k) key vs h = native_clean key vs h
+
+pub table_replies_clean : (s : TableHost) (key : ℕ) (receiver : Option Held)
+    (values : List Tree) → call_is_clean table_law s receiver values ≡ true →
+    reply_is_clean (table_law.call_reply s key receiver values) ≡ true
+table_replies_clean s key receiver values clean =
+    reply_clean (turn s) key (arguments receiver values) (given_plain s receiver values clean)
+
+-- an array with one more value, which is no cell
+longer_clean : (ts : List Tree) (t : Tree) → is_clean (array (pack ts)) ≡ true → is_plain t ≡ true →
+    is_clean (array (pack (ts ++ t ∷ []))) ≡ true
+longer_clean [] t p q =
+    both_true (not (is_cell t)) (is_clean t && true)
+    (second_true (is_clean t) (not (is_cell t)) q)
+    (both_true (is_clean t) true (first_true (is_clean t) (not (is_cell t)) q) refl)
+longer_clean (u ∷ us) t p q =
+    let rest : Bool = is_clean u && is_clean (array (pack us)) in
+    let inner = second_true (not (is_cell u)) rest p in
+    both_true (not (is_cell u)) (is_clean u && is_clean (array (pack (us ++ t ∷ []))))
+    (first_true (not (is_cell u)) rest p)
+    (both_true (is_clean u) (is_clean (array (pack (us ++ t ∷ []))))
+    (first_true (is_clean u) (is_clean (array (pack us))) inner)
+    (longer_clean us t (second_true (is_clean u) (is_clean (array (pack us))) inner) q))
+
+pushed_clean : (d : Dynamic) (v : Option Dynamic) → is_clean (tree d) ≡ true →
+    argument_plain v ≡ true → is_clean (tree (pushed d v)) ≡ true
+pushed_clean (dynamic.Array ts) (Some v) p q = longer_clean ts (tree v) p q
+pushed_clean d v p q = p
+
+written_clean : (t : Turn) (h : Held) (values : List Tree) → is_clean (tree h.value) ≡ true →
+    values_plain (map value_of values) ≡ true → is_clean (tree (written_at t h values)) ≡ true
+written_clean turns.Full h values p q = p
+written_clean (turns.Failing k) h values p q = p
+written_clean (turns.Ready k) h values p q =
+    pushed_clean h.value (sole (map value_of values)) p (sole_plain (map value_of values) q)
+
+pub table_writes_clean : (s : TableHost) (key : ℕ) (h : Held) (values : List Tree) →
+    call_is_clean table_law s (Some h) values ≡ true →
+    is_clean (tree (table_law.call_written s key h values)) ≡ true
+table_writes_clean s key h values clean =
+    written_clean (turn s) h values
+    (first_true (is_clean (tree h.value)) (not (is_cell (tree h.value)))
+    (first_true (is_plain (tree h.value)) (list_all is_plain values)
+    (given s (Some h) values clean)))
+    (others s (Some h) values clean)
+
+-- no call changes the lines
+stops_same : (t : Turn) (s : TableHost) (key : ℕ) (vs : List Dynamic) →
+    (after_at t s key vs).stops ≡ s.stops
+stops_same turns.Full s key vs = refl
+stops_same (turns.Failing k) s key vs = refl
+stops_same (turns.Ready k) s key vs = refl
+
+pub table_stays_clean : (s : TableHost) (key : ℕ) (receiver : Option Held)
+    (values : List Tree) → call_is_clean table_law s receiver values ≡ true →
+    table_law.holds_clean (table_law.call_after s key receiver values) ≡ true
+table_stays_clean s key receiver values clean =
+    rw (stops_same (turn s) s key (arguments receiver values)) (stops s receiver values clean)
+
+stop_clean : (b : Bool) (x : Dynamic) (o : Option Dynamic) → is_clean (tree x) ≡ true →
+    verdict_is_clean (verdict o) ≡ true →
+    verdict_is_clean (verdict (if b then Some x else o)) ≡ true
+stop_clean true x o p q = p
+stop_clean false x o p q = q
+
+stops_among : (count : ℕ) (ls : List StopLine) → stops_clean ls ≡ true →
+    verdict_is_clean (verdict (stop_at count ls)) ≡ true
+stops_among count [] h = refl
+stops_among count (l ∷ ls) h =
+    stop_clean (l.count == count) l.value (stop_at count ls)
+    (first_true (is_clean (tree l.value)) (stops_clean ls) h)
+    (stops_among count ls (second_true (is_clean (tree l.value)) (stops_clean ls) h))
+
+pub table_stops_clean : (s : TableHost) (count : ℕ) → table_law.holds_clean s ≡ true →
+    verdict_is_clean (table_law.progress_reply s count) ≡ true
+table_stops_clean s count clean = stops_among count s.stops clean
