@@ -22,12 +22,12 @@ use Rattle.grain_frame.proofs.Arms.{to_target, to_next}
 use Rattle.grain_frame.proofs.Turns.{next_runs}
 
 -- the last operand, and the others
-top_pushed : (xs : List Held) (h : Held) → top (xs ++ h ∷ []) ≡ h
+pub top_pushed : (xs : List Held) (h : Held) → top (xs ++ h ∷ []) ≡ h
 top_pushed [] h = refl
 top_pushed (x ∷ []) h = refl
 top_pushed (x ∷ y ∷ xs) h = top_pushed (y ∷ xs) h
 
-below_pushed : (xs : List Held) (h : Held) → below (xs ++ h ∷ []) ≡ xs
+pub below_pushed : (xs : List Held) (h : Held) → below (xs ++ h ∷ []) ≡ xs
 below_pushed xs h =
     let long : length (xs ++ h ∷ []) ≡ length xs + 1 = length-append xs (h ∷ []) in
     let front : length (xs ++ h ∷ []) - 1 ≡ length xs = omega (arith, long) in

@@ -3,6 +3,7 @@ pub mod Turns
 pub mod Mains
 pub mod Arms
 pub mod Branching
+pub mod Loading
 pub mod Evaluated
 pub mod Pairs
 pub mod Calling

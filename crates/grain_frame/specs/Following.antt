@@ -1,6 +1,6 @@
 -- An instruction and the one after it, done in one turn of the loop. What lies between them is the
 -- meaning's alone: the code never stands there.
-use Rattle.std.specs.Prelude.{◌⊎◌, ◌+◌, ℕ, [], ◌∷◌, ◌++◌, Bool, Ok}
+use Rattle.std.specs.Prelude.{◌⊎◌, ◌+◌, ℕ, ℤ, [], ◌∷◌, ◌++◌, Bool, Ok}
 use Rattle.grain_value.specs.declared.values.Dynamic.TheVariants as dynamic
 use Rattle.grain_value.specs.Operands.{under, read_write}
 use Rattle.grain_program.specs.declared.code.instructions.Op.{Op}
@@ -25,6 +25,14 @@ answered s truth = record s {
   };
 }
 
+-- the run once an integer is loaded
+abbrev pub loaded : {H : Type 0} → Run H → ℤ → Run H
+loaded s z = record s {
+  stacks = record s.stacks {
+    operands = s.stacks.operands ++ read_write (dynamic.Int z) ∷ [];
+  };
+}
+
 -- the run without the last two operands
 abbrev pub without_two : {H : Type 0} → Run H → Run H
 without_two s = record s {
@@ -38,6 +46,10 @@ marked_once n = record n { passed = n.passed + 1 }
 -- an instruction more has begun, with its mark
 abbrev pub begun_one : Counts → Counts
 begun_one n = record n { begun = n.begun + 1; passed = n.passed + 1 }
+
+-- the counts once a load is done and the instruction behind it has begun
+abbrev pub begun_behind : Counts → Counts
+begun_behind n = begun_one (marked_once n)
 
 -- the code did the instruction, and went on to do the one after it
 pub record Followed {H : Type 0} (law : Law H) (program : View) (engine : Engine) (f : Activation)

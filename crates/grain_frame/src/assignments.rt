@@ -64,10 +64,10 @@ impl<H: Host> Run<H> {
         let free = held.value.flat(&self.cells).is_some();
         let read_only = held.read_only | self.is_constant(cell);
         if !self.is_readable() {
-            return Ok(self.variable_lent(context, steps, frame.address, name)?);
+            return self.variable_lent(context, steps, frame.address, name);
         }
         if read_only {
-            return Ok(self.assignment_to_constant(context, steps, frame.address, name)?);
+            return self.assignment_to_constant(context, steps, frame.address, name);
         }
         if !free {
             return Ok(self.variable_lent(context, steps, frame.address, name)?);
@@ -107,10 +107,10 @@ impl<H: Host> Run<H> {
         let free = held.value.flat(&self.cells).is_some();
         let read_only = held.read_only | self.is_constant(cell);
         if !self.is_readable() {
-            return Ok(self.variable_lent(context, steps, frame.address, name)?);
+            return self.variable_lent(context, steps, frame.address, name);
         }
         if read_only {
-            return Ok(self.assignment_to_constant(context, steps, frame.address, name)?);
+            return self.assignment_to_constant(context, steps, frame.address, name);
         }
         if !free {
             return Ok(self.variable_lent(context, steps, frame.address, name)?);

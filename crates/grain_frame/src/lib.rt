@@ -12,6 +12,7 @@ mod charges;
 mod contexts;
 mod finding;
 mod handlers;
+mod loaded;
 mod locals;
 mod loops;
 mod machines;

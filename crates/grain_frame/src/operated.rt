@@ -153,3 +153,24 @@ pub fn quick_assigned(
         None
     }
 }
+
+/// The same of a target and an integer.
+#[inline(always)]
+pub fn quick_assigned_with(
+    engine: &Engine,
+    token: Token,
+    target: &Dynamic,
+    value: i64,
+) -> Option<i64>
+    ensures assigned { IfSome result
+        (λ z. if_fast engine.now.fast_operators
+        (assignment engine.now.limits token target.now (dynamic.Int value))
+        ≡ Gave (dynamic.Int z)) }
+    ensures integers { IfSome result (λ _. AreIntegers target.now (dynamic.Int value)) }
+{
+    if engine.fast_operators {
+        grain_ops::quick_assigned_with(token, target, value)
+    } else {
+        None
+    }
+}

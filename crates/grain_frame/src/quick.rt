@@ -24,7 +24,7 @@ use grain_value::Dynamic;
 use std::sync::ledger::Ledger;
 
 impl<H: Host> Run<H> {
-    // `load_const` of an integer.
+    // `load_const` of an integer, and perhaps the instruction after it.
     #[inline(always)]
     pub(crate) fn quick_const<L: Ledger>(
         &mut self,
@@ -36,16 +36,23 @@ impl<H: Host> Run<H> {
     ) -> bool
         requires ready { Ready frame.old self.old (op.LoadConst constant) next }
         requires pools { InPools context.program.now (op.LoadConst constant) }
+        requires runs { Runs context.program.now frame.old self.old }
+        requires typed { IsTypedAt context.program.now frame.old.chunk next
+            (length self.old.stacks.operands + 1) (tries_in self.old.stacks.handlers) }
         ensures performs { OnTrue result
-            ((host : H) → Performs H.law context.entry.program.now context.entry.engine.now
-            frame.old self.old steps.old (op.LoadConst constant) next (Ok Progress.Continues)
-            frame.new self.new steps.new host host) }
+            ((host : H) → PerformsOn H.law context.entry.program.now context.entry.engine.now
+            frame.old self.old steps.old (op.LoadConst constant) next frame.new self.new steps.new
+            host) }
         ensures undone { OnFalse result
             (Unchanged frame.old self.old steps.old frame.new self.new steps.new) }
     {
         match context.program.constant(u32::from(constant)) {
             Dynamic::Int(integer) => {
-                if !self.stacks.push_int(*integer) {
+                let integer = *integer;
+                if self.quick_loaded(context, steps, frame, integer, next) {
+                    return true;
+                }
+                if !self.stacks.push_int(integer) {
                     return false;
                 }
                 frame.address = next;
@@ -56,7 +63,7 @@ impl<H: Host> Run<H> {
         }
     }
 
-    // `load_local` of an integer.
+    // `load_local` of an integer, and perhaps the instruction after it.
     #[inline(always)]
     pub(crate) fn quick_local<L: Ledger>(
         &mut self,
@@ -67,19 +74,25 @@ impl<H: Host> Run<H> {
         next: usize,
     ) -> bool
         requires ready { Ready frame.old self.old (op.LoadLocal slot) next }
+        requires runs { Runs context.program.now frame.old self.old }
+        requires typed { IsTypedAt context.program.now frame.old.chunk next
+            (length self.old.stacks.operands + 1) (tries_in self.old.stacks.handlers) }
         ensures performs { OnTrue result
-            ((host : H) → Performs H.law context.entry.program.now context.entry.engine.now
-            frame.old self.old steps.old (op.LoadLocal slot) next (Ok Progress.Continues) frame.new
-            self.new steps.new host host) }
+            ((host : H) → PerformsOn H.law context.entry.program.now context.entry.engine.now
+            frame.old self.old steps.old (op.LoadLocal slot) next frame.new self.new steps.new
+            host) }
         ensures undone { OnFalse result
             (Unchanged frame.old self.old steps.old frame.new self.new steps.new) }
     {
-        let _context = context;
         let index = self.slot_index(frame, slot);
         match self.scope.get(index) {
             Some(held) => match &held.value {
                 Dynamic::Int(integer) => {
-                    if !self.stacks.push_int(*integer) {
+                    let integer = *integer;
+                    if self.quick_loaded(context, steps, frame, integer, next) {
+                        return true;
+                    }
+                    if !self.stacks.push_int(integer) {
                         return false;
                     }
                     frame.address = next;

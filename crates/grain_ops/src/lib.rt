@@ -13,4 +13,4 @@ mod text_operators;
 
 pub use answers::{AssignAnswer, OpAnswer};
 pub use operators::{assign, binary, unary};
-pub use quick::{Quick, quick_assigned, quick_operated};
+pub use quick::{Quick, quick_assigned, quick_assigned_with, quick_operated, quick_operated_with};

@@ -37,6 +37,19 @@ pub fn quick_operated(token: Token, lhs: &Dynamic, rhs: &Dynamic) -> Quick
     }
 }
 
+/// The same of a value and an integer.
+#[inline(always)]
+pub fn quick_operated_with(token: Token, lhs: &Dynamic, rhs: i64) -> Quick
+    ensures agrees { (limits : Limits) →
+        Agrees result (binary limits token lhs.now (dynamic.Int rhs)) }
+    ensures integers { IsGiven result → AreIntegers lhs.now (dynamic.Int rhs) }
+{
+    match lhs {
+        Dynamic::Int(x) => quick_integers(token, *x, rhs),
+        _ => Quick::None,
+    }
+}
+
 #[inline(always)]
 fn quick_integers(token: Token, x: i64, y: i64) -> Quick
     ensures { Agrees result (integers token x y) }
@@ -78,6 +91,19 @@ pub fn quick_assigned(token: Token, target: &Dynamic, value: &Dynamic) -> Option
             Dynamic::Int(y) => assigned_number(token, *x, *y),
             _ => None,
         },
+        _ => None,
+    }
+}
+
+/// The same of a target and an integer.
+#[inline(always)]
+pub fn quick_assigned_with(token: Token, target: &Dynamic, value: i64) -> Option<i64>
+    ensures assigned { (limits : Limits) → IfSome result
+        (λ z. assignment limits token target.now (dynamic.Int value) ≡ Gave (dynamic.Int z)) }
+    ensures integers { IfSome result (λ _. AreIntegers target.now (dynamic.Int value)) }
+{
+    match target {
+        Dynamic::Int(x) => assigned_number(token, *x, value),
         _ => None,
     }
 }

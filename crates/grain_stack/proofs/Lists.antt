@@ -181,6 +181,23 @@ answer_rest b xs h le =
     length_front (length xs - 2) xs (omega arith) in
     take-append-le b (under 2 xs) (h ∷ []) (omega (arith, short, le)) ∙ under_rest b 2 xs le
 
+-- the last operand overwritten
+pub put_own : (b : ℕ) (xs : List Held) (h : Held) → b < length xs →
+    drop b (below xs ++ h ∷ []) ≡ below (drop b xs) ++ h ∷ []
+put_own b xs h lt =
+    let short : length (below xs) ≡ length xs - 1 =
+    length_front (length xs - 1) xs (omega arith) in
+    drop-append-le b (below xs) (h ∷ []) (omega (arith, short, lt)) ∙
+    ap (λ (l : List Held). l ++ h ∷ []) (under_own b 1 xs (omega (arith, lt)))
+
+pub put_rest : (b : ℕ) (xs : List Held) (h : Held) → b < length xs →
+    take b (below xs ++ h ∷ []) ≡ take b xs
+put_rest b xs h lt =
+    let short : length (below xs) ≡ length xs - 1 =
+    length_front (length xs - 1) xs (omega arith) in
+    take-append-le b (below xs) (h ∷ []) (omega (arith, short, lt)) ∙
+    under_rest b 1 xs (omega (arith, lt))
+
 -- without the last operand
 pub below_own : (b : ℕ) (xs : List Held) → b < length xs → drop b (below xs) ≡ below (drop b xs)
 below_own b xs lt = under_own b 1 xs (omega (arith, lt))

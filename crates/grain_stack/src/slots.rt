@@ -238,6 +238,34 @@ impl Slots {
         self.height = place + 1;
     }
 
+    /// Writes an integer in the place of the last operand.
+    #[inline(always)]
+    pub fn put_int(&mut self, integer: i64)
+        requires there { 0 < length self.old.operands }
+        ensures { self.new ≡ record self.old {
+          operands =
+              below self.old.operands ++ read_write (dynamic.Int integer) ∷ [];
+        } }
+    {
+        let last = &mut self.slots[self.height - 1];
+        last.value.set_int(integer);
+        last.read_only = false;
+    }
+
+    /// Writes a truth value in the place of the last operand.
+    #[inline(always)]
+    pub fn put_bool(&mut self, truth: bool)
+        requires there { 0 < length self.old.operands }
+        ensures { self.new ≡ record self.old {
+          operands =
+              below self.old.operands ++ read_write (dynamic.Bool truth) ∷ [];
+        } }
+    {
+        let last = &mut self.slots[self.height - 1];
+        last.value.set_bool(truth);
+        last.read_only = false;
+    }
+
     /// Moves the value of the operand at an index to the end of the scope, where it can be written
     /// and has a shared name. What the operand is afterwards is not said. After want of memory the
     /// scope is as it was.

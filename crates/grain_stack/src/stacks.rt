@@ -410,6 +410,30 @@ impl Stacks {
         self.slots.answer_bool(truth);
     }
 
+    /// Writes an integer in the place of the last operand.
+    #[inline(always)]
+    pub fn put_int(&mut self, integer: i64)
+        requires there { 0 < length self.old.operands }
+        ensures { self.new ≡ record self.old {
+          operands =
+              below self.old.operands ++ read_write (dynamic.Int integer) ∷ [];
+        } }
+    {
+        self.slots.put_int(integer);
+    }
+
+    /// Writes a truth value in the place of the last operand.
+    #[inline(always)]
+    pub fn put_bool(&mut self, truth: bool)
+        requires there { 0 < length self.old.operands }
+        ensures { self.new ≡ record self.old {
+          operands =
+              below self.old.operands ++ read_write (dynamic.Bool truth) ∷ [];
+        } }
+    {
+        self.slots.put_bool(truth);
+    }
+
     /// One handler more, the innermost of the frame. After want of memory the stacks are as they
     /// were.
     pub fn push_handler(&mut self, handler: Handler) -> Result<(), OutOfMemory>

@@ -129,8 +129,8 @@ run_from-returns-in-Returned-clause-before g t c =
     (ap (λ (k : Counts). k.before) c.mark.ensures ∙
     (ap (λ (k : Counts). k.before) c.tick.ensures ∙ c.turn.invariant.before))
 
-pub run_from-returns-in-Err-clause-goes : goal.run_from-returns-in-Err-clause-goes
-run_from-returns-in-Err-clause-goes g t c =
+pub run_from-returns-in-Err : goal.run_from-returns-in-Err
+run_from-returns-in-Err g t c =
     let at = frame_in c.jump.new.frame c.jump.new.self in
     let did =
     moved_back
@@ -138,12 +138,26 @@ run_from-returns-in-Err-clause-goes g t c =
     Stepped g.H.Host.law c.args.context.program.now c.args.context.engine.now f s n
     (Err c.in-Err.e) c.jump.new.frame c.jump.new.self c.jump.new.steps c.turn.host
     c.jump.new.host) c.in-Jump.ensures.0 c.in-Err.ensures.stepped in
-    left_out (abstraction c.jump.new.self c.jump.new.steps c.jump.new.host)
-    (abstraction c.leave_by_fault.new.self c.jump.new.steps c.jump.new.host) at
-    c.jump.new.frame.floor c.jump.new.frame.address (λ place. refl) (λ place. refl)
-    (rw c.leave_by_fault.ensures refl)
-    (turn (abstraction c.turn.self c.turn.steps c.turn.host)
-    (rw (c.mark.ensures, c.tick.ensures) refl) c.turn.invariant.goes did.goes)
+    let now = c.turn.invariant in
+    let left = c.leave_by_fault.ensures in
+    record {
+      goes = left_out (abstraction c.jump.new.self c.jump.new.steps c.jump.new.host)
+          (abstraction c.leave_by_fault.new.self c.jump.new.steps
+          c.jump.new.host) at
+          c.jump.new.frame.floor c.jump.new.frame.address (λ place. refl) (λ place. refl)
+          (rw left refl)
+          (turn (abstraction c.turn.self c.turn.steps c.turn.host)
+          (rw (c.mark.ensures, c.tick.ensures) refl) now.goes did.goes);
+      catches = tt;
+      outer = rw left (did.kept.outer ∙ now.outer);
+      room = rw left (did.kept.room ∙ now.room);
+      saved = rw left (did.kept.saved ∙ now.saved);
+      level = rw left (did.kept.level ∙ now.level);
+      later = rw left (omega (arith, did.kept.later, now.later));
+      before = did.before ∙
+          (ap (λ (k : Counts). k.before) c.mark.ensures ∙
+          (ap (λ (k : Counts). k.before) c.tick.ensures ∙ now.before));
+    }
 
 pub run_from-turn-preserved-in-Continues : goal.run_from-turn-preserved-in-Continues
 run_from-turn-preserved-in-Continues g t c =
@@ -181,9 +195,8 @@ run_from-turn-preserved-in-Continues g t c =
           (ap (λ (k : Counts). k.before) c.tick.ensures ∙ now.before));
     }
 
-pub run_from-returns-in-Returned-progress-clause-goes :
-    goal.run_from-returns-in-Returned-progress-clause-goes
-run_from-returns-in-Returned-progress-clause-goes g t c =
+pub run_from-returns-in-Returned-progress : goal.run_from-returns-in-Returned-progress
+run_from-returns-in-Returned-progress g t c =
     let at = frame_in c.jump.new.frame c.jump.new.self in
     let did =
     moved_back
@@ -191,25 +204,51 @@ run_from-returns-in-Returned-progress-clause-goes g t c =
     Stepped g.H.Host.law c.args.context.program.now c.args.context.engine.now f s n
     (Ok c.in-Ok.progress) c.jump.new.frame c.jump.new.self c.jump.new.steps c.turn.host
     c.jump.new.host) c.in-Jump.ensures.0 c.in-Ok.ensures.stepped in
-    flowed at c.jump.new.self.fault c.in-Returned-progress.is
-    (turn (abstraction c.turn.self c.turn.steps c.turn.host)
-    (rw (c.mark.ensures, c.tick.ensures) refl) c.turn.invariant.goes did.goes)
+    let now = c.turn.invariant in
+    record {
+      goes = flowed at c.jump.new.self.fault c.in-Returned-progress.is
+          (turn (abstraction c.turn.self c.turn.steps c.turn.host)
+          (rw (c.mark.ensures, c.tick.ensures) refl) now.goes did.goes);
+      catches = tt;
+      outer = did.kept.outer ∙ now.outer;
+      room = did.kept.room ∙ now.room;
+      saved = did.kept.saved ∙ now.saved;
+      level = did.kept.level ∙ now.level;
+      later = omega (arith, did.kept.later, now.later);
+      before = did.before ∙
+          (ap (λ (k : Counts). k.before) c.mark.ensures ∙
+          (ap (λ (k : Counts). k.before) c.tick.ensures ∙ now.before));
+    }
 
-pub run_from-returns-in-Err-proceed-clause-goes : goal.run_from-returns-in-Err-proceed-clause-goes
-run_from-returns-in-Err-proceed-clause-goes g t c =
+pub run_from-returns-in-Err-proceed : goal.run_from-returns-in-Err-proceed
+run_from-returns-in-Err-proceed g t c =
     let at = frame_in c.proceed.new.frame c.proceed.new.self in
     let did =
     moved_back
     (λ (s : Run g.row.H.Denot) (f : Activation) (n : Counts).
     Stepped g.H.Host.law c.args.context.program.now c.args.context.engine.now f s n
-    (Err c.in-Err-proceed.e) c.proceed.new.frame c.proceed.new.self c.proceed.new.steps c.turn.host
-    c.proceed.new.host) c.in-Pending.ensures.0 c.in-Err-proceed.ensures.stepped in
-    left_out (abstraction c.proceed.new.self c.proceed.new.steps c.proceed.new.host)
-    (abstraction c.leave_by_fault-in-Err-proceed.new.self c.proceed.new.steps c.proceed.new.host) at
-    c.proceed.new.frame.floor c.proceed.new.frame.address (λ place. refl) (λ place. refl)
-    (rw c.leave_by_fault-in-Err-proceed.ensures refl)
-    (turn (abstraction c.turn.self c.turn.steps c.turn.host)
-    (rw (c.mark.ensures, c.tick.ensures) refl) c.turn.invariant.goes did.goes)
+    (Err c.in-Err-proceed.e) c.proceed.new.frame c.proceed.new.self c.proceed.new.steps
+    c.turn.host c.proceed.new.host) c.in-Pending.ensures.0 c.in-Err-proceed.ensures.stepped in
+    let now = c.turn.invariant in
+    let left = c.leave_by_fault-in-Err-proceed.ensures in
+    record {
+      goes = left_out (abstraction c.proceed.new.self c.proceed.new.steps c.proceed.new.host)
+          (abstraction c.leave_by_fault-in-Err-proceed.new.self c.proceed.new.steps
+          c.proceed.new.host) at
+          c.proceed.new.frame.floor c.proceed.new.frame.address (λ place. refl) (λ place. refl)
+          (rw left refl)
+          (turn (abstraction c.turn.self c.turn.steps c.turn.host)
+          (rw (c.mark.ensures, c.tick.ensures) refl) now.goes did.goes);
+      catches = tt;
+      outer = rw left (did.kept.outer ∙ now.outer);
+      room = rw left (did.kept.room ∙ now.room);
+      saved = rw left (did.kept.saved ∙ now.saved);
+      level = rw left (did.kept.level ∙ now.level);
+      later = rw left (omega (arith, did.kept.later, now.later));
+      before = did.before ∙
+          (ap (λ (k : Counts). k.before) c.mark.ensures ∙
+          (ap (λ (k : Counts). k.before) c.tick.ensures ∙ now.before));
+    }
 
 pub run_from-turn-preserved : goal.run_from-turn-preserved
 run_from-turn-preserved g t c =
@@ -249,92 +288,98 @@ run_from-turn-preserved g t c =
           (ap (λ (k : Counts). k.before) c.tick.ensures ∙ now.before));
     }
 
-pub run_from-returns-in-Returned-progress-2-clause-goes :
-    goal.run_from-returns-in-Returned-progress-2-clause-goes
-run_from-returns-in-Returned-progress-2-clause-goes g t c =
+pub run_from-returns-in-Returned-progress-2 : goal.run_from-returns-in-Returned-progress-2
+run_from-returns-in-Returned-progress-2 g t c =
     let at = frame_in c.proceed.new.frame c.proceed.new.self in
     let did =
     moved_back
     (λ (s : Run g.row.H.Denot) (f : Activation) (n : Counts).
     Stepped g.H.Host.law c.args.context.program.now c.args.context.engine.now f s n
     (Ok c.in-Ok-proceed.progress) c.proceed.new.frame c.proceed.new.self c.proceed.new.steps
-    c.turn.host
-    c.proceed.new.host) c.in-Pending.ensures.0 c.in-Ok-proceed.ensures.stepped in
-    flowed at c.proceed.new.self.fault c.in-Returned-progress-2.is
-    (turn (abstraction c.turn.self c.turn.steps c.turn.host)
-    (rw (c.mark.ensures, c.tick.ensures) refl) c.turn.invariant.goes did.goes)
+    c.turn.host c.proceed.new.host) c.in-Pending.ensures.0 c.in-Ok-proceed.ensures.stepped in
+    let now = c.turn.invariant in
+    record {
+      goes = flowed at c.proceed.new.self.fault c.in-Returned-progress-2.is
+          (turn (abstraction c.turn.self c.turn.steps c.turn.host)
+          (rw (c.mark.ensures, c.tick.ensures) refl) now.goes did.goes);
+      catches = tt;
+      outer = did.kept.outer ∙ now.outer;
+      room = did.kept.room ∙ now.room;
+      saved = did.kept.saved ∙ now.saved;
+      level = did.kept.level ∙ now.level;
+      later = omega (arith, did.kept.later, now.later);
+      before = did.before ∙
+          (ap (λ (k : Counts). k.before) c.mark.ensures ∙
+          (ap (λ (k : Counts). k.before) c.tick.ensures ∙ now.before));
+    }
 
-pub run_from-returns-in-Failed-clause-goes : goal.run_from-returns-in-Failed-clause-goes
-run_from-returns-in-Failed-clause-goes g t c =
+pub run_from-returns-in-Failed : goal.run_from-returns-in-Failed
+run_from-returns-in-Failed g t c =
+    let at = frame_in c.jump.new.frame c.jump.new.self in
     let did =
     moved_back
     (λ (s : Run g.row.H.Denot) (f : Activation) (n : Counts).
     Stepped g.H.Host.law c.args.context.program.now c.args.context.engine.now f s n
-    (Ok c.in-Ok.progress) c.jump.new.frame c.jump.new.self c.jump.new.steps
-    c.turn.host c.jump.new.host) c.in-Jump.ensures.0 c.in-Ok.ensures.stepped in
-    stopped_at c.args.chunk.now c.args.base c.jump.new.frame c.jump.new.self
-    (did.kept.chunk ∙ c.turn.invariant.chunk) (did.kept.base ∙ c.turn.invariant.base)
-    (flowed (frame_in c.jump.new.frame c.jump.new.self) c.jump.new.self.fault
-    c.in-Failed.is
-    (turn (abstraction c.turn.self c.turn.steps c.turn.host)
-    (rw (c.mark.ensures, c.tick.ensures) refl) c.turn.invariant.goes did.goes))
-
-pub run_from-returns-in-Failed-clause-catches : goal.run_from-returns-in-Failed-clause-catches
-run_from-returns-in-Failed-clause-catches g t c =
-    let did =
-    moved_back
-    (λ (s : Run g.row.H.Denot) (f : Activation) (n : Counts).
-    Stepped g.H.Host.law c.args.context.program.now c.args.context.engine.now f s n
-    (Ok c.in-Ok.progress) c.jump.new.frame c.jump.new.self c.jump.new.steps
-    c.turn.host c.jump.new.host) c.in-Jump.ensures.0 c.in-Ok.ensures.stepped in
+    (Ok c.in-Ok.progress) c.jump.new.frame c.jump.new.self c.jump.new.steps c.turn.host
+    c.jump.new.host) c.in-Jump.ensures.0 c.in-Ok.ensures.stepped in
+    let now = c.turn.invariant in
     let can =
     subst (λ (q : Progress). StaysTyped c.args.context.program.now c.args.context.engine.now
     c.turn.self c.turn.frame c.jump.new.self c.jump.new.frame (Ok q)) c.in-Failed.is
-    did.stays in (
-      did.kept.noted ∙ c.turn.invariant.runs.unnoted,
-      (
-        can.0,
-        can.1,
-        rw (sym (did.kept.chunk ∙ c.turn.invariant.chunk)) can.2,
-        rw (sym (did.kept.base ∙ c.turn.invariant.base)) can.3,
-      ),
-    )
+    did.stays in
+    let chunk = did.kept.chunk ∙ now.chunk in
+    let base = did.kept.base ∙ now.base in
+    record {
+      goes = stopped_at c.args.chunk.now c.args.base c.jump.new.frame c.jump.new.self
+          chunk base (flowed at c.jump.new.self.fault c.in-Failed.is (turn (abstraction c.turn.self c.turn.steps c.turn.host)
+          (rw (c.mark.ensures, c.tick.ensures) refl) now.goes did.goes));
+      catches = (
+        did.kept.noted ∙ now.runs.unnoted,
+        (can.0, can.1, rw (sym chunk) can.2, rw (sym base) can.3),
+      );
+      outer = did.kept.outer ∙ now.outer;
+      room = did.kept.room ∙ now.room;
+      saved = did.kept.saved ∙ now.saved;
+      level = did.kept.level ∙ now.level;
+      later = omega (arith, did.kept.later, now.later);
+      before = did.before ∙
+          (ap (λ (k : Counts). k.before) c.mark.ensures ∙
+          (ap (λ (k : Counts). k.before) c.tick.ensures ∙ now.before));
+    }
 
-pub run_from-returns-in-Failed-progress-clause-goes : goal.run_from-returns-in-Failed-progress-clause-goes
-run_from-returns-in-Failed-progress-clause-goes g t c =
+pub run_from-returns-in-Failed-progress : goal.run_from-returns-in-Failed-progress
+run_from-returns-in-Failed-progress g t c =
+    let at = frame_in c.proceed.new.frame c.proceed.new.self in
     let did =
     moved_back
     (λ (s : Run g.row.H.Denot) (f : Activation) (n : Counts).
     Stepped g.H.Host.law c.args.context.program.now c.args.context.engine.now f s n
     (Ok c.in-Ok-proceed.progress) c.proceed.new.frame c.proceed.new.self c.proceed.new.steps
     c.turn.host c.proceed.new.host) c.in-Pending.ensures.0 c.in-Ok-proceed.ensures.stepped in
-    stopped_at c.args.chunk.now c.args.base c.proceed.new.frame c.proceed.new.self
-    (did.kept.chunk ∙ c.turn.invariant.chunk) (did.kept.base ∙ c.turn.invariant.base)
-    (flowed (frame_in c.proceed.new.frame c.proceed.new.self) c.proceed.new.self.fault
-    c.in-Failed-progress.is
-    (turn (abstraction c.turn.self c.turn.steps c.turn.host)
-    (rw (c.mark.ensures, c.tick.ensures) refl) c.turn.invariant.goes did.goes))
-
-pub run_from-returns-in-Failed-progress-clause-catches : goal.run_from-returns-in-Failed-progress-clause-catches
-run_from-returns-in-Failed-progress-clause-catches g t c =
-    let did =
-    moved_back
-    (λ (s : Run g.row.H.Denot) (f : Activation) (n : Counts).
-    Stepped g.H.Host.law c.args.context.program.now c.args.context.engine.now f s n
-    (Ok c.in-Ok-proceed.progress) c.proceed.new.frame c.proceed.new.self c.proceed.new.steps
-    c.turn.host c.proceed.new.host) c.in-Pending.ensures.0 c.in-Ok-proceed.ensures.stepped in
+    let now = c.turn.invariant in
     let can =
     subst (λ (q : Progress). StaysTyped c.args.context.program.now c.args.context.engine.now
     c.turn.self c.turn.frame c.proceed.new.self c.proceed.new.frame (Ok q)) c.in-Failed-progress.is
-    did.stays in (
-      did.kept.noted ∙ c.turn.invariant.runs.unnoted,
-      (
-        can.0,
-        can.1,
-        rw (sym (did.kept.chunk ∙ c.turn.invariant.chunk)) can.2,
-        rw (sym (did.kept.base ∙ c.turn.invariant.base)) can.3,
-      ),
-    )
+    did.stays in
+    let chunk = did.kept.chunk ∙ now.chunk in
+    let base = did.kept.base ∙ now.base in
+    record {
+      goes = stopped_at c.args.chunk.now c.args.base c.proceed.new.frame c.proceed.new.self
+          chunk base (flowed at c.proceed.new.self.fault c.in-Failed-progress.is (turn (abstraction c.turn.self c.turn.steps c.turn.host)
+          (rw (c.mark.ensures, c.tick.ensures) refl) now.goes did.goes));
+      catches = (
+        did.kept.noted ∙ now.runs.unnoted,
+        (can.0, can.1, rw (sym chunk) can.2, rw (sym base) can.3),
+      );
+      outer = did.kept.outer ∙ now.outer;
+      room = did.kept.room ∙ now.room;
+      saved = did.kept.saved ∙ now.saved;
+      level = did.kept.level ∙ now.level;
+      later = omega (arith, did.kept.later, now.later);
+      before = did.before ∙
+          (ap (λ (k : Counts). k.before) c.mark.ensures ∙
+          (ap (λ (k : Counts). k.before) c.tick.ensures ∙ now.before));
+    }
 
 pub run_frame-returns-in-Err-clause-goes : goal.run_frame-returns-in-Err-clause-goes
 run_frame-returns-in-Err-clause-goes g t c =
@@ -402,3 +447,68 @@ run_frame-frame-preserved g t c =
       fewer = omega (arith, fewer, now.fewer);
       before = c.catch.ensures.before ∙ (c.run_from.ensures.before ∙ now.before);
     }
+
+pub run_from-returns-in-Returned-clause-catches : goal.run_from-returns-in-Returned-clause-catches
+run_from-returns-in-Returned-clause-catches g t c = tt
+
+pub run_frame-returns-in-Err-clause-outer : goal.run_frame-returns-in-Err-clause-outer
+run_frame-returns-in-Err-clause-outer g t c =
+    c.in-Err.ensures.outer ∙ c.frame.invariant.outer
+
+pub run_frame-returns-in-Err-clause-saved : goal.run_frame-returns-in-Err-clause-saved
+run_frame-returns-in-Err-clause-saved g t c =
+    c.in-Err.ensures.saved ∙ c.frame.invariant.saved
+
+pub run_frame-returns-in-Err-clause-level : goal.run_frame-returns-in-Err-clause-level
+run_frame-returns-in-Err-clause-level g t c =
+    c.in-Err.ensures.level ∙ c.frame.invariant.level
+
+pub run_frame-returns-in-Err-clause-later : goal.run_frame-returns-in-Err-clause-later
+run_frame-returns-in-Err-clause-later g t c =
+    omega (arith, c.in-Err.ensures.later, c.frame.invariant.later)
+
+pub run_frame-returns-in-Err-clause-before : goal.run_frame-returns-in-Err-clause-before
+run_frame-returns-in-Err-clause-before g t c = c.in-Err.ensures.before ∙ c.frame.invariant.before
+
+pub run_frame-returns-in-Value-clause-outer : goal.run_frame-returns-in-Value-clause-outer
+run_frame-returns-in-Value-clause-outer g t c =
+    c.in-Ok.ensures.outer ∙ c.frame.invariant.outer
+
+pub run_frame-returns-in-Value-clause-saved : goal.run_frame-returns-in-Value-clause-saved
+run_frame-returns-in-Value-clause-saved g t c =
+    c.in-Ok.ensures.saved ∙ c.frame.invariant.saved
+
+pub run_frame-returns-in-Value-clause-level : goal.run_frame-returns-in-Value-clause-level
+run_frame-returns-in-Value-clause-level g t c =
+    c.in-Ok.ensures.level ∙ c.frame.invariant.level
+
+pub run_frame-returns-in-Value-clause-later : goal.run_frame-returns-in-Value-clause-later
+run_frame-returns-in-Value-clause-later g t c =
+    omega (arith, c.in-Ok.ensures.later, c.frame.invariant.later)
+
+pub run_frame-returns-in-Value-clause-before : goal.run_frame-returns-in-Value-clause-before
+run_frame-returns-in-Value-clause-before g t c = c.in-Ok.ensures.before ∙ c.frame.invariant.before
+
+pub run_frame-returns-in-Err-catch-clause-outer : goal.run_frame-returns-in-Err-catch-clause-outer
+run_frame-returns-in-Err-catch-clause-outer g t c =
+    c.in-Err-catch.ensures.kept.outer ∙ (c.in-Ok.ensures.outer ∙ c.frame.invariant.outer)
+
+pub run_frame-returns-in-Err-catch-clause-saved : goal.run_frame-returns-in-Err-catch-clause-saved
+run_frame-returns-in-Err-catch-clause-saved g t c =
+    c.in-Err-catch.ensures.kept.saved ∙ (c.in-Ok.ensures.saved ∙ c.frame.invariant.saved)
+
+pub run_frame-returns-in-Err-catch-clause-level : goal.run_frame-returns-in-Err-catch-clause-level
+run_frame-returns-in-Err-catch-clause-level g t c =
+    c.in-Err-catch.ensures.kept.level ∙ (c.in-Ok.ensures.level ∙ c.frame.invariant.level)
+
+pub run_frame-returns-in-Err-catch-clause-later : goal.run_frame-returns-in-Err-catch-clause-later
+run_frame-returns-in-Err-catch-clause-later g t c =
+    omega (arith, c.in-Ok.ensures.later, c.frame.invariant.later, c.in-Err-catch.ensures.kept.later)
+
+pub run_frame-returns-in-Err-catch-clause-before : goal.run_frame-returns-in-Err-catch-clause-before
+run_frame-returns-in-Err-catch-clause-before g t c =
+    c.catch.ensures.before ∙ (c.run_from.ensures.before ∙ c.frame.invariant.before)
+
+pub run_frame-returns-in-None-clause-before : goal.run_frame-returns-in-None-clause-before
+run_frame-returns-in-None-clause-before g t c =
+    c.catch.ensures.before ∙ (c.run_from.ensures.before ∙ c.frame.invariant.before)

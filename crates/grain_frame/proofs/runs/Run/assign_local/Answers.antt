@@ -1,15 +1,18 @@
 -- The entry, or its cell, has the operand's value.
-use Rattle.std.proofs.Common.{◌≡◌, ◌+◌, ◌∙◌, Some, true, false, refl, sym, ap, rules}
+use Rattle.std.proofs.Common.{◌≡◌, ◌+◌, ◌∙◌, Some, None, true, false, refl, sym, ap, rules}
 use Rattle.std.specs.Prelude.{◌||◌, is_some}
 use Rattle.grain_value.specs.Cells.{flat}
 use Rattle.grain_value.specs.Looking.{cell_of}
-use Rattle.grain_value.specs.Operands.{below, read_write}
-use Rattle.grain_program.specs.View.{name_of}
-use Rattle.grain_means.specs.Rules.{flag_of_cell, held_at}
+use Rattle.grain_value.specs.Operands.{below, read_write, top}
+use Rattle.grain_program.specs.View.{name_of, position_of}
+use Rattle.grain_means.specs.Rules.{flag_of_cell, held_at, race_text}
 use Rattle.grain_frame.specs.Targets.{Assigns, CanBeLent, put_in}
 use Rattle.grain_frame.specs.declared.runs.Run.{Run}
 use Rattle.grain_frame.specs.declared.targets.Target.{Target}
+use Rattle.grain_fault.specs.declared.faults.EvalAltResult.TheVariants as fault
+use Rattle.grain_frame.proofs.Failing.{raises_here}
 use Rattle.grain_frame.proofs.AssignedEntries.{is_within}
+use Rattle.grain_frame.proofs.Flattening.{value_there}
 use Rattle.grain_frame.proofs.Lending.{writes}
 use Rattle.grain_frame.proofs.Targeting.{left_plain, readable_free}
 use Rattle.grain_frame.proofs.runs.Run.assign_local.Goals as goal
@@ -47,4 +50,52 @@ returns g c =
           (written ∙ ap (λ (r : Run g.row.H.Denot). put_in r t (read_write v))
           c.in_ok-value.ensures.rest)
           (λ stop u place. rw (at, c.in_ok-value.ensures.value, writable, plain) refl);
+    })
+
+pub returns-then-not-is_readable : goal.returns-then-not-is_readable
+returns-then-not-is_readable g c =
+    let p = c.args.context.program.now in
+    let s = c.args.self.now in
+    let f = c.args.frame.now in
+    let held = c.in-Some.held.now in
+    let at : held_at s.scope (f.base + c.args.slot) ≡ Some held = search rules in
+    let none : flat s.cells (top s.stacks.operands).value ≡ None = search rules in
+    record {
+      performs = λ host. raises_here g.H.Host.law p c.args.context.engine.now f s
+          c.variable_lent.new.self c.args.steps.now c.variable_lent.new.steps host
+          (fault.ErrorDataRace (race_text (name_of p c.args.name)) (position_of p f.address))
+          c.variable_lent.result c.variable_lent.ensures c.requires.ready.inside
+          (λ stop u place. rw (at, none) refl);
+    }
+
+pub returns-then-read_only : goal.returns-then-read_only
+returns-then-read_only g c =
+    let p = c.args.context.program.now in
+    let s = c.args.self.now in
+    let f = c.args.frame.now in
+    let held = c.in-Some.held.now in
+    let at : held_at s.scope (f.base + c.args.slot) ≡ Some held = search rules in
+    let readable : is_some (flat s.cells (top s.stacks.operands).value) ≡ true = search rules in
+    let read = value_there (flat s.cells (top s.stacks.operands).value) readable in
+    let constant : (held.read_only || flag_of_cell (cell_of held.value) s.cells) ≡ true =
+    search rules in
+    record {
+      performs = λ host. raises_here g.H.Host.law p c.args.context.engine.now f s
+          c.assignment_to_constant.new.self c.args.steps.now c.assignment_to_constant.new.steps host
+          (fault.ErrorAssignmentToConstant (name_of p c.args.name) (position_of p f.address))
+          c.assignment_to_constant.result c.assignment_to_constant.ensures c.requires.ready.inside
+          (λ stop u place. rw (at, read.1, constant) refl);
+    }
+
+pub write-requires : goal.write-requires
+write-requires g c =
+    let s = c.args.self.now in
+    let held = c.in-Some.held.now in
+    let t : Target = record { index = c.slot_index-index.result; cell = c.as_cell-cell.result } in
+    let there : held_at s.scope t.index ≡ Some held = search rules in
+    let is_cell : cell_of held.value ≡ t.cell = search rules in
+    let free : is_some (flat s.cells held.value) ≡ true = search rules in
+    rw c.in_ok-value.ensures.rest (record {
+      entry = is_within s.scope t.index held there;
+      free = readable_free s held.value t.cell is_cell free;
     })

@@ -1,11 +1,12 @@
 -- The entry, or its cell, is the target of the op-assignment.
-use Rattle.std.proofs.Common.{◌≡◌, ◌+◌, ◌∙◌, Some, true, false, refl, sym, ap, rules}
+use Rattle.std.proofs.Common.{◌≡◌, ◌+◌, ◌∙◌, Some, None, true, false, refl, sym, ap, rules}
 use Rattle.std.specs.Prelude.{◌||◌, is_some}
 use Rattle.grain_value.specs.Cells.{flat}
 use Rattle.grain_value.specs.Looking.{cell_of}
 use Rattle.grain_value.specs.Operands.{top}
-use Rattle.grain_program.specs.View.{assign_op_of}
-use Rattle.grain_means.specs.Rules.{flag_of_cell, held_at, op_assigned}
+use Rattle.grain_fault.specs.declared.faults.EvalAltResult.TheVariants as fault
+use Rattle.grain_program.specs.View.{assign_op_of, name_of, position_of}
+use Rattle.grain_means.specs.Rules.{flag_of_cell, held_at, op_assigned, race_text}
 use Rattle.grain_means.specs.Means.{setup}
 use Rattle.grain_means.specs.Simulation.{stopped, world}
 use Rattle.grain_frame.specs.Abstraction.{abstraction, frame_in, is_out}
@@ -13,7 +14,7 @@ use Rattle.grain_frame.specs.Targets.{AssignsHere, content_at}
 use Rattle.grain_frame.specs.declared.targets.Target.{Target}
 use Rattle.grain_frame.proofs.Arms.{implements_as}
 use Rattle.grain_frame.proofs.AssignedEntries.{is_within}
-use Rattle.grain_frame.proofs.Failing.{store_stops, wants_memory}
+use Rattle.grain_frame.proofs.Failing.{raises_here, store_stops, wants_memory}
 use Rattle.grain_frame.proofs.Flattening.{value_there}
 use Rattle.grain_frame.proofs.Targeting.{content_read, left_plain, readable_free, right_plain}
 use Rattle.grain_frame.proofs.runs.Run.assign_local_op.Goals as goal
@@ -101,4 +102,39 @@ returns g c =
           c.args.host.now c.op_assign_target.new.host refl
           (c.op_assign_target.ensures.implements held c.args.slot here)
           (λ stop u place. rw (at, c.in_ok-kept.ensures, writable, holds, same_op) refl);
+    }
+
+pub returns-then-not-is_readable : goal.returns-then-not-is_readable
+returns-then-not-is_readable g c =
+    let p = c.args.context.program.now in
+    let s = c.args.self.now in
+    let f = c.args.frame.now in
+    let held = c.in-Some.held.now in
+    let at : held_at s.scope (f.base + c.args.slot) ≡ Some held = search rules in
+    let none : flat s.cells (top s.stacks.operands).value ≡ None = search rules in
+    record {
+      performs = raises_here g.H.Host.law p c.args.context.engine.now f s
+          c.variable_lent.new.self c.args.steps.now c.variable_lent.new.steps c.args.host.now
+          (fault.ErrorDataRace (race_text (name_of p c.args.name)) (position_of p f.address))
+          c.variable_lent.result c.variable_lent.ensures c.requires.ready.inside
+          (λ stop u place. rw (at, none) refl);
+    }
+
+pub returns-then-read_only : goal.returns-then-read_only
+returns-then-read_only g c =
+    let p = c.args.context.program.now in
+    let s = c.args.self.now in
+    let f = c.args.frame.now in
+    let held = c.in-Some.held.now in
+    let at : held_at s.scope (f.base + c.args.slot) ≡ Some held = search rules in
+    let readable : is_some (flat s.cells (top s.stacks.operands).value) ≡ true = search rules in
+    let read = value_there (flat s.cells (top s.stacks.operands).value) readable in
+    let constant : (held.read_only || flag_of_cell (cell_of held.value) s.cells) ≡ true =
+    search rules in
+    record {
+      performs = raises_here g.H.Host.law p c.args.context.engine.now f s
+          c.assignment_to_constant.new.self c.args.steps.now c.assignment_to_constant.new.steps c.args.host.now
+          (fault.ErrorAssignmentToConstant (name_of p c.args.name) (position_of p f.address))
+          c.assignment_to_constant.result c.assignment_to_constant.ensures c.requires.ready.inside
+          (λ stop u place. rw (at, read.1, constant) refl);
     }

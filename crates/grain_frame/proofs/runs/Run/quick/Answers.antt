@@ -1,6 +1,8 @@
 use Rattle.grain_frame.proofs.Arms.{typed_with}
-use Rattle.std.proofs.Common.{refl, inl}
+use Rattle.std.proofs.Common.{◌≡◌, ◌+◌, ◌-◌, ℕ, length, refl, inl, subst, arith}
 use Rattle.grain_program.specs.declared.code.instructions.Op.TheVariants as op
+use Rattle.grain_program.specs.TypedAt.{IsTypedAt}
+use Rattle.grain_frame.specs.Abstraction.{tries_in}
 use Rattle.grain_frame.proofs.Arms.{tried_out, tried_or, tried_on, stepped, stands, leads_typed}
 use Rattle.grain_frame.proofs.runs.Run.quick.Goals as goal
 
@@ -9,9 +11,35 @@ fetch-requires g c =
     typed_with c.args.context.program.now c.args.frame.now c.args.self.now c.height-depth.result
     c.height-depth.ensures c.requires.runs
 
+pub quick_const-requires-clause-typed : goal.quick_const-requires-clause-typed
+quick_const-requires-clause-typed g c =
+    let p = c.args.context.program.now in
+    let f = c.args.frame.now in
+    let s = c.args.self.now in
+    let same : length s.stacks.operands - 0 + 1 ≡ length s.stacks.operands + 1 = omega arith in
+    subst (λ (k : ℕ). IsTypedAt p f.chunk (f.address + c.fetch.result.1) k
+    (tries_in s.stacks.handlers)) same
+    (leads_typed g.H.Host.law p c.args.context.engine.now f s c.fetch.result.0
+    (op.LoadConst c.in-LoadConst-default.constant) c.fetch.result.1 c.height-depth.result
+    c.in-LoadConst-default.is-0 c.height-depth.ensures c.requires.runs c.fetch.ensures.verified refl
+    _ (inl refl))
+
+pub quick_local-requires-clause-typed : goal.quick_local-requires-clause-typed
+quick_local-requires-clause-typed g c =
+    let p = c.args.context.program.now in
+    let f = c.args.frame.now in
+    let s = c.args.self.now in
+    let same : length s.stacks.operands - 0 + 1 ≡ length s.stacks.operands + 1 = omega arith in
+    subst (λ (k : ℕ). IsTypedAt p f.chunk (f.address + c.fetch.result.1) k
+    (tries_in s.stacks.handlers)) same
+    (leads_typed g.H.Host.law p c.args.context.engine.now f s c.fetch.result.0
+    (op.LoadLocal c.in-LoadLocal-default.slot) c.fetch.result.1 c.height-depth.result
+    c.in-LoadLocal-default.is-0 c.height-depth.ensures c.requires.runs c.fetch.ensures.verified refl
+    _ (inl refl))
+
 pub returns-in-LoadConst-default : goal.returns-in-LoadConst-default
 returns-in-LoadConst-default g c =
-    tried_out g.H.Host.law c.args.context.program.now c.args.context.engine.now c.args.frame.now
+    tried_on g.H.Host.law c.args.context.program.now c.args.context.engine.now c.args.frame.now
     c.args.self.now c.fetch.result.0 (op.LoadConst c.in-LoadConst-default.constant)
     c.fetch.result.1 c.height-depth.result c.in-LoadConst-default.is-0 c.height-depth.ensures
     c.requires.runs c.fetch.ensures.verified c.fetch.ensures.read refl c.args.steps.now
@@ -21,7 +49,7 @@ returns-in-LoadConst-default g c =
 
 pub returns-in-LoadLocal-default : goal.returns-in-LoadLocal-default
 returns-in-LoadLocal-default g c =
-    tried_out g.H.Host.law c.args.context.program.now c.args.context.engine.now c.args.frame.now
+    tried_on g.H.Host.law c.args.context.program.now c.args.context.engine.now c.args.frame.now
     c.args.self.now c.fetch.result.0 (op.LoadLocal c.in-LoadLocal-default.slot) c.fetch.result.1
     c.height-depth.result c.in-LoadLocal-default.is-0 c.height-depth.ensures c.requires.runs
     c.fetch.ensures.verified c.fetch.ensures.read refl c.args.steps.now c.quick_local.new.frame

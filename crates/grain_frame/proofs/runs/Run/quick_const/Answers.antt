@@ -1,0 +1,27 @@
+-- The load is done with what stands behind it.
+use Rattle.std.proofs.Common.{rules, ◌≡◌, ◌∙◌, inr, sym, ap, w64, FitsSigned}
+use Rattle.std.proofs.lemmas.Int.{to_z-of_z}
+use Rattle.grain_value.specs.declared.values.Dynamic.TheVariants as dynamic
+use Rattle.grain_program.specs.View.{const_of}
+use Rattle.grain_frame.specs.Following.{moved, loaded, marked_once}
+use Rattle.grain_frame.proofs.Loading.{loads_const}
+use Rattle.grain_frame.proofs.runs.Run.quick_const.Goals as goal
+
+pub returns-then-quick_loaded-clause-performs : goal.returns-then-quick_loaded-clause-performs
+returns-then-quick_loaded-clause-performs g c =
+    let p = c.args.context.program.now in
+    let e = c.args.context.engine.now in
+    let f = c.args.frame.now in
+    let s = c.args.self.now in
+    let z = c.in-Int.integer in
+    let z_fits : FitsSigned w64 z = search rules in
+    let is : const_of p c.args.constant ≡ dynamic.Int z =
+    sym (c.constant.ensures ∙ ap (const_of p) c.from.ensures) ∙ c.in-Int.is in
+    λ host. inr (record {
+      frame = moved f c.args.next;
+      run = loaded s z;
+      counts = marked_once c.args.steps.now;
+      first = loads_const g.H.Host.law p e f s z c.args.constant c.args.next c.args.steps.now host
+          c.requires.ready is;
+      second = rw (to_z-of_z w64 z z_fits) at (c.if-quick_loaded.ensures.stepped host);
+    })
