@@ -18,8 +18,6 @@ mod sinks;
 mod sources;
 mod standard;
 mod status;
-#[cfg(test)]
-mod tests;
 
 pub use call_numbers::CallNumbers;
 pub use commands::run_words;
@@ -28,6 +26,7 @@ pub use laws::statuses_are_due;
 pub use memory_sink::MemorySink;
 pub use memory_source::MemorySource;
 pub use program::{Exit, run_args};
+pub use replies::{Reply, run_listing};
 pub use sinks::{Put, Sink};
 pub use sources::{Read, Source};
 pub use standard::{StdSink, StdSource};

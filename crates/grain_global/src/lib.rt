@@ -4,8 +4,6 @@
 
 mod engines;
 mod states;
-#[cfg(test)]
-mod tests;
 
 pub use engines::Engine;
 pub use states::GlobalRuntimeState;

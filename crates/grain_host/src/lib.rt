@@ -6,8 +6,6 @@ mod host_faults;
 mod hosts;
 mod table_natives;
 mod tables;
-#[cfg(test)]
-mod tests;
 
 pub use host_answers::{Args, HostAnswer, ProgressAnswer};
 pub use host_faults::HostFault;

@@ -7,28 +7,18 @@ mod blocks;
 mod code_lines;
 mod flags;
 mod headers;
-#[cfg(test)]
-mod host_line_tests;
 mod host_lines;
 mod later;
 mod laws;
 mod limits;
 mod line_rules;
 mod linking;
-#[cfg(test)]
-mod listing_tests;
-#[cfg(test)]
-mod operand_tests;
 mod pool_lines;
 mod reading;
 mod reasons;
 mod settings;
 mod setups;
 mod table;
-#[cfg(test)]
-mod tests;
-#[cfg(test)]
-mod word_tests;
 
 pub use grain_literals::Reason;
 pub use laws::{instructions_are_read, stops_are_read};

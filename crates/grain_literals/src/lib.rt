@@ -5,8 +5,6 @@ mod laws;
 mod literals;
 mod operands;
 mod reasons;
-#[cfg(test)]
-mod value_tests;
 mod values;
 
 pub use laws::{lists_have_room, read_values_can_be_listed, values_are_read};

@@ -7,8 +7,6 @@ mod integers;
 mod operators;
 mod quick;
 mod shifts;
-#[cfg(test)]
-mod tests;
 mod text_operators;
 
 pub use answers::{AssignAnswer, OpAnswer};

@@ -2,14 +2,8 @@
 #![tactic(auto)]
 
 mod code;
-#[cfg(test)]
-mod function_tests;
-#[cfg(test)]
-mod handler_tests;
 mod lookups;
 mod programs;
-#[cfg(test)]
-mod tests;
 mod verifier;
 
 pub use code::bytes::{assemble, assembled_reads_back, decode};

@@ -5,8 +5,6 @@
 mod handlers;
 mod slots;
 mod stacks;
-#[cfg(test)]
-mod tests;
 
 pub use handlers::Handler;
 pub use stacks::Stacks;

@@ -4,28 +4,18 @@
 
 mod appending;
 mod blobs;
-#[cfg(test)]
-mod fragment_tests;
 mod fragments;
 mod lists;
 mod memory;
-#[cfg(test)]
-mod module_tests;
 mod modules;
 mod names;
 mod natives;
 mod pooled;
 mod quoting;
 mod scopes;
-#[cfg(test)]
-mod store_tests;
 mod stores;
-#[cfg(test)]
-mod tests;
 mod texts;
 mod tokens;
-#[cfg(test)]
-mod value_tests;
 mod values;
 
 pub use blobs::Blob;

@@ -1,8 +1,6 @@
 //! The machine that an embedder calls.
 #![tactic(auto)]
 
-#[cfg(test)]
-mod tests;
 mod vms;
 
 pub use grain_frame::Steps;

@@ -1,4 +1,0 @@
-use Rattle.grain_vm.proofs.tests.a_constant_is_given.Given as goal
-
-abbrev pub ghosts-end_of : goal.ghosts-end_of
-ghosts-end_of g a = record { name = a.blank.name; parts = a.blank.parts }

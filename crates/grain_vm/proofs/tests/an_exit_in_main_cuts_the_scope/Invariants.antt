@@ -1,4 +1,0 @@
-use Rattle.grain_vm.proofs.tests.an_exit_in_main_cuts_the_scope.Given as goal
-
-abbrev pub ghosts-end_of : goal.ghosts-end_of
-ghosts-end_of g a = record { name = a.blank.name; parts = a.blank.parts }

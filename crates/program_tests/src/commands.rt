@@ -1,0 +1,249 @@
+//! Tests of whole calls of the program that no file can say: streams that fail, words that are no
+//! command, a program without words, and how many bytes are read. All other whole calls are the
+//! cases of `run_corpus`.
+
+ghost use Rattle.std.specs.Prelude.{◌≡◌, None};
+ghost use Rattle.grain_commands.specs.declared.sources.Read.TheVariants.{Got};
+
+use grain_commands::{
+    CallNumbers, Exit, MemorySink, MemorySource, Put, Read, Sink, Source, Status, exit_code,
+    run_args,
+};
+use grain_value::{Blob, OutOfMemory};
+use std::alloc::Global;
+use std::env::Args;
+use std::io;
+use std::io::{Error, ErrorKind};
+use std::marker::Brand;
+use std::process::{Abort, ExitCode, Termination};
+use std::sync::ledger::Blank;
+
+/// The sum of the numbers from 1 to 10.
+const SUM: &str = "grain 1\nconst 0\nconst 1\nconst 10\nname \"s\"\nname \"i\"\nname \"+=\"\n\
+     name \"+\"\nname \"<=\"\nop \"+=\"\nop \"+\"\nop \"<=\"\nassign 0 2 1 3\n\
+     main 2\nload_const 0\ndeclare_local 0\nload_const 1\ndeclare_local 1\ntop:\n\
+     load_local 1\nload_const 2\ncall_op 4 2 2\njump_if_false done\n\
+     load_local 1\nassign_local_op 0 0 0\nload_const 1\nassign_local_op 1 1 0\n\
+     jump top\ndone:\nload_local 0\nreturn\nend\n";
+
+const USAGE: &str = "usage: run, check, list or self N\n";
+
+/// A call of the program: its word, what its source holds, at which of their calls the source and
+/// the sink fail, and the sink's room. Calls are numbered from 1, so the number 0 is none.
+#[derive(Clone, Copy)]
+struct Call {
+    word: &'static str,
+    listing: &'static str,
+    source_fails: [u64; 2],
+    sink_fails: [u64; 2],
+    room: usize,
+}
+
+/// The sum, over streams that do not fail.
+const RUN: Call = Call {
+    word: "run",
+    listing: SUM,
+    source_fails: [0, 0],
+    sink_fails: [0, 0],
+    room: 1000,
+};
+
+/// The same with a word that is no command.
+const WALK: Call = Call {
+    word: "walk",
+    ..RUN
+};
+
+fn numbers(alloc: Global, all: &[u64]) -> Result<CallNumbers, OutOfMemory> {
+    let mut numbers = CallNumbers::new(alloc);
+    for number in all {
+        numbers.push(*number)?;
+    }
+    Ok(numbers)
+}
+
+/// How the program ends over a source and a sink in memory.
+fn exit_of<S: Source>(
+    alloc: Global,
+    args: io::Result<Args>,
+    source: &mut S,
+    sink: &mut MemorySink,
+) -> Exit {
+    run_args::<S, MemorySink, Brand>(alloc, args, source, sink, Blank::new(8))
+}
+
+/// The arguments of the program with one word.
+fn args_of(alloc: Global, word: &str) -> Result<Args, OutOfMemory> {
+    let mut args = Vec::new(alloc);
+    args.push(String::from_str(alloc, "grain_run")?)?;
+    args.push(String::from_str(alloc, word)?)?;
+    Ok(args.into_iter())
+}
+
+/// Compares the status of a call, and what it writes.
+fn check(
+    rt: &(impl Abort + Eprint),
+    alloc: Global,
+    call: Call,
+    status: u8,
+    text: &str,
+) -> Result<(), OutOfMemory> {
+    let args = args_of(alloc, call.word)?;
+    let bytes = Vec::from_slice(alloc, call.listing.as_bytes())?;
+    let source_fails = numbers(alloc, &call.source_fails)?;
+    let mut source = MemorySource::new(Blob::from_vec(bytes), source_fails);
+    let sink_fails = numbers(alloc, &call.sink_fails)?;
+    let mut sink = MemorySink::new(alloc, call.room, sink_fails)?;
+    let exit = exit_of(alloc, Ok(args), &mut source, &mut sink);
+    assert_eq!(rt; exit.report(rt), ExitCode::from(status));
+    assert_eq!(rt; sink.bytes(), text.as_bytes());
+    Ok(())
+}
+
+/// A line that is not built yet stands here and not among the cases, which hold for good.
+#[test]
+fn words_and_lines_that_are_not_there(rt: HostRuntime) -> Result<(), OutOfMemory> {
+    let not_built = Call {
+        listing: "grain 1\nchain 1\n",
+        ..RUN
+    };
+    let text = "listing line 2: not built\n";
+    check(&rt, rt.alloc(), not_built, 3, text)?;
+    for word in ["walk", "", "check", "Run"] {
+        check(&rt, rt.alloc(), Call { word, ..RUN }, 2, USAGE)?;
+    }
+    Ok(())
+}
+
+#[test]
+fn the_source_or_the_sink_fails(rt: HostRuntime) -> Result<(), OutOfMemory> {
+    let rows = [
+        (RUN, [1, 0], [0, 0], 5, ""),
+        (RUN, [2, 0], [0, 0], 5, ""),
+        (RUN, [7, 2], [0, 0], 5, ""),
+        (RUN, [3, 4], [0, 0], 0, "value 55\n"),
+        (WALK, [1, 0], [0, 0], 2, USAGE),
+        (RUN, [0, 0], [1, 0], 6, ""),
+        (RUN, [0, 0], [2, 3], 0, "value 55\n"),
+        (WALK, [0, 0], [5, 1], 6, ""),
+    ];
+    for (call, source_fails, sink_fails, status, text) in rows {
+        let call = Call {
+            source_fails,
+            sink_fails,
+            ..call
+        };
+        check(&rt, rt.alloc(), call, status, text)?;
+    }
+    Ok(())
+}
+
+#[test]
+fn the_sink_has_too_little_room(rt: HostRuntime) -> Result<(), OutOfMemory> {
+    let rows = [
+        ("run", SUM, 3, 6, "val"),
+        ("run", SUM, 0, 6, ""),
+        ("run", SUM, 8, 6, "value 55"),
+        ("run", SUM, 9, 0, "value 55\n"),
+        ("walk", SUM, 10, 6, "usage: run"),
+        ("run", "grain 2\n", 12, 6, "listing line"),
+        ("run", "grain 1\nmain 0\nend\n", 7, 6, "refused"),
+        (
+            "run",
+            "grain 1\nmain 1\nload_local 0\nreturn\nend\n",
+            5,
+            6,
+            "fault",
+        ),
+    ];
+    for (word, listing, room, status, text) in rows {
+        let call = Call {
+            word,
+            listing,
+            room,
+            ..RUN
+        };
+        check(&rt, rt.alloc(), call, status, text)?;
+    }
+    Ok(())
+}
+
+#[test]
+fn a_program_without_words_ends_with_9(rt: HostRuntime) -> Result<(), OutOfMemory> {
+    let mut source = MemorySource::new(Blob::new(rt.alloc()), CallNumbers::new(rt.alloc()));
+    let mut sink = MemorySink::new(rt.alloc(), 100, CallNumbers::new(rt.alloc()))?;
+    let no_words = Err(Error::from(ErrorKind::InvalidData));
+    let exit = exit_of(rt.alloc(), no_words, &mut source, &mut sink);
+    assert_eq!(rt; exit.report(&rt), ExitCode::from(9));
+    assert_eq!(rt; sink.bytes(), b"".as_slice());
+    for number in [0, 1, 2, 3, 4, 5, 6, 7, 9] {
+        assert_eq!(rt; exit_code(Status { number }), ExitCode::from(number));
+    }
+    Ok(())
+}
+
+/// A source without an end. It counts the bytes that it was asked for.
+#[derive(Drop)]
+struct Endless {
+    asked: usize,
+}
+
+impl Source for Endless {
+    ghost left = { λ _. None };
+
+    ghost faults = { λ _. 0 };
+
+    ghost reads = { λ _ room answer _. answer ≡ Got room };
+
+    fn read(&mut self, buffer: &mut [u8]) -> Read {
+        self.asked = self.asked.saturating_add(buffer.len());
+        Read::Got(buffer.len())
+    }
+}
+
+#[test]
+fn reading_stops_after_16_777_217_bytes(rt: HostRuntime) -> Result<(), OutOfMemory> {
+    let mut source = Endless { asked: 0 };
+    let mut sink = MemorySink::new(rt.alloc(), 100, CallNumbers::new(rt.alloc()))?;
+    let args = args_of(rt.alloc(), "run")?;
+    let exit = exit_of(rt.alloc(), Ok(args), &mut source, &mut sink);
+    assert_eq!(rt; exit.report(&rt), ExitCode::from(3));
+    assert_eq!(rt; sink.bytes(), b"listing line 0: too long\n".as_slice());
+    assert_eq!(rt; source.asked, 16_777_217);
+    Ok(())
+}
+
+#[test]
+fn streams_in_memory_fail_where_they_should(rt: HostRuntime) -> Result<(), OutOfMemory> {
+    let bytes = Vec::from_slice(rt.alloc(), b"abcde")?;
+    let mut source = MemorySource::new(Blob::from_vec(bytes), numbers(rt.alloc(), &[4, 2])?);
+    let mut buffer = [0u8; 2];
+    let answers = [
+        Read::Got(2),
+        Read::Failed,
+        Read::Got(2),
+        Read::Failed,
+        Read::Got(1),
+        Read::End,
+        Read::End,
+    ];
+    for answer in answers {
+        assert_eq!(rt; source.read(&mut buffer), answer);
+    }
+    assert_eq!(rt; source.read(&mut buffer[..0]), Read::Got(0));
+    assert_eq!(rt; buffer, *b"ed");
+    let mut sink = MemorySink::new(rt.alloc(), 4, numbers(rt.alloc(), &[2, 6])?)?;
+    let rows = [
+        ("abc", Put::Took(3)),
+        ("d", Put::Failed),
+        ("de", Put::Took(1)),
+        ("e", Put::Failed),
+        ("", Put::Took(0)),
+        ("", Put::Failed),
+    ];
+    for (piece, answer) in rows {
+        assert_eq!(rt; sink.put(piece.as_bytes()), answer);
+    }
+    assert_eq!(rt; sink.bytes(), b"abcd".as_slice());
+    Ok(())
+}

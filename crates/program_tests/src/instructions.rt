@@ -1,0 +1,59 @@
+//! Each instruction: its line, its bytes, and what is read of them.
+
+use grain_listing::read;
+use grain_program::{assemble, decode};
+use std::test::Fail;
+
+/// All instructions. The bytes of their operands count from 1 in each.
+const LINES: &str = "grain 1\nmain 1\n\
+    load_const 513\nunit\nfalse\ntrue\nload_local 513\nstore_local 513\nstore_const 513\n\
+    store_shared 513\ndeclare_local 513\ndeclare_const 513\nassign_local 513 1027\n\
+    assign_local_op 513 1027 1541\nload_shared 513\nshare 513\nis_shared\npop\nrotate 1\n\
+    jump 67305985\njump_if_false 67305985\njump_if_true 67305985\nskip_if_not_unit 67305985\n\
+    call 513 3\ncall_op 513 3 1284\nmake_closure 513\ncurry 1\ncall_fn_ptr 1\nunwind_to 513\n\
+    tick\ncheckpoint\nstatement 513\npush_handler 67305985\npush_handler_var 67305985 1541\n\
+    pop_handler\nthrow\nreturn\nend\n";
+
+/// The bytes of these lines.
+const BYTES: &[u8] = b"\x01\x01\x02\x02\x03\x04\x05\x01\x02\x06\x01\x02\x07\x01\x02\
+    \x08\x01\x02\x0d\x01\x02\x0e\x01\x02\x10\x01\x02\x03\x04\
+    \x11\x01\x02\x03\x04\x05\x06\x17\x01\x02\x18\x01\x02\x1a\x1b\x1c\x01\
+    \x1d\x01\x02\x03\x04\x1e\x01\x02\x03\x04\x1f\x01\x02\x03\x04\x20\x01\x02\x03\x04\
+    \x22\x01\x02\x03\x23\x01\x02\x03\x04\x05\x27\x01\x02\x29\x01\x2a\x01\x38\x01\x02\
+    \x39\x3a\x3b\x01\x02\x3c\x01\x02\x03\x04\x3d\x01\x02\x03\x04\x05\x06\
+    \x3e\x49\x4a";
+
+/// The instructions of these lines, as they are written for a debugger.
+const OPS: &str = "\
+    LoadConst(513)\nUnit\nFalse\nTrue\nLoadLocal(513)\nStoreLocal(513)\nStoreConst(513)\n\
+    StoreShared(513)\nDeclareLocal(513)\nDeclareConst(513)\nAssignLocal(513, 1027)\n\
+    AssignLocalOp(513, 1027, 1541)\nLoadShared(513)\nShare(513)\nIsShared\nPop\nRotate(1)\n\
+    Jump(67305985)\nJumpIfFalse(67305985)\nJumpIfTrue(67305985)\nSkipIfNotUnit(67305985)\n\
+    Call(513, 3)\nCallOp(513, 3, 1284)\nMakeClosure(513)\nCurry(1)\nCallFnPtr(1)\n\
+    UnwindTo(513)\nTick\nCheckpoint\nStatement(513)\nPushHandler(67305985)\n\
+    PushHandlerVar(67305985, 1541)\nPopHandler\nThrow\nReturn\n";
+
+#[test]
+fn lines_and_bytes_of_instructions(rt: HostRuntime) -> Result<(), Fail> {
+    let alloc = rt.alloc();
+    let Ok(setup) = read(alloc, LINES.as_bytes())? else {
+        return Err("refused".into());
+    };
+    let code = &setup.parts.code;
+    assert_eq!(rt; code.as_slice(), BYTES);
+    let mut ops = Vec::new(alloc);
+    let mut written = String::new(alloc);
+    let mut address = 0usize;
+    for _ in 0..35u32 {
+        let Some((op, width)) = decode(code, address) else {
+            return Err("no instruction".into());
+        };
+        ops.push(op)?;
+        written.push_str(format!(in alloc; "{op:?}\n")?.as_str())?;
+        address = address.saturating_add(width);
+    }
+    assert_eq!(rt; written.as_str(), OPS);
+    assert_eq!(rt; assemble(alloc, ops.as_slice())?.as_slice(), BYTES);
+    assert_eq!(rt; decode(code, address), None);
+    Ok(())
+}

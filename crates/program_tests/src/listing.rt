@@ -1,0 +1,316 @@
+//! Listings: large ones, words of later versions, and what is read that no report shows.
+
+use bitflags::Flags;
+use grain_host::{Host, ProgressAnswer};
+use grain_listing::{MOST_BYTES, Setup, read};
+use grain_value::{Dynamic, Limits, OutOfMemory};
+use std::alloc::Global;
+use std::process::Abort;
+
+/// Compares the line and the reason of the refusal of these bytes.
+fn check_refused(
+    rt: &impl Abort,
+    alloc: Global,
+    listing: &[u8],
+    line: usize,
+    reason: &str,
+) -> Result<(), OutOfMemory> {
+    match read(alloc, listing)? {
+        Ok(_) => assert!(rt; false, "no refusal at {line}: {reason}"),
+        Err(bad) => {
+            assert_eq!(rt; bad.line, line);
+            assert_eq!(rt; bad.reason.text(), reason);
+        }
+    }
+    Ok(())
+}
+
+/// What is read of a listing that is accepted.
+fn read_whole(rt: &impl Abort, alloc: Global, listing: &str) -> Result<Setup, OutOfMemory> {
+    match read(alloc, listing.as_bytes())? {
+        Ok(setup) => Ok(setup),
+        Err(_) => {
+            assert!(rt; false, "refused: {listing}");
+            Err(OutOfMemory)
+        }
+    }
+}
+
+/// A text with a part that stands many times.
+fn repeated(
+    alloc: Global,
+    first: &str,
+    part: &str,
+    count: u32,
+    last: &str,
+) -> Result<String, OutOfMemory> {
+    let mut text = String::from_str(alloc, first)?;
+    for _ in 0..count {
+        text.push_str(part)?;
+    }
+    text.push_str(last)?;
+    Ok(text)
+}
+
+#[test]
+fn most_bytes(rt: HostRuntime) -> Result<(), OutOfMemory> {
+    assert_eq!(rt; MOST_BYTES, 16_777_216);
+    let bytes = vec![in rt.alloc(); 0xffu8; 16_777_217]?;
+    check_refused(&rt, rt.alloc(), bytes.as_slice(), 0, "too long")?;
+    let (most, _) = bytes.as_slice().split_at(16_777_216);
+    check_refused(&rt, rt.alloc(), most, 1, "not UTF-8")
+}
+
+/// Rows of a text's front, the part that stands many times, how often, and what follows; then the
+/// line and the reason that are reported.
+type Row = (
+    &'static str,
+    &'static str,
+    u32,
+    &'static str,
+    usize,
+    &'static str,
+);
+
+/// Compares what is reported of each row.
+fn check_rows(rt: &impl Abort, alloc: Global, rows: &[Row]) -> Result<(), OutOfMemory> {
+    for (first, part, count, last, line, reason) in rows {
+        let listing = repeated(alloc, first, part, *count, last)?;
+        check_refused(rt, alloc, listing.as_str().as_bytes(), *line, reason)?;
+    }
+    Ok(())
+}
+
+const FULL_POOLS: [Row; 5] = [
+    (
+        "grain 1\n",
+        "const 1\n",
+        65_536,
+        "name \"\"\nconst bad",
+        65_539,
+        "too many",
+    ),
+    (
+        "grain 1\n",
+        "name \"\"\n",
+        65_536,
+        "name x",
+        65_538,
+        "too many",
+    ),
+    (
+        "grain 1\n",
+        "op \"!\"\n",
+        65_536,
+        "op x",
+        65_538,
+        "too many",
+    ),
+    (
+        "grain 1\n",
+        "assign 0 0 0 0\n",
+        65_536,
+        "assign",
+        65_538,
+        "too many",
+    ),
+    (
+        "grain 1\nmain 1\nend\n",
+        "fn 0 1\nend\n",
+        65_536,
+        "fn x",
+        131_076,
+        "too many",
+    ),
+];
+
+#[test]
+fn full_pools(rt: HostRuntime) -> Result<(), OutOfMemory> {
+    check_rows(&rt, rt.alloc(), &FULL_POOLS)
+}
+
+const LONG_LINES: [Row; 10] = [
+    (
+        "grain 1\nmain 1\nend\nfn 0 1",
+        " 7",
+        65_536,
+        " x",
+        4,
+        "too many",
+    ),
+    (
+        "grain 1\nmain 1\nend\nfn 0 1",
+        " 7",
+        65_536,
+        " \"",
+        4,
+        "too many",
+    ),
+    (
+        "grain 1\nmain 1\nend\nfn x 1",
+        " 0",
+        65_537,
+        "\n",
+        4,
+        "too many",
+    ),
+    (
+        "grain 1\nmain 1\nend\nfn 0 1",
+        " 7",
+        65_536,
+        " on 0",
+        4,
+        "not built",
+    ),
+    (
+        "grain 1\nmain 1\nend\nfn 0 1",
+        " 7",
+        65_536,
+        " ; 7\n",
+        4,
+        "unfinished chunk",
+    ),
+    (
+        "grain 1\nmain 1\nend\nfn 0 1",
+        " 7",
+        65_535,
+        " \"a b c\"",
+        4,
+        "bad operand",
+    ),
+    (
+        "grain 1\nmain 1\nend\nfn 0 1",
+        " 7",
+        65_535,
+        " 'a' 7 7",
+        4,
+        "bad operand",
+    ),
+    ("grain 1\nconst 1", " 1", 1_000_000, "\n", 2, "bad operand"),
+    (
+        "grain 1\nassign 0 0 0",
+        " 1",
+        1_000_000,
+        "\n",
+        2,
+        "bad operand",
+    ),
+    (
+        "grain 1\ncaps function",
+        " 1",
+        1_000_000,
+        "\n",
+        2,
+        "bad operand",
+    ),
+];
+
+#[test]
+fn long_lines(rt: HostRuntime) -> Result<(), OutOfMemory> {
+    check_rows(&rt, rt.alloc(), &LONG_LINES)
+}
+
+/// Lines of later versions of the format, up to the word that decides.
+const LATER_LINES: &str = "\
+    chain \"x\"\nstep\nswitch\ncase\nrange\nrange=\nsite\ninput\nfragment\nmodule\nitem\nvar\n\
+    answer\nforbid\nchunk 1\nlimit modules 1\nlimit array x\nlimit map 1\nflag shadowing off\n\
+    flag strict on on\n\
+    load_named\nload_shared_named\nassign_named\nassign_named_op\ndeclare_global_const\n\
+    load_this\nload_this_shared\nrequire_this\nassign_this\nassign_this_op\nshare_named\n\
+    call_local_ref\ncall_named_ref\ncall_this_ref\nmake_fn_ptr\ncall_fn_ptr_capture\n\
+    call_fn_ptr_method\ncall_fn_ptr_on_local\ncall_fn_ptr_on_named\ncall_fn_ptr_on_this\n\
+    make_array\nmake_map\ncheck_array_size\ncheck_map_size\ninterpolate_start\n\
+    interpolate_append\ninterpolate_end\niter_init\niter_drop\niter_next 0\niter_next_indexed\n\
+    export_local\nexport_named\nimport\ncustom_syntax\neval_ast\neval_ast_keep\n";
+
+#[test]
+fn lines_of_later_versions(rt: HostRuntime) -> Result<(), OutOfMemory> {
+    for line in LATER_LINES.lines() {
+        let listing = repeated(rt.alloc(), "grain 1\n", line, 1, "\nmain 1\nend\n")?;
+        check_refused(&rt, rt.alloc(), listing.as_str().as_bytes(), 2, "not built")?;
+    }
+    let rows = [
+        ("grain 1\nmain 1\nchunk 1\n", 3),
+        ("grain 1\nmain 1\nreturn\nend\ncall_named_ref\n", 5),
+        ("grain 1\nmain 1\nend\nfn 0 1 2 on x\n", 4),
+    ];
+    for (listing, line) in &rows {
+        check_refused(&rt, rt.alloc(), listing.as_bytes(), *line, "not built")?;
+    }
+    Ok(())
+}
+
+#[test]
+fn capabilities(rt: HostRuntime) -> Result<(), OutOfMemory> {
+    let rows = [
+        ("grain 1\nmain 1\nend\n", 31),
+        ("grain 1\ncaps ; none\nmain 1\nend\n", 0),
+        ("grain 1\ncaps function\nmain 1\nend\n", 1),
+        ("grain 1\ncaps module closure fragment\nmain 1\nend\n", 22),
+        ("grain 1\ncaps custom\nmain 1\nend\n", 8),
+    ];
+    for (listing, bits) in &rows {
+        let setup = read_whole(&rt, rt.alloc(), listing)?;
+        assert_eq!(rt; setup.parts.caps.bits(), *bits);
+    }
+    Ok(())
+}
+
+#[test]
+fn limits_without_lines(rt: HostRuntime) -> Result<(), OutOfMemory> {
+    let setup = read_whole(&rt, rt.alloc(), "grain 1\nmain 1\nend\n")?;
+    let limits = Limits {
+        operations: 1_000_000,
+        levels: 64,
+        variables: 10_000,
+        modules: 1_000,
+        text: 0,
+        array: 0,
+        map: 0,
+    };
+    assert_eq!(rt; setup.limits, limits);
+    assert!(rt; setup.fast_operators);
+    assert!(rt; setup.parts.source.is_none());
+    Ok(())
+}
+
+#[test]
+fn entries_positions_and_stops(rt: HostRuntime) -> Result<(), OutOfMemory> {
+    let alloc = rt.alloc();
+    let listing =
+        "grain 1\nscope \"x\" 5\nlimit levels 0\nscope const \"const\" true\nstop 2 \"s\"\n\
+        limit variables 18446744073709551615\nstop 3 8\nstop 3 9\nmain 65535\n\
+        load_const 7 @1:0\nbyte 27 @65535:65535\nbyte 2\nreturn @2:5\nend\n";
+    let Setup {
+        parts,
+        limits,
+        mut host,
+        scope,
+        ..
+    } = read_whole(&rt, alloc, listing)?;
+    assert_eq!(rt; limits.levels, 0);
+    assert_eq!(rt; limits.variables, usize::MAX);
+    assert_eq!(rt; scope.len(), 2);
+    assert_eq!(rt; scope.search("x"), Some(0));
+    match scope.get(0) {
+        Some(held) => assert!(rt; !held.read_only),
+        None => assert!(rt; false),
+    }
+    match scope.get(1) {
+        Some(held) => {
+            assert!(rt; held.read_only);
+            assert!(rt; matches!(&held.value, Dynamic::Bool(true)));
+        }
+        None => assert!(rt; false),
+    }
+    assert_eq!(rt; parts.main.max_stack, 65_535);
+    assert_eq!(rt; parts.positions.len(), 3);
+    match parts.positions.get(1) {
+        Some(entry) => assert_eq!(rt; entry.address, 3),
+        None => assert!(rt; false),
+    }
+    assert!(rt; matches!(host.progress(alloc, 1), ProgressAnswer::GoOn));
+    let token = host.progress(alloc, 3);
+    assert!(rt; matches!(token, ProgressAnswer::Stop(Dynamic::Int(8))));
+    Ok(())
+}

@@ -1,0 +1,111 @@
+//! The machine: what a run leaves besides its report.
+
+ghost use Rattle.std.specs.Prelude.{◌≡◌, ◌<◌};
+ghost use Rattle.grain_listing.specs.SetUpView.{IsReady};
+
+use grain_fault::{Fault, RhaiResult};
+use grain_frame::Steps;
+use grain_global::{Engine, GlobalRuntimeState};
+use grain_listing::{Setup, read};
+use grain_program::verify;
+use grain_value::{Dynamic, OutOfMemory, Scope, Store};
+use grain_vm::Vm;
+use std::alloc::Global;
+use std::marker::Brand;
+use std::sync::ledger::{Blank, Ledger};
+use std::test::Fail;
+
+/// What a run left.
+#[derive(Drop)]
+struct Ended {
+    answer: RhaiResult,
+    trace: Vec<Fault>,
+    address: Option<usize>,
+    scope: Scope,
+    global: GlobalRuntimeState,
+}
+
+/// What the run of what a listing says left.
+fn end_of<L: Ledger>(
+    alloc: Global,
+    blank: Blank,
+    setup: Setup,
+) -> Result<Option<Ended>, OutOfMemory>
+    requires ready { IsReady setup }
+    requires name { blank.name ≡ L.name }
+    requires parts { blank.parts ≡ L.parts }
+    requires enough { 5 < blank.parts }
+{
+    let Setup {
+        parts,
+        limits,
+        mut host,
+        mut scope,
+        ..
+    } = setup;
+    let Ok(program) = verify(alloc, parts) else {
+        return Ok(None);
+    };
+    let engine = Engine::new(alloc, limits);
+    let global = engine.new_global_runtime_state(alloc)?;
+    let mut vm = Vm::with_global_state(alloc, &engine, global);
+    let mut cells = Store::new(alloc);
+    let mut steps = Steps::<L>::new(blank);
+    let answer = vm.eval_with_callbacks(
+        alloc, &mut host, &mut cells, &mut scope, &program, &mut steps,
+    );
+    let trace = Vec::from_slice(alloc, vm.fault_trace())?;
+    let address = vm.fault_pc();
+    Ok(Some(Ended {
+        answer,
+        trace,
+        address,
+        scope,
+        global: vm.into_global_state(),
+    }))
+}
+
+/// What the run of a listing left.
+fn run_of(alloc: Global, listing: &str) -> Result<Option<Ended>, OutOfMemory> {
+    match read(alloc, listing.as_bytes())? {
+        Ok(setup) => end_of::<Brand>(alloc, Blank::new(6), setup),
+        Err(_) => Ok(None),
+    }
+}
+
+#[test]
+fn a_thrown_value_leaves_a_call(rt: HostRuntime) -> Result<(), Fail> {
+    let listing = "grain 1\nconst 7\nname \"f\"\nmain 1\ncall 0 0\nreturn\nend\n\
+        fn 0 1\nload_const 0\nthrow\nend\n";
+    let Some(ended) = run_of(rt.alloc(), listing)? else {
+        return Err("refused".into());
+    };
+    let Err(fault) = &ended.answer else {
+        return Err("no fault".into());
+    };
+    assert_eq!(rt; fault.name(), "ErrorInFunctionCall");
+    assert_eq!(rt; fault.unwrap_inner().name(), "ErrorRuntime");
+    assert_eq!(rt; ended.trace.len(), 2);
+    assert_eq!(rt; ended.address, Some(8));
+    assert_eq!(rt; ended.global.num_operations(), 1);
+    assert_eq!(rt; ended.global.level, 0);
+    Ok(())
+}
+
+#[test]
+fn an_exit_two_calls_deep_cuts_the_scope(rt: HostRuntime) -> Result<(), Fail> {
+    let listing = "grain 1\nscope \"a\" ()\nconst 7\nname \"f\"\nname \"g\"\nname \"exit\"\n\
+        main 1\nunit\ndeclare_local 0\ncall 0 0\nreturn\nend\nfn 0 1\ncall 1 0\nreturn\nend\n\
+        fn 1 1\nload_const 0\ncall 2 1\npop\nreturn\nend\n";
+    let Some(ended) = run_of(rt.alloc(), listing)? else {
+        return Err("refused".into());
+    };
+    assert!(rt; matches!(ended.answer, Ok(Dynamic::Int(7))));
+    assert_eq!(rt; ended.trace.len(), 0);
+    assert!(rt; ended.address.is_none());
+    assert_eq!(rt; ended.scope.len(), 1);
+    assert!(rt; ended.scope.contains("a"));
+    assert_eq!(rt; ended.global.num_operations(), 2);
+    assert_eq!(rt; ended.global.level, 0);
+    Ok(())
+}
