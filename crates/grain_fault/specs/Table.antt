@@ -154,7 +154,7 @@ row (VariableNotFound s) =
     catchable_row (codes "ErrorVariableNotFound") (text_field (codes "variable") s)
     (codes "Variable not found: " ++ s)
 row (PropertyNotFound s) =
-    catchable_row (codes "ErrorPropertyNotFound") (text_field (codes "property") s)
+    catchable_row (codes "ErrorPropertyNotFound") (text_field (codes "variable") s)
     (codes "Property not found: " ++ s)
 row (IndexNotFound v) =
     catchable_row (codes "ErrorIndexNotFound") ((codes "index", v) ∷ [])

@@ -136,31 +136,35 @@ pub(crate) fn write_message<W: fmt::Write>(
         }
         EvalAltResult::ErrorSystem(about, reason) => {
             if about.is_empty() {
-                write!(f, "{reason}")
+                f.write_str(reason.as_str())
             } else {
                 write!(f, "{about}: {reason}")
             }
         }
-        EvalAltResult::Memory => write!(f, "Out of memory"),
-        EvalAltResult::ErrorParsing(reason, _) => write!(f, "Syntax error: {reason}"),
+        EvalAltResult::Memory => f.write_str("Out of memory"),
+        EvalAltResult::ErrorParsing(reason, _) => write_labelled("Syntax error: ", reason, f),
         EvalAltResult::ErrorVariableExists(variable, _) => {
-            write!(f, "Variable already defined: {variable}")
+            write_labelled("Variable already defined: ", variable, f)
         }
         EvalAltResult::ErrorForbiddenVariable(variable, _) => {
-            write!(f, "Forbidden variable name: {variable}")
+            write_labelled("Forbidden variable name: ", variable, f)
         }
         EvalAltResult::ErrorVariableNotFound(variable, _) => {
-            write!(f, "Variable not found: {variable}")
+            write_labelled("Variable not found: ", variable, f)
         }
         EvalAltResult::ErrorPropertyNotFound(property, _) => {
-            write!(f, "Property not found: {property}")
+            write_labelled("Property not found: ", property, f)
         }
         EvalAltResult::ErrorIndexNotFound(index, _) => write!(f, "Invalid index: {index}"),
         EvalAltResult::ErrorFunctionNotFound(function, _) => {
-            write!(f, "Function not found: {function}")
+            write_labelled("Function not found: ", function, f)
         }
-        EvalAltResult::ErrorModuleNotFound(module, _) => write!(f, "Module not found: {module}"),
-        EvalAltResult::ErrorUnboundThis(_) => write!(f, "'this' not bound"),
+        EvalAltResult::ErrorModuleNotFound(module, _) => write_labelled(
+            "Module not found: ",
+            module,
+            f,
+        ),
+        EvalAltResult::ErrorUnboundThis(_) => f.write_str("'this' not bound"),
         EvalAltResult::ErrorMismatchDataType(requested, actual, _) => {
             let mismatch = Mismatch { requested, actual };
             write!(f, "Data type incorrect{mismatch}")
@@ -169,7 +173,11 @@ pub(crate) fn write_message<W: fmt::Write>(
             let mismatch = Mismatch { requested, actual };
             write!(f, "Output type incorrect{mismatch}")
         }
-        EvalAltResult::ErrorIndexingType(types, _) => write!(f, "Indexer unavailable: {types}"),
+        EvalAltResult::ErrorIndexingType(types, _) => write_labelled(
+            "Indexer unavailable: ",
+            types,
+            f,
+        ),
         EvalAltResult::ErrorArrayBounds(length, index, _) => {
             let size = Size {
                 length: *length,
@@ -192,7 +200,7 @@ pub(crate) fn write_message<W: fmt::Write>(
                 "Bit-field index {index} out of bounds: only {length} bits in bit-field"
             )
         }
-        EvalAltResult::ErrorFor(_) => write!(f, "For loop expects iterable type"),
+        EvalAltResult::ErrorFor(_) => f.write_str("For loop expects iterable type"),
         EvalAltResult::ErrorDataRace(variable, _) => {
             let on = AfterUnlessEmpty {
                 lead: " on ",
@@ -205,28 +213,28 @@ pub(crate) fn write_message<W: fmt::Write>(
             write!(f, "{call}")
         }
         EvalAltResult::ErrorAssignmentToConstant(variable, _) => {
-            write!(f, "Cannot modify constant {variable}")
+            write_labelled("Cannot modify constant ", variable, f)
         }
         EvalAltResult::ErrorDotExpr(reason, _) => {
             if reason.is_empty() {
-                write!(f, "Malformed dot expression")
+                f.write_str("Malformed dot expression")
             } else {
-                write!(f, "{reason}")
+                f.write_str(reason.as_str())
             }
         }
         EvalAltResult::ErrorArithmetic(reason, _) => {
             if reason.is_empty() {
-                write!(f, "Arithmetic error")
+                f.write_str("Arithmetic error")
             } else {
-                write!(f, "{reason}")
+                f.write_str(reason.as_str())
             }
         }
-        EvalAltResult::ErrorTooManyOperations(_) => write!(f, "Too many operations"),
-        EvalAltResult::ErrorTooManyVariables(_) => write!(f, "Too many variables defined"),
-        EvalAltResult::ErrorTooManyModules(_) => write!(f, "Too many modules imported"),
-        EvalAltResult::ErrorStackOverflow(_) => write!(f, "Stack overflow"),
+        EvalAltResult::ErrorTooManyOperations(_) => f.write_str("Too many operations"),
+        EvalAltResult::ErrorTooManyVariables(_) => f.write_str("Too many variables defined"),
+        EvalAltResult::ErrorTooManyModules(_) => f.write_str("Too many modules imported"),
+        EvalAltResult::ErrorStackOverflow(_) => f.write_str("Stack overflow"),
         EvalAltResult::ErrorDataTooLarge(what, _) => write!(f, "{what} too large"),
-        EvalAltResult::ErrorTerminated(..) => write!(f, "Script terminated"),
+        EvalAltResult::ErrorTerminated(..) => f.write_str("Script terminated"),
         EvalAltResult::ErrorCustomSyntax(reason, tokens, _) => {
             let tokens = Spaced(tokens);
             write!(f, "{reason}: {tokens}")
@@ -235,12 +243,20 @@ pub(crate) fn write_message<W: fmt::Write>(
             let thrown = ThrownValue(value);
             write!(f, "Runtime error{thrown}")
         }
-        EvalAltResult::LoopBreak(true, ..) => write!(f, "'break' must be within a loop"),
-        EvalAltResult::LoopBreak(false, ..) => write!(f, "'continue' must be within a loop"),
-        EvalAltResult::Return(..) => write!(f, "NOT AN ERROR - function returns value"),
-        EvalAltResult::Exit(..) => write!(f, "NOT AN ERROR - exit value"),
+        EvalAltResult::LoopBreak(true, ..) => f.write_str("'break' must be within a loop"),
+        EvalAltResult::LoopBreak(false, ..) => f.write_str("'continue' must be within a loop"),
+        EvalAltResult::Return(..) => f.write_str("NOT AN ERROR - function returns value"),
+        EvalAltResult::Exit(..) => f.write_str("NOT AN ERROR - exit value"),
         EvalAltResult::Malformed(kind, _) => write!(f, "Malformed program: {kind}"),
     }
+}
+
+/// Writes a label and the text after it.
+fn write_labelled<W: fmt::Write>(label: &str, text: &Text, f: &mut fmt::Formatter<W>) -> fmt::Result
+    ensures { WritesOnOk W.write_str_gives f.old result (label.now ++ text.now) f.new }
+{
+    f.write_str(label)?;
+    f.write_str(text.as_str())
 }
 
 /// Writes what a wrapper adds to the text of the fault that it wraps: where that happened, and what

@@ -92,8 +92,10 @@ impl EvalAltResult {
             | EvalAltResult::ErrorAssignmentToConstant(variable, _) => {
                 Fields::One(text("variable", variable))
             }
-            EvalAltResult::ErrorPropertyNotFound(property, _)
-            | EvalAltResult::ErrorDotExpr(property, _) => Fields::One(text("property", property)),
+            EvalAltResult::ErrorPropertyNotFound(property, _) => {
+                Fields::One(text("variable", property))
+            }
+            EvalAltResult::ErrorDotExpr(property, _) => Fields::One(text("property", property)),
             EvalAltResult::ErrorFunctionNotFound(function, _)
             | EvalAltResult::ErrorNonPureMethodCallOnConstant(function, _) => {
                 Fields::One(text("function", function))

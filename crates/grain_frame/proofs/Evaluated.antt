@@ -144,22 +144,37 @@ module _ {H : Type 0} (counted : Counted H) (law : Law H) (p : View) (e : Engine
 
   -- after a fault the scope is cut
   cut : (back : Result (Result Dynamic EvalAltResult) OutOfMemory) → Whole back →
-      (x : EvalAltResult) → answered back ≡ Err x → IsCut law p e b (problem_of x) scope trace
+      (x : EvalAltResult) → answered back ≡ Err x →
+      IsCut law p e b (problem_of x) (ending (Failed (problem_of x)))
   cut (Ok (Ok v)) h x is = absurd cc
   cut (Ok (Err y)) h x is =
       let same : y ≡ x = cc in
       let run = at_stop (Ok (Err y)) h None (never_clear 0 passed) tt in
-      subst (λ (z : EvalAltResult). IsCut law p e b (problem_of z) scope trace) same
-      (None, inl refl, (counts None (answer_of (Ok (Err y))) run).4)
+      subst (λ (z : EvalAltResult).
+      IsCut law p e b (problem_of z) (ending (Failed (problem_of z)))) same (
+        None,
+        inl refl,
+        (
+          (ran, runs (Ok (Err y)) h None (never_clear 0 passed) tt),
+          (counts None (answer_of (Ok (Err y))) run).4,
+        ),
+      )
   cut (Err o) h x is =
       let same : fault.Memory ≡ x = cc in
       let run = at_stop (Err o) h (Some passed) (clear_before 0 passed) (halts_there true passed) in
-      subst (λ (z : EvalAltResult). IsCut law p e b (problem_of z) scope trace) same
-      (Some passed, inr refl, (counts (Some passed) (answer_of (Err o)) run).4)
+      subst (λ (z : EvalAltResult).
+      IsCut law p e b (problem_of z) (ending (Failed (problem_of z)))) same (
+        Some passed,
+        inr refl,
+        (
+          (ran, runs (Err o) h (Some passed) (clear_before 0 passed) (halts_there true passed)),
+          (counts (Some passed) (answer_of (Err o)) run).4,
+        ),
+      )
 
   -- what is left of the scope
   pub leaves : (back : Result (Result Dynamic EvalAltResult) OutOfMemory) → Whole back →
-      Leaves law p e b (answered back) scope trace
+      Leaves law p e b (answered back) ending
   leaves back h =
       let run =
       at_stop back h (Some passed) (clear_before 0 passed) (halts_there (is_out back) passed) in

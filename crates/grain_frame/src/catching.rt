@@ -137,8 +137,9 @@ impl<H: Host> Run<H> {
         }
     }
 
-    // A handler catches the fault, which was raised at the address: the operands, the scope and the
-    // trace are cut, its variable is bound, it has caught, and an operation is taken at its target.
+    // A handler catches the fault, which was raised at the address. Where the scope is shorter than at
+    // the handler's push, the trace is cut, and that is a fault. Else the operands and the scope are cut
+    // too, its variable is bound, it has caught, and an operation is taken at its target.
     // It says whether the frame goes on there; if not, a fault is raised, which leaves the frame.
     fn catch_by<L: Ledger>(
         &mut self,
@@ -167,13 +168,13 @@ impl<H: Host> Run<H> {
             scope,
             ..
         } = handler;
+        self.stacks.cut_trace(0);
         if self.scope.len() < scope {
             self.try_floor_broken(context, steps, address, scope);
             return Ok(false);
         }
         self.stacks.cut(operands);
         self.scope.rewind(scope);
-        self.stacks.cut_trace(0);
         if !self.bind_caught(context, steps, target, variable)? {
             return Ok(false);
         }

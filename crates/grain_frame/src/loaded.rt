@@ -1,4 +1,4 @@
-//! The instruction behind a load of an integer, done in the turn of the load. The integer is not
+//! The instruction after a load of an integer, done in the turn of the load. The integer is not
 //! pushed first.
 
 ghost use Rattle.std.specs.Prelude.{◌≡◌, ◌<◌, ◌≤◌, ◌+◌, ◌-◌, ◌∷◌, [], length, Ok, Some, cond, nat_lt};
@@ -274,7 +274,7 @@ impl<H: Host> Run<H> {
     }
 }
 
-// A load is done, and the instruction behind it begins.
+// A load is done, and the instruction after it begins.
 #[inline(always)]
 fn begin_behind<L: Ledger>(steps: &mut Steps<L>)
     ensures { steps.new ≡ begun_behind steps.old }

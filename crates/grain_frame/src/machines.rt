@@ -3,6 +3,7 @@
 ghost use Rattle.std.specs.Prelude.{◌≡◌, ◌+◌, ◌<◌, ℕ};
 ghost use Rattle.grain_means.specs.Contained.{KeepsToStore};
 ghost use Rattle.grain_means.specs.Causes.{HasCause};
+ghost use Rattle.grain_means.specs.CatchBlocks.{CatchesRightly};
 ghost use Rattle.grain_means.specs.Comes.{Provided};
 ghost use Rattle.grain_means.specs.Leavings.{Leaves};
 ghost use Rattle.grain_means.specs.Means.{Evaluates};
@@ -98,8 +99,11 @@ impl<'e> Machine<'e> {
             (begin scope.old cells.old host.old global.old) result }
         ensures provided { Provided H.law program.now self.old.engine
             (begin scope.old cells.old host.old global.old) }
+        ensures catches { CatchesRightly H.law program.now self.old.engine
+            (begin scope.old cells.old host.old global.old) }
         ensures leaves { Leaves H.law program.now self.old.engine
-            (begin scope.old cells.old host.old global.old) result scope.new self.new.stacks.trace }
+            (begin scope.old cells.old host.old global.old) result
+            (finish self.new.stacks.trace scope.new cells.new host.new global.new) }
         ensures store { KeepsToStore H.law program.now
             (begin scope.old cells.old host.old global.old) result scope.new cells.new host.new }
         ensures level { global.new.level ≡ global.old.level }
@@ -144,6 +148,7 @@ impl<'e> Machine<'e> {
         grain_means::counted::<H>();
         grain_means::contained::<H>();
         grain_means::provided::<H>();
+        grain_means::catches::<H>();
         answered(back)
     }
 }

@@ -94,7 +94,8 @@ module _ {S : Type 0} (m : Setup S) where
     cuts_of : (x : Answer) (u : World S) → Cuts m first k.level k.base x u →
         Cuts m root k.level k.base x (record u { passed = u.passed + 1 })
     cuts_of (Came v) u cut = cut
-    cuts_of (Failed x) u (inl c) = inl (cut_of m first root onto k.level k.base u.scope u.trace c)
+    cuts_of (Failed x) u (inl c) =
+        inl (cut_of m first root onto k.level k.base x x (λ out. out) u.scope u.trace c)
     cuts_of (Failed x) u (inr e) = inr e
 
     -- memory is out when a call is over
@@ -102,7 +103,7 @@ module _ {S : Type 0} (m : Setup S) where
         Cuts m root k.level k.base (Failed NoMemory) u
     cuts_late (Came v) u cut = inr (refl, cut)
     cuts_late (Failed x) u (inl c) =
-        inl (cut_of m first root onto k.level k.base u.scope u.trace c)
+        inl (cut_of m first root onto k.level k.base x NoMemory (λ out. refl) u.scope u.trace c)
     cuts_late (Failed x) u (inr e) = inr (refl, e.1)
 
     -- an exit is a value that leaves the trace as it was at the beginning

@@ -1,7 +1,7 @@
 -- What a handler does that catches: one walk over its rule, from which the walk over all rules and
 -- the law of catch blocks take what they need.
 use Rattle.std.proofs.Common.{◌≡◌, ◌≤◌, ◌<◌, ◌⊎◌, ℕ, ◌+◌, List, [], ◌∷◌, ◌++◌, Option, Some, None, true, false, refl, sym, subst, ap, ◌∙◌, inl, inr, arith, length, take, nat_lt, append-nil}
-use Rattle.std.proofs.lemmas.Bool.{ltb-true, ltb-false, leb-true}
+use Rattle.std.proofs.lemmas.Bool.{ltb-true, ltb-false, leb-true, leb-false}
 use Rattle.std.proofs.lemmas.List.{length-take}
 use Rattle.grain_value.specs.declared.scopes.Entry.{Entry}
 use Rattle.grain_value.specs.Scopes.{new_entry}
@@ -16,12 +16,16 @@ use Rattle.grain_means.specs.CatchValues.{caught_value}
 use Rattle.grain_means.specs.Rules.{is_full, is_stop, leave_by_fault, marked, on_verdict, progressed, charged_or, escaped, bind_caught, catching, caught, position}
 use Rattle.grain_means.specs.Comes.{CatchPoint, Comes, try_of, tries}
 use Rattle.grain_means.specs.Leavings.{Keeps, Cut}
-use Rattle.grain_means.specs.Causes.{HasPosition, CatchRow, raised_at, Caused}
+use Rattle.grain_means.specs.Causes.{HasPosition, ComesToCharge, CatchRow, raised_at, Caused}
 use Rattle.grain_means.specs.CatchBlocks.{variable_entry, Catches}
 use Rattle.grain_means.proofs.Footing.{Footing, CanCatch, Tally, by_test, catch_passes}
 use Rattle.grain_means.proofs.Kept.{keeps_cut, keeps_push}
 use Rattle.grain_means.proofs.Lengths.{cut_short}
 use Rattle.grain_means.proofs.Standing.{Covered, as_many, fits_caught}
+
+-- a handler without a variable has none
+no_variable : {A : Type 0} {v : Option ℕ} {n : ℕ} → v ≡ None → v ≡ Some n → A
+no_variable p q = cc
 
 module _ {S : Type 0} (m : Setup S) (f : Frame) (h : Handler) (x : Problem) (w : World S) where
   -- where the handler catches
@@ -89,7 +93,7 @@ module _ {S : Type 0} (m : Setup S) (f : Frame) (h : Handler) (x : Problem) (w :
       (fails y (record u { passed = u.passed + 1 }) (inr (row, has)) along)
 
   -- the charge at the target, on a scope that is cut and has the variable
-  module _ (scope : List Entry) (passed : ℕ) (kept : Kept scope) (there : h.scope ≤ length w.scope)
+  module _ (scope : List Entry) (passed : ℕ) (kept : Kept scope) (came : ComesToCharge m point)
       (is : scope ≡ take h.scope w.scope ++ variable_entry m.program h.variable x) where
     abbrev now : World S
     now = record w { scope = scope; trace = []; passed = passed }
@@ -111,13 +115,13 @@ module _ {S : Type 0} (m : Setup S) (f : Frame) (h : Handler) (x : Problem) (w :
       world = heard;
       is = refl;
       along = (refl, refl, refl, kept);
-      there = there;
+      there = came.0;
       scope = is;
       trace = refl;
       count = refl;
     })
     verdict fits (Stop v) e =
-        escapes (Plain (Terminated v) (position_of m.program h.target)) heard (fits, e) refl
+        escapes (Plain (Terminated v) (position_of m.program h.target)) heard (came, fits, e) refl
         (refl, refl, refl, kept)
 
     charges : Outcome (charged_or m (position_of m.program h.target) g (leave_by_fault m None g)
@@ -141,7 +145,7 @@ module _ {S : Type 0} (m : Setup S) (f : Frame) (h : Handler) (x : Problem) (w :
         (verdict (ltb-true w.count m.engine.limits.operations fits)
         (m.law.progress_reply w.host (w.count + 1)) refl))))
         (λ full. escapes (Plain TooManyOperations p) now
-        (ltb-false w.count m.engine.limits.operations full) refl (refl, refl, refl, kept))
+        (came, ltb-false w.count m.engine.limits.operations full) refl (refl, refl, refl, kept))
 
   -- the world whose scope and trace are cut
   abbrev cut : World S
@@ -156,7 +160,7 @@ module _ {S : Type 0} (m : Setup S) (f : Frame) (h : Handler) (x : Problem) (w :
       (Go (InFrame block))))
   binds None e there =
       let scope = take h.scope w.scope in
-      charges scope w.passed kept_cut there
+      charges scope w.passed kept_cut (there, λ n some. no_variable e some)
       (subst (λ (v : Option ℕ). scope ≡ scope ++ variable_entry m.program v x) (sym e)
       (sym (append-nil scope)))
   binds (Some n) e there =
@@ -179,10 +183,18 @@ module _ {S : Type 0} (m : Setup S) (f : Frame) (h : Handler) (x : Problem) (w :
         ),
         there,
       ) refl (refl, refl, refl, kept_cut))
-      (λ _. at_mark cut (refl, refl, refl, kept_cut)
+      (λ room. at_mark cut (refl, refl, refl, kept_cut)
       (λ w1. charge (record w1 { scope = w1.scope ++ entry ∷ [] }))
       (charges (scope ++ entry ∷ []) (w.passed + 1)
-      (λ base ns low k. keeps_push base ns scope entry (kept_cut base ns low k)) there
+      (λ base ns low k. keeps_push base ns scope entry (kept_cut base ns low k)) (
+        there,
+        λ k some. omega (
+          arith,
+          leb-false m.engine.limits.variables (length scope) room,
+          length-take h.scope w.scope,
+          there,
+        ),
+      )
       (subst (λ (v : Option ℕ). scope ++ entry ∷ [] ≡ scope ++ variable_entry m.program v x)
       (sym e) refl)))
 
@@ -190,10 +202,10 @@ module _ {S : Type 0} (m : Setup S) (f : Frame) (h : Handler) (x : Problem) (w :
   outcome =
       let p = position_of m.program h.target in
       let y = Plain (Malformed (kind.TryFloorBroken h.scope (length w.scope))) (position m f) in
-      by_test Outcome (nat_lt (length w.scope) h.scope) (escaped m f y w)
+      by_test Outcome (nat_lt (length w.scope) h.scope) (escaped m f y (record w { trace = [] }))
       (bind_caught m h.variable p g x cut
       (λ w1. charged_or m p g (leave_by_fault m None g) w1 (Go (InFrame block))))
-      (λ short. escapes y w (refl, refl, ltb-true (length w.scope) h.scope short) refl
+      (λ short. escapes y (record w { trace = [] }) (refl, refl, ltb-true (length w.scope) h.scope short) refl
       (refl, refl, refl, λ base ns low k. k))
       (λ clear. binds h.variable refl (ltb-false (length w.scope) h.scope clear))
 
@@ -204,7 +216,7 @@ module _ {S : Type 0} (m : Setup S) (f : Frame) (h : Handler) (x : Problem) (w :
     even_fails : (act : Act S) → Fails act → Tally m root turn r k act
     even_fails act l =
         let u = l.world in
-        let left : Cut m root k.level k.base (take f.floor u.scope)
+        let left : Cut m root k.level k.base l.fault (take f.floor u.scope)
         (u.trace ++ record { address = f.address; slot = None } ∷ []) = record {
           frame = can.from;
           world = can.world;
@@ -256,6 +268,7 @@ module _ {S : Type 0} (m : Setup S) (f : Frame) (h : Handler) (x : Problem) (w :
                   comes = comes;
                   own = level;
                   is = refl;
+                  handler = refl;
                 },
                 can.around,
               ),

@@ -1295,9 +1295,9 @@ module _ {S : Type 0} (m : Setup S) (lawful : IsLawful m.law) (clean : Bool)
         Here n low f names w → Stays n low f names (rules.caught m f h x w)
     catches h x bound may w at =
         by_test (Stays n low f names) (nat_lt (length w.scope) h.scope)
-        (rules.escaped m f broken w)
+        (rules.escaped m f broken cleared)
         (rules.bind_caught m h.variable p g x start after)
-        (λ short. escapes f broken w at (omega arith, λ s. refl))
+        (λ short. escapes f broken cleared untraced (omega arith, λ s. refl))
         (λ long. binds h.variable) where
           p : Position
           p = position_of m.program h.target
@@ -1308,6 +1308,18 @@ module _ {S : Type 0} (m : Setup S) (lawful : IsLawful m.law) (clean : Bool)
           broken : Problem
           broken = Plain (Malformed (kind.TryFloorBroken h.scope (length w.scope)))
               (rules.position m f)
+
+          cleared : World S
+          cleared = record w { trace = [] }
+
+          untraced : Here n low f names cleared
+          untraced = record {
+            size = at.size;
+            entries = at.entries;
+            contents = at.contents;
+            reaches = at.reaches;
+            hands = at.hands;
+          }
 
           start : World S
           start = record w { scope = take h.scope w.scope; trace = [] }

@@ -1,6 +1,6 @@
 -- What a run stands on, what is known of what is left of it, and causes as they are carried from one
 -- act to another and through handlers.
-use Rattle.std.proofs.Common.{◌≡◌, ◌≤◌, ◌⊎◌, ℕ, List, [], ◌∷◌, Option, Some, None, Bool, true, false, refl, sym, subst, ap, ◌∙◌, inl, inr, if◌then◌else◌}
+use Rattle.std.proofs.Common.{◌≡◌, ◌≤◌, ◌⊎◌, ℕ, List, [], ◌∷◌, ◌++◌, length, Option, Some, None, Bool, true, false, refl, sym, subst, ap, ◌∙◌, inl, inr, if◌then◌else◌}
 use Rattle.grain_value.specs.declared.scopes.Entry.{Entry}
 use Rattle.grain_fault.specs.Classes.{catchable}
 use Rattle.grain_fault.specs.Positions.{at_position, position_of_problem}
@@ -11,8 +11,8 @@ use Rattle.grain_program.specs.Typing.{IsProgram}
 use Rattle.grain_means.specs.Worlds.{Act, Go, End, Then, Answer, Came, Failed, World, Setup, Frame, Handler, Todo, InFrame, InCatch}
 use Rattle.grain_means.specs.Rules.{if_armed, is_stop, kind_throws_unit, outer_handlers, position, throws_unit, thrown_anew}
 use Rattle.grain_means.specs.Comes.{ProgramPoint, CatchPoint, Comes, ComesToCatch, Meets, try_of, tries}
-use Rattle.grain_means.specs.Leavings.{Keeps, Cut, Cuts}
-use Rattle.grain_means.specs.Causes.{HasPosition, Why, Throws, Raises, LeftCall, Tells, ThrowsUnit, ThrownAnew, Raised, Row, FailsToCatch, CatchRow, RaisedByCatch, Cause, Caused, ThrowsUnitAt}
+use Rattle.grain_means.specs.Leavings.{AtCheckpoint, Keeps, Cut, Cuts}
+use Rattle.grain_means.specs.Causes.{HasPosition, Why, Throws, Raises, LeftCall, Tells, ThrowsUnit, HaveCaughtUnit, ThrownAnew, Raised, Row, FailsToCatch, CatchRow, RaisedByCatch, Cause, Caused, ThrowsUnitAt}
 use Rattle.grain_means.proofs.Moving.{placed_twice, caught_anywhere, unit_anywhere, unit_placed}
 use Rattle.grain_means.proofs.Standing.{Fitting, Covered}
 
@@ -27,26 +27,27 @@ pub record Footing : Type 0 where
 abbrev pub Onto : {S : Type 0} → Setup S → Act S → Act S → Type 0
 Onto {S = S} m first act = (t : Todo) (w : World S) → Comes m t w first → Comes m t w act
 
--- A handler caught this fault in a frame of this level: a script may catch it, it has its cause, and
--- the run of the act came to where it was caught.
-pub record WasCaught {S : Type 0} (m : Setup S) (root : Act S) (level : ℕ) (y : Problem) : Type 0
-  where
-    pub may : catchable y ≡ true
-    pub cause : Raised m root level y (Why m y)
-    pub caught : CatchPoint S
-    pub comes : ComesToCatch m caught root
-    pub own : caught.world.level ≡ level
-    pub is : caught.fault ≡ y
+-- This handler, which has caught this fault in a frame of this level: a script may catch the fault, it
+-- has its cause, and the run of the act came to where it was caught.
+pub record WasCaught {S : Type 0} (m : Setup S) (root : Act S) (level : ℕ) (h : Handler)
+    (y : Problem) : Type 0 where
+  pub may : catchable y ≡ true
+  pub cause : Raised m root level y (Why m y)
+  pub caught : CatchPoint S
+  pub comes : ComesToCatch m caught root
+  pub own : caught.world.level ≡ level
+  pub is : caught.fault ≡ y
+  pub handler : record caught.handler { caught = Some caught.fault } ≡ h
 
-abbrev pub HasCaught : {S : Type 0} → Setup S → Act S → ℕ → Option Problem → Type 0
-HasCaught m root level None = Unit {0}
-HasCaught m root level (Some y) = WasCaught m root level y
+abbrev pub HasCaught : {S : Type 0} → Setup S → Act S → ℕ → Handler → Option Problem → Type 0
+HasCaught m root level h None = Unit {0}
+HasCaught m root level h (Some y) = WasCaught m root level h y
 
 -- no handler cuts the scope below the base, and what each has caught was caught so
 abbrev pub Guarded : {S : Type 0} → Setup S → Act S → Footing → List Handler → Type 0
 Guarded m root k [] = Unit {0}
 Guarded m root k (h ∷ hs) =
-    (k.base ≤ h.scope) × HasCaught m root k.level h.caught × Guarded m root k hs
+    (k.base ≤ h.scope) × HasCaught m root k.level h h.caught × Guarded m root k hs
 
 -- a frame on this footing, which in a valid program fits
 abbrev pub Sits : {S : Type 0} → Setup S → Act S → Footing → Frame → Type 0
@@ -183,38 +184,69 @@ module _ {S : Type 0} (m : Setup S) where
   unit_thrown (SystemError t u) s row e = is_false e
   unit_thrown NoMemory s row e = is_false e
 
-  -- if the fault is a throw of unit, this is where it is thrown
-  abbrev pub UnitThrown : Act S → ℕ → Problem → Type 0
-  UnitThrown root level x =
-      throws_unit x ≡ true → ThrowsUnit m root level (position_of_problem x)
+  -- unit is thrown at this position, in a frame with these handlers
+  abbrev pub ThrownUnder : Act S → ℕ → List Handler → Position → Type 0
+  ThrownUnder root level hs p =
+      (throw : ThrowsUnit m root level p) × (throw.point.frame.handlers ≡ hs)
+
+  -- if the fault is a throw of unit, this is where it is thrown, in a frame with these handlers
+  abbrev pub UnitThrown : Act S → ℕ → List Handler → Problem → Type 0
+  UnitThrown root level hs x =
+      throws_unit x ≡ true → ThrownUnder root level hs (position_of_problem x)
 
   -- an instruction that raises a throw of unit throws it
   pub unit_by_row : (root : Act S) (level : ℕ) (s : ProgramPoint S) → Meets m s root →
       s.world.level ≡ level → (x : Problem) → HasPosition (position m s.frame) x → Row m x s →
-      UnitThrown root level x
+      UnitThrown root level s.frame.handlers x
   unit_by_row root level s met own x has row e =
       let p = position m s.frame in
-      let throw = unit_thrown x s row e in
-      record {
-        point = s;
-        met = met;
-        own = own;
-        how = inl (
-          throw.0,
-          throw.1,
-          sym (ap position_of_problem has) ∙ unit_placed p x e,
-        );
-      }
+      let throw = unit_thrown x s row e in (
+        record {
+          point = s;
+          met = met;
+          own = own;
+          how = inl (
+            throw.0,
+            throw.1,
+            sym (ap position_of_problem has) ∙ unit_placed p x e,
+          );
+        },
+        refl,
+      )
 
-  -- a fault that is offered to a handler: why, and where it is thrown if it is a throw of unit
-  abbrev pub Offers : Act S → ℕ → Problem → World S → Type 0
-  Offers root level x w = Caused m root level (Failed x) w × UnitThrown root level x
+  -- a fault that is offered to a handler of a frame with these: why, and where it is thrown if it is a
+  -- throw of unit
+  abbrev pub Offers : Act S → ℕ → List Handler → Problem → World S → Type 0
+  Offers root level hs x w = Caused m root level (Failed x) w × UnitThrown root level hs x
 
-  -- what was caught is thrown anew where unit is thrown
-  cause_anew : (root : Act S) (level : ℕ) (y : Problem) → WasCaught m root level y →
-      (p : Position) → ThrowsUnit m root level p →
+  -- one more handler has caught a throw of unit
+  one_more_caught : (inside : List Handler) (h : Handler) (y : Problem) → HaveCaughtUnit inside →
+      h.caught ≡ Some y → throws_unit y ≡ true → HaveCaughtUnit (inside ++ h ∷ [])
+  one_more_caught [] h y left caught unit = ((y, caught, unit), tt)
+  one_more_caught (g ∷ inside) h y left caught unit =
+      (left.0, one_more_caught inside h y left.1 caught unit)
+
+  -- where unit is still thrown after a handler that has caught, that had caught a throw of unit too
+  pub left_so_far : (inside : List Handler) (h : Handler) (x y : Problem) →
+      (throws_unit x ≡ true → HaveCaughtUnit inside) → h.caught ≡ Some y →
+      throws_unit (thrown_anew y x) ≡ true → HaveCaughtUnit (inside ++ h ∷ [])
+  left_so_far inside h x y left caught = by_unit (throws_unit x) refl where
+    p : Position
+    p = position_of_problem x
+
+    by_unit : (b : Bool) → throws_unit x ≡ b →
+        throws_unit (if b then at_position p y else x) ≡ true →
+        HaveCaughtUnit (inside ++ h ∷ [])
+    by_unit false e unit = true-false unit e
+    by_unit true e unit =
+        one_more_caught inside h y (left e) caught (sym (unit_anywhere p y) ∙ unit)
+
+  -- what was caught is thrown anew where unit is thrown, in a frame that has the handler
+  cause_anew : (root : Act S) (level : ℕ) (inside around : List Handler) (h : Handler)
+      (y : Problem) → WasCaught m root level h y → HaveCaughtUnit inside → (p : Position) →
+      ThrownUnder root level (inside ++ h ∷ around) p →
       Raised m root level (at_position p y) (Why m (at_position p y))
-  cause_anew root level y c p throw = record {
+  cause_anew root level inside around h y c left p throw = record {
     point = c.cause.point;
     met = c.cause.met;
     why = moved_why p y c.cause.point c.cause.why;
@@ -225,26 +257,36 @@ module _ {S : Type 0} (m : Setup S) where
         comes = c.comes;
         own = c.own;
         position = p;
-        throw = throw;
+        throw = throw.0;
+        inside = inside;
+        around = around;
+        block = throw.1
+            ∙ ap (λ (g : Handler). inside ++ g ∷ around) (sym c.handler);
+        left = left;
         is = ap (at_position p) (sym c.is);
       },
     ));
   }
 
-  pub offers_anew : (root : Act S) (level : ℕ) (y : Problem) → WasCaught m root level y →
-      (x : Problem) (w : World S) → Offers root level x w → Offers root level (thrown_anew y x) w
-  offers_anew root level y c x w offers = by_unit (throws_unit x) refl where
-    p : Position
-    p = position_of_problem x
+  pub offers_anew : (root : Act S) (level : ℕ) (hs inside around : List Handler) (h : Handler)
+      (y : Problem) → WasCaught m root level h y → hs ≡ inside ++ h ∷ around →
+      (x : Problem) (w : World S) → (throws_unit x ≡ true → HaveCaughtUnit inside) →
+      Offers root level hs x w → Offers root level hs (thrown_anew y x) w
+  offers_anew root level hs inside around h y c split x w left offers =
+      by_unit (throws_unit x) refl where
+        p : Position
+        p = position_of_problem x
 
-    by_unit : (b : Bool) → throws_unit x ≡ b →
-        Offers root level (if b then at_position p y else x) w
-    by_unit false e = offers
-    by_unit true e = (
-      inr (inl (cause_anew root level y c p (offers.1 e))),
-      λ again. subst (ThrowsUnit m root level)
-          (sym (unit_placed p y (sym (unit_anywhere p y) ∙ again))) (offers.1 e),
-    )
+        by_unit : (b : Bool) → throws_unit x ≡ b →
+            Offers root level hs (if b then at_position p y else x) w
+        by_unit false e = offers
+        by_unit true e =
+            let throw = offers.1 e in (
+              inr (inl (cause_anew root level inside around h y c (left e) p
+                  (throw.0, throw.1 ∙ split))),
+              λ again. subst (ThrownUnder root level hs)
+                  (sym (unit_placed p y (sym (unit_anywhere p y) ∙ again))) throw,
+            )
 
   module _ (first root : Act S) (onto : Onto m first root) where
     -- what the first act meets, and why it ends so, as the second has it
@@ -281,6 +323,10 @@ module _ {S : Type 0} (m : Setup S) where
         own = a.throw.own;
         how = a.throw.how;
       };
+      inside = a.inside;
+      around = a.around;
+      block = a.block;
+      left = a.left;
       is = a.is;
     }
 
@@ -340,9 +386,11 @@ module _ {S : Type 0} (m : Setup S) where
       tells = inr (p, call (ComesToCatch m c.point) c.comes, placed_twice p p x);
     })
 
-    pub cut_of : (level base : ℕ) (scope : List Entry) (trace : List Fault) →
-        Cut m first level base scope trace → Cut m root level base scope trace
-    cut_of level base scope trace c = record {
+    -- and how a fault cut the scope, also where memory is out afterwards
+    pub cut_of : (level base : ℕ) (x y : Problem) → (x ≡ NoMemory → y ≡ NoMemory) →
+        (scope : List Entry) (trace : List Fault) →
+        Cut m first level base x scope trace → Cut m root level base y scope trace
+    cut_of level base x y out scope trace c = record {
       frame = c.frame;
       world = c.world;
       comes = onto (InFrame c.frame) c.world c.comes;
@@ -351,5 +399,13 @@ module _ {S : Type 0} (m : Setup S) where
       inner = c.inner;
       slot = c.slot;
       last = c.last;
-      short = c.short;
-    }
+      short = shortened c.short;
+    } where
+      shortened : (length scope ≤ c.frame.floor)
+          ⊎ ((x ≡ NoMemory) × AtCheckpoint m.program c.frame
+          × (length scope ≤ length c.world.scope)) →
+          (length scope ≤ c.frame.floor)
+          ⊎ ((y ≡ NoMemory) × AtCheckpoint m.program c.frame
+          × (length scope ≤ length c.world.scope))
+      shortened (inl own) = inl own
+      shortened (inr at) = inr (out at.0, at.1, at.2)

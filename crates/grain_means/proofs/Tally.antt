@@ -4,7 +4,7 @@
 -- and in a valid program an instruction with its operands stands at each frame, and each handler
 -- that catches finds its operands. Here are the instructions; `Catching` has the rule of a catch, and
 -- `Called` whole runs.
-use Rattle.std.proofs.Common.{◌≡◌, ◌≤◌, ◌<◌, ◌⊎◌, ℕ, ◌+◌, ◌-◌, List, [], ◌∷◌, ◌++◌, Option, Some, None, Bool, true, false, refl, sym, subst, ap, ◌∙◌, inl, inr, arith, length, take, if◌then◌else◌, ◌&&◌, nat_lt, nat_le}
+use Rattle.std.proofs.Common.{◌≡◌, ◌≤◌, ◌<◌, ◌⊎◌, ℕ, ◌+◌, ◌-◌, List, [], ◌∷◌, ◌++◌, Option, Some, None, Bool, true, false, refl, sym, subst, ap, ◌∙◌, inl, inr, arith, length, take, if◌then◌else◌, ◌&&◌, nat_lt, nat_le, append_assoc}
 use Rattle.std.specs.Prelude.{codes, is_some, slice_get, slice_set}
 use Rattle.std.proofs.lemmas.Bool.{ltb-true, ltb-false, leb-true}
 use Rattle.grain_value.specs.declared.values.Dynamic.{Dynamic}
@@ -44,15 +44,15 @@ use Rattle.grain_host.specs.Law as reply
 use Rattle.grain_value.specs.declared.natives.Native.{Native}
 use Rattle.grain_means.proofs.Moving.{placed_if_none, unit_anywhere, unit_caught}
 use Rattle.grain_means.proofs.Missing.{row_of_missing}
-use Rattle.grain_means.specs.Rules.{offered, offered_to, thrown_anew, outer_handlers, push_handler, Receiver, lent, given, given_back, content_now, operator_assigned, op_assign_failed, native_assigned, trees_in, first_is_read_only, on_verdict, progressed, answered, host_called, native_found, native, pushed, written, without, bound, function_found, frame_at, held_at, stepped, is_full, is_stop, or_return, operated, op_assigned, agrees, leave_by_fault, marked, raised, charged, onward, jumped, at_entry, declare, push_outcome, assignment_to_constant, write_entry, store_outcome, branched, tested, skip, unwind, propagate, resume_caller, enter_function, function_entered, call_function, instr, start_instruction, next, position, flattened, flat_or_race, flat_all, all_or_race, data_race, race_text, operand_under, spread, name_at, cells_given_back, cell_written, operand_for, shared, curried, pointer_called, not_a_pointer, jump_if, is_read_only, function_by_name}
+use Rattle.grain_means.specs.Rules.{throws_unit, offered, offered_to, thrown_anew, outer_handlers, push_handler, Receiver, lent, given, given_back, content_now, operator_assigned, op_assign_failed, native_assigned, trees_in, first_is_read_only, on_verdict, progressed, answered, host_called, native_found, native, pushed, written, without, bound, function_found, frame_at, held_at, stepped, is_full, is_stop, or_return, operated, op_assigned, agrees, leave_by_fault, marked, raised, charged, onward, jumped, at_entry, declare, push_outcome, assignment_to_constant, write_entry, store_outcome, branched, tested, skip, unwind, propagate, resume_caller, enter_function, function_entered, call_function, instr, start_instruction, next, position, flattened, flat_or_race, flat_all, all_or_race, data_race, race_text, operand_under, spread, name_at, cells_given_back, cell_written, operand_for, shared, curried, pointer_called, not_a_pointer, jump_if, is_read_only, function_by_name}
 use Rattle.grain_means.specs.Comes.{ProgramPoint, Comes, here, Meets, try_of, tries}
 use Rattle.grain_means.specs.Leavings.{Keeps, AtCheckpoint, Cut, Cuts}
-use Rattle.grain_means.specs.Causes.{Question, native_asked, reply_to, asks_first, EndsWith, HasNoBuiltIn, AssignsByHost, AsksNative, FindsNative, HostAnswers, HasPosition, Why, Calls, Charges, Overfills, UsesEntry, Unwinds, Tests, Holds, AssignsConstant, Operates, CallsOn, Enters, LeftCall, Raised, Row, Cause, Caused, ReadsLent, AnswersLent, IsLent, AssignsLent, AsksToAssign, Points, AsksPointer, truth_on_top, truth_read, Misses}
+use Rattle.grain_means.specs.Causes.{Question, native_asked, reply_to, asks_first, EndsWith, HasNoBuiltIn, AssignsByHost, AsksAgain, AsksSecond, AsksNative, AsksLast, FindsNative, HostAnswers, IsCalled, HaveCaughtUnit, HasPosition, Why, Calls, Charges, Overfills, UsesEntry, Unwinds, Tests, Holds, AssignsConstant, Operates, CallsOn, Enters, LeftCall, Raised, Row, Cause, Caused, ReadsLent, AnswersLent, IsLent, AssignsLent, Points, AsksPointer, truth_on_top, truth_read, Misses}
 use Rattle.grain_means.specs.lemmas.Branches.{of_two}
 use Rattle.grain_means.proofs.Kept.{keeps_nothing, keeps_cut, keeps_push, keeps_set, keeps_given}
 use Rattle.grain_means.proofs.Lengths.{past_scope, cut_short, length_under, length_pushed, length_rotated, spread_length, spread_under}
 use Rattle.grain_means.proofs.Standing.{Fitting, Covered, covered_outside, tries_outer, fits_found, fits_next, fits_covered}
-use Rattle.grain_means.proofs.Footing.{Footing, Onto, HasCaught, Guarded, Sits, Tally, by_test, by_arming, true-false, is_false, guarded_outside, cause_in, UnitThrown, unit_by_row, Offers, offers_anew, cause_at}
+use Rattle.grain_means.proofs.Footing.{Footing, Onto, HasCaught, Guarded, Sits, Tally, by_test, by_arming, true-false, is_false, guarded_outside, cause_in, UnitThrown, unit_by_row, Offers, left_so_far, offers_anew, cause_at}
 
 both_true : (a b : Bool) → (a && b) ≡ true → (a ≡ true) × (b ≡ true)
 both_true true true p = (refl, refl)
@@ -79,8 +79,8 @@ busy_content c busy = rw busy refl
 
 -- what the host answers to an operator of an op-assignment, if it is a lent cell
 abbrev AnswersLentTo : {S : Type 0} → Setup S → ProgramPoint S → List ℕ → Type 0
-AnswersLentTo {S = S} m at name = (q : Question S) → AsksToAssign m q at → (n : Native) →
-    native_asked m q ≡ Some n → (v : Dynamic) → reply_to m q n.key ≡ reply.Done v →
+AnswersLentTo {S = S} m at name = (q : Question S) → AsksSecond m q at → (n : Native) →
+    native_asked m q ≡ Some n → IsCalled q n → (v : Dynamic) → reply_to m q n.key ≡ reply.Done v →
     flat q.cells v ≡ None → AnswersLent m name at
 
 module _ {S : Type 0} (m : Setup S) where
@@ -109,17 +109,27 @@ module _ {S : Type 0} (m : Setup S) where
     abbrev Floor : ℕ → Type 0
     Floor n = (n ≡ f.floor) ⊎ (AtCheckpoint m.program f × (n ≡ length now.scope))
 
-    short : (n : ℕ) (scope : List Entry) → Floor n → length scope ≤ n →
-        (length scope ≤ f.floor) ⊎ (AtCheckpoint m.program f × (length scope ≤ length now.scope))
-    short n scope (inl e) le = inl (omega (arith, e, le))
-    short n scope (inr (c, e)) le = inr (c, omega (arith, e, le))
+    -- the floor to which this fault cuts it: that of a checkpoint only where memory is out
+    abbrev FloorFor : Problem → ℕ → Type 0
+    FloorFor x n =
+        (n ≡ f.floor) ⊎ ((x ≡ NoMemory) × AtCheckpoint m.program f × (n ≡ length now.scope))
+
+    out_of_memory : (n : ℕ) → Floor n → FloorFor NoMemory n
+    out_of_memory n (inl e) = inl e
+    out_of_memory n (inr c) = inr (refl, c.0, c.1)
+
+    short : (x : Problem) (n : ℕ) (scope : List Entry) → FloorFor x n → length scope ≤ n →
+        (length scope ≤ f.floor)
+        ⊎ ((x ≡ NoMemory) × AtCheckpoint m.program f × (length scope ≤ length now.scope))
+    short x n scope (inl e) le = inl (omega (arith, e, le))
+    short x n scope (inr (out, c, e)) le = inr (out, c, omega (arith, e, le))
 
     -- a fault leaves the frame, at its own floor or at that of a checkpoint that is done
     even_left_at : (g : Frame) (r : ℕ) (x : Problem) (w : World S) → g.address ≡ f.address →
-        Floor g.floor → k.base ≤ g.floor → Steady r w → Caused m root k.level (Failed x) w →
+        FloorFor x g.floor → k.base ≤ g.floor → Steady r w → Caused m root k.level (Failed x) w →
         Even r (leave_by_fault m None g x w)
     even_left_at g r x w same floor low s cause =
-        let cut : Cut m root k.level k.base (take g.floor w.scope)
+        let cut : Cut m root k.level k.base x (take g.floor w.scope)
         (w.trace ++ record { address = g.address; slot = None } ∷ []) = record {
           frame = f;
           world = now;
@@ -129,7 +139,7 @@ module _ {S : Type 0} (m : Setup S) where
           inner = w.trace;
           slot = None;
           last = rw same refl;
-          short = short g.floor (take g.floor w.scope) floor (cut_short g.floor w.scope);
+          short = short x g.floor (take g.floor w.scope) floor (cut_short g.floor w.scope);
         } in
         (s.0, s.1, s.2, keeps_cut k.base g.floor k.names w.scope low s.3, inl cut, cause)
 
@@ -143,7 +153,8 @@ module _ {S : Type 0} (m : Setup S) where
     even_marked_at g r w same floor low s go h =
         by_test (Even r) (is_stop m.stop w.passed) (leave_by_fault m None g NoMemory w)
         (go (record w { passed = w.passed + 1 }))
-        (λ stop. even_left_at g r NoMemory w same floor low s (inl (refl, stop))) (λ _. h)
+        (λ stop. even_left_at g r NoMemory w same (out_of_memory g.floor floor) low s
+        (inl (refl, stop))) (λ _. h)
 
     even_marked : (r : ℕ) (w : World S) → Steady r w → (go : World S → Act S) →
         Even r (go (record w { passed = w.passed + 1 })) → Even r (marked m f w go)
@@ -169,13 +180,17 @@ module _ {S : Type 0} (m : Setup S) where
     abbrev unguarded : ℕ → Frame
     unguarded next = record f { address = next; handlers = outer_handlers f.handlers }
 
-    -- a fault is offered to handlers of the frame, and what they need of its operands is there
-    even_offered : (hs : List Handler) → Guarded m root k hs → (operands : List Held) →
+    -- a fault is offered to handlers of the frame, and what they need of its operands is there; where
+    -- it throws unit, those inside of them have caught throws of unit
+    even_offered : (inside hs : List Handler) → f.handlers ≡ inside ++ hs →
+        Guarded m root k hs → (operands : List Held) →
         (IsProgram m.program → Covered m.program operands (tries hs)) → (r : ℕ) (x : Problem)
-        (w : World S) → Steady r w → Offers m root k.level x w →
+        (w : World S) → (throws_unit x ≡ true → HaveCaughtUnit inside) → Steady r w →
+        Offers m root k.level f.handlers x w →
         Even r (offered_to m hs (holding operands) x w)
-    even_offered [] g operands covered r x w s offers = even_left r x w s offers.0
-    even_offered (h ∷ hs) g operands covered r x w s offers =
+    even_offered inside [] split g operands covered r x w left s offers =
+        even_left r x w s offers.0
+    even_offered inside (h ∷ hs) split g operands covered r x w left s offers =
         let around : Frame = record (holding operands) { handlers = hs } in
         by_arming m (Even r) h.caught
         (if catchable x then Go (InCatch around h x) w
@@ -207,10 +222,12 @@ module _ {S : Type 0} (m : Setup S) where
           },
         ))
         (λ _. even_left r x w s offers.0))
-        (λ y e. even_offered hs g.2 operands
+        (λ y e. even_offered (inside ++ h ∷ []) hs (split ∙ sym (append_assoc inside (h ∷ []) hs))
+        g.2 operands
         (λ valid. covered_outside m.program operands (try_of h) (tries hs) (covered valid)) r
-        (thrown_anew y x) w s
-        (offers_anew m root k.level y (subst (HasCaught m root k.level) e g.1) x w offers))
+        (thrown_anew y x) w (left_so_far m inside h x y left e) s
+        (offers_anew m root k.level f.handlers inside hs h y
+        (subst (HasCaught m root k.level h) e g.1) split x w left offers))
 
     even_onward : (r : ℕ) (g : Frame) (w : World S) → Steady r w → w.trace ≡ [] →
         Floor g.floor → Sits m root k g → Even r (onward m f g w)
@@ -251,7 +268,7 @@ module _ {S : Type 0} (m : Setup S) where
 
       -- why a fault is raised here, and that it is thrown here if it is a throw of unit
       abbrev Reason : Problem → Type 0
-      Reason x = Cause m root k.level x × UnitThrown m root k.level x
+      Reason x = Cause m root k.level x × UnitThrown m root k.level f.handlers x
 
       -- why the instruction raises this fault
       why : (x : Problem) → HasPosition (position m f) x → Row m x point → Reason x
@@ -277,12 +294,15 @@ module _ {S : Type 0} (m : Setup S) where
               why = inr (y, placed.0, answers, placed.1);
               tells = inl (level, inr (y, answers, refl));
             }),
-            λ unit. record {
-              point = point;
-              met = met;
-              own = level;
-              how = inr (x, unit, (y, answers, refl), refl);
-            },
+            λ unit. (
+              record {
+                point = point;
+                met = met;
+                own = level;
+                how = inr (x, unit, (y, answers, refl), refl);
+              },
+              refl,
+            ),
           )
 
       -- there are no fewer operands than the instruction leaves of those that were there
@@ -295,12 +315,12 @@ module _ {S : Type 0} (m : Setup S) where
       -- a fault is offered to the frame's handlers, where no more operands are gone than the
       -- instruction takes
       even_offered_in : (operands : List Held) → Enough operands → (r : ℕ) (x : Problem)
-          (w : World S) → Steady r w → Offers m root k.level x w →
+          (w : World S) → Steady r w → Offers m root k.level f.handlers x w →
           Even r (offered m (holding operands) x w)
       even_offered_in operands enough r x w s offers =
-          even_offered f.handlers sits.3 operands
+          even_offered [] f.handlers refl sits.3 operands
           (λ valid. fits_covered m.program valid f o width stands operands enough (sits.2 valid)) r
-          x w s offers
+          x w (λ unit. tt) s offers
 
       even_raised_in : (operands : List Held) → Enough operands → (r : ℕ) (x : Problem)
           (w : World S) → Steady r w → Reason x → Even r (raised m (holding operands) x w)
@@ -521,16 +541,17 @@ module _ {S : Type 0} (m : Setup S) where
         -- the fault is raised, in the frame with operands of which no more are gone than the
         -- instruction takes
         module _ (operands : List Held) (enough : Enough operands) where
-          none_raised : native_asked m asked ≡ None →
-              Even (now.ran + 1)
+          none_raised :
+              AsksLast m (not_found name (values_in (given r args)) (position m f)) asked point →
+              native_asked m asked ≡ None → Even (now.ran + 1)
               (raised m (holding operands)
               (not_found name (values_in (given r args)) (position m f)) w)
-          none_raised e =
+          none_raised last e =
               let p = position m f in
               let all = values_in (given r args) in
               even_raised_in operands enough (now.ran + 1) (not_found name all p) w s
               (why (not_found name all p) refl
-              (row_of_missing m point name all (asked, refl, asks, e)))
+              (row_of_missing m point name all (asked, refl, last, e)))
 
           refused_raised : (n : Native) → native_asked m asked ≡ Some n → n.writes ≡ true →
               first_is_read_only (given r args) ≡ true →
@@ -541,33 +562,36 @@ module _ {S : Type 0} (m : Setup S) where
               even_raised_in operands enough (now.ran + 1) x w s
               (why x refl (n, finds n e, writes, only))
 
-          failed_raised : (n : Native) → native_asked m asked ≡ Some n → (y : Problem) →
+          failed_raised : (n : Native) → native_asked m asked ≡ Some n → IsCalled asked n →
+              (y : Problem) →
+              AsksLast m (at_position_if_none (position m f) y) asked point →
               reply_to m asked n.key ≡ reply.Failed y →
               Even (now.ran + 1)
               (raised m (holding operands) (at_position_if_none (position m f) y)
               (answered_by n.key))
-          failed_raised n e y is =
+          failed_raised n e called y last is =
               even_raised_in operands enough (now.ran + 1) (at_position_if_none (position m f) y)
-              (answered_by n.key) (steady_after n.key) (why_answered y (name, n, finds n e, is))
+              (answered_by n.key) (steady_after n.key) (why_answered y (name, n, finds n e, called, is, last))
 
         module _ (operands : List Held) (go : Dynamic → World S → Act S)
             (fails : Problem → World S → Act S)
-            (goes : (n : Native) → native_asked m asked ≡ Some n → (v : Dynamic) →
-            reply_to m asked n.key ≡ reply.Done v → Even (now.ran + 1) (go v (answered_by n.key)))
+            (goes : (n : Native) → native_asked m asked ≡ Some n → IsCalled asked n →
+            (v : Dynamic) → reply_to m asked n.key ≡ reply.Done v →
+            Even (now.ran + 1) (go v (answered_by n.key)))
             (none : native_asked m asked ≡ None →
             Even (now.ran + 1) (fails (not_found name (values_in (given r args)) (position m f)) w))
             (refused : (n : Native) → native_asked m asked ≡ Some n → n.writes ≡ true →
             first_is_read_only (given r args) ≡ true →
             Even (now.ran + 1) (fails (Plain (problem.NonPureCall name) (position m f)) w))
-            (failed : (n : Native) → native_asked m asked ≡ Some n → (y : Problem) →
-            reply_to m asked n.key ≡ reply.Failed y →
+            (failed : (n : Native) → native_asked m asked ≡ Some n → IsCalled asked n →
+            (y : Problem) → reply_to m asked n.key ≡ reply.Failed y →
             Even (now.ran + 1) (fails (at_position_if_none (position m f) y) (answered_by n.key)))
           where
-            even_answered : (n : Native) → native_asked m asked ≡ Some n → (said : Reply) →
-                reply_to m asked n.key ≡ said →
+            even_answered : (n : Native) → native_asked m asked ≡ Some n → IsCalled asked n →
+                (said : Reply) → reply_to m asked n.key ≡ said →
                 Even (now.ran + 1) (answered m said (holding operands) (answered_by n.key) go fails)
-            even_answered n e (reply.Done v) is = goes n e v is
-            even_answered n e (reply.Failed y) is = failed n e y is
+            even_answered n e called (reply.Done v) is = goes n e called v is
+            even_answered n e called (reply.Failed y) is = failed n e called y is
 
             even_found : (found : Option Native) → native_asked m asked ≡ found →
                 Even (now.ran + 1) (native_found m found name r args (holding operands) w go fails)
@@ -589,28 +613,33 @@ module _ {S : Type 0} (m : Setup S) where
                 (host_called m n.key r args g w go fails)
                 (λ no. let both = both_true n.writes (first_is_read_only (given r args)) no in
                 refused n e both.0 both.1)
-                (λ _. even_marked ran w s (λ w1. marked m g (after w1) (answers w1))
+                (λ called. even_marked ran w s (λ w1. marked m g (after w1) (answers w1))
                 (even_marked ran (after before) (steady_after n.key) (answers before)
-                (even_answered n e (m.law.call_reply w.host n.key (lent r) (trees_in args)) refl)))
+                (even_answered n e called (m.law.call_reply w.host n.key (lent r) (trees_in args)) refl)))
 
-        even_native_in : (operands : List Held) → Enough operands →
-            (go : Dynamic → World S → Act S) →
-            ((n : Native) → native_asked m asked ≡ Some n → (v : Dynamic) →
+        even_native_in : ((x : Problem) → AsksLast m x asked point) → (operands : List Held) →
+            Enough operands → (go : Dynamic → World S → Act S) →
+            ((n : Native) → native_asked m asked ≡ Some n → IsCalled asked n → (v : Dynamic) →
             reply_to m asked n.key ≡ reply.Done v →
             Even (now.ran + 1) (go v (answered_by n.key))) →
             Even (now.ran + 1)
             (native m name r args (holding operands) w go (raised m (holding operands)))
-        even_native_in operands enough go goes =
-            even_found operands go (raised m (holding operands)) goes (none_raised operands enough)
-            (refused_raised operands enough) (failed_raised operands enough)
+        even_native_in last operands enough go goes =
+            even_found operands go (raised m (holding operands)) goes
+            (none_raised operands enough
+            (last (not_found name (values_in (given r args)) (position m f))))
+            (refused_raised operands enough)
+            (λ n e called y is. failed_raised operands enough n e called y
+            (last (at_position_if_none (position m f) y)) is)
             (native_asked m asked) refl
 
-        even_native : (go : Dynamic → World S → Act S) →
-            ((n : Native) → native_asked m asked ≡ Some n → (v : Dynamic) →
+        even_native : ((x : Problem) → AsksLast m x asked point) →
+            (go : Dynamic → World S → Act S) →
+            ((n : Native) → native_asked m asked ≡ Some n → IsCalled asked n → (v : Dynamic) →
             reply_to m asked n.key ≡ reply.Done v →
             Even (now.ran + 1) (go v (answered_by n.key))) →
             Even (now.ran + 1) (native m name r args f w go (raised m f))
-        even_native go goes = even_native_in f.operands all_there go goes
+        even_native last go goes = even_native_in last f.operands all_there go goes
 
       even_pushed : (name : List ℕ) (args operands : List Held) →
           ((v : Dynamic) → Sits m root k (stepped f behind_it (operands ++ read_write v ∷ []))) →
@@ -628,8 +657,9 @@ module _ {S : Type 0} (m : Setup S) where
           }) point =
           inl (refl, refl, refl, inr (asks refl)) in
           even_native start steady name None args q
+          (λ x. inl (refl, refl, refl, inr (asks refl)))
           (λ v w1. pushed m f behind_it operands v w1)
-          (λ n e v _. even_onward (now.ran + 1) (stepped f behind_it (operands ++ read_write v ∷ []))
+          (λ n e _ v _. even_onward (now.ran + 1) (stepped f behind_it (operands ++ read_write v ∷ []))
           (answered_by start steady name None args q n.key) steady trace (inl refl)
           (u v))
       even_pushed name args operands u (Gave v) says asks = even_on _ refl (u v)
@@ -735,23 +765,20 @@ module _ {S : Type 0} (m : Setup S) where
             let args : List Held = g ∷ v ∷ [] in
             let question : Question S =
             record { host = w.host; cells = w.cells; name = name; lent = None; args = args } in
-            let asked_so : AsksToAssign m question point = (
-              a,
-              f.base + slot,
-              h,
-              u,
-              v,
-              by_host,
-              inr (x, w.host, w.scope, w.cells, ends, missing, refl),
-            ) in
-            let q : AsksNative m question point = inr asked_so in
+            let again : AsksAgain m a (f.base + slot) h u v question point =
+            (x, w.host, w.scope, w.cells, ends, missing, refl) in
+            let asked_so : AsksSecond m question point =
+            (a, f.base + slot, h, u, v, by_host, again) in
+            let q : AsksNative m question point =
+            inr (a, f.base + slot, h, u, v, by_host, inr again) in
             even_native w s name None args q
+            (λ y. inr (a, f.base + slot, h, u, v, by_host, inr again))
             (λ z w1. flattened m (read_write z) (name_of m.program n) f w1 (λ y.
             write_entry m h slot (record h { value = y }) (name_of m.program n) behind_it f w1))
-            (λ native e z is. let w1 = answered_by w s name None args q native.key in
+            (λ native e called z is. let w1 = answered_by w s name None args q native.key in
             let s1 = steady_after w s name None args q native.key in
             even_flat_in w1 s1 z (name_of m.program n)
-            (λ none. inr (answers_lent question asked_so native e z is none))
+            (λ none. inr (answers_lent question asked_so native e called z is none))
             (λ y. write_entry m h slot (record h { value = y }) (name_of m.program n) behind_it f w1)
             (λ y. even_entry_in w1 s1 t h (name_of m.program n) slot (record h { value = y }) sits_on
             (λ none. absurd (is_readable w.cells readable none)))
@@ -776,21 +803,23 @@ module _ {S : Type 0} (m : Setup S) where
             even_found start steady name r args q f.operands
             (λ z w1. onward m f (stepped f behind_it (below f.operands)) w1)
             (op_assign_failed m a h v slot n behind_it f)
-            (λ native e z is. even_onward (now.ran + 1) (stepped f behind_it (below f.operands))
+            (λ native e _ z is. even_onward (now.ran + 1) (stepped f behind_it (below f.operands))
             (there native.key) (steady_there native.key) trace (inl refl) sits_on)
             (λ e. let x = not_found name (values_in (given r args)) (position m f) in
             by_test (Even (now.ran + 1)) (says x) _ _
             (λ missing. even_operator start steady trace (u, by_host.content) x
             (inl (e, refl, refl, refl, refl)) missing)
-            (λ _. none_raised start steady name r args q f.operands all_there e))
+            (λ other. none_raised start steady name r args q f.operands all_there
+            (inr (a, f.base + slot, h, u, v, by_host, inl (refl, other))) e))
             (refused_raised start steady name r args q f.operands all_there)
-            (λ native e y is. let x = at_position_if_none (position m f) y in
+            (λ native e called y is. let x = at_position_if_none (position m f) y in
             by_test (Even (now.ran + 1)) (says x) _ _
             (λ missing. even_operator (there native.key) (steady_there native.key) trace
             (stays_readable m.law now.host native.key (trees_in args) (f.base + slot) h u now.cells
             by_host.content) x
-            (inr (native, e, (y, is, refl, refl, refl, refl))) missing)
-            (λ _. failed_raised start steady name r args q f.operands all_there native e y is))
+            (inr (native, e, called, (y, is, refl, refl, refl, refl))) missing)
+            (λ other. failed_raised start steady name r args q f.operands all_there native e called y
+            (inr (a, f.base + slot, h, u, v, by_host, inl (refl, other))) is))
             (native_asked m first_question) refl
 
       even_stored : (a : AssignOp) (name : List ℕ) (args : List Held) (h : Held) (u : Dynamic)
@@ -948,7 +977,7 @@ module _ {S : Type 0} (m : Setup S) where
           -- a fault that no script may catch goes on at the call
           offers_on : (x : Problem) (w : World S) → catchable x ≡ false →
               Caused m body inside (Failed x) w →
-              Offers m root k.level (at_position (position m f) x) w
+              Offers m root k.level f.handlers (at_position (position m f) x) w
           offers_on x w passes cause = (
             goes_on cause,
             λ unit. true-false
@@ -1097,9 +1126,10 @@ module _ {S : Type 0} (m : Setup S) where
             args = args;
           }) point =
           inl (refl, refl, refl, inl (misses refl args e)) in
-          even_native_in start steady name None args q operands full
+          even_native_in start steady name None args q
+          (λ x. inl (refl, refl, refl, inl (misses refl args e))) operands full
           (λ v w1. pushed m (holding operands) behind_it (under count operands) v w1)
-          (λ n there v _. even_onward (now.ran + 1)
+          (λ n there _ v _. even_onward (now.ran + 1)
           (stepped f behind_it (under count operands ++ read_write v ∷ []))
           (answered_by start steady name None args q n.key) steady trace (inl refl) (u v)))
           (flat_all now.cells (arguments count operands)) refl
@@ -1224,7 +1254,7 @@ module _ {S : Type 0} (m : Setup S) where
         (even_assigned_op (op.AssignLocalOp slot n a) width at n (assign_op_of m.program a) slot
         (sits_at (op.AssignLocalOp slot n a) width at refl _ _ (inl refl) (λ _. one_less))
         (λ h held. (refl, (h, held))) (λ lent. (refl, lent))
-        (λ question asks native found answer answers lent. record {
+        (λ question asks native found called answer answers lent. record {
           slot = slot;
           index = n;
           assigns = a;
@@ -1234,6 +1264,7 @@ module _ {S : Type 0} (m : Setup S) where
           asks = asks;
           native = native;
           found = found;
+          called = called;
           answer = answer;
           answers = answers;
           lent = lent;

@@ -8,8 +8,11 @@ use Rattle.grain_fault.specs.Problems.{Problem}
 use Rattle.grain_program.specs.View.{View, name_of}
 use Rattle.grain_means.specs.Worlds.{Act, Go, End, Failed, World, Setup, Frame, InFrame}
 use Rattle.grain_means.specs.CatchValues.{caught_value}
-use Rattle.grain_means.specs.Rules.{caught}
-use Rattle.grain_means.specs.Comes.{CatchPoint}
+use Rattle.grain_host.specs.Law.{Law}
+use Rattle.grain_global.specs.declared.engines.Engine.{Engine}
+use Rattle.grain_means.specs.Rules.{caught, main}
+use Rattle.grain_means.specs.Comes.{CatchPoint, ComesToCatch}
+use Rattle.grain_means.specs.Means.{Begin, setup, first_world}
 
 -- the entry of the variable of a catch, if it has one, which can be written
 abbrev pub variable_entry : View → Option ℕ → Problem → List Entry
@@ -49,3 +52,9 @@ pub record Catches {S : Type 0} (m : Setup S) (at : CatchPoint S) : Type 0 where
   pub leads :
       ((x : Problem) × (w : World S) × LeadsTo m at (End (Failed x) w) × (catchable x ≡ false))
       ⊎ ((f : Frame) × (w : World S) × LeadsTo m at (Go (InFrame f) w) × CatchBlock m at f w)
+
+-- wherever the program's run comes to a handler that catches, it catches so
+abbrev pub CatchesRightly : {S : Type 0} → Law S → View → Engine → Begin S → Type 0
+CatchesRightly {S = S} law program engine b =
+    let m : Setup S = setup law program engine in
+    (at : CatchPoint S) → ComesToCatch m at (main m (first_world b)) → Catches m at

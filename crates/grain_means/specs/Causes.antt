@@ -1,6 +1,6 @@
 -- Why a run ends in a fault: it came to a frame at an instruction that raises the fault on what the
 -- frame and the world then have.
-use Rattle.std.specs.Prelude.{◌≡◌, ◌⊎◌, ◌<◌, ◌≤◌, ◌+◌, ℕ, List, [], ◌∷◌, Option, Some, None, Bool, true, false, length, codes, Result, Ok, Err}
+use Rattle.std.specs.Prelude.{◌≡◌, ◌⊎◌, ◌&&◌, ◌<◌, ◌≤◌, ◌+◌, ℕ, List, [], ◌∷◌, ◌++◌, Option, Some, None, Bool, true, false, length, codes, Result, Ok, Err}
 use Rattle.grain_value.specs.declared.values.Dynamic.{Dynamic}
 use Rattle.grain_value.specs.declared.values.Held.{Held}
 use Rattle.grain_value.specs.declared.scopes.Entry.{Entry}
@@ -24,7 +24,7 @@ use Rattle.grain_program.specs.declared.code.parts.AssignOp.{AssignOp}
 use Rattle.grain_program.specs.View.{View, name_of, assign_op_of, position_of, source_text}
 use Rattle.grain_global.specs.declared.engines.Engine.{Engine}
 use Rattle.grain_ops.specs.Outcomes.{Outcome, NotBuiltIn, ArithmeticFault, TooLarge}
-use Rattle.grain_means.specs.Worlds.{Act, Go, Answer, Came, Failed, World, Setup, Frame, InFrame}
+use Rattle.grain_means.specs.Worlds.{Act, Go, Answer, Came, Failed, World, Setup, Handler, Frame, InFrame}
 use Rattle.grain_means.specs.Signatures.{missing_kind, not_found, says_missing}
 use Rattle.grain_host.specs.Law.{Law, Reply, Stop, native_of}
 use Rattle.grain_host.specs.Law as reply
@@ -197,15 +197,19 @@ native_asked m q = native_of m.law q.host q.name (kinds_in (all_args q))
 abbrev pub reply_to : {S : Type 0} → Setup S → Question S → ℕ → Reply
 reply_to m q key = m.law.call_reply q.host key (lent q.lent) (trees_in q.args)
 
--- the question ended with this fault in a frame: there is no native, or the host answered it; and
--- this is then the host, and this the scope and the cells
+-- the native of this key is called: it does not write its first argument, or that can be written
+abbrev pub IsCalled : {S : Type 0} → Question S → Native → Type 0
+IsCalled q n = n.writes && first_is_read_only (all_args q) ≡ false
+
+-- the question ended with this fault in a frame: there is no native, or the host answered it to the
+-- call; and this is then the host, and this the scope and the cells
 abbrev pub EndsWith : {S : Type 0} → Setup S → Frame → World S → Question S → Problem → S →
     List Entry → List Cell → Type 0
 EndsWith m f w q x host left cells =
     ((native_asked m q ≡ None) ×
     (x ≡ not_found q.name (values_in (all_args q)) (position m f)) × (host ≡ q.host) ×
     (left ≡ w.scope) × (cells ≡ w.cells))
-    ⊎ ((n : Native) × (native_asked m q ≡ Some n) ×
+    ⊎ ((n : Native) × (native_asked m q ≡ Some n) × IsCalled q n ×
     ((y : Problem) × (reply_to m q n.key ≡ reply.Failed y) ×
     (x ≡ at_position_if_none (position m f) y) ×
     (host ≡ m.law.call_after q.host n.key (lent q.lent) (trees_in q.args)) ×
@@ -224,15 +228,13 @@ asks_first m a i h u v w = record {
   args = v ∷ [];
 }
 
--- The question is the first of an op-assignment that no built-in does; or the second, for the
--- operator on what the entry then holds, where the first ended with the fault that no function of
--- its name is found.
-abbrev pub AsksToAssign : {S : Type 0} → Setup S → Question S → ProgramPoint S → Type 0
-AsksToAssign {S = S} m q at =
-    (a : AssignOp) × (i : ℕ) × (h : Held) × (u : Dynamic) × (v : Held) ×
-    AssignsByHost m a i h u v at.instruction at.frame at.world ×
-    ((q ≡ asks_first m a i h u v at.world)
-    ⊎ ((x : Problem) × (host : S) × (left : List Entry) × (cells : List Cell) ×
+-- The question is the second of an op-assignment that no built-in does: it asks for the operator, on
+-- what the entry then holds, where the first ended with the fault that no function of its name is
+-- found.
+abbrev pub AsksAgain : {S : Type 0} → Setup S → AssignOp → ℕ → Held → Dynamic → Held →
+    Question S → ProgramPoint S → Type 0
+AsksAgain {S = S} m a i h u v q at =
+    (x : Problem) × (host : S) × (left : List Entry) × (cells : List Cell) ×
     EndsWith m at.frame at.world (asks_first m a i h u v at.world) x host left cells ×
     (says_missing (name_of m.program a.op_assign_name) x ≡ true) ×
     (q ≡ record {
@@ -241,22 +243,49 @@ AsksToAssign {S = S} m q at =
       name = name_of m.program a.op_name;
       lent = None;
       args = record h { value = content_now (cell_of h.value) i h left cells } ∷ v ∷ [];
-    })))
+    })
 
--- it asks the host for a native: no function is found for a call, or no built-in for an operator or
--- for an op-assignment
-abbrev pub AsksNative : {S : Type 0} → Setup S → Question S → ProgramPoint S → Type 0
-AsksNative m q at =
-    ((q.host ≡ at.world.host) × (q.cells ≡ at.world.cells) × (q.lent ≡ None) ×
+-- the question is the second of an op-assignment that no built-in does
+abbrev pub AsksSecond : {S : Type 0} → Setup S → Question S → ProgramPoint S → Type 0
+AsksSecond {S = S} m q at =
+    (a : AssignOp) × (i : ℕ) × (h : Held) × (u : Dynamic) × (v : Held) ×
+    AssignsByHost m a i h u v at.instruction at.frame at.world × AsksAgain m a i h u v q at
+
+-- the question is one of an op-assignment that no built-in does, the first or the second
+abbrev pub AsksToAssign : {S : Type 0} → Setup S → Question S → ProgramPoint S → Type 0
+AsksToAssign {S = S} m q at =
+    (a : AssignOp) × (i : ℕ) × (h : Held) × (u : Dynamic) × (v : Held) ×
+    AssignsByHost m a i h u v at.instruction at.frame at.world ×
+    ((q ≡ asks_first m a i h u v at.world) ⊎ AsksAgain m a i h u v q at)
+
+-- it asks the host for a native on copies of its operands: no function is found for a call, or no
+-- built-in for an operator
+abbrev pub AsksOnCopies : {S : Type 0} → Setup S → Question S → ProgramPoint S → Type 0
+AsksOnCopies m q at =
+    (q.host ≡ at.world.host) × (q.cells ≡ at.world.cells) × (q.lent ≡ None) ×
     (Misses m.program q.name q.args at.instruction at.frame at.world
-    ⊎ HasNoBuiltIn m q.name q.args at.instruction at.frame at.world))
-    ⊎ AsksToAssign m q at
+    ⊎ HasNoBuiltIn m q.name q.args at.instruction at.frame at.world)
 
--- it asks for a native that is not there, and a fault of this kind says so
+-- it asks the host for a native: on copies of its operands, or for an op-assignment
+abbrev pub AsksNative : {S : Type 0} → Setup S → Question S → ProgramPoint S → Type 0
+AsksNative m q at = AsksOnCopies m q at ⊎ AsksToAssign m q at
+
+-- It asks this question, and asks no other after this fault: the first of an op-assignment is the
+-- last unless the fault says that no function of its name is found.
+abbrev pub AsksLast : {S : Type 0} → Setup S → Problem → Question S → ProgramPoint S → Type 0
+AsksLast {S = S} m x q at = AsksOnCopies m q at ⊎
+    ((a : AssignOp) × (i : ℕ) × (h : Held) × (u : Dynamic) × (v : Held) ×
+    AssignsByHost m a i h u v at.instruction at.frame at.world ×
+    (((q ≡ asks_first m a i h u v at.world)
+    × (says_missing (name_of m.program a.op_assign_name) x ≡ false))
+    ⊎ AsksAgain m a i h u v q at))
+
+-- it asks for a native that is not there, a fault of this kind says so, and after that fault it asks
+-- for no other
 abbrev pub FindsNone : {S : Type 0} → Setup S → FaultKind → ProgramPoint S → Type 0
 FindsNone {S = S} m k at = (q : Question S)
     × (missing_kind q.name (values_in (all_args q)) ≡ k)
-    × AsksNative m q at × (native_asked m q ≡ None)
+    × AsksLast m (Plain k (position m at.frame)) q at × (native_asked m q ≡ None)
 
 -- it asks for this native, which is there
 pub record FindsNative {S : Type 0} (m : Setup S) (name : List ℕ) (n : Native)
@@ -271,10 +300,12 @@ abbrev pub WritesConstant : {S : Type 0} → Setup S → List ℕ → ProgramPoi
 WritesConstant m name at = (n : Native) × (c : FindsNative m name n at)
     × (n.writes ≡ true) × (first_is_read_only (all_args c.question) ≡ true)
 
--- the host answers this fault to the call of a native
+-- the host answers this fault to the call of a native, and after the fault, which has the
+-- instruction's position if it has none, no other native is asked for
 abbrev pub HostAnswers : {S : Type 0} → Setup S → Problem → ProgramPoint S → Type 0
 HostAnswers m y at = (name : List ℕ) × (n : Native) × (c : FindsNative m name n at)
-    × (reply_to m c.question n.key ≡ reply.Failed y)
+    × IsCalled c.question n × (reply_to m c.question n.key ≡ reply.Failed y)
+    × AsksLast m (at_position_if_none (position m at.frame) y) c.question at
 
 -- the host answered the fault, whatever its position
 abbrev pub FromHost : {S : Type 0} → Setup S → Problem → ProgramPoint S → Type 0
@@ -343,8 +374,15 @@ pub record ThrowsUnit {S : Type 0} (m : Setup S) (act : Act S) (level : ℕ) (p 
         ⊎ ((z : Problem) × (throws_unit z ≡ true) × AnsweredSo m point z ×
         (p ≡ position_of_problem z))
 
--- in a frame of this level a handler caught a fault, then unit was thrown, and with the position of
--- that throw this is the fault that was caught
+-- each of these handlers has caught a throw of unit
+abbrev pub HaveCaughtUnit : List Handler → Type 0
+HaveCaughtUnit [] = Unit {0}
+HaveCaughtUnit (h ∷ hs) =
+    ((y : Problem) × (h.caught ≡ Some y) × (throws_unit y ≡ true)) × HaveCaughtUnit hs
+
+-- In a frame of this level a handler caught a fault, then unit was thrown in its catch block, and
+-- with the position of that throw this is the fault that was caught. Where unit is thrown, the frame
+-- has the handler, which has caught that fault, and those inside of it have caught others.
 pub record ThrownAnew {S : Type 0} (m : Setup S) (act : Act S) (level : ℕ) (x : Problem) : Type 0
   where
     pub caught : CatchPoint S
@@ -352,6 +390,11 @@ pub record ThrownAnew {S : Type 0} (m : Setup S) (act : Act S) (level : ℕ) (x 
     pub own : caught.world.level ≡ level
     pub position : Position
     pub throw : ThrowsUnit m act level position
+    pub inside : List Handler
+    pub around : List Handler
+    pub block : throw.point.frame.handlers
+        ≡ inside ++ record caught.handler { caught = Some caught.fault } ∷ around
+    pub left : HaveCaughtUnit inside
     pub is : x ≡ at_position position caught.fault
 
 -- The fault has the position of the instruction that raised it in a frame of this level, or the one
@@ -425,9 +468,10 @@ pub record AnswersLent {S : Type 0} (m : Setup S) (name : List ℕ) (at : Progra
     pub is : at.instruction ≡ op.AssignLocalOp slot index assigns
     pub named : name ≡ name_of m.program index
     pub question : Question S
-    pub asks : AsksToAssign m question at
+    pub asks : AsksSecond m question at
     pub native : Native
     pub found : native_asked m question ≡ Some native
+    pub called : IsCalled question native
     pub answer : Dynamic
     pub answers : reply_to m question native.key ≡ reply.Done answer
     pub lent : flat question.cells answer ≡ None
@@ -483,6 +527,12 @@ Row m NoMemory at = ⊥
 abbrev pub Why : {S : Type 0} → Setup S → Problem → ProgramPoint S → Type 0
 Why m x at = Row m x at ⊎ FromHost m x at
 
+-- the handler that catches comes as far as the charge at its target: the scope is no shorter than at
+-- its push, and its variable, if it has one, finds room
+abbrev pub ComesToCharge : {S : Type 0} → Setup S → CatchPoint S → Type 0
+ComesToCharge m at = (at.handler.scope ≤ length at.world.scope)
+    × ((n : ℕ) → at.handler.variable ≡ Some n → at.handler.scope < m.engine.limits.variables)
+
 -- a fault of this kind is raised while a handler catches: the scope is shorter than at its push; or
 -- the handler has a variable, and the scope is full; or no operation is left for the charge at the
 -- target; or the host, which hears of it, says with this value that the run is to stop
@@ -491,8 +541,10 @@ FailsToCatch m (Malformed (kind.TryFloorBroken wanted n)) at = (wanted ≡ at.ha
     (n ≡ length at.world.scope) × (n < wanted)
 FailsToCatch m TooManyVariables at = (n : ℕ) × (at.handler.variable ≡ Some n) ×
     (m.engine.limits.variables ≤ at.handler.scope) × (at.handler.scope ≤ length at.world.scope)
-FailsToCatch m TooManyOperations at = m.engine.limits.operations ≤ at.world.count
-FailsToCatch m (Terminated v) at = (at.world.count < m.engine.limits.operations)
+FailsToCatch m TooManyOperations at = ComesToCharge m at ×
+    (m.engine.limits.operations ≤ at.world.count)
+FailsToCatch m (Terminated v) at = ComesToCharge m at ×
+    (at.world.count < m.engine.limits.operations)
     × (m.law.progress_reply at.world.host (at.world.count + 1) ≡ Stop v)
 FailsToCatch m k at = ⊥
 

@@ -330,16 +330,18 @@ module _ {S : Type 0} (m : Setup S) where
             (read_write (caught_value m.program.source x)) ∷ [];
       }))
 
-  -- A handler of a frame catches, which has the handlers around it: the operands and the scope are
-  -- cut, the variable is bound, an operation is charged at the target's position, and the frame
-  -- goes on there.
+  -- A handler of a frame catches, which has the handlers around it. What the trace had of the frames
+  -- that the fault left before is gone. A scope that is shorter than at the handler's push is a fault
+  -- of this frame. Else the operands and the scope are cut, the variable is bound, an operation is
+  -- charged at the target's position, and the frame goes on there.
   abbrev pub caught : Frame → Handler → Problem → World S → Act S
   caught f h x w =
       let p = position_of m.program h.target in
       let g = catching f h x in
       if nat_lt (length w.scope) h.scope
       then escaped f
-      (Plain (Malformed (kind.TryFloorBroken h.scope (length w.scope))) (position f)) w
+      (Plain (Malformed (kind.TryFloorBroken h.scope (length w.scope))) (position f))
+      (record w { trace = [] })
       else
       bind_caught h.variable p g x (record w { scope = take h.scope w.scope; trace = [] }) (λ w1.
       charged_or p g (leave_by_fault None g) w1

@@ -70,6 +70,12 @@ without_frame (f ∷ fs) s =
       outer = fs;
     }
 
+-- no frame is entered, and no operand and no handler is held
+pub record IsIdle (s : StacksView) : Type 0 where
+  pub operands : s.operands ≡ []
+  pub handlers : s.handlers ≡ []
+  pub outer : s.outer ≡ []
+
 -- the frames are as they were: only the trace and the number of entries may differ
 abbrev pub IsLeft : (old new : StacksView) → Type 0
 IsLeft old new = new ≡ record old { trace = new.trace; entered = new.entered }

@@ -1,5 +1,5 @@
 -- The cells of a store, each of which is named by its position.
-use Rattle.std.specs.Prelude.{ℕ, suc, max, Bool, true, false, ◌&&◌, not, List, Option, Some, None, option_map, slice_get, if◌then◌else◌}
+use Rattle.std.specs.Prelude.{ℕ, suc, max, Bool, true, false, ◌&&◌, not, List, Option, Some, None, slice_get, if◌then◌else◌}
 use Rattle.grain_value.specs.Tree.{Tree, Trees, Fields, array, dict, pointer, cell, unit, boolean, integer, character, text, blob, range, foreign, no_trees, more_trees, no_fields, more_fields}
 use Rattle.grain_value.specs.declared.stores.Cell.{Cell}
 use Rattle.grain_value.specs.declared.values.Held.{Held}

@@ -1,5 +1,5 @@
 -- Modules: what stands in one under a name, a name and kinds, or a kind.
-use Rattle.std.specs.Prelude.{ℕ, Bool, true, ◌&&◌, ◌==◌, List, [], ◌∷◌, Option, Some, None, bytes_eq, if◌then◌else◌}
+use Rattle.std.specs.Prelude.{ℕ, ◌&&◌, ◌==◌, List, [], ◌∷◌, Option, Some, None, bytes_eq, if◌then◌else◌}
 use Rattle.grain_value.specs.declared.values.Dynamic.{Dynamic}
 use Rattle.grain_value.specs.declared.natives.Native.{Native}
 use Rattle.grain_value.specs.declared.modules.ModuleVariable.{ModuleVariable}

@@ -1,9 +1,11 @@
 -- How much a value holds: the elements of arrays, the values of maps, and the bytes of texts.
-use Rattle.std.specs.Prelude.{ℕ, ◌+◌, ◌-◌, ◌^◌, List, length, min}
+use Rattle.std.specs.Prelude.{ℕ, ◌+◌, ◌-◌, ◌^◌, List, Option, Some, None, length, min}
 use Rattle.grain_value.specs.Tree.{Tree, Trees, Fields, unit, boolean, integer, character, text, array, blob, dict, pointer, range, foreign, cell, no_trees, more_trees, no_fields, more_fields, pack, pack_fields}
 use Rattle.grain_value.specs.Maps.{Entries}
 use Rattle.grain_value.specs.declared.values.Dynamic.{Dynamic}
 use Rattle.grain_value.specs.declared.values.Dynamic.TheVariants as dynamic
+use Rattle.grain_value.specs.declared.stores.Cell.{Cell}
+use Rattle.grain_value.specs.Cells.{flat}
 
 -- elements of arrays, values of maps, bytes of texts: numbers without a greatest
 abbrev pub Sizes : Type 0
@@ -52,20 +54,29 @@ array_sizes ts = element_sizes (pack ts)
 abbrev pub map_sizes : Entries → Sizes
 map_sizes es = field_sizes (pack_fields es)
 
--- the sizes of a value that stands in no other
-abbrev pub data_sizes : Dynamic → Sizes
-data_sizes dynamic.Unit = nothing
-data_sizes (dynamic.Bool b) = nothing
-data_sizes (dynamic.Int n) = nothing
-data_sizes (dynamic.Char c) = nothing
-data_sizes (dynamic.Text t) = (0, 0, length t)
-data_sizes (dynamic.Array ts) = array_sizes ts
-data_sizes (dynamic.Blob s) = (length s, 0, 0)
-data_sizes (dynamic.Map es) = map_sizes es
-data_sizes (dynamic.Pointer p) = nothing
-data_sizes (dynamic.Range from to inclusive) = nothing
-data_sizes (dynamic.Foreign kind number) = nothing
-data_sizes (dynamic.Cell number) = nothing
+-- the sizes of a value that stands in no other and is no cell
+abbrev pub plain_sizes : Dynamic → Sizes
+plain_sizes dynamic.Unit = nothing
+plain_sizes (dynamic.Bool b) = nothing
+plain_sizes (dynamic.Int n) = nothing
+plain_sizes (dynamic.Char c) = nothing
+plain_sizes (dynamic.Text t) = (0, 0, length t)
+plain_sizes (dynamic.Array ts) = array_sizes ts
+plain_sizes (dynamic.Blob s) = (length s, 0, 0)
+plain_sizes (dynamic.Map es) = map_sizes es
+plain_sizes (dynamic.Pointer p) = nothing
+plain_sizes (dynamic.Range from to inclusive) = nothing
+plain_sizes (dynamic.Foreign kind number) = nothing
+plain_sizes (dynamic.Cell number) = nothing
+
+abbrev sizes_if_read : Option Dynamic → Sizes
+sizes_if_read None = nothing
+sizes_if_read (Some v) = plain_sizes v
+
+-- the sizes of a value that stands in no other: a cell is measured by what it holds, which counts
+-- nothing while it is lent
+abbrev pub data_sizes : List Cell → Dynamic → Sizes
+data_sizes cells v = sizes_if_read (flat cells v)
 
 -- a number as a `usize` counts: it stops at the greatest
 abbrev pub stopped : ℕ → ℕ

@@ -1,6 +1,6 @@
 //! Scopes: the variables of a run, the newest last.
 
-ghost use Rattle.std.specs.Prelude.{◌≡◌, ◌==◌, ◌<◌, ◌^◌, ◌+◌, ◌++◌, ◌∷◌, [], length, is_ok, is_some, if◌then◌else◌, false, slice_get, take, drop, option_map};
+ghost use Rattle.std.specs.Prelude.{◌≡◌, ◌==◌, ◌<◌, ◌^◌, ◌+◌, ◌++◌, ◌∷◌, [], length, IfErr, OnErr, OnOk, is_ok, is_some, if◌then◌else◌, false, slice_get, take, drop, option_map};
 ghost use Rattle.std.specs.Option.{option_copied};
 ghost use Rattle.std.specs.Borrow.{sem};
 ghost use Rattle.grain_value.specs.Operands.{read_write, left_behind};
@@ -136,15 +136,30 @@ impl Scope {
     fn put(&mut self, entry: Entry) -> Result<(), OutOfMemory>
         ensures { self.new ≡ (if is_ok result then self.old ++ entry ∷ [] else self.old) }
     {
+        match self.put_or_give_back(entry) {
+            Ok(()) => Ok(()),
+            Err(_) => Err(OutOfMemory),
+        }
+    }
+
+    // The same, but where there is no memory the entry comes back.
+    fn put_or_give_back(&mut self, entry: Entry) -> Result<(), Entry>
+        ensures scope { self.new ≡ (if is_ok result then self.old ++ entry ∷ [] else self.old) }
+        ensures back { IfErr result (λ e. e ≡ entry) }
+    {
         let place = self.height;
         if place < self.slots.len() {
             self.slots[place] = entry;
             self.height = place + 1;
             return Ok(());
         }
-        self.slots.push(entry)?;
-        self.height = place + 1;
-        Ok(())
+        match self.slots.push(entry) {
+            Ok(()) => {
+                self.height = place + 1;
+                Ok(())
+            }
+            Err(refused) => Err(refused.value),
+        }
     }
 
     /// Puts an entry at the end, whose name is shared. After want of memory the scope is as it was.
@@ -164,14 +179,15 @@ impl Scope {
     }
 
     /// Puts an entry at the end, which can be written, with the value of `held` and a shared name.
-    /// What `held` has afterwards owns no memory. After want of memory the scope is as it was, and
-    /// the value may be lost.
+    /// What `held` has afterwards owns no memory. After want of memory the scope and `held` are as
+    /// they were.
     #[inline(always)]
     pub fn push_moved(&mut self, name: &Name, held: &mut Held) -> Result<(), OutOfMemory>
         ensures scope { self.new ≡ (if is_ok result
             then self.old ++ new_entry name.now (read_write held.old.value) ∷ []
             else self.old) }
-        ensures left { left_behind held.new.value ≡ held.new.value }
+        ensures left { OnOk result (left_behind held.new.value ≡ held.new.value) }
+        ensures back { OnErr result (held.new ≡ held.old) }
     {
         match &held.value {
             Dynamic::Int(integer) => self.push_int(name, *integer),
@@ -205,10 +221,23 @@ impl Scope {
         ensures scope { self.new ≡ (if is_ok result
             then self.old ++ new_entry name.now (read_write held.old.value) ∷ []
             else self.old) }
-        ensures left { left_behind held.new.value ≡ held.new.value }
+        ensures left { OnOk result (left_behind held.new.value ≡ held.new.value) }
+        ensures back { OnErr result (held.new ≡ held.old) }
     {
-        let value = held.value.take();
-        self.push_shared(name, Held::read_write(value))
+        let name = name.share()?;
+        let aliases = List::new(*self.slots.allocator());
+        let entry = Entry {
+            name,
+            held: Held::read_write(held.value.take()),
+            aliases,
+        };
+        match self.put_or_give_back(entry) {
+            Ok(()) => Ok(()),
+            Err(entry) => {
+                held.value = entry.held.value;
+                Err(OutOfMemory)
+            }
+        }
     }
 
     /// The aliases of the entry at the index, in the order in which they were added, if there is

@@ -1,5 +1,6 @@
 //! Texts: names, the fields of faults, and what is written.
 
+ghost use Rattle.std.specs.declared.alloc.Global.{Global};
 ghost use Rattle.std.specs.Prelude.{◌≡◌, ◌==◌, ◌<◌, ◌^◌, ◌++◌, [], length, Some, IfOk, IfErr, IfSome, is_ok, if◌then◌else◌, slice_get, string_bytes};
 ghost use Rattle.std.specs.Char.{encode_utf8};
 ghost use Rattle.std.specs.Str.{chars};
@@ -38,7 +39,9 @@ impl Text {
     }
 
     /// The allocator that the text was made with.
-    pub fn allocator(&self) -> Global {
+    pub fn allocator(&self) -> Global
+        ensures { (alloc : Global) → result ≡ alloc }
+    {
         *self.text.allocator()
     }
 

@@ -3,6 +3,7 @@
 ghost use Rattle.std.specs.Prelude.{◌≡◌, ◌+◌, ◌<◌, ℕ, [], IfOk, option_map, slice_get};
 ghost use Rattle.grain_means.specs.Contained.{KeepsToStore};
 ghost use Rattle.grain_means.specs.Causes.{HasCause};
+ghost use Rattle.grain_means.specs.CatchBlocks.{CatchesRightly};
 ghost use Rattle.grain_means.specs.Comes.{Provided};
 ghost use Rattle.grain_means.specs.Leavings.{Leaves};
 ghost use Rattle.grain_means.specs.Means.{Evaluates};
@@ -20,7 +21,7 @@ use std::marker::Model;
 use std::sync::ledger::Ledger;
 
 /// A machine: its engine, the state that outlives a run, and the trace of the last run. Between two
-/// runs no frame is entered.
+/// runs, whatever the answer was, no frame is entered, and it holds no operand and no handler.
 #[derive(Drop)]
 pub struct Vm<'e> {
     machine: Machine<'e>,
@@ -29,6 +30,7 @@ pub struct Vm<'e> {
 
 impl<'e> Model for Vm<'e> {
     ghost use Rattle.grain_vm.specs.VmView.{VmView};
+    ghost use Rattle.grain_stack.specs.Views.{IsIdle};
     ghost use Rattle.std.specs.Coded.{codes};
     ghost use Rattle.grain_value.specs.laws.TreeCode.{coded_tree};
 
@@ -42,6 +44,8 @@ impl<'e> Model for Vm<'e> {
       trace =
           v.machine.stacks.trace;
     } };
+
+    ghost invariant = { λ v. IsIdle v.machine.stacks };
 }
 
 impl<'e> Vm<'e> {
@@ -124,8 +128,11 @@ impl<'e> Vm<'e> {
             (begin scope.old cells.old host.old self.old.global) result }
         ensures provided { Provided H.law program.now self.old.engine
             (begin scope.old cells.old host.old self.old.global) }
+        ensures catches { CatchesRightly H.law program.now self.old.engine
+            (begin scope.old cells.old host.old self.old.global) }
         ensures leaves { Leaves H.law program.now self.old.engine
-            (begin scope.old cells.old host.old self.old.global) result scope.new self.new.trace }
+            (begin scope.old cells.old host.old self.old.global) result
+            (finish self.new.trace scope.new cells.new host.new self.new.global) }
         ensures store { KeepsToStore H.law program.now
             (begin scope.old cells.old host.old self.old.global) result scope.new cells.new
             host.new }

@@ -2,7 +2,7 @@
 //! is expected.
 #![tactic(auto)]
 
-ghost use Rattle.std.specs.Prelude.{◌≡◌, ◌<◌, IfOk};
+ghost use Rattle.std.specs.Prelude.{◌≡◌, ◌<◌, ℕ, List, bytes_eq, IfOk};
 ghost use Rattle.grain_host.specs.Tables.{table_law};
 ghost use Rattle.run_examples.specs.Prices.{price_law};
 ghost use Rattle.run_examples.specs.Examples.{ReportedOver, shipped_list};
@@ -135,7 +135,23 @@ fn report_over<L: Ledger>(
     }
 }
 
-/// Whether an example gives the report that is expected.
+/// Whether the run of a rule over the host of an example gives this report, byte by byte.
+fn gives_report<L: Ledger>(
+    alloc: Global,
+    rule: Rule,
+    host: ExampleHost,
+    expected: &[u8],
+    steps: &mut Steps<L>,
+) -> Result<bool, OutOfMemory>
+    requires { 0 < rule.limits.operations }
+    ensures { IfOk result (λ same. (text : List ℕ) × ReportedOver host rule text
+        × (same ≡ bytes_eq text expected.now)) }
+{
+    let report = report_over(alloc, rule, host, steps)?;
+    Ok(report.as_str().as_bytes() == expected)
+}
+
+/// Whether an example gives the report that is expected. An example that is no rule says why.
 fn is_as_expected<R: Files + Print + AllocGlobal, L: Ledger>(
     rt: &R,
     name: &str,
@@ -151,11 +167,10 @@ fn is_as_expected<R: Files + Print + AllocGlobal, L: Ledger>(
             return Ok(false);
         }
     };
-    let report = match report_over(rt.alloc(), rule, host, steps) {
-        Ok(report) => report,
-        Err(OutOfMemory) => return Err(io::Error::from(io::ErrorKind::OutOfMemory)),
-    };
-    Ok(report.as_str().as_bytes() == expected.as_slice())
+    match gives_report(rt.alloc(), rule, host, expected.as_slice(), steps) {
+        Ok(same) => Ok(same),
+        Err(OutOfMemory) => Err(io::Error::from(io::ErrorKind::OutOfMemory)),
+    }
 }
 
 /// Runs all examples, and says of each whether it is as expected. It gives whether all are.

@@ -1,5 +1,6 @@
 //! Maps of script values.
 
+ghost use Rattle.std.specs.declared.alloc.Global.{Global};
 ghost use Rattle.std.specs.Prelude.{◌≡◌, ◌==◌, ◌<◌, ◌^◌, [], length, is_ok, IfOk, if◌then◌else◌, option_map};
 ghost use Rattle.grain_value.specs.View.{tree};
 ghost use Rattle.grain_value.specs.Maps.{entry_at, put_entry, IsAscending};
@@ -23,7 +24,9 @@ impl Map {
     }
 
     /// The allocator that the map was made with.
-    pub fn allocator(&self) -> Global {
+    pub fn allocator(&self) -> Global
+        ensures { (alloc : Global) → result ≡ alloc }
+    {
         self.alloc
     }
 

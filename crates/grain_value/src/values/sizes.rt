@@ -40,16 +40,16 @@ pub fn calc_map_sizes(map: &Map) -> (usize, usize, usize)
 }
 
 /// How much a value holds, in the same three numbers: those of an array or a map, the length of a
-/// blob as the first, the bytes of a text as the third, and nothing for every other value.
+/// blob as the first, the bytes of a text as the third, and nothing for every other value. A cell
+/// is measured by what it holds; while that is lent it counts nothing.
 pub fn calc_data_sizes(value: &Dynamic, cells: &Store) -> (usize, usize, usize)
-    ensures { result ≡ counted (data_sizes value.now) }
+    ensures { result ≡ counted (data_sizes cells.now value.now) }
 {
-    let _cells = cells;
-    match value {
-        Dynamic::Array(array) => calc_array_sizes(array),
-        Dynamic::Blob(blob) => (blob.len(), 0, 0),
-        Dynamic::Map(map) => calc_map_sizes(map),
-        Dynamic::Text(text) => (0, 0, text.len()),
+    match value.flat(cells) {
+        Some(Dynamic::Array(array)) => calc_array_sizes(array),
+        Some(Dynamic::Blob(blob)) => (blob.len(), 0, 0),
+        Some(Dynamic::Map(map)) => calc_map_sizes(map),
+        Some(Dynamic::Text(text)) => (0, 0, text.len()),
         _ => (0, 0, 0),
     }
 }

@@ -142,3 +142,12 @@ returns-clause-provided g c =
     rw (← c.self.view_is)
     (λ f w comes. c.provided.ensures m None (first_world b) w f c.run_main-back.ensures.valid refl
     comes)
+
+pub returns-clause-catches : goal.returns-clause-catches
+returns-clause-catches g c =
+    let b : Begin g.row.H.Denot =
+    begin c.args.scope.now c.args.cells.now c.args.host.now c.args.global.now in
+    let m : Setup g.row.H.Denot = setup g.H.Host.law c.args.program.now c.self.inside.engine.now in
+    rw (← c.self.view_is)
+    (λ at comes. c.catches.ensures m None (first_world b) at c.run_main-back.ensures.valid refl
+    comes)

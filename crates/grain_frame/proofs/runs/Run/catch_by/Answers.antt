@@ -7,7 +7,7 @@ pub returns-in_err-bind_caught-clause-same : goal.returns-in_err-bind_caught-cla
 returns-in_err-bind_caught-clause-same g c = λ f at.
     let s = c.args.self.now in
     let s1 : Run g.row.H.Denot =
-    record s { stacks = c.cut_trace.new.self; scope = c.rewind.new.self } in
+    record s { stacks = c.cut.new.self; scope = c.rewind.new.self } in
     bind_wants g.H.Host.law c.args.context.program.now c.args.context.engine.now f s s1
     c.args.steps.now c.args.host.now c.args.handler (search rules) (search rules)
     c.in_err-bind_caught.field-0.0 c.from_residual.result c.bind_caught.new.self
@@ -17,7 +17,7 @@ pub returns-then-not-branch-clause-same : goal.returns-then-not-branch-clause-sa
 returns-then-not-branch-clause-same g c = λ f at.
     let s = c.args.self.now in
     let s1 : Run g.row.H.Denot =
-    record s { stacks = c.cut_trace.new.self; scope = c.rewind.new.self } in
+    record s { stacks = c.cut.new.self; scope = c.rewind.new.self } in
     not_bound g.H.Host.law c.args.context.program.now c.args.context.engine.now f
     s s1 c.args.steps.now c.args.host.now c.args.handler (search rules) (search rules)
     c.in_ok-bind_caught.field-0 c.bind_caught.new.self c.bind_caught.new.steps c.if-not-branch.true
@@ -27,7 +27,7 @@ pub returns-in_err-push_handler-clause-same : goal.returns-in_err-push_handler-c
 returns-in_err-push_handler-clause-same g c = λ f at.
     let s = c.args.self.now in
     let s1 : Run g.row.H.Denot =
-    record s { stacks = c.cut_trace.new.self; scope = c.rewind.new.self } in
+    record s { stacks = c.cut.new.self; scope = c.rewind.new.self } in
     let s3 : Run g.row.H.Denot =
     record c.take_fault.new.self { stacks = c.push_handler.new.self } in
     charge_stops g.H.Host.law c.args.context.program.now c.args.context.engine.now f
@@ -40,7 +40,7 @@ pub returns-clause-same : goal.returns-clause-same
 returns-clause-same g c = λ f at.
     let s = c.args.self.now in
     let s1 : Run g.row.H.Denot =
-    record s { stacks = c.cut_trace.new.self; scope = c.rewind.new.self } in
+    record s { stacks = c.cut.new.self; scope = c.rewind.new.self } in
     let s3 : Run g.row.H.Denot =
     record c.take_fault.new.self { stacks = c.push_handler.new.self } in
     charged_at g.H.Host.law c.args.context.program.now c.args.context.engine.now f

@@ -1,7 +1,6 @@
 -- An entry that gets an alias keeps all else.
 use Rattle.std.proofs.Common.{◌<◌, is_ok, arith}
 use Rattle.std.proofs.lemmas.List.{length-take-le}
-use Rattle.grain_value.specs.declared.scopes.Entry.{Entry}
 use Rattle.grain_value.proofs.Spares.{alias_written, kept_spare}
 use Rattle.grain_value.proofs.scopes.Scope.add_alias_by_index.Goals as goal
 
