@@ -2,7 +2,7 @@
 -- would have given.
 use Rattle.std.proofs.Common.{◌≡◌, ◌+◌, ◌≤◌, ℕ, List, [], ◌∷◌, Option, Some, None, Result, Ok, Err, Bool, true, false, if◌then◌else◌, ◌&&◌, length, refl, arith}
 use Rattle.std.specs.Prelude.{slice_get, slice_set}
-use Rattle.grain_value.specs.Cells.{idle}
+use Rattle.grain_value.specs.Cells.{content, flat, idle}
 use Rattle.grain_value.specs.Looking.{cell_of}
 use Rattle.grain_value.specs.declared.natives.Native.{Native}
 use Rattle.grain_value.specs.declared.stores.Cell.{Cell}
@@ -74,6 +74,27 @@ written_stops {S = S} m (Some n) i h name f w go halts = at (slice_get w.cells n
   at : (o : Option Cell) → cell_written m o n h name f w go ≡ leave_by_fault m None f NoMemory w
   at None = rw halts refl
   at (Some d) = by_flag d.busy
+
+-- nothing is written into a cell that is lent
+pub lent_raises : {S : Type 0} (m : Setup S) (v : Dynamic) (i : ℕ) (h : Held) (name : List ℕ)
+    (f : Frame) (w : World S) (go : World S → Act S) → flat w.cells v ≡ None →
+    written m (cell_of v) i h name f w go ≡ data_race m name f w
+lent_raises {S = S} m v i h name f w go none = at (cell_of v) refl where
+  by_flag : (n : ℕ) (x : Dynamic) (b : Bool) → (if b then None else Some x) ≡ None →
+      (if b then data_race m name f w
+      else marked m f w (λ w1. go (record w1 { cells = slice_set w1.cells n (idle h) })))
+      ≡ data_race m name f w
+  by_flag n x true e = refl
+  by_flag n x false e = absurd cc
+
+  by_cell : (n : ℕ) (o : Option Cell) → content o ≡ None →
+      cell_written m o n h name f w go ≡ data_race m name f w
+  by_cell n None e = refl
+  by_cell n (Some d) e = by_flag n d.held.value d.busy e
+
+  at : (c : Option ℕ) → cell_of v ≡ c → written m c i h name f w go ≡ data_race m name f w
+  at None e = let no : Some v ≡ None = rw e at none in absurd cc
+  at (Some n) e = by_cell n (slice_get w.cells n) (rw e at none)
 
 -- so does a native's value on its way into a target
 pub taken_stops : {S : Type 0} (m : Setup S) (o : Option Dynamic) (h : Held) (slot : ℕ)

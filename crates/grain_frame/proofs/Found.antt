@@ -29,7 +29,7 @@ use Rattle.grain_means.specs.Means.{setup}
 use Rattle.grain_means.specs.lemmas.Stretches.{same, compose}
 use Rattle.grain_frame.specs.Counts.{Counts}
 use Rattle.grain_frame.specs.Abstraction.{abstraction, frame_in, is_out, continuation, KeepsFrame, ContinuesAt, Implements, Performs, Runs, StandsAt, Stepped}
-use Rattle.grain_frame.specs.Finding.{Finds, FindsFunction, FindsHere, IsCall}
+use Rattle.grain_frame.specs.Finding.{Finds, FindsFunction, FindsHere, IsCall, found_of}
 use Rattle.grain_frame.specs.declared.activations.Activation.{Activation}
 use Rattle.grain_frame.specs.declared.finding.Found.{Found}
 use Rattle.grain_frame.specs.declared.finding.Found.TheVariants as found
@@ -240,23 +240,22 @@ pub curry_adds : {S : Type 0} (m : Setup S) (count next : ℕ) (f : Frame) (w : 
     })) w
 curry_adds m count next f w v q read points = rw (read, points) refl
 
--- memory was out
-pub finds_out : {H : Type 0} (law : Law H) (p : View) (engine : Engine) (f f' : Activation)
-    (s s' : Run H) (n n' : Counts) (o : Op) (next : ℕ) (host host' : H) (e : OutOfMemory)
-    (r : Result Found OutOfMemory) → is_out r ≡ true →
-    Performs law p engine f s n o next (Err e) f' s' n' host host' →
-    Finds law p engine f s n o next r f' s' n' host host'
-finds_out law p engine f f' s s' n n' o next host host' e (Ok x) out did = absurd cc
-finds_out law p engine f f' s s' n n' o next host host' e (Err x) out did = record {
-  same = record {
-    this = did.same.this;
-    order = did.same.order;
-    equal = λ stop clear halts u place. did.same.equal stop clear halts u place;
-  };
-  kept = did.kept;
-  lands = tt;
-  before = did.before;
-}
+-- what was done without a function is what the instruction comes to
+pub finds_of : {H : Type 0} (law : Law H) (p : View) (engine : Engine) (f f' : Activation)
+    (s s' : Run H) (n n' : Counts) (o : Op) (next : ℕ) (host host' : H)
+    (r : Result Progress OutOfMemory) →
+    Performs law p engine f s n o next r f' s' n' host host' →
+    Finds law p engine f s n o next (found_of r) f' s' n' host host'
+finds_of law p engine f f' s s' n n' o next host host' (Ok q) did = did
+finds_of law p engine f f' s s' n n' o next host host' (Err e) did = did
+
+-- the same of the instruction at which a frame stands
+pub done_here : {H : Type 0} (law : Law H) (p : View) (engine : Engine) (f f' : Activation)
+    (s s' : Run H) (n n' : Counts) (host host' : H) (r : Result Progress OutOfMemory) →
+    Stepped law p engine f s n r f' s' n' host host' →
+    FindsHere law p engine f s n (found_of r) f' s' n' host host'
+done_here law p engine f f' s s' n n' host host' (Ok q) did = did
+done_here law p engine f f' s s' n n' host host' (Err e) did = did
 
 -- what the instruction at which a frame stands comes to
 pub found_here : {H : Type 0} (law : Law H) (p : View) (engine : Engine) (f f' : Activation)

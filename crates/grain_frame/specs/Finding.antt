@@ -16,6 +16,7 @@ use Rattle.grain_frame.specs.Counts.{Counts}
 use Rattle.grain_frame.specs.declared.activations.Activation.{Activation}
 use Rattle.grain_frame.specs.declared.finding.Found.{Found}
 use Rattle.grain_frame.specs.declared.finding.Found.TheVariants as found
+use Rattle.grain_frame.specs.declared.runs.Progress.{Progress}
 use Rattle.grain_frame.specs.declared.runs.Run.{Run}
 
 -- The instruction calls the function of this number, which is there, on the last operands. Nothing
@@ -34,6 +35,11 @@ pub record FindsFunction {H : Type 0} (law : Law H) (program : View) (engine : E
   pub frame : f' ≡ f
   pub others : s' ≡ record s { stacks = record s.stacks { operands = s'.stacks.operands } }
   pub before : n'.before ≡ n.before
+
+-- what was done without a function, unless memory is out
+abbrev pub found_of : Result Progress OutOfMemory → Result Found OutOfMemory
+found_of (Ok p) = Ok (found.Done p)
+found_of (Err e) = Err e
 
 -- what the instruction comes to: it is done, or it calls a function
 abbrev pub Finds : {H : Type 0} → Law H → View → Engine → Activation → Run H → Counts → Op → ℕ →

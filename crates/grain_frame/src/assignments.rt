@@ -70,7 +70,7 @@ impl<H: Host> Run<H> {
             return self.assignment_to_constant(context, steps, frame.address, name);
         }
         if !free {
-            return Ok(self.variable_lent(context, steps, frame.address, name)?);
+            return self.variable_lent(context, steps, frame.address, name);
         }
         let value = self.take_flat()?;
         self.write(Target { index, cell }, Held::read_write(value));
@@ -113,7 +113,7 @@ impl<H: Host> Run<H> {
             return self.assignment_to_constant(context, steps, frame.address, name);
         }
         if !free {
-            return Ok(self.variable_lent(context, steps, frame.address, name)?);
+            return self.variable_lent(context, steps, frame.address, name);
         }
         let kept = self.kept_operand()?;
         let target = Target { index, cell };

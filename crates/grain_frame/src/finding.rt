@@ -1,9 +1,10 @@
 //! The function that an instruction calls.
 
+ghost use Rattle.std.specs.Prelude.{◌≡◌};
 ghost use Rattle.grain_program.specs.Indices.{InPools};
 ghost use Rattle.grain_program.specs.declared.code.instructions.Op.TheVariants as op;
 ghost use Rattle.grain_frame.specs.Abstraction.{Ready};
-ghost use Rattle.grain_frame.specs.Finding.{Finds};
+ghost use Rattle.grain_frame.specs.Finding.{Finds, found_of};
 
 use crate::activations::Activation;
 use crate::contexts::Context;
@@ -21,6 +22,16 @@ pub enum Found {
     /// It calls the function of this number on the last operands, and the frame then goes on at this
     /// address.
     Function(usize, usize),
+}
+
+impl Found {
+    // What was done without a function, unless memory is out.
+    #[inline(always)]
+    pub(crate) fn of(done: Result<Progress, OutOfMemory>) -> Result<Found, OutOfMemory>
+        ensures { result ≡ found_of done }
+    {
+        Ok(Found::Done(done?))
+    }
 }
 
 impl<H: Host> Run<H> {
@@ -48,8 +59,7 @@ impl<H: Host> Run<H> {
             Some(number) => Ok(Found::Function(number, next)),
             None => {
                 let name = context.program.name(u32::from(name));
-                let progress = self.native_on_copy(context, host, steps, frame, name, count, next)?;
-                Ok(Found::Done(progress))
+                Found::of(self.native_on_copy(context, host, steps, frame, name, count, next))
             }
         }
     }

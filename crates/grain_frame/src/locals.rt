@@ -48,7 +48,7 @@ impl<H: Host> Run<H> {
                     steps.mark();
                     Ok(Progress::Continues)
                 }
-                None => Ok(self.entry_lent(context, steps, frame.address, index)?),
+                None => self.entry_lent(context, steps, frame.address, index),
             },
             None => { Ok(self.slot_past_scope(context, steps, frame.address, index)) }
         }
@@ -220,7 +220,7 @@ impl<H: Host> Run<H> {
             steps.new host host }
     {
         if !self.is_readable() || self.cells.find(cell).is_none() {
-            return Ok(self.operand_lent(context, steps, frame.address)?);
+            return self.operand_lent(context, steps, frame.address);
         }
         let value = self.take_flat()?;
         self.cells.set(cell, Held { value, read_only });
@@ -298,7 +298,7 @@ impl<H: Host> Run<H> {
             steps.new host host }
     {
         if !self.is_readable() {
-            return Ok(self.operand_lent(context, steps, frame.address)?);
+            return self.operand_lent(context, steps, frame.address);
         }
         if self.scope.len() >= context.engine.limits.variables {
             return Ok(self.too_many_variables(context, steps, frame.address));

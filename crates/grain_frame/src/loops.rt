@@ -297,7 +297,7 @@ impl<H: Host> Run<H> {
                 let progress = self.step(context, host, steps, &mut copy);
                 frame.address = copy.address;
                 frame.floor = copy.floor;
-                Ok(Found::Done(progress?))
+                Found::of(progress)
             }
         }
     }

@@ -311,7 +311,7 @@ impl<H: Host> Run<H> {
             frame.new self.new steps.new host host }
     {
         let Some(value) = self.read_of(value)? else {
-            return Ok(self.variable_lent(context, steps, frame.address, variable)?);
+            return self.variable_lent(context, steps, frame.address, variable);
         };
         let _operand = self.stacks.pop();
         self.write(target, Held::read_write(value));

@@ -130,7 +130,7 @@ impl<H: Host> Run<H> {
     {
         let arguments = usize::from(count);
         if !self.are_readable(arguments) {
-            return Ok(self.operand_lent(context, steps, frame.address)?);
+            return self.operand_lent(context, steps, frame.address);
         }
         match self.operate(context, token, arguments)? {
             Operated::Value(value) => {
@@ -260,7 +260,7 @@ impl<H: Host> Run<H> {
             frame.new self.new steps.new host.old host.new }
     {
         if !self.are_readable(count) {
-            return Ok(self.operand_lent(context, steps, frame.address)?);
+            return self.operand_lent(context, steps, frame.address);
         }
         self.native_on(context, host, steps, frame, name, count, next)
     }

@@ -117,9 +117,9 @@ impl<H: Host> Run<H> {
     {
         let count = usize::from(count);
         match self.under(count) {
-            Under::Lent => return Ok(self.operand_lent(context, steps, frame.address)?),
+            Under::Lent => return self.operand_lent(context, steps, frame.address),
             Under::Other => {
-                return Ok(self.no_pointer(context, steps, frame.address, count)?);
+                return self.no_pointer(context, steps, frame.address, count);
             }
             Under::Pointer => {}
         }
@@ -160,26 +160,17 @@ impl<H: Host> Run<H> {
     {
         let count = usize::from(count);
         match self.under(count) {
-            Under::Lent => {
-                let progress = self.operand_lent(context, steps, frame.address)?;
-                Ok(Found::Done(progress))
-            }
-            Under::Other => {
-                let progress = self.no_pointer(context, steps, frame.address, count)?;
-                Ok(Found::Done(progress))
-            }
+            Under::Lent => Found::of(self.operand_lent(context, steps, frame.address)),
+            Under::Other => Found::of(self.no_pointer(context, steps, frame.address, count)),
             Under::Pointer => {
                 let FnPtr { name, curry } = self.pointer_under(count)?;
                 let total = curry.len() + count;
                 self.stacks.spread(self.alloc, count, curry.into_vec())?;
                 match context.program.function_named(name.as_str(), total) {
                     Some(number) => Ok(Found::Function(number, next)),
-                    None => {
-                        let progress = self.native_called(
-                            context, host, steps, frame, &name, total, next,
-                        )?;
-                        Ok(Found::Done(progress))
-                    }
+                    None => Found::of(self.native_called(
+                        context, host, steps, frame, &name, total, next,
+                    )),
                 }
             }
         }

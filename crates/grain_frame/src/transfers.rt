@@ -114,7 +114,7 @@ impl<H: Host> Run<H> {
             host.new }
     {
         let Some(value) = self.stacks.top().value.flat(&self.cells) else {
-            return Ok(self.operand_lent(context, steps, frame.address)?);
+            return self.operand_lent(context, steps, frame.address);
         };
         match value.as_bool() {
             Some(truth) => {
@@ -127,7 +127,7 @@ impl<H: Host> Run<H> {
             }
             None => {
                 let type_name = value.own_type_name(self.alloc)?;
-                Ok(self.not_a_bool(context, steps, frame.address, type_name)?)
+                self.not_a_bool(context, steps, frame.address, type_name)
             }
         }
     }
@@ -169,7 +169,7 @@ impl<H: Host> Run<H> {
     {
         let _next = next;
         if !self.is_readable() {
-            return Ok(self.operand_lent(context, steps, frame.address)?);
+            return self.operand_lent(context, steps, frame.address);
         }
         let position = context.program.position(frame.address);
         let value = self.take_flat()?;

@@ -6,11 +6,14 @@ use Rattle.grain_value.specs.Looking.{cell_of}
 use Rattle.grain_value.specs.Operands.{below, read_write, top}
 use Rattle.grain_program.specs.View.{name_of, position_of}
 use Rattle.grain_means.specs.Rules.{flag_of_cell, held_at, race_text}
+use Rattle.grain_means.specs.Means.{setup}
+use Rattle.grain_means.specs.Simulation.{stopped, world}
+use Rattle.grain_frame.specs.Abstraction.{abstraction, frame_in}
 use Rattle.grain_frame.specs.Targets.{Assigns, CanBeLent, put_in}
 use Rattle.grain_frame.specs.declared.runs.Run.{Run}
 use Rattle.grain_frame.specs.declared.targets.Target.{Target}
 use Rattle.grain_fault.specs.declared.faults.EvalAltResult.TheVariants as fault
-use Rattle.grain_frame.proofs.Failing.{raises_here}
+use Rattle.grain_frame.proofs.Failing.{lent_raises, raises_here}
 use Rattle.grain_frame.proofs.AssignedEntries.{is_within}
 use Rattle.grain_frame.proofs.Flattening.{value_there}
 use Rattle.grain_frame.proofs.Lending.{writes}
@@ -99,3 +102,28 @@ write-requires g c =
       entry = is_within s.scope t.index held there;
       free = readable_free s held.value t.cell is_cell free;
     })
+
+pub returns-then-not-free : goal.returns-then-not-free
+returns-then-not-free g c =
+    let p = c.args.context.program.now in
+    let s = c.args.self.now in
+    let f = c.args.frame.now in
+    let held = c.in-Some.held.now in
+    let at : held_at s.scope (f.base + c.args.slot) ≡ Some held = search rules in
+    let readable : is_some (flat s.cells (top s.stacks.operands).value) ≡ true = search rules in
+    let read = value_there (flat s.cells (top s.stacks.operands).value) readable in
+    let writable : (held.read_only || flag_of_cell (cell_of held.value) s.cells) ≡ false =
+    search rules in
+    let none : flat s.cells held.value ≡ None = search rules in
+    let engine = c.args.context.engine.now in
+    record {
+      performs = λ host. raises_here g.H.Host.law p engine f s
+          c.variable_lent-then-not-free.new.self c.args.steps.now
+          c.variable_lent-then-not-free.new.steps host
+          (fault.ErrorDataRace (race_text (name_of p c.args.name)) (position_of p f.address))
+          c.variable_lent-then-not-free.result c.variable_lent-then-not-free.ensures
+          c.requires.ready.inside (λ stop u place.
+          rw (at, read.1, writable) (lent_raises (stopped (setup g.H.Host.law p engine) stop)
+          held.value (f.base + c.args.slot) (record held { value = read.0 }) (name_of p c.args.name)
+          (frame_in f s place) (world (abstraction s c.args.steps.now host) u) _ none));
+    }

@@ -39,15 +39,36 @@ returns-in_err-kept g c =
     let read = value_there (flat s.cells (top s.stacks.operands).value) readable in
     let a = assign_op_of p c.args.assign_op in
     let u = content_at s t in
-    let out : is_out c.from_residual-in_err-kept.result ≡ true = search rules in
+    let out : is_out c.from_residual.result ≡ true = search rules in
     record {
       performs = wants_memory g.H.Host.law p engine f s c.args.steps.now c.args.host.now
-          c.from_residual-in_err-kept.result out c.requires.ready.inside
+          c.from_residual.result out c.requires.ready.inside
           (λ stop w place halts. rw (at, read.1, writable, holds) (store_stops
           (stopped (setup g.H.Host.law p engine) stop) (op_assigned engine a u read.0) a held u
           (record { value = read.0; read_only = (top s.stacks.operands).read_only }) c.args.slot
           c.args.name c.args.next (frame_in f s place)
           (world (abstraction s c.args.steps.now c.args.host.now) w) halts));
+    }
+
+pub returns-then-not-free : goal.returns-then-not-free
+returns-then-not-free g c =
+    let p = c.args.context.program.now in
+    let s = c.args.self.now in
+    let f = c.args.frame.now in
+    let held = c.in-Some.held.now in
+    let at : held_at s.scope (f.base + c.args.slot) ≡ Some held = search rules in
+    let readable : is_some (flat s.cells (top s.stacks.operands).value) ≡ true = search rules in
+    let read = value_there (flat s.cells (top s.stacks.operands).value) readable in
+    let writable : (held.read_only || flag_of_cell (cell_of held.value) s.cells) ≡ false =
+    search rules in
+    let none : flat s.cells held.value ≡ None = search rules in
+    record {
+      performs = raises_here g.H.Host.law p c.args.context.engine.now f s
+          c.variable_lent-then-not-free.new.self c.args.steps.now
+          c.variable_lent-then-not-free.new.steps c.args.host.now
+          (fault.ErrorDataRace (race_text (name_of p c.args.name)) (position_of p f.address))
+          c.variable_lent-then-not-free.result c.variable_lent-then-not-free.ensures
+          c.requires.ready.inside (λ stop u place. rw (at, read.1, writable, none) refl);
     }
 
 pub op_assign_target-requires-clause-target : goal.op_assign_target-requires-clause-target

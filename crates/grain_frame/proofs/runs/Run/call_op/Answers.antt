@@ -1,13 +1,15 @@
-use Rattle.std.proofs.Common.{rules, refl, sym, ap, subst, arith, ◌≡◌, ◌∙◌, ◌-◌, ℕ, Some, length, Ok}
+use Rattle.std.proofs.Common.{rules, refl, sym, ap, subst, arith, ◌≡◌, ◌∙◌, ◌-◌, ℕ, [], None, Some, length, Ok}
 use Rattle.grain_value.specs.Operands.{under, arguments}
+use Rattle.grain_fault.specs.declared.faults.EvalAltResult.TheVariants as fault
 use Rattle.grain_ops.specs.Outcomes.{NotBuiltIn, Gave, ArithmeticFault, TooLarge}
-use Rattle.grain_means.specs.Rules.{flat_all, operated}
+use Rattle.grain_means.specs.Rules.{flat_all, operated, race_text}
 use Rattle.std.proofs.lemmas.List.{length-take}
-use Rattle.grain_frame.proofs.Arms.{implements_after, raises_exactly}
-use Rattle.grain_program.specs.View.{name_of}
+use Rattle.grain_frame.proofs.Arms.{implements_after}
+use Rattle.grain_program.specs.View.{name_of, position_of}
 use Rattle.grain_means.specs.Means.{setup}
 use Rattle.grain_means.specs.Simulation.{stopped, world}
 use Rattle.grain_frame.specs.Abstraction.{abstraction, frame_in}
+use Rattle.grain_frame.proofs.Failing.{raises_here}
 use Rattle.grain_frame.proofs.Flattening.{all_there}
 use Rattle.grain_frame.proofs.Handing.{operator_is}
 use Rattle.grain_frame.proofs.runs.Run.call_op.Goals as goal
@@ -43,16 +45,10 @@ returns-in-Arithmetic g c =
     read.0 ≡
     ArithmeticFault c.in-Arithmetic.text = search rules in
     record {
-      performs =
-          record {
-            same = raises_exactly c.args.frame.now c.args.self.now c.arithmetic.new.self
-                c.args.steps.now c.arithmetic.new.steps c.args.host.now _ (Ok c.arithmetic.result)
-                c.arithmetic.ensures (λ stop u place. rw (read.1, gives) refl);
-            kept = search rules;
-            lands =
-                search rules;
-            before = search rules;
-          };
+      performs = raises_here g.H.Host.law c.args.context.program.now c.args.context.engine.now
+          c.args.frame.now c.args.self.now c.arithmetic.new.self c.args.steps.now
+          c.arithmetic.new.steps c.args.host.now _ (Ok c.arithmetic.result) c.arithmetic.ensures
+          c.requires.ready.inside (λ stop u place. rw (read.1, gives) refl);
     }
 
 pub returns-in-TooLarge : goal.returns-in-TooLarge
@@ -63,17 +59,11 @@ returns-in-TooLarge g c =
     read.0 ≡ TooLarge c.in-TooLarge.what =
     search rules in
     record {
-      performs =
-          record {
-            same = raises_exactly c.args.frame.now c.args.self.now c.data_too_large.new.self
-                c.args.steps.now c.data_too_large.new.steps c.args.host.now _
-                (Ok c.data_too_large.result)
-                c.data_too_large.ensures (λ stop u place. rw (read.1, gives) refl);
-            kept = search rules;
-            lands =
-                search rules;
-            before = search rules;
-          };
+      performs = raises_here g.H.Host.law c.args.context.program.now c.args.context.engine.now
+          c.args.frame.now c.args.self.now c.data_too_large.new.self c.args.steps.now
+          c.data_too_large.new.steps c.args.host.now _ (Ok c.data_too_large.result)
+          c.data_too_large.ensures c.requires.ready.inside
+          (λ stop u place. rw (read.1, gives) refl);
     }
 
 pub returns-in-NotBuiltIn : goal.returns-in-NotBuiltIn
@@ -100,4 +90,18 @@ returns-in-NotBuiltIn g c =
           (world (abstraction s c.args.steps.now c.args.host.now) u) read.0 read.1 gives
           ∙ rw (named, c.from-arguments.ensures) refl) (λ b i. i)
           (rw c.from-arguments.ensures refl) (rw c.from-arguments.ensures (omega arith));
+    }
+
+pub returns-then-not-are_readable : goal.returns-then-not-are_readable
+returns-then-not-are_readable g c =
+    let p = c.args.context.program.now in
+    let s = c.args.self.now in
+    let f = c.args.frame.now in
+    let none : flat_all s.cells (arguments c.args.count s.stacks.operands) ≡ None =
+    search rules in
+    record {
+      performs = raises_here g.H.Host.law p c.args.context.engine.now f s
+          c.operand_lent.new.self c.args.steps.now c.operand_lent.new.steps c.args.host.now
+          (fault.ErrorDataRace (race_text []) (position_of p f.address)) c.operand_lent.result
+          c.operand_lent.ensures c.requires.ready.inside (λ stop u place. rw none refl);
     }

@@ -1,5 +1,5 @@
 -- The operands go behind the values of the pointer under them.
-use Rattle.std.proofs.Common.{◌≡◌, ◌∙◌, ◌+◌, ◌-◌, ◌++◌, Some, Ok, length, refl, arith, rules}
+use Rattle.std.proofs.Common.{◌≡◌, ◌∙◌, ◌+◌, ◌-◌, ◌++◌, [], None, Some, length, refl, arith, rules}
 use Rattle.std.proofs.lemmas.List.{length-take}
 use Rattle.std.specs.Prelude.{codes}
 use Rattle.grain_value.specs.Cells.{flat}
@@ -7,7 +7,7 @@ use Rattle.grain_value.specs.Operands.{arguments, under}
 use Rattle.grain_value.specs.Writing.{type_name_of}
 use Rattle.grain_fault.specs.declared.faults.EvalAltResult.TheVariants as fault
 use Rattle.grain_program.specs.View.{position_of}
-use Rattle.grain_means.specs.Rules.{operand_under, trees_in}
+use Rattle.grain_means.specs.Rules.{operand_under, race_text, trees_in}
 use Rattle.grain_means.specs.Means.{setup}
 use Rattle.grain_means.specs.Simulation.{stopped, world}
 use Rattle.grain_frame.specs.Abstraction.{abstraction, frame_in}
@@ -15,6 +15,20 @@ use Rattle.grain_frame.proofs.Arms.{implements_after}
 use Rattle.grain_frame.proofs.Failing.{raises_here}
 use Rattle.grain_frame.proofs.Found.{curry_adds, curry_refused}
 use Rattle.grain_frame.proofs.runs.Run.curry.Goals as goal
+
+pub returns-in-Lent : goal.returns-in-Lent
+returns-in-Lent g c =
+    let p = c.args.context.program.now in
+    let s = c.args.self.now in
+    let f = c.args.frame.now in
+    let none : flat s.cells (operand_under c.args.count s.stacks.operands).value ≡ None =
+    rw c.from-count.ensures at c.in-Lent.ensures in
+    record {
+      performs = λ host. raises_here g.H.Host.law p c.args.context.engine.now f s
+          c.operand_lent.new.self c.args.steps.now c.operand_lent.new.steps host
+          (fault.ErrorDataRace (race_text []) (position_of p f.address)) c.operand_lent.result
+          c.operand_lent.ensures c.requires.ready.inside (λ stop u place. rw none refl);
+    }
 
 pub returns-in-Other : goal.returns-in-Other
 returns-in-Other g c =
@@ -31,8 +45,8 @@ returns-in-Other g c =
     let x = fault.ErrorMismatchDataType (codes "Fn") (type_name_of v) (position_of p f.address) in
     record {
       performs = λ host. raises_here g.H.Host.law p engine f s c.no_pointer.new.self c.args.steps.now
-          c.no_pointer.new.steps host x (Ok c.in_ok-no_pointer-in-Other.field-0)
-          (c.in_ok-no_pointer-in-Other.ensures v stands.1) c.requires.ready.inside
+          c.no_pointer.new.steps host x c.no_pointer.result (c.no_pointer.ensures v stands.1)
+          c.requires.ready.inside
           (λ stop u place. curry_refused (stopped (setup g.H.Host.law p engine) stop) n c.args.next
           (frame_in f s place) (world (abstraction s c.args.steps.now host) u) v read stands.2);
     }

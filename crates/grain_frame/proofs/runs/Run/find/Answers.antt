@@ -2,10 +2,10 @@
 use Rattle.std.proofs.Common.{refl, subst}
 use Rattle.grain_program.specs.declared.code.instructions.Op.TheVariants as op
 use Rattle.grain_frame.specs.Abstraction.{IsPending}
-use Rattle.grain_frame.specs.Finding.{FindsHere}
+use Rattle.grain_frame.specs.Finding.{FindsHere, found_of}
 use Rattle.grain_frame.specs.declared.activations.Activation.{Activation}
 use Rattle.grain_frame.specs.declared.loops.Pending.{Pending}
-use Rattle.grain_frame.proofs.Found.{found_here, found_kept}
+use Rattle.grain_frame.proofs.Found.{done_here, found_here, found_kept}
 use Rattle.grain_frame.proofs.Turns.{taken_back}
 use Rattle.grain_frame.proofs.runs.Run.find.Goals as goal
 
@@ -46,3 +46,20 @@ returns-in-Pointer g c =
           c.find_pointed-found.new.host c.find_pointed-found.result c.requires.runs at
           (record { leads = refl; gives = refl; keeps = refl }) did);
     }
+
+pub returns-in-Other : goal.returns-in-Other
+returns-in-Other g c =
+    let p = c.args.context.program.now in
+    let s = c.args.self.now in
+    let f = c.args.frame.now in
+    let did = c.step-progress.ensures.stepped in
+    let same = taken_back f c.step-progress.new.frame did.kept.chunk did.kept.base in
+    rw c.of.ensures (record {
+      finds =
+          subst (λ (a : Activation). FindsHere g.H.Host.law p c.args.context.engine.now f s
+          c.args.steps.now (found_of c.step-progress.result) a c.step-progress.new.self
+          c.step-progress.new.steps c.args.host.now c.step-progress.new.host) same
+          (done_here g.H.Host.law p c.args.context.engine.now f c.step-progress.new.frame s
+          c.step-progress.new.self c.args.steps.now c.step-progress.new.steps c.args.host.now
+          c.step-progress.new.host c.step-progress.result did);
+    })

@@ -1,8 +1,11 @@
 -- The native is called on the operands, as they are read.
-use Rattle.std.proofs.Common.{◌≡◌, refl, rules, true}
+use Rattle.std.proofs.Common.{◌≡◌, [], None, refl, rules, true}
 use Rattle.std.specs.Prelude.{is_some}
 use Rattle.grain_value.specs.Operands.{arguments}
-use Rattle.grain_means.specs.Rules.{flat_all}
+use Rattle.grain_means.specs.Rules.{flat_all, race_text}
+use Rattle.grain_fault.specs.declared.faults.EvalAltResult.TheVariants as fault
+use Rattle.grain_program.specs.View.{position_of}
+use Rattle.grain_frame.proofs.Failing.{raises_here}
 use Rattle.grain_frame.proofs.Arms.{implements_as}
 use Rattle.grain_means.specs.Means.{setup}
 use Rattle.grain_means.specs.Simulation.{stopped, world}
@@ -28,4 +31,18 @@ returns g c =
           c.args.context.engine.now) stop) c.args.name.now c.args.count c.args.next
           (frame_in f s place) (world (abstraction s c.args.steps.now c.args.host.now) u) read.0
           read.1);
+    }
+
+pub returns-then-not-are_readable : goal.returns-then-not-are_readable
+returns-then-not-are_readable g c =
+    let p = c.args.context.program.now in
+    let s = c.args.self.now in
+    let f = c.args.frame.now in
+    let none : flat_all s.cells (arguments c.args.count s.stacks.operands) ≡ None =
+    search rules in
+    record {
+      implements = raises_here g.H.Host.law p c.args.context.engine.now f s
+          c.operand_lent.new.self c.args.steps.now c.operand_lent.new.steps c.args.host.now
+          (fault.ErrorDataRace (race_text []) (position_of p f.address)) c.operand_lent.result
+          c.operand_lent.ensures c.requires.inside (λ stop u place. rw none refl);
     }
