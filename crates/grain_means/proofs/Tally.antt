@@ -6,7 +6,7 @@
 -- `Called` whole runs.
 use Rattle.std.proofs.Common.{◌≡◌, ◌≤◌, ◌<◌, ◌⊎◌, ℕ, ◌+◌, ◌-◌, List, [], ◌∷◌, ◌++◌, Option, Some, None, Bool, true, false, refl, sym, subst, ap, ◌∙◌, inl, inr, arith, length, take, if◌then◌else◌, ◌&&◌, nat_lt, nat_le, append_assoc}
 use Rattle.std.specs.Prelude.{codes, is_some, slice_get, slice_set}
-use Rattle.std.proofs.lemmas.Bool.{ltb-true, ltb-false, leb-true}
+use Rattle.std.proofs.lemmas.Bool.{ltb-true, ltb-false, leb-true, leb-false}
 use Rattle.grain_value.specs.declared.values.Dynamic.{Dynamic}
 use Rattle.grain_value.specs.declared.values.Dynamic.TheVariants as dynamic
 use Rattle.grain_value.specs.declared.values.Held.{Held}
@@ -47,7 +47,7 @@ use Rattle.grain_means.proofs.Missing.{row_of_missing}
 use Rattle.grain_means.specs.Rules.{throws_unit, offered, offered_to, thrown_anew, outer_handlers, push_handler, Receiver, lent, given, given_back, content_now, operator_assigned, op_assign_failed, native_assigned, trees_in, first_is_read_only, on_verdict, progressed, answered, host_called, native_found, native, pushed, written, without, bound, function_found, frame_at, held_at, stepped, is_full, is_stop, or_return, operated, op_assigned, agrees, leave_by_fault, marked, raised, charged, onward, jumped, at_entry, declare, push_outcome, assignment_to_constant, write_entry, store_outcome, branched, tested, skip, unwind, propagate, resume_caller, enter_function, function_entered, call_function, instr, start_instruction, next, position, flattened, flat_or_race, flat_all, all_or_race, data_race, race_text, operand_under, spread, name_at, cells_given_back, cell_written, operand_for, shared, curried, pointer_called, not_a_pointer, jump_if, is_read_only, function_by_name}
 use Rattle.grain_means.specs.Comes.{ProgramPoint, Comes, here, Meets, try_of, tries}
 use Rattle.grain_means.specs.Leavings.{Keeps, AtCheckpoint, Cut, Cuts}
-use Rattle.grain_means.specs.Causes.{Question, native_asked, reply_to, asks_first, EndsWith, HasNoBuiltIn, AssignsByHost, AsksAgain, AsksSecond, AsksNative, AsksLast, FindsNative, HostAnswers, IsCalled, HaveCaughtUnit, HasPosition, Why, Calls, Charges, Overfills, UsesEntry, Unwinds, Tests, Holds, AssignsConstant, Operates, CallsOn, Enters, LeftCall, Raised, Row, Cause, Caused, ReadsLent, AnswersLent, IsLent, AssignsLent, Points, AsksPointer, truth_on_top, truth_read, Misses}
+use Rattle.grain_means.specs.Causes.{Question, native_asked, reply_to, asks_first, EndsWith, HasNoBuiltIn, AssignsByHost, AsksAgain, AsksSecond, AsksNative, AsksLast, FindsNative, HostAnswers, IsCalled, HaveCaughtUnit, HasPosition, Why, Calls, Charges, IsCharged, Overfills, UsesEntry, Unwinds, Tests, Holds, AssignsConstant, Operates, CallsOn, Enters, LeftCall, Raised, Row, Cause, Caused, ReadsLent, AnswersLent, IsLent, AssignsLent, Points, AsksPointer, truth_on_top, truth_read, Misses}
 use Rattle.grain_means.specs.lemmas.Branches.{of_two}
 use Rattle.grain_means.proofs.Kept.{keeps_nothing, keeps_cut, keeps_push, keeps_set, keeps_given}
 use Rattle.grain_means.proofs.Lengths.{past_scope, cut_short, length_under, length_pushed, length_rotated, spread_length, spread_under}
@@ -409,11 +409,11 @@ module _ {S : Type 0} (m : Setup S) where
       even_told : (operands : List Held) → Enough operands → (w : World S) →
           Steady (now.ran + 1) w → (go : World S → Act S) →
           Charges m.program o f now → now.count < m.engine.limits.operations →
-          Even (now.ran + 1) (go w) →
+          (IsCharged m now → Even (now.ran + 1) (go w)) →
           (said : Verdict) → m.law.progress_reply now.host (now.count + 1) ≡ said →
           Even (now.ran + 1)
           (on_verdict m said (position m f) (holding operands) (offered m (holding operands)) w go)
-      even_told operands enough w s go charges fits h GoOn e = h
+      even_told operands enough w s go charges fits h GoOn e = h (fits, e)
       even_told operands enough w s go charges fits h (Stop v) e =
           let x = Plain (problem.Terminated v) (position m f) in
           even_raised_in operands enough (now.ran + 1) x w s (why x refl (fits, e, charges))
@@ -431,7 +431,7 @@ module _ {S : Type 0} (m : Setup S) where
       -- an operation, and then what the first rule says
       even_charged : (operands : List Held) → Enough operands → (go : World S → Act S) →
           Charges m.program o f now →
-          (now.count < m.engine.limits.operations → Even (now.ran + 1) (go heard)) →
+          (IsCharged m now → Even (now.ran + 1) (go heard)) →
           Even (now.ran + 1) (charged m (holding operands) start go)
       even_charged operands enough go charges h =
           let r : ℕ = now.ran + 1 in
@@ -453,7 +453,7 @@ module _ {S : Type 0} (m : Setup S) where
           (even_marked r counted steady (λ w1. marked m g (after w1) (tells w1))
           (even_marked r (after (record counted { passed = counted.passed + 1 })) steady
           (tells (record counted { passed = counted.passed + 1 }))
-          (even_told operands enough heard steady go charges allowed (h allowed) said refl))))
+          (even_told operands enough heard steady go charges allowed h said refl))))
           (λ full. even_raised_in operands enough r (Plain TooManyOperations p) start steady
           (why (Plain TooManyOperations p) refl
           (ltb-false now.count m.engine.limits.operations full, charges)))
@@ -492,8 +492,7 @@ module _ {S : Type 0} (m : Setup S) where
       even_declared : (read_only : Bool) (name : List ℕ) →
           (IsLent now (top f.operands) → ReadsLent m.program [] o f now) →
           Sits m root k (stepped f behind_it (below f.operands)) →
-          (m.engine.limits.variables ≤ length now.scope →
-          Overfills m.program m.engine.limits.variables o f now) →
+          (m.engine.limits.variables ≤ length now.scope → Overfills m o f now) →
           Even (now.ran + 1) (declare m read_only name behind_it f start)
       even_declared read_only name lent u fills =
           even_flat (top f.operands) [] lent _ (λ v _.
@@ -1033,8 +1032,8 @@ module _ {S : Type 0} (m : Setup S) where
             ((v : Dynamic) →
             Sits m root k (stepped f behind_it (under count operands ++ read_write v ∷ []))) →
             Calls m.program o f now → Charges m.program o f now →
-            (m.engine.limits.variables < length g.params →
-            Overfills m.program m.engine.limits.variables o f now) →
+            (IsCharged m now → now.level < m.engine.limits.levels →
+            m.engine.limits.variables < length g.params → Overfills m o f now) →
             (IsProgram m.program → Fitting m.program (frame_at g.chunk 0 None)) →
             CallsOn m.program g (arguments count operands) o f now →
             Even (now.ran + 1) (enter_function m g count (holding operands) behind_it start)
@@ -1066,12 +1065,13 @@ module _ {S : Type 0} (m : Setup S) where
             (λ high. even_raised_in operands full r (Plain StackOverflow (position m f)) w1 steady
             (why (Plain StackOverflow (position m f)) refl
             (allowed, leb-true m.engine.limits.levels now.level high, is_call)))
-            (λ _. by_test (Even r) (nat_lt m.engine.limits.variables (length g.params))
+            (λ low. by_test (Even r) (nat_lt m.engine.limits.variables (length g.params))
             (raised m (holding operands) (Plain TooManyVariables (position m f)) w1)
             (marked m f w1 body)
             (λ many. even_raised_in operands full r (Plain TooManyVariables (position m f)) w1 steady
             (why (Plain TooManyVariables (position m f)) refl
-            (fills (ltb-true m.engine.limits.variables (length g.params) many))))
+            (fills allowed (leb-false m.engine.limits.levels now.level low)
+            (ltb-true m.engine.limits.variables (length g.params) many))))
             (λ _. even_marked r w1 steady body (
               j,
               (
@@ -1104,8 +1104,8 @@ module _ {S : Type 0} (m : Setup S) where
           ReadsLent m.program [] o f now) →
           (Calls m.program o f now → Charges m.program o f now) →
           ((g : Function) (args : List Held) → CallsOn m.program g args o f now →
-          m.engine.limits.variables < length g.params →
-          Overfills m.program m.engine.limits.variables o f now) →
+          IsCharged m now → now.level < m.engine.limits.levels →
+          m.engine.limits.variables < length g.params → Overfills m o f now) →
           (found : Option Function) →
           (found ≡ None → (args : List Held) →
           flat_all now.cells (arguments count operands) ≡ Some args →
@@ -1137,7 +1137,8 @@ module _ {S : Type 0} (m : Setup S) where
           let on : CallsOn m.program g (arguments count operands) o f now = calls g refl in
           let is : Calls m.program o f now = (g, arguments count operands, on) in
           even_entered g count operands full enough u is (charges is)
-          (λ many. fills g (arguments count operands) on many) (fits g refl) on
+          (λ charged low many. fills g (arguments count operands) on charged low many) (fits g refl)
+          on
 
       -- the pointer under the last n operands, or the fault that there is none
       even_pointer : (n : ℕ) → AsksPointer n o →
@@ -1341,7 +1342,7 @@ module _ {S : Type 0} (m : Setup S) where
         (λ v. sits_at (op.Call n count) width at refl _ _ (inl refl)
         (λ _. omega
         (arith, length_pushed (under count f.operands) v, length_under count f.operands)))
-        (λ lent. (refl, lent)) (λ is. is) (λ g args on many. (g, args, on, many))
+        (λ lent. (refl, lent)) (λ is. is) (λ g args on charged low many. (g, args, on, charged, low, many))
         (function_found m.program n count) (λ none args read. (refl, read, none))
         (λ g e. (e, refl)) (λ g e valid. fits_found m.program valid (function_of m.program n count) g 0 e)
     even_instr (op.CallOp n count o) width at =
@@ -1386,7 +1387,7 @@ module _ {S : Type 0} (m : Setup S) where
           spread_under p n f.operands,
           enough,
         )))
-        (λ lent. (refl, inr (p, points, lent))) (λ is. is) (λ g args on many. (g, args, on, many))
+        (λ lent. (refl, inr (p, points, lent))) (λ is. is) (λ g args on charged low many. (g, args, on, charged, low, many))
         (function_by_name m.program p.name count)
         (λ none args read. (p, points, refl, read, none))
         (λ g e. (p, points, e, refl))

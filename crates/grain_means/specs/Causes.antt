@@ -26,7 +26,7 @@ use Rattle.grain_global.specs.declared.engines.Engine.{Engine}
 use Rattle.grain_ops.specs.Outcomes.{Outcome, NotBuiltIn, ArithmeticFault, TooLarge}
 use Rattle.grain_means.specs.Worlds.{Act, Go, Answer, Came, Failed, World, Setup, Handler, Frame, InFrame}
 use Rattle.grain_means.specs.Signatures.{missing_kind, not_found, says_missing}
-use Rattle.grain_host.specs.Law.{Law, Reply, Stop, native_of}
+use Rattle.grain_host.specs.Law.{Law, Reply, GoOn, Stop, native_of}
 use Rattle.grain_host.specs.Law as reply
 use Rattle.grain_value.specs.declared.natives.Native.{Native}
 use Rattle.grain_means.specs.Rules.{Receiver, lent, given, given_back, cells_given_back, content_now, name_at, flat_all, spread, operand_under, race_text, is_read_only, function_by_name, kinds_in, trees_in, first_is_read_only, throws_unit, bound, frame_at, held_at, function_found, is_stop, position, main, operated, op_assigned}
@@ -73,15 +73,25 @@ Charges program (op.CallFnPtr n) f w = Calls program (op.CallFnPtr n) f w
 Charges program op.Tick f w = Unit {0}
 Charges program o f w = ⊥
 
--- a declaration finds the scope full, or the parameters of a function that is called pass the limit
-abbrev pub Overfills : {S : Type 0} → View → ℕ → Op → Frame → World S → Type 0
-Overfills program limit (op.DeclareLocal n) f w = limit ≤ length w.scope
-Overfills program limit (op.DeclareConst n) f w = limit ≤ length w.scope
-Overfills program limit (op.Call n k) f w = (g : Function) × (args : List Held) ×
-    CallsOn program g args (op.Call n k) f w × (limit < length g.params)
-Overfills program limit (op.CallFnPtr n) f w = (g : Function) × (args : List Held) ×
-    CallsOn program g args (op.CallFnPtr n) f w × (limit < length g.params)
-Overfills program limit o f w = ⊥
+-- an operation is taken: one is left, and the host, which hears of it, lets the run go on
+abbrev pub IsCharged : {S : Type 0} → Setup S → World S → Type 0
+IsCharged m w = (w.count < m.engine.limits.operations)
+    × (m.law.progress_reply w.host (w.count + 1) ≡ GoOn)
+
+-- this function is called, its operation is taken, a level is left for it, and its parameters pass
+-- the limit of variables
+abbrev pub HasTooMany : {S : Type 0} → Setup S → Op → Frame → World S → Type 0
+HasTooMany m o f w = (g : Function) × (args : List Held) × CallsOn m.program g args o f w
+    × IsCharged m w × (w.level < m.engine.limits.levels)
+    × (m.engine.limits.variables < length g.params)
+
+-- a declaration finds the scope full, or a function that is called has too many parameters
+abbrev pub Overfills : {S : Type 0} → Setup S → Op → Frame → World S → Type 0
+Overfills m (op.DeclareLocal n) f w = m.engine.limits.variables ≤ length w.scope
+Overfills m (op.DeclareConst n) f w = m.engine.limits.variables ≤ length w.scope
+Overfills m (op.Call n k) f w = HasTooMany m (op.Call n k) f w
+Overfills m (op.CallFnPtr n) f w = HasTooMany m (op.CallFnPtr n) f w
+Overfills m o f w = ⊥
 
 -- it reads or writes the entry at this index, by its slot
 abbrev pub UsesEntry : ℕ → Op → Frame → Type 0
@@ -498,9 +508,8 @@ Raises m (Runtime v) at =
     (flat at.world.cells (top at.frame.operands).value ≡ Some v) × Throws at.instruction
 Raises m TooManyOperations at = (m.engine.limits.operations ≤ at.world.count) ×
     Charges m.program at.instruction at.frame at.world
-Raises m TooManyVariables at =
-    Overfills m.program m.engine.limits.variables at.instruction at.frame at.world
-Raises m StackOverflow at = (at.world.count < m.engine.limits.operations) ×
+Raises m TooManyVariables at = Overfills m at.instruction at.frame at.world
+Raises m StackOverflow at = IsCharged m at.world ×
     (m.engine.limits.levels ≤ at.world.level) × Calls m.program at.instruction at.frame at.world
 Raises m (DataTooLarge t) at = (name : List ℕ) × (args : List Held) ×
     Operates m (TooLarge t) name args at.instruction at.frame at.world
