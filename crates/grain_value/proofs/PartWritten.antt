@@ -25,18 +25,23 @@ pub all_written : {W : Type 0} (took : W → List ℕ → W → Type 0) (f : For
 all_written took f whole g p =
     has_written_of_eq took f p.part whole g (sym (append-nil p.part) ∙ p.all) p.wrote
 
+-- the empty text is written before anything is
+pub nothing_written : {W : Type 0} (took : W → List ℕ → W → Type 0) (f : Formatter W) →
+    IsPlainFormatter f → HasWritten took f [] f
+nothing_written took f plain = record {
+  wrote = record {
+    parts = [];
+    calls = refl;
+    whole = refl;
+  };
+  plain = plain;
+}
+
 -- before anything is written, all of it is left
 pub none_written : {W : Type 0} (took : W → List ℕ → W → Type 0) (f : Formatter W)
     (whole : List ℕ) → IsPlainFormatter f → PartWritten took f whole whole f
 none_written took f whole plain = record {
   part = [];
-  wrote = record {
-    wrote = record {
-      parts = [];
-      calls = refl;
-      whole = refl;
-    };
-    plain = plain;
-  };
+  wrote = nothing_written took f plain;
   all = refl;
 }

@@ -73,8 +73,8 @@ abbrev sizes_if_read : Option Dynamic → Sizes
 sizes_if_read None = nothing
 sizes_if_read (Some v) = plain_sizes v
 
--- the sizes of a value that stands in no other: a cell is measured by what it holds, which counts
--- nothing while it is lent
+-- the sizes of a value that stands in no other: a cell is measured by what it holds, and counts
+-- nothing while its content is lent or where there is no such cell
 abbrev pub data_sizes : List Cell → Dynamic → Sizes
 data_sizes cells v = sizes_if_read (flat cells v)
 

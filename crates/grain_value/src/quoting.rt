@@ -16,24 +16,29 @@ impl fmt::Display for Quoted<'_> {
     ghost output = { λ q. Some (quoted_text q.0.now) };
 
     fn fmt<W: fmt::Write>(&self, f: &mut fmt::Formatter<W>) -> fmt::Result {
-        f.write_str("\"")?;
-        write_all_escaped(self.0, f)?;
-        f.write_str("\"")
+        write_quoted(self.0, f)
     }
 }
 
-/// Prints a character between its own quotes, with the same escapes and `\'`.
-#[derive(Drop)]
-pub struct QuotedCharacter(pub char);
+/// Writes a text between quotes, with the same escapes.
+pub fn write_quoted<W: fmt::Write>(s: &str, f: &mut fmt::Formatter<W>) -> fmt::Result
+    ensures { WritesOnOk W.write_str_gives f.old result (quoted_text s.now) f.new }
+{
+    f.write_str("\"")?;
+    write_all_escaped(s, f)?;
+    f.write_str("\"")
+}
 
-impl fmt::Display for QuotedCharacter {
-    ghost output = { λ q. Some (quoted_character q.0) };
-
-    fn fmt<W: fmt::Write>(&self, f: &mut fmt::Formatter<W>) -> fmt::Result {
-        f.write_str("'")?;
-        write_inner(self.0, f)?;
-        f.write_str("'")
-    }
+/// Writes a character between its own quotes, with the same escapes and `\'`.
+pub fn write_quoted_character<W: fmt::Write>(
+    character: char,
+    f: &mut fmt::Formatter<W>,
+) -> fmt::Result
+    ensures { WritesOnOk W.write_str_gives f.old result (quoted_character character) f.new }
+{
+    f.write_str("'")?;
+    write_inner(character, f)?;
+    f.write_str("'")
 }
 
 /// Writes a character as it stands between its own quotes.

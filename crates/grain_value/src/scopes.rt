@@ -179,8 +179,8 @@ impl Scope {
     }
 
     /// Puts an entry at the end, which can be written, with the value of `held` and a shared name.
-    /// What `held` has afterwards owns no memory. After want of memory the scope and `held` are as
-    /// they were.
+    /// Where that succeeds, the value that is left in `held` owns no memory. After want of memory
+    /// the scope and `held` are as they were.
     #[inline(always)]
     pub fn push_moved(&mut self, name: &Name, held: &mut Held) -> Result<(), OutOfMemory>
         ensures scope { self.new ≡ (if is_ok result

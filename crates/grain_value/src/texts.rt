@@ -38,7 +38,7 @@ impl Text {
         }
     }
 
-    /// The allocator that the text was made with.
+    /// The allocator of the text. There is only one, the global one.
     pub fn allocator(&self) -> Global
         ensures { (alloc : Global) → result ≡ alloc }
     {

@@ -1,7 +1,7 @@
 //! Operator tokens.
 
 ghost use Rattle.std.specs.Prelude.{◌≡◌};
-ghost use Rattle.grain_value.specs.Tokens.{token_in};
+ghost use Rattle.grain_value.specs.Tokens.{token_in, comparing_token_in, assigning_token_in};
 
 /// An operator, by which an instruction finds its built-in.
 #[derive(Clone, Copy, Debug, PartialEq, Eq)]
@@ -91,6 +91,15 @@ impl Token {
             "&" => Some(Token::Ampersand),
             "|" => Some(Token::Pipe),
             "^" => Some(Token::XOr),
+            _ => Token::comparing_from_syntax(syntax),
+        }
+    }
+
+    // The same but for operators of arithmetic and of bits.
+    fn comparing_from_syntax(syntax: &str) -> Option<Token>
+        ensures { result ≡ comparing_token_in syntax.now }
+    {
+        match syntax {
             "==" => Some(Token::EqualsTo),
             "!=" => Some(Token::NotEqualsTo),
             "<" => Some(Token::LessThan),
@@ -100,6 +109,15 @@ impl Token {
             ".." => Some(Token::ExclusiveRange),
             "..=" => Some(Token::InclusiveRange),
             "!" => Some(Token::Bang),
+            _ => Token::assigning_from_syntax(syntax),
+        }
+    }
+
+    // The same of operators that assign, of `neg` and of `other` alone.
+    fn assigning_from_syntax(syntax: &str) -> Option<Token>
+        ensures { result ≡ assigning_token_in syntax.now }
+    {
+        match syntax {
             "+=" => Some(Token::PlusAssign),
             "-=" => Some(Token::MinusAssign),
             "*=" => Some(Token::MultiplyAssign),

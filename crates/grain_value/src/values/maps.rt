@@ -23,7 +23,7 @@ impl Map {
         }
     }
 
-    /// The allocator that the map was made with.
+    /// The allocator of the map. There is only one, the global one.
     pub fn allocator(&self) -> Global
         ensures { (alloc : Global) → result ≡ alloc }
     {

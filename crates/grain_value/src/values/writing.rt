@@ -1,15 +1,16 @@
 //! The texts of values.
 
-ghost use Rattle.std.specs.Prelude.{◌≡◌, ◌<◌, ◌++◌, [], Some, false, is_ok, if◌then◌else◌};
-ghost use Rattle.std.specs.Fmt.{WritesOnOk, digit_glyph};
+ghost use Rattle.std.specs.Prelude.{◌≡◌, ◌<◌, ◌++◌, [], Some, codes, false, is_ok, if◌then◌else◌};
+ghost use Rattle.std.specs.Fmt.{WritesOnOk, digit_glyph, signed_decimal};
 ghost use Rattle.std.specs.List.{flat_map};
 ghost use Rattle.grain_value.specs.Cells.{seen};
 ghost use Rattle.grain_value.specs.Tree.{pack, pack_fields};
-ghost use Rattle.grain_value.specs.Writing.{plain, quoted, items_text, fields_text, hex_byte, quoted_blob, quoted_range};
+ghost use Rattle.grain_value.specs.Quoting.{quoted_text};
+ghost use Rattle.grain_value.specs.Writing.{plain, quoted, items_text, fields_text, hex_byte, quoted_blob, quoted_range, quoted_foreign, quoted_cell};
 
-use super::{Array, Dynamic, FnPtr, Map};
+use super::{Array, Dynamic, Map};
 use crate::memory::OutOfMemory;
-use crate::quoting::{Quoted, QuotedCharacter};
+use crate::quoting::{write_quoted, write_quoted_character};
 use crate::stores::Store;
 use crate::texts::Text;
 use std::fmt;
@@ -82,16 +83,11 @@ fn write_value<W: fmt::Write>(value: &Dynamic, f: &mut fmt::Formatter<W>) -> fmt
 {
     match value {
         Dynamic::Unit => f.write_str("()"),
-        Dynamic::Bool(truth) => write!(f, "{truth}"),
-        Dynamic::Int(integer) => write!(f, "{integer}"),
-        Dynamic::Char(character) => {
-            let quoted = QuotedCharacter(*character);
-            write!(f, "{quoted}")
-        }
-        Dynamic::Text(text) => {
-            let quoted = Quoted(text.as_str());
-            write!(f, "{quoted}")
-        }
+        Dynamic::Bool(true) => f.write_str("true"),
+        Dynamic::Bool(false) => f.write_str("false"),
+        Dynamic::Int(integer) => write_integer(*integer, f),
+        Dynamic::Char(character) => write_quoted_character(*character, f),
+        Dynamic::Text(text) => write_quoted(text.as_str(), f),
         Dynamic::Array(array) => {
             f.write_str("[")?;
             write_items(array, "", f)?;
@@ -103,10 +99,10 @@ fn write_value<W: fmt::Write>(value: &Dynamic, f: &mut fmt::Formatter<W>) -> fmt
             write_pairs(map, f)?;
             f.write_str("}")
         }
-        Dynamic::Pointer(FnPtr { name, curry }) => {
-            let quoted = Quoted(name.as_str());
-            write!(f, "fn({quoted}")?;
-            write_items(curry, ", ", f)?;
+        Dynamic::Pointer(pointer) => {
+            f.write_str("fn(")?;
+            write_quoted(pointer.name.as_str(), f)?;
+            write_items(&pointer.curry, ", ", f)?;
             f.write_str(")")
         }
         Dynamic::Range {
@@ -114,8 +110,8 @@ fn write_value<W: fmt::Write>(value: &Dynamic, f: &mut fmt::Formatter<W>) -> fmt
             to,
             inclusive,
         } => write_range(*from, *to, *inclusive, f),
-        Dynamic::Foreign { kind, number } => write!(f, "foreign({kind}, {number})"),
-        Dynamic::Cell(number) => write!(f, "cell({number})"),
+        Dynamic::Foreign { kind, number } => write_foreign(*kind, *number, f),
+        Dynamic::Cell(number) => write_cell(*number, f),
     }
 }
 
@@ -142,13 +138,42 @@ fn write_pairs<W: fmt::Write>(map: &Map, f: &mut fmt::Formatter<W>) -> fmt::Resu
 {
     let mut lead = "";
     for (key, value) in map.pairs.iter() {
-        f.write_str(lead)?;
-        let quoted = Quoted(key.as_str());
-        write!(f, "{quoted}: ")?;
+        write_key(lead, key.as_str(), f)?;
         write_value(value, f)?;
         lead = ", ";
     }
     Ok(())
+}
+
+// Writes a key after the lead, and what stands between a key and its value.
+fn write_key<W: fmt::Write>(lead: &str, key: &str, f: &mut fmt::Formatter<W>) -> fmt::Result
+    ensures { WritesOnOk W.write_str_gives f.old result
+        (lead.now ++ quoted_text key.now ++ codes ": ") f.new }
+{
+    f.write_str(lead)?;
+    write_quoted(key, f)?;
+    f.write_str(": ")
+}
+
+// Writes an integer.
+fn write_integer<W: fmt::Write>(integer: i64, f: &mut fmt::Formatter<W>) -> fmt::Result
+    ensures { WritesOnOk W.write_str_gives f.old result (signed_decimal integer) f.new }
+{
+    write!(f, "{integer}")
+}
+
+// Writes a host's value.
+fn write_foreign<W: fmt::Write>(kind: u32, number: u64, f: &mut fmt::Formatter<W>) -> fmt::Result
+    ensures { WritesOnOk W.write_str_gives f.old result (quoted_foreign kind number) f.new }
+{
+    write!(f, "foreign({kind}, {number})")
+}
+
+// Writes a cell, by its number.
+fn write_cell<W: fmt::Write>(number: usize, f: &mut fmt::Formatter<W>) -> fmt::Result
+    ensures { WritesOnOk W.write_str_gives f.old result (quoted_cell number) f.new }
+{
+    write!(f, "cell({number})")
 }
 
 // Writes a range.

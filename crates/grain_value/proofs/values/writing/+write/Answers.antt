@@ -1,5 +1,5 @@
 -- One value more, or one key with its value, is written.
-use Rattle.std.proofs.Common.{◌≡◌, ◌∙◌, ◌<◌, ◌+◌, ◌++◌, ℕ, List, [], ◌∷◌, suc, length, get_or, codes, drop, refl, sym, ap, subst, arith, rules, append_assoc}
+use Rattle.std.proofs.Common.{◌≡◌, ◌∙◌, ◌<◌, ◌+◌, ◌++◌, ℕ, List, [], ◌∷◌, suc, length, get_or, codes, drop, refl, sym, ap, subst, arith, rules}
 use Rattle.std.specs.Fmt.{HasWritten}
 use Rattle.std.specs.declared.fmt.Formatter.{Formatter}
 use Rattle.std.proofs.Math.Seq.{drop-cons}
@@ -41,7 +41,8 @@ write_items-loop-value-preserved g t c = (
       let before = l.invariant.1 plain in
       let lead = c.in_ok-write_str.ensures.writes before.wrote.plain cc in
       let value = c.in_ok-write_value.ensures lead.plain cc in
-      value_written g.W.Write.write_str_gives c.args.f.now l.f c.write_value.new.f _ l.lead.now
+      value_written g.W.Write.write_str_gives c.args.f.now l.f c.write_value.new.f
+      (items_text c.args.lead.now (pack (trees c.deref-value-items.result.now))) l.lead.now
       c.deref-value-items.result.now l.value-index c.value-item.result
       (omega (arith, c.loop-value-test.true)) (search rules) before
       (has_written_append g.W.Write.write_str_gives l.f l.lead.now c.write_str.new.self
@@ -91,17 +92,44 @@ write_pairs-loop-key-preserved g t c = (
       let P : List (List ℕ × Tree) → Type 0 =
       λ rest. PartWritten took c.args.f.now whole (fields_text l.lead.now (pack_fields rest)) l.f in
       let before = l.invariant.3 plain in
-      let lead = c.in_ok-write_str.ensures.writes before.wrote.plain cc in
-      let named = c.in_ok-write.ensures.writes lead.plain cc in
+      let named = c.in_ok-write_key.ensures before.wrote.plain cc in
       let written = c.in_ok-write_value.ensures named.plain cc in
       pair_written took c.args.f.now l.f c.write_value.new.f whole l.lead.now key value left
       (subst P (ap entries_view c.in-Some.ensures.steps
       ∙ ap (λ (k : List ℕ). (k, tree value) ∷ left) (sym c.as_str.ensures.value)) before)
-      (has_written_of_eq took l.f _ (l.lead.now ++ quoted_text key ++ codes ": " ++ quoted value)
-      c.write_value.new.f (ap (λ (t : List ℕ). t ++ quoted value)
-      (sym (append_assoc l.lead.now (quoted_text key) (codes ": "))))
-      (has_written_append took l.f (l.lead.now ++ (quoted_text key ++ codes ": ")) c.write.new.self
-      (quoted value) c.write_value.new.f
-      (has_written_append took l.f l.lead.now c.write_str.new.self (quoted_text key ++ codes ": ")
-      c.write.new.self lead named) written)),
+      (has_written_append took l.f (l.lead.now ++ quoted_text key ++ codes ": ")
+      c.write_key.new.f (quoted value) c.write_value.new.f named written),
 )
+
+pub write_value-returns-in_ok-write_items-in-Array :
+    goal.write_value-returns-in_ok-write_items-in-Array
+write_value-returns-in_ok-write_items-in-Array g t c = λ plain ok.
+    let begun = c.in_ok-write_str-in-Array.ensures.writes plain cc in
+    let items = c.in_ok-write_items-in-Array.ensures begun.plain cc in
+    let ended = c.write_str-in-Array-2.ensures.writes items.plain ok in
+    has_written_of_eq _ _ _ _ _ (ap quoted (sym c.in-Array.is)) (has_written_append _ _ _ _ _ _
+    (has_written_append _ _ _ _ _ _ begun items) ended)
+
+pub write_value-returns-in_ok-write_pairs-in-Map :
+    goal.write_value-returns-in_ok-write_pairs-in-Map
+write_value-returns-in_ok-write_pairs-in-Map g t c = λ plain ok.
+    let begun = c.in_ok-write_str-in-Map.ensures.writes plain cc in
+    let pairs = c.in_ok-write_pairs-in-Map.ensures begun.plain cc in
+    let ended = c.write_str-in-Map-2.ensures.writes pairs.plain ok in
+    has_written_of_eq _ _ _ _ _ (ap quoted (sym c.in-Map.is)) (has_written_append _ _ _ _ _ _
+    (has_written_append _ _ _ _ _ _ begun pairs) ended)
+
+pub write_value-returns-in_ok-write_items-in-Pointer :
+    goal.write_value-returns-in_ok-write_items-in-Pointer
+write_value-returns-in_ok-write_items-in-Pointer g t c = λ plain ok.
+    let begun = c.in_ok-write_str-in-Pointer.ensures.writes plain cc in
+    let name = c.in_ok-write_quoted-in-Pointer.ensures begun.plain cc in
+    let items = c.in_ok-write_items-in-Pointer.ensures name.plain cc in
+    let ended = c.write_str-in-Pointer-2.ensures.writes items.plain ok in
+    let curry = items_text (codes ", ") (pack c.in-Pointer.pointer.curry) in
+    let all : codes "fn(" ++ quoted_text c.as_str-in-Pointer.result.now ++ curry ++ codes ")" ≡
+    quoted c.args.value.now =
+    ap (λ (n : List ℕ). codes "fn(" ++ quoted_text n ++ curry ++ codes ")")
+    c.as_str-in-Pointer.ensures ∙ ap quoted (sym c.in-Pointer.is) in
+    has_written_of_eq _ _ _ _ _ all (has_written_append _ _ _ _ _ _ (has_written_append _ _ _ _ _ _
+    (has_written_append _ _ _ _ _ _ begun name) items) ended)
