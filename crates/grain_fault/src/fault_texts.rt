@@ -1,15 +1,20 @@
 //! The names and the texts of faults.
 
-ghost use Rattle.std.specs.Prelude.{◌≡◌, ◌++◌, [], Some, is_ok, if◌then◌else◌};
+ghost use Rattle.std.specs.Prelude.{◌≡◌, ◌++◌, Some, is_ok, if◌then◌else◌};
 ghost use Rattle.std.specs.Fmt.{WritesOnOk};
 ghost use Rattle.grain_fault.specs.Problems.{problem_of};
-ghost use Rattle.grain_fault.specs.Table.{mismatch_text, size_text, after_unless_empty, spaced, kind_text, non_pure_text, thrown_value_text};
+ghost use Rattle.grain_fault.specs.Table.{kind_text};
 ghost use Rattle.grain_fault.specs.Texts.{fault_name, fault_text, message, wrapper_text, line_and_column_text, location_text, call_text, origin_text, module_text};
 
 use crate::chains::{Unwrapped, unwrap_all};
+use crate::fault_parts::{
+    write_array_bounds, write_bit_field_bounds, write_custom_syntax, write_data_race,
+    write_index_not_found, write_labelled, write_malformed, write_mismatch, write_non_pure_call,
+    write_or_else, write_runtime_error, write_string_bounds, write_system_error, write_too_large,
+};
 use crate::faults::{EvalAltResult, MalformedKind};
 use crate::places::Position;
-use grain_value::{Array, Dynamic, OutOfMemory, Text};
+use grain_value::{OutOfMemory, Text};
 use std::fmt;
 
 impl EvalAltResult {
@@ -105,9 +110,11 @@ impl fmt::Display for MalformedKind {
             MalformedKind::TryFloorBroken { wanted, length } => {
                 write!(f, "try began at a scope of {wanted}, now {length}")
             }
-            MalformedKind::TemplateNotMap { kind } => write!(f, "map template is a {kind}"),
-            MalformedKind::KeyNotText { kind } => write!(f, "map key is a {kind}"),
-            MalformedKind::BufferNotText { kind } => write!(f, "interpolation buffer is a {kind}"),
+            MalformedKind::TemplateNotMap { kind } => write_labelled("map template is a ", kind, f),
+            MalformedKind::KeyNotText { kind } => write_labelled("map key is a ", kind, f),
+            MalformedKind::BufferNotText { kind } => {
+                write_labelled("interpolation buffer is a ", kind, f)
+            }
             MalformedKind::MissingTotal { index } => {
                 write!(f, "size check {index} outside a literal")
             }
@@ -134,13 +141,7 @@ pub(crate) fn write_message<W: fmt::Write>(
             write_message(inner, f)?;
             write_wrapper(fault, f)
         }
-        EvalAltResult::ErrorSystem(about, reason) => {
-            if about.is_empty() {
-                f.write_str(reason.as_str())
-            } else {
-                write!(f, "{about}: {reason}")
-            }
-        }
+        EvalAltResult::ErrorSystem(about, reason) => write_system_error(about, reason, f),
         EvalAltResult::Memory => f.write_str("Out of memory"),
         EvalAltResult::ErrorParsing(reason, _) => write_labelled("Syntax error: ", reason, f),
         EvalAltResult::ErrorVariableExists(variable, _) => {
@@ -155,7 +156,7 @@ pub(crate) fn write_message<W: fmt::Write>(
         EvalAltResult::ErrorPropertyNotFound(property, _) => {
             write_labelled("Property not found: ", property, f)
         }
-        EvalAltResult::ErrorIndexNotFound(index, _) => write!(f, "Invalid index: {index}"),
+        EvalAltResult::ErrorIndexNotFound(index, _) => write_index_not_found(index, f),
         EvalAltResult::ErrorFunctionNotFound(function, _) => {
             write_labelled("Function not found: ", function, f)
         }
@@ -166,12 +167,10 @@ pub(crate) fn write_message<W: fmt::Write>(
         ),
         EvalAltResult::ErrorUnboundThis(_) => f.write_str("'this' not bound"),
         EvalAltResult::ErrorMismatchDataType(requested, actual, _) => {
-            let mismatch = Mismatch { requested, actual };
-            write!(f, "Data type incorrect{mismatch}")
+            write_mismatch("Data type incorrect", requested, actual, f)
         }
         EvalAltResult::ErrorMismatchOutputType(requested, actual, _) => {
-            let mismatch = Mismatch { requested, actual };
-            write!(f, "Output type incorrect{mismatch}")
+            write_mismatch("Output type incorrect", requested, actual, f)
         }
         EvalAltResult::ErrorIndexingType(types, _) => write_labelled(
             "Indexer unavailable: ",
@@ -179,84 +178,42 @@ pub(crate) fn write_message<W: fmt::Write>(
             f,
         ),
         EvalAltResult::ErrorArrayBounds(length, index, _) => {
-            let size = Size {
-                length: *length,
-                whole: "array",
-                item: "element",
-            };
-            write!(f, "Array index {index} out of bounds: {size}")
+            write_array_bounds(*length, *index, f)
         }
         EvalAltResult::ErrorStringBounds(length, index, _) => {
-            let size = Size {
-                length: *length,
-                whole: "string",
-                item: "character",
-            };
-            write!(f, "String index {index} out of bounds: {size}")
+            write_string_bounds(*length, *index, f)
         }
         EvalAltResult::ErrorBitFieldBounds(length, index, _) => {
-            write!(
-                f,
-                "Bit-field index {index} out of bounds: only {length} bits in bit-field"
-            )
+            write_bit_field_bounds(*length, *index, f)
         }
         EvalAltResult::ErrorFor(_) => f.write_str("For loop expects iterable type"),
-        EvalAltResult::ErrorDataRace(variable, _) => {
-            let on = AfterUnlessEmpty {
-                lead: " on ",
-                text: variable,
-            };
-            write!(f, "Data race detected{on}")
-        }
+        EvalAltResult::ErrorDataRace(variable, _) => write_data_race(variable, f),
         EvalAltResult::ErrorNonPureMethodCallOnConstant(function, _) => {
-            let call = NonPureCall(function);
-            write!(f, "{call}")
+            write_non_pure_call(function, f)
         }
         EvalAltResult::ErrorAssignmentToConstant(variable, _) => {
             write_labelled("Cannot modify constant ", variable, f)
         }
         EvalAltResult::ErrorDotExpr(reason, _) => {
-            if reason.is_empty() {
-                f.write_str("Malformed dot expression")
-            } else {
-                f.write_str(reason.as_str())
-            }
+            write_or_else(reason, "Malformed dot expression", f)
         }
-        EvalAltResult::ErrorArithmetic(reason, _) => {
-            if reason.is_empty() {
-                f.write_str("Arithmetic error")
-            } else {
-                f.write_str(reason.as_str())
-            }
-        }
+        EvalAltResult::ErrorArithmetic(reason, _) => write_or_else(reason, "Arithmetic error", f),
         EvalAltResult::ErrorTooManyOperations(_) => f.write_str("Too many operations"),
         EvalAltResult::ErrorTooManyVariables(_) => f.write_str("Too many variables defined"),
         EvalAltResult::ErrorTooManyModules(_) => f.write_str("Too many modules imported"),
         EvalAltResult::ErrorStackOverflow(_) => f.write_str("Stack overflow"),
-        EvalAltResult::ErrorDataTooLarge(what, _) => write!(f, "{what} too large"),
+        EvalAltResult::ErrorDataTooLarge(what, _) => write_too_large(what, f),
         EvalAltResult::ErrorTerminated(..) => f.write_str("Script terminated"),
         EvalAltResult::ErrorCustomSyntax(reason, tokens, _) => {
-            let tokens = Spaced(tokens);
-            write!(f, "{reason}: {tokens}")
+            write_custom_syntax(reason, tokens, f)
         }
-        EvalAltResult::ErrorRuntime(value, _) => {
-            let thrown = ThrownValue(value);
-            write!(f, "Runtime error{thrown}")
-        }
+        EvalAltResult::ErrorRuntime(value, _) => write_runtime_error(value, f),
         EvalAltResult::LoopBreak(true, ..) => f.write_str("'break' must be within a loop"),
         EvalAltResult::LoopBreak(false, ..) => f.write_str("'continue' must be within a loop"),
         EvalAltResult::Return(..) => f.write_str("NOT AN ERROR - function returns value"),
         EvalAltResult::Exit(..) => f.write_str("NOT AN ERROR - exit value"),
-        EvalAltResult::Malformed(kind, _) => write!(f, "Malformed program: {kind}"),
+        EvalAltResult::Malformed(kind, _) => write_malformed(kind, f),
     }
-}
-
-/// Writes a label and the text after it.
-fn write_labelled<W: fmt::Write>(label: &str, text: &Text, f: &mut fmt::Formatter<W>) -> fmt::Result
-    ensures { WritesOnOk W.write_str_gives f.old result (label.now ++ text.now) f.new }
-{
-    f.write_str(label)?;
-    f.write_str(text.as_str())
 }
 
 /// Writes what a wrapper adds to the text of the fault that it wraps: where that happened, and what
@@ -289,72 +246,6 @@ pub(crate) fn write_wrapper<W: fmt::Write>(
     }
 }
 
-/// How many items a whole has.
-#[derive(Clone, Copy)]
-struct Size<'a> {
-    length: usize,
-    whole: &'a str,
-    item: &'a str,
-}
-
-impl fmt::Display for Size<'_> {
-    ghost output = { λ s. Some (size_text s.whole.now s.item.now s.length) };
-
-    fn fmt<W: fmt::Write>(&self, f: &mut fmt::Formatter<W>) -> fmt::Result {
-        let Size {
-            length,
-            whole,
-            item,
-        } = *self;
-        if length == 0 {
-            write!(f, "{whole} is empty")
-        } else if length == 1 {
-            write!(f, "only 1 {item} in {whole}")
-        } else {
-            write!(f, "only {length} {item}s in {whole}")
-        }
-    }
-}
-
-/// A text after a lead. An empty text prints nothing.
-#[derive(Drop)]
-struct AfterUnlessEmpty<'a> {
-    lead: &'a str,
-    text: &'a Text,
-}
-
-impl fmt::Display for AfterUnlessEmpty<'_> {
-    ghost output = { λ a. Some (after_unless_empty a.lead.now a.text.now) };
-
-    fn fmt<W: fmt::Write>(&self, f: &mut fmt::Formatter<W>) -> fmt::Result {
-        let AfterUnlessEmpty { lead, text } = self;
-        if text.is_empty() {
-            Ok(())
-        } else {
-            write!(f, "{lead}{text}")
-        }
-    }
-}
-
-/// Values by their plain texts, with a blank between each two.
-#[derive(Drop)]
-struct Spaced<'a>(&'a Array);
-
-impl fmt::Display for Spaced<'_> {
-    ghost output = { λ s. Some (spaced [] s.0.now) };
-
-    fn fmt<W: fmt::Write>(&self, f: &mut fmt::Formatter<W>) -> fmt::Result {
-        let values = self.0;
-        let mut lead = "";
-        for index in 0..values.len() {
-            let value = values.at(index);
-            write!(f, "{lead}{value}")?;
-            lead = " ";
-        }
-        Ok(())
-    }
-}
-
 /// The module that a fault left. The name of one without a name is not printed.
 #[derive(Drop)]
 struct ModuleLeft<'a>(&'a Text);
@@ -365,83 +256,9 @@ impl fmt::Display for ModuleLeft<'_> {
     fn fmt<W: fmt::Write>(&self, f: &mut fmt::Formatter<W>) -> fmt::Result {
         let module = self.0;
         if module.is_empty() {
-            write!(f, "in module")
+            f.write_str("in module")
         } else {
             write!(f, "in module '{module}'")
-        }
-    }
-}
-
-/// The requested and the actual type of a mismatch, without one that is empty.
-#[derive(Drop)]
-struct Mismatch<'a> {
-    requested: &'a Text,
-    actual: &'a Text,
-}
-
-impl fmt::Display for Mismatch<'_> {
-    ghost output = { λ m. Some (mismatch_text m.requested.now m.actual.now) };
-
-    fn fmt<W: fmt::Write>(&self, f: &mut fmt::Formatter<W>) -> fmt::Result {
-        let Mismatch { requested, actual } = self;
-        if actual.is_empty() {
-            write!(f, ", expecting {requested}")
-        } else if requested.is_empty() {
-            write!(f, ": {actual}")
-        } else {
-            write!(f, ": {actual} (expecting {requested})")
-        }
-    }
-}
-
-/// A call of a native that writes, on a value that may not be written.
-#[derive(Drop)]
-struct NonPureCall<'a>(&'a Text);
-
-impl fmt::Display for NonPureCall<'_> {
-    ghost output = { λ c. Some (non_pure_text c.0.now) };
-
-    fn fmt<W: fmt::Write>(&self, f: &mut fmt::Formatter<W>) -> fmt::Result {
-        let function = self.0.as_str();
-        if let Some(property) = function.strip_prefix("get$") {
-            write!(
-                f,
-                "Non-pure property {property} cannot be accessed on constant"
-            )
-        } else if let Some(property) = function.strip_prefix("set$") {
-            write!(f, "Cannot modify property '{property}' of constant")
-        } else if function == "index$get$" {
-            write!(f, "Non-pure indexer cannot be accessed on constant")
-        } else if function == "index$set$" {
-            write!(f, "Cannot assign to indexer of constant")
-        } else {
-            write!(
-                f,
-                "Non-pure method '{function}' cannot be called on constant"
-            )
-        }
-    }
-}
-
-/// A value that was thrown, after a colon. Unit and the empty text print nothing.
-#[derive(Drop)]
-struct ThrownValue<'a>(&'a Dynamic);
-
-impl fmt::Display for ThrownValue<'_> {
-    ghost output = { λ t. Some (thrown_value_text t.0.now) };
-
-    fn fmt<W: fmt::Write>(&self, f: &mut fmt::Formatter<W>) -> fmt::Result {
-        let value = self.0;
-        match value {
-            Dynamic::Unit => Ok(()),
-            Dynamic::Text(text) => {
-                if text.is_empty() {
-                    Ok(())
-                } else {
-                    write!(f, ": {text}")
-                }
-            }
-            _ => write!(f, ": {value}"),
         }
     }
 }
@@ -477,7 +294,7 @@ impl fmt::Display for Callee<'_> {
     fn fmt<W: fmt::Write>(&self, f: &mut fmt::Formatter<W>) -> fmt::Result {
         let function = self.0;
         if function.as_str().starts_with("anon$") {
-            write!(f, "in closure call")
+            f.write_str("in closure call")
         } else {
             write!(f, "in call to function '{function}'")
         }

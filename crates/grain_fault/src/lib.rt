@@ -3,6 +3,7 @@
 
 mod chains;
 mod classes;
+mod fault_parts;
 mod fault_texts;
 mod faults;
 mod fields;

@@ -5,7 +5,7 @@ use denote.Text.{Utf8}
 use denote.Shadow.{shadow}
 use Rattle.grain_fault.specs.Table.{spaced}
 use Rattle.grain_fault.proofs.Spaced.{lead_from}
-use Rattle.grain_fault.proofs.fault_texts.SpacedDisplay.fmt.Given as goal
+use Rattle.grain_fault.proofs.fault_parts.SpacedDisplay.fmt.Given as goal
 
 abbrev pub invariant-loop-index : goal.invariant-loop-index
 invariant-loop-index g l =

@@ -5,7 +5,7 @@ use Rattle.std.proofs.lemmas.List.{take_all}
 use Rattle.grain_value.specs.Tree.{Tree}
 use Rattle.grain_fault.specs.Table.{spaced}
 use Rattle.grain_fault.proofs.Spaced.{token_written, blank_before_next}
-use Rattle.grain_fault.proofs.fault_texts.SpacedDisplay.fmt.Goals as goal
+use Rattle.grain_fault.proofs.fault_parts.SpacedDisplay.fmt.Goals as goal
 
 pub loop-index-init : goal.loop-index-init
 loop-index-init g c = (
