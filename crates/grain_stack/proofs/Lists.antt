@@ -1,13 +1,13 @@
 -- Operands above a frame's bottom.
 use Rattle.std.proofs.Common.{◌≡◌, ◌<◌, ◌≤◌, ℕ, zero, suc, ◌+◌, ◌-◌, List, [], ◌∷◌, ◌++◌, take, drop, length, get_or, refl, sym, subst, ap, ◌∙◌, arith, length-drop, length-append, append_assoc}
 use borrow.Rule.Slice.PartMut.{mid_of, put_mid, post_of, same_len_mid}
-use Rattle.std.specs.Prelude.{slice_get, slice_index_or, slice_set, Some}
+use Rattle.std.specs.Prelude.{slice_get, slice_index_or, slice_set, Some, Result, Ok, Err, is_ok, OnOk, if◌then◌else◌}
 use Rattle.std.proofs.lemmas.List.{drop-append-le, drop-drop, drop-take, get_or-take, take-append-le}
 use Rattle.grain_value.specs.declared.values.Held.{Held}
 use Rattle.grain_value.specs.declared.scopes.Entry.{Entry}
 use Rattle.grain_value.specs.Scopes.{new_entry}
 use Rattle.grain_value.specs.Operands.{top, below, under, rotated, read_write, bound_entries}
-use Rattle.grain_stack.specs.Filled.{filled, operand_at}
+use Rattle.grain_stack.specs.Filled.{Filled, filled, operand_at}
 
 -- the last operand
 top-snoc : (xs : List Held) (h : Held) → top (xs ++ h ∷ []) ≡ h
@@ -158,7 +158,7 @@ top_taken n xs h some le e =
 
 -- ---- a frame's operands, which begin at b
 
-under_own : (b k : ℕ) (xs : List Held) → b + k ≤ length xs → drop b (under k xs) ≡
+pub under_own : (b k : ℕ) (xs : List Held) → b + k ≤ length xs → drop b (under k xs) ≡
     under k (drop b xs)
 under_own b k xs le = cut_own b k (length xs - k) xs refl le
 
@@ -370,12 +370,6 @@ rotated_rest b n xs lt =
     take_shorter b (length xs - (n + 1)) xs (omega (arith, lt)))
 
 -- what lies below the first argument stays when arguments are moved
-pub kept_below : (b f i : ℕ) (xs ys zs : List Held) (h : Held) → b ≤ f → f ≤ i →
-    zs ≡ slice_set ys i h → take f ys ≡ take f xs → take b zs ≡ take b xs
-kept_below b f i xs ys zs h lb lf e same =
-    rw e (sym (take_shorter b f (slice_set ys i h) lb) ∙
-    (ap (take b) (take_set f i ys h lf ∙ same) ∙ take_shorter b f xs lb))
-
 pub kept_front : (f i : ℕ) (xs ys zs : List Held) (h : Held) → f ≤ i → zs ≡ slice_set ys i h →
     take f ys ≡ take f xs → take f zs ≡ take f xs
 kept_front f i xs ys zs h lf e same = rw e (take_set f i ys h lf ∙ same)
@@ -423,14 +417,11 @@ bound_more scope scope' names ps xs ys i f h name lp lx is es ey =
     )
     (append_assoc scope (new_entry name (read_write (operand_at (f + i) xs).value) ∷ []) (bound_entries names (drop (suc i) ps) (drop (suc (f + i)) xs)))
 
--- without the arguments
-pub taken : (b k : ℕ) (xs ys : List Held) → length ys ≡ length xs → k ≤ length (drop b xs) →
-    b ≤ length xs → take (length xs - k) ys ≡ take (length xs - k) xs → drop b (under k ys) ≡
-    under k (drop b xs)
-taken b k xs ys long le lb same =
-    rw (long, same) (under_frame b k xs le lb)
-
-pub taken_others : (b k : ℕ) (xs ys : List Held) → length ys ≡ length xs →
-    k ≤ length (drop b xs) → b ≤ length xs → take (length xs - k) ys ≡ take (length xs - k) xs →
-    take b (under k ys) ≡ take b xs
-taken_others b k xs ys long le lb same = rw (long, same) (under_others b k xs le lb)
+-- without the arguments, if they were taken
+pub bound_own : {A E : Type 0} (r : Result A E) (b k : ℕ) (s t : Filled) →
+    t ≡ (if is_ok r then record s { operands = under k s.operands } else s) →
+    k ≤ length (drop b s.operands) → b ≤ length s.operands →
+    OnOk r (drop b t.operands ≡ under k (drop b s.operands))
+bound_own (Ok x) b k s t is le lb =
+    ap (λ (v : Filled). drop b v.operands) is ∙ under_frame b k s.operands le lb
+bound_own (Err e) b k s t is le lb = tt

@@ -46,14 +46,13 @@ same_sound s t i eo co eb er en ef et ct eh = record {
   handlers = rw (ef, eh) i.handlers;
 }
 
--- the same where the frame has more operands
-pub grown_sound : (s t : Inside) → IsSound s →
-    length s.slots.operands ≤ length t.slots.operands →
+-- the same where the frame has other operands
+pub changed_sound : (s t : Inside) → IsSound s → s.bottom ≤ length t.slots.operands →
     s.slots.slots ≤ t.slots.slots → t.bottom ≡ s.bottom → t.room ≡ s.room →
     t.noted ≡ s.noted → t.outer.items ≡ s.outer.items → t.trace.items ≡ s.trace.items →
     vec_capacity s.trace ≤ vec_capacity t.trace → t.handlers ≡ s.handlers → IsSound t
-grown_sound s t i longer co eb er en ef et ct eh = record {
-  bottom = rw eb (omega (arith, i.bottom, longer));
+changed_sound s t i there co eb er en ef et ct eh = record {
+  bottom = omega (arith, eb, there);
   room = omega (arith, i.room, co, eb, er);
   nested = rw (eb, ef) (nested_up (s.slots.slots) (t.slots.slots) s.bottom (floors s) co i.nested);
   notes =

@@ -1,13 +1,14 @@
 //! The operands of all frames, in slots that are made ahead.
 
-ghost use Rattle.std.specs.Prelude.{◌≡◌, ◌<◌, ◌≤◌, ◌+◌, ◌-◌, ◌++◌, ◌∷◌, [], length, take, is_ok, OnOk, slice_set, if◌then◌else◌, reverse};
+ghost use Rattle.std.specs.Prelude.{◌≡◌, ◌<◌, ◌≤◌, ◌+◌, ◌-◌, ◌++◌, ◌∷◌, [], length, take, drop, is_ok, OnOk, OnErr, IfOk, All, slice_set, if◌then◌else◌, map, reverse};
 ghost use Rattle.grain_value.specs.declared.values.Dynamic.TheVariants as dynamic;
 ghost use Rattle.grain_value.specs.Scopes.{new_entry};
-ghost use Rattle.grain_value.specs.Operands.{top, below, under, rotated, read_write};
-ghost use Rattle.grain_value.specs.declared.values.Held.{Held};
+ghost use Rattle.grain_value.specs.Operands.{top, below, under, rotated, read_write, arguments, bound_entries};
+ghost use Rattle.grain_value.specs.declared.values.Dynamic.{Dynamic};
 ghost use Rattle.grain_stack.specs.Filled.{operand_at};
+ghost use Rattle.grain_stack.specs.Regained.{regained};
 
-use grain_value::{Dynamic, Held, Name, OutOfMemory, Scope};
+use grain_value::{Dynamic, Held, List, Name, OutOfMemory, Scope};
 use std::alloc::Global;
 use std::marker::Model;
 use std::mem;
@@ -129,8 +130,8 @@ impl Slots {
         true
     }
 
-    /// More operands, the newest first, for which there are slots.
-    pub fn push_all(&mut self, taken: Vec<Held>)
+    // More operands, the newest first, for which there are slots.
+    fn push_all(&mut self, taken: Vec<Held>)
         requires room { length self.old.operands + length taken.items ≤ self.old.slots }
         ensures { self.new ≡ record self.old {
           operands = self.old.operands ++ reverse taken.items;
@@ -140,6 +141,61 @@ impl Slots {
         'push: while let Some(held) = taken.pop() {
             self.push(held);
         }
+    }
+
+    // More operands, which can be written, for which there are slots.
+    fn push_values(&mut self, values: Vec<Dynamic>)
+        requires room { length self.old.operands + length values.items ≤ self.old.slots }
+        ensures { self.new ≡ record self.old {
+          operands = self.old.operands ++ map read_write values.items;
+        } }
+    {
+        'push: for value in values {
+            self.push(Held::read_write(value));
+        }
+    }
+
+    // Takes the last `count` operands, the newest first. After want of memory the operands are as
+    // they were.
+    fn take_off(&mut self, alloc: Global, count: usize) -> Result<Vec<Held>, OutOfMemory>
+        requires there { count ≤ length self.old.operands }
+        ensures taken { IfOk result
+            (λ taken. taken.items ≡ reverse (arguments count self.old.operands)) }
+        ensures left { self.new ≡ (if is_ok result
+            then record self.old { operands = under count self.old.operands }
+            else self.old) }
+    {
+        let mut taken = Vec::with_capacity(alloc, count)?;
+        'take: for _ in 0..count {
+            match taken.push(self.pop()) {
+                Ok(()) => {}
+                Err(_) => unreachable!(),
+            }
+        }
+        Ok(taken)
+    }
+
+    /// Puts values, which can be written, in the place of the operand that has `depth` others above
+    /// it. After want of memory the operands are as they were.
+    pub fn spread(
+        &mut self,
+        alloc: Global,
+        depth: usize,
+        values: Vec<Dynamic>,
+    ) -> Result<(), OutOfMemory>
+        requires there { depth < length self.old.operands }
+        ensures operands { self.new.operands ≡ (if is_ok result
+            then under (depth + 1) self.old.operands ++ map read_write values.items
+            ++ arguments depth self.old.operands
+            else self.old.operands) }
+        ensures slots { self.old.slots ≤ self.new.slots }
+    {
+        self.reserve(values.len())?;
+        let above = self.take_off(alloc, depth)?;
+        drop(self.pop());
+        self.push_values(values);
+        self.push_all(above);
+        Ok(())
     }
 
     /// Takes the last operand.
@@ -266,27 +322,95 @@ impl Slots {
         last.read_only = false;
     }
 
-    /// Moves the value of the operand at an index to the end of the scope, where it can be written
-    /// and has a shared name. What the operand is afterwards is not said. After want of memory the
-    /// scope is as it was.
+    /// Moves the values of the last operands, as many as there are parameters, to the end of the
+    /// scope, where they can be written and have the names of the pool at these indices. After want
+    /// of memory the operands and the scope are as they were.
     #[inline(always)]
-    pub fn move_to(
+    pub fn bind_arguments(
         &mut self,
-        index: usize,
-        name: &Name,
+        params: &[u32],
+        names: &List<Name>,
         scope: &mut Scope,
     ) -> Result<(), OutOfMemory>
+        requires there { length params.now ≤ length self.old.operands }
+        requires named { All (λ n. n < length names.now) params.now }
+        ensures scope { scope.new ≡ (if is_ok result
+            then scope.old ++ bound_entries names.now params.now
+            (arguments (length params.now) self.old.operands)
+            else scope.old) }
+        ensures operands { self.new ≡ (if is_ok result
+            then record self.old { operands = under (length params.now) self.old.operands }
+            else self.old) }
+    {
+        let first = self.len() - params.len();
+        'bind: for (index, param) in params.iter().enumerate() {
+            match self.move_to(first + index, names.at(*param as usize), scope) {
+                Ok(()) => {}
+                Err(e) => {
+                    self.give_back(first, index, scope);
+                    return Err(e);
+                }
+            }
+        }
+        self.drop_last_of(params.len());
+        Ok(())
+    }
+
+    // Moves the value of the operand at an index to the end of the scope, where it can be written
+    // and has a shared name. What value the operand then has is not said. After want of memory the
+    // operands and the scope are as they were.
+    #[inline(always)]
+    fn move_to(&mut self, index: usize, name: &Name, scope: &mut Scope) -> Result<(), OutOfMemory>
         requires there { index < length self.old.operands }
         ensures scope { scope.new ≡ (if is_ok result
             then scope.old
             ++ new_entry name.now (read_write (operand_at index self.old.operands).value) ∷ []
             else scope.old) }
-        ensures others { (held : Held) × (self.new ≡ record self.old {
+        ensures others { (value : Dynamic) × (self.new ≡ record self.old {
           operands =
-              slice_set self.old.operands index held;
+              slice_set self.old.operands index
+              (record (operand_at index self.old.operands) { value = value });
         }) }
+        ensures refused { OnErr result (self.new ≡ self.old) }
     {
         scope.push_moved(name, &mut self.slots[index])
+    }
+
+    // Moves the values of the last `count` entries of the scope, which go, back to the operands
+    // from an index on.
+    #[cold]
+    #[inline(never)]
+    fn give_back(&mut self, first: usize, count: usize, scope: &mut Scope)
+        requires there { first + count ≤ length self.old.operands }
+        requires entries { count ≤ length scope.old }
+        ensures operands { self.new ≡ record self.old {
+          operands =
+              regained first (drop (length scope.old - count) scope.old) self.old.operands;
+        } }
+        ensures scope { scope.new ≡ take (length scope.old - count) scope.old }
+    {
+        let base = scope.len() - count;
+        let height = self.len();
+        prove!(first <= height && count <= height - first);
+        'back: for index in 0..count {
+            match scope.get_mut(base + index) {
+                Some(held) => self.put_value(first + index, held.value.take()),
+                None => unreachable!(),
+            }
+        }
+        scope.rewind(base);
+    }
+
+    // Writes the value of the operand at an index.
+    fn put_value(&mut self, index: usize, value: Dynamic)
+        requires there { index < length self.old.operands }
+        ensures { self.new ≡ record self.old {
+          operands =
+              slice_set self.old.operands index
+              (record (operand_at index self.old.operands) { value = value });
+        } }
+    {
+        self.slots[index].value = value;
     }
 
     /// Makes the operand at an index one that can be written.

@@ -1,6 +1,7 @@
 //! One stack of operands for all frames, their handlers, and the trace of a fault.
 
-ghost use Rattle.std.specs.Prelude.{◌≡◌, ◌<◌, ◌≤◌, ◌+◌, ◌++◌, ◌∷◌, [], length, take, is_ok, if◌then◌else◌, option_map, OnOk, IfOk, All, true, false, map, reverse};
+ghost use Rattle.std.specs.Borrow.{sem};
+ghost use Rattle.std.specs.Prelude.{◌≡◌, ◌<◌, ◌≤◌, ◌+◌, ◌-◌, drop, Some, ◌++◌, ◌∷◌, [], length, take, is_ok, if◌then◌else◌, option_map, OnOk, OnErr, All, true, false, map};
 ghost use Rattle.grain_value.specs.declared.values.Dynamic.TheVariants as dynamic;
 ghost use Rattle.grain_value.specs.Operands.{top, below, under, rotated, read_write, arguments, bound_entries};
 ghost use Rattle.grain_stack.specs.Handlers.{first_of};
@@ -314,7 +315,7 @@ impl Stacks {
 
     /// Moves the values of the last operands, as many as there are parameters, to the end of the
     /// scope, where they can be written and have the names of the pool at these indices. After want
-    /// of memory it is not said what the operands and the scope are; all else is as it was.
+    /// of memory the stacks and the scope are as they were.
     #[inline(always)]
     pub fn bind_arguments(
         &mut self,
@@ -329,19 +330,15 @@ impl Stacks {
         ensures taken { OnOk result
             (self.new.operands ≡ under (length params.now) self.old.operands) }
         ensures others { self.new ≡ record self.old { operands = self.new.operands } }
+        ensures refused { OnErr result (self.new ≡ self.old) }
+        ensures refused_scope { OnErr result (scope.new ≡ scope.old) }
     {
-        let first = self.slots.len() - params.len();
-        'bind: for (index, param) in params.iter().enumerate() {
-            self.slots
-                .move_to(first + index, names.at(*param as usize), scope)?;
-        }
-        self.slots.drop_last_of(params.len());
-        Ok(())
+        self.slots.bind_arguments(params, names, scope)
     }
 
     /// Puts values, which can be written, in the place of the operand that has `depth` others above
-    /// it. The frame may then have more operands than room for them. After want of memory it is not
-    /// said what the operands are; all else is as it was.
+    /// it. The frame may then have more operands than room for them. After want of memory the
+    /// stacks are as they were.
     pub fn spread(
         &mut self,
         alloc: Global,
@@ -352,38 +349,9 @@ impl Stacks {
         ensures operands { OnOk result (self.new.operands ≡ under (depth + 1) self.old.operands
             ++ map read_write values.items ++ arguments depth self.old.operands) }
         ensures others { self.new ≡ record self.old { operands = self.new.operands } }
+        ensures refused { OnErr result (self.new ≡ self.old) }
     {
-        let mut above = self.take_off(alloc, depth)?;
-        drop(self.pop());
-        add_values(&mut above, values)?;
-        self.put_back(above)
-    }
-
-    // Gives the frame operands, the newest first. After want of memory the stacks are as they were.
-    fn put_back(&mut self, taken: Vec<Held>) -> Result<(), OutOfMemory>
-        ensures { self.new ≡ (if is_ok result
-            then record self.old { operands = self.old.operands ++ reverse taken.items }
-            else self.old) }
-    {
-        self.slots.reserve(taken.len())?;
-        self.slots.push_all(taken);
-        Ok(())
-    }
-
-    // Takes the last `count` operands, the newest first. After want of memory it is not said what
-    // the operands are.
-    fn take_off(&mut self, alloc: Global, count: usize) -> Result<Vec<Held>, OutOfMemory>
-        requires there { count ≤ length self.old.operands }
-        ensures taken { IfOk result
-            (λ taken. taken.items ≡ reverse (arguments count self.old.operands)) }
-        ensures left { OnOk result (self.new.operands ≡ under count self.old.operands) }
-        ensures others { self.new ≡ record self.old { operands = self.new.operands } }
-    {
-        let mut taken = Vec::with_capacity(alloc, count)?;
-        'take: for _ in 0..count {
-            taken.push(self.pop())?;
-        }
-        Ok(taken)
+        self.slots.spread(alloc, depth, values)
     }
 
     /// Writes an integer in the place of the last two operands.
@@ -470,6 +438,48 @@ impl Stacks {
         }
     }
 
+    /// How many handlers the frame has. It looks at no others.
+    pub fn handlers(&self) -> usize
+        ensures { result ≡ length self.now.handlers }
+    {
+        let depth = self.outer.len();
+        let all = self.handlers.len();
+        'own: for count in 0..all {
+            if self.handlers[all - 1 - count].depth != depth {
+                return count;
+            }
+        }
+        all
+    }
+
+    ghost use Rattle.grain_stack.specs.Lending.{LendsHandler};
+
+    /// The frame's innermost handler, to be changed.
+    pub fn handler_mut(&mut self) -> &mut Handler
+        requires there { 0 < length self.old.handlers }
+        ensures* writes_back { sem 𝓛 (LendsHandler self.entry result) }
+        ensures value { Some result.now ≡ first_of self.old.handlers }
+    {
+        match self.handlers.last_mut() {
+            Some(newest) => &mut newest.handler,
+            None => unreachable!(),
+        }
+    }
+
+    /// Keeps the first `count` of the frame's handlers, those that were pushed first.
+    pub fn cut_handlers(&mut self, count: usize)
+        requires there { count ≤ length self.old.handlers }
+        ensures { self.new ≡ record self.old {
+          handlers =
+              drop (length self.old.handlers - count) self.old.handlers;
+        } }
+    {
+        let more = self.handlers() - count;
+        'cut: for _ in 0..more {
+            drop(self.pop_handler());
+        }
+    }
+
     /// Notes where a fault left the frame, which has noted none since it was entered.
     pub fn note(&mut self, fault: Fault)
         requires entered { 0 < length self.old.outer }
@@ -505,16 +515,4 @@ impl Stacks {
     {
         self.entered
     }
-}
-
-// Adds values, the last one first, held so that they can be written.
-fn add_values(held: &mut Vec<Held>, values: Vec<Dynamic>) -> Result<(), OutOfMemory>
-    ensures { OnOk result
-        (held.new.items ≡ held.old.items ++ reverse (map read_write values.items)) }
-{
-    let mut values = values;
-    'values: while let Some(value) = values.pop() {
-        held.push(Held::read_write(value))?;
-    }
-    Ok(())
 }

@@ -179,14 +179,15 @@ impl Scope {
     }
 
     /// Puts an entry at the end, which can be written, with the value of `held` and a shared name.
-    /// Where that succeeds, the value that is left in `held` owns no memory. After want of memory
-    /// the scope and `held` are as they were.
+    /// Where that succeeds, the value that is left in `held` owns no memory, and the flag of `held`
+    /// is as it was. After want of memory the scope and `held` are as they were.
     #[inline(always)]
     pub fn push_moved(&mut self, name: &Name, held: &mut Held) -> Result<(), OutOfMemory>
         ensures scope { self.new ≡ (if is_ok result
             then self.old ++ new_entry name.now (read_write held.old.value) ∷ []
             else self.old) }
         ensures left { OnOk result (left_behind held.new.value ≡ held.new.value) }
+        ensures flag { held.new.read_only ≡ held.old.read_only }
         ensures back { OnErr result (held.new ≡ held.old) }
     {
         match &held.value {
@@ -222,6 +223,7 @@ impl Scope {
             then self.old ++ new_entry name.now (read_write held.old.value) ∷ []
             else self.old) }
         ensures left { OnOk result (left_behind held.new.value ≡ held.new.value) }
+        ensures flag { held.new.read_only ≡ held.old.read_only }
         ensures back { OnErr result (held.new ≡ held.old) }
     {
         let name = name.share()?;

@@ -2,7 +2,7 @@
 use Rattle.std.proofs.Common.{◌≡◌, ◌<◌, ◌∙◌, ◌∷◌, [], length, reverse, refl, sym, ap}
 use Rattle.std.proofs.lemmas.List.{reverse-append}
 use Rattle.grain_stack.specs.Views.{StacksView}
-use Rattle.grain_stack.specs.Floors.{floors, newest, handlers_at, IsOrdered}
+use Rattle.grain_stack.specs.Floors.{floors, newest, handlers_at}
 use Rattle.grain_stack.proofs.Handling.{newest_here, with_handler}
 use Rattle.grain_stack.proofs.Nesting.{less_sound}
 use Rattle.grain_stack.proofs.stacks.Stacks.pop_handler.Goals as goal
