@@ -99,7 +99,7 @@ impl<H: Host> Run<H> {
     }
 
     // The scope is put aside, the last operands become the entries of a new one, and the
-    // function's frame is entered. After want of memory only the operands may differ.
+    // function's frame is entered. After want of memory all is as it was.
     #[inline(always)]
     fn enter_function(
         &mut self,
@@ -116,9 +116,7 @@ impl<H: Host> Run<H> {
               (arguments (length function.now.params) self.old.stacks.operands);
           saved = self.old.saved ++ self.old.scope ∷ [];
         }) }
-        ensures refused { OnErr result (self.new ≡ record self.old {
-          stacks = record self.old.stacks { operands = self.new.stacks.operands };
-        }) }
+        ensures refused { OnErr result (self.new ≡ self.old) }
     {
         self.saved.save(&mut self.scope)?;
         match self.bind(context, function) {
@@ -131,7 +129,7 @@ impl<H: Host> Run<H> {
     }
 
     // The last operands become the entries of the scope, which is empty, and the function's frame
-    // is entered. After want of memory only the operands and the scope may differ.
+    // is entered. After want of memory all is as it was.
     #[inline(always)]
     fn bind(&mut self, context: Context<'_>, function: &Function) -> Result<(), OutOfMemory>
         requires empty { self.old.scope ≡ [] }
@@ -144,15 +142,14 @@ impl<H: Host> Run<H> {
           scope = bound context.entry.program.now function.now.params
               (arguments (length function.now.params) self.old.stacks.operands);
         }) }
-        ensures refused { OnErr result (self.new ≡ record self.old {
-          stacks = record self.old.stacks { operands = self.new.stacks.operands };
-          scope = self.new.scope;
-        }) }
+        ensures refused { OnErr result (self.new ≡ self.old) }
     {
-        let params = function.params.as_slice();
-        self.stacks
-            .bind_arguments(params, context.program.names(), &mut self.scope)?;
-        self.stacks.enter(function.chunk.max_stack)
+        self.stacks.enter_with_arguments(
+            function.chunk.max_stack,
+            function.params.as_slice(),
+            context.program.names(),
+            &mut self.scope,
+        )
     }
 
     // A fault that left the body of a function leaves its caller's frame too: a system exception at

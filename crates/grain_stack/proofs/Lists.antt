@@ -1,13 +1,13 @@
 -- Operands above a frame's bottom.
 use Rattle.std.proofs.Common.{◌≡◌, ◌<◌, ◌≤◌, ℕ, zero, suc, ◌+◌, ◌-◌, List, [], ◌∷◌, ◌++◌, take, drop, length, get_or, refl, sym, subst, ap, ◌∙◌, arith, length-drop, length-append, append_assoc}
 use borrow.Rule.Slice.PartMut.{mid_of, put_mid, post_of, same_len_mid}
-use Rattle.std.specs.Prelude.{slice_get, slice_index_or, slice_set, Some, Result, Ok, Err, is_ok, OnOk, if◌then◌else◌}
+use Rattle.std.specs.Prelude.{slice_get, slice_index_or, slice_set, Some}
 use Rattle.std.proofs.lemmas.List.{drop-append-le, drop-drop, drop-take, get_or-take, take-append-le}
 use Rattle.grain_value.specs.declared.values.Held.{Held}
 use Rattle.grain_value.specs.declared.scopes.Entry.{Entry}
 use Rattle.grain_value.specs.Scopes.{new_entry}
 use Rattle.grain_value.specs.Operands.{top, below, under, rotated, read_write, bound_entries}
-use Rattle.grain_stack.specs.Filled.{Filled, filled, operand_at}
+use Rattle.grain_stack.specs.Filled.{filled, operand_at}
 
 -- the last operand
 top-snoc : (xs : List Held) (h : Held) → top (xs ++ h ∷ []) ≡ h
@@ -416,12 +416,3 @@ bound_more scope scope' names ps xs ys i f h name lp lx is es ey =
       named names (get_or ps i 0) name is,
     )
     (append_assoc scope (new_entry name (read_write (operand_at (f + i) xs).value) ∷ []) (bound_entries names (drop (suc i) ps) (drop (suc (f + i)) xs)))
-
--- without the arguments, if they were taken
-pub bound_own : {A E : Type 0} (r : Result A E) (b k : ℕ) (s t : Filled) →
-    t ≡ (if is_ok r then record s { operands = under k s.operands } else s) →
-    k ≤ length (drop b s.operands) → b ≤ length s.operands →
-    OnOk r (drop b t.operands ≡ under k (drop b s.operands))
-bound_own (Ok x) b k s t is le lb =
-    ap (λ (v : Filled). drop b v.operands) is ∙ under_frame b k s.operands le lb
-bound_own (Err e) b k s t is le lb = tt

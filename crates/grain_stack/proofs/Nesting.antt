@@ -8,10 +8,10 @@ use Rattle.grain_stack.specs.declared.handlers.FrameHandler.{FrameHandler}
 use Rattle.grain_stack.specs.declared.stacks.Floor.{Floor}
 use Rattle.grain_stack.specs.declared.stacks.Stacks.TheInside.{Inside}
 use Rattle.grain_value.specs.declared.values.Dynamic.{Dynamic}
-use Rattle.grain_value.specs.Operands.{read_write}
+use Rattle.grain_value.specs.Operands.{under, read_write}
 use Rattle.grain_stack.specs.Views.{StackFrame, StacksView, joined_frame, with_value, without_frame}
 use Rattle.grain_stack.specs.Filled.{Filled}
-use Rattle.grain_stack.proofs.Lists.{length_front, take_shorter}
+use Rattle.grain_stack.proofs.Lists.{length_front, take_shorter, under_frame, under_others}
 use Rattle.grain_stack.specs.Floors.{frames_on, Nested, unnoted, floors, newest, IsOrdered, handlers_at, stacks_view, IsSound}
 
 -- more room does no harm
@@ -234,3 +234,15 @@ less_sound s t h i es eb er en eo et items =
       notes = rw (et, en, eo) i.notes;
       handlers = rw eo (ordered_up h.depth (length (floors s)) (newest t) ordered.0 ordered.1);
     }
+
+-- a frame that has lost its last operands
+pub less_view : (s : Inside) (v : Filled) (k : ℕ) → v.operands ≡ under k s.slots.operands →
+    k ≤ length (drop s.bottom s.slots.operands) → s.bottom ≤ length s.slots.operands →
+    stacks_view (record s { slots = v }) ≡
+    record (stacks_view s) { operands = under k (drop s.bottom s.slots.operands) }
+less_view s v k e le lb =
+    rw (
+      e,
+      under_frame s.bottom k s.slots.operands le lb,
+      under_others s.bottom k s.slots.operands le lb,
+    ) refl

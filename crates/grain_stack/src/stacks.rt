@@ -93,6 +93,55 @@ impl Stacks {
         Ok(())
     }
 
+    /// Enters a frame as `enter` does, and moves the values of the last operands of the frame around
+    /// it, as many as there are parameters, to the end of the scope, where they can be written and
+    /// have the names of the pool at these indices. After want of memory the stacks and the scope
+    /// are as they were.
+    #[inline(always)]
+    pub fn enter_with_arguments(
+        &mut self,
+        operands: u16,
+        params: &[u32],
+        names: &List<Name>,
+        scope: &mut Scope,
+    ) -> Result<(), OutOfMemory>
+        requires there { length params.now ≤ length self.old.operands }
+        requires named { All (λ n. n < length names.now) params.now }
+        ensures scope { scope.new ≡ (if is_ok result
+            then scope.old ++ bound_entries names.now params.now
+            (arguments (length params.now) self.old.operands)
+            else scope.old) }
+        ensures frames { self.new ≡ (if is_ok result
+            then with_frame operands (record self.old {
+              operands = under (length params.now) self.old.operands;
+            })
+            else self.old) }
+    {
+        let room = usize::from(operands);
+        let depth = self.outer.len();
+        self.slots.reserve(room)?;
+        self.trace.reserve(depth + 1)?;
+        self.outer.push(Floor {
+            bottom: self.bottom,
+            room: self.room,
+            noted: self.noted,
+        })?;
+        match self.slots.bind_arguments(params, names, scope) {
+            Ok(()) => {}
+            Err(e) => {
+                let around = self.outer.len() - 1;
+                self.outer.truncate(around);
+                return Err(e);
+            }
+        }
+        let entered = self.entered.saturating_add(1);
+        self.bottom = self.slots.len();
+        self.room = room;
+        self.noted = false;
+        self.entered = entered;
+        Ok(())
+    }
+
     /// Leaves the innermost frame, whose operands go.
     #[inline(always)]
     pub fn leave(&mut self)
@@ -311,29 +360,6 @@ impl Stacks {
         let length = self.slots.len();
         prove!(self.bottom <= length && height <= length - self.bottom);
         self.slots.truncate(self.bottom + height);
-    }
-
-    /// Moves the values of the last operands, as many as there are parameters, to the end of the
-    /// scope, where they can be written and have the names of the pool at these indices. After want
-    /// of memory the stacks and the scope are as they were.
-    #[inline(always)]
-    pub fn bind_arguments(
-        &mut self,
-        params: &[u32],
-        names: &List<Name>,
-        scope: &mut Scope,
-    ) -> Result<(), OutOfMemory>
-        requires there { length params.now ≤ length self.old.operands }
-        requires named { All (λ n. n < length names.now) params.now }
-        ensures scope { OnOk result (scope.new ≡ scope.old ++
-            bound_entries names.now params.now (arguments (length params.now) self.old.operands)) }
-        ensures taken { OnOk result
-            (self.new.operands ≡ under (length params.now) self.old.operands) }
-        ensures others { self.new ≡ record self.old { operands = self.new.operands } }
-        ensures refused { OnErr result (self.new ≡ self.old) }
-        ensures refused_scope { OnErr result (scope.new ≡ scope.old) }
-    {
-        self.slots.bind_arguments(params, names, scope)
     }
 
     /// Puts values, which can be written, in the place of the operand that has `depth` others above
