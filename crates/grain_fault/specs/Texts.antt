@@ -59,6 +59,14 @@ wrapper_text (InModule m x p) =
 wrapper_text (SystemError s e) = []
 wrapper_text NoMemory = []
 
+-- what happened, of a fault that wraps no other
+abbrev pub own_message : Problem → List ℕ
+own_message (Plain k p) = (row k).text
+own_message (InFunctionCall f s x p) = []
+own_message (InModule m x p) = []
+own_message (SystemError s e) = if length s == 0 then e else s ++ (codes ": " ++ e)
+own_message NoMemory = codes "Out of memory"
+
 -- what happened, without where
 abbrev pub message : Problem → List ℕ
 message (Plain k p) = (row k).text

@@ -4,7 +4,7 @@ ghost use Rattle.std.specs.Prelude.{◌≡◌, ◌++◌, Some, is_ok, if◌then�
 ghost use Rattle.std.specs.Fmt.{WritesOnOk};
 ghost use Rattle.grain_fault.specs.Problems.{problem_of};
 ghost use Rattle.grain_fault.specs.Table.{kind_text};
-ghost use Rattle.grain_fault.specs.Texts.{fault_name, fault_text, message, wrapper_text, line_and_column_text, location_text, call_text, origin_text, module_text};
+ghost use Rattle.grain_fault.specs.Texts.{fault_name, fault_text, message, own_message, wrapper_text, line_and_column_text, location_text, call_text, origin_text, module_text};
 
 use crate::chains::{Unwrapped, unwrap_all};
 use crate::fault_parts::{
@@ -141,6 +141,17 @@ pub(crate) fn write_message<W: fmt::Write>(
             write_message(inner, f)?;
             write_wrapper(fault, f)
         }
+        _ => write_own_message(fault, f),
+    }
+}
+
+/// Writes what happened, without where, of a fault that wraps no other. Of one that does it writes
+/// nothing.
+fn write_own_message<W: fmt::Write>(fault: &EvalAltResult, f: &mut fmt::Formatter<W>) -> fmt::Result
+    ensures { WritesOnOk W.write_str_gives f.old result (own_message (problem_of fault.now)) f.new }
+{
+    match fault {
+        EvalAltResult::ErrorInFunctionCall(..) | EvalAltResult::ErrorInModule(..) => Ok(()),
         EvalAltResult::ErrorSystem(about, reason) => write_system_error(about, reason, f),
         EvalAltResult::Memory => f.write_str("Out of memory"),
         EvalAltResult::ErrorParsing(reason, _) => write_labelled("Syntax error: ", reason, f),
