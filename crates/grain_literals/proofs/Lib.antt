@@ -10,3 +10,4 @@ pub mod Rooms
 pub mod MapsListed
 pub mod ReadListed
 pub mod LiteralsListed
+pub mod NoCells

@@ -4,6 +4,7 @@ ghost use Rattle.std.specs.Prelude.{◌≡◌, ◌≤◌, ◌++◌, ◌∷◌, [
 ghost use Rattle.std.specs.Char.{IsScalar};
 ghost use Rattle.std.specs.List.{AllByRecursion};
 ghost use Rattle.std.specs.Str.{chars, IsUtf8};
+ghost use Rattle.grain_value.specs.Cells.{cell_bound, is_clean};
 ghost use Rattle.grain_value.specs.Quoting.{quoted_text};
 ghost use Rattle.grain_value.specs.View.{tree};
 ghost use Rattle.grain_value.specs.Writing.{quoted};
@@ -47,6 +48,12 @@ pub fn read_values_can_be_listed()
         constant_of cs ≡ Ok v → IsListed 64 (tree v) }
     ensures entries { (cs : List ℕ) (e : Entry) → AllByRecursion IsScalar cs →
         entry_of cs ≡ Ok e → IsUtf8 e.name × IsListed 64 (tree e.held.value) }
+{}
+
+/// A constant that is read is clean and names no cell, whatever the line's characters are.
+pub fn read_values_name_no_cell()
+    ensures { (cs : List ℕ) (v : Dynamic) → constant_of cs ≡ Ok v →
+        (is_clean (tree v) ≡ true) × (cell_bound (tree v) ≡ 0) }
 {}
 
 /// How many things a list of a value may have is bounded by its line alone. What is read of a list

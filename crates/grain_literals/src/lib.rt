@@ -7,7 +7,9 @@ mod operands;
 mod reasons;
 mod values;
 
-pub use laws::{lists_have_room, read_values_can_be_listed, values_are_read};
+pub use laws::{
+    lists_have_room, read_values_can_be_listed, read_values_name_no_cell, values_are_read,
+};
 pub use literals::{ScopeEntry, constant_of, entry_of, text_of, token_of};
 pub use operands::{
     after_name, alone, byte_of, index, number_operand, position_after, word_operand,
