@@ -11,10 +11,11 @@ use Rattle.grain_value.specs.declared.values.Dynamic.TheVariants as dynamic
 use Rattle.grain_value.specs.declared.values.Held.{Held}
 use Rattle.grain_host.specs.Law.{Reply, call_is_clean, is_plain, receiver_is_plain, reply_is_clean, verdict_is_clean}
 use Rattle.grain_host.specs.declared.tables.TableHost.{TableHost}
-use Rattle.grain_host.specs.declared.tables.StopLine.{StopLine}
+use Rattle.grain_host.specs.declared.stop_lines.StopLine.{StopLine}
 use Rattle.grain_host.specs.declared.tables.Turn.{Turn}
 use Rattle.grain_host.specs.declared.tables.Turn.TheVariants as turns
-use Rattle.grain_host.specs.Tables.{print_reply, push_reply, counted, entries_in, len_reply, exit_reply, native_reply, sole, first_of_two, unknown, reply_at, after_at, written_at, pushed, stop_at, stops_clean, verdict, turn, arguments, table_law}
+use Rattle.grain_host.specs.Stops.{stop_at, stops_clean}
+use Rattle.grain_host.specs.Tables.{print_reply, push_reply, counted, entries_in, len_reply, exit_reply, native_reply, sole, first_of_two, unknown, reply_at, after_at, written_at, pushed, verdict, turn, arguments, table_law}
 
 pub first_true : (a b : Bool) → a && b ≡ true → a ≡ true
 first_true true b h = refl

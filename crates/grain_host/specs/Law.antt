@@ -45,7 +45,7 @@ pub record Law (S : Type 0) : Type 0 where
   -- the number.
   pub reach : S → ℕ
   -- Whether all that may be handed over, beside what a call is given, is clean: no cell stands directly
-  -- inside an array or a map. No call asks for it.
+  -- inside an array or a map. Each host vouches for it (`Host::vouch`), and no call asks for it.
   pub holds_clean : S → Bool
 
 -- the native of a name and of its arguments' kinds

@@ -12,10 +12,11 @@ use Rattle.grain_value.specs.declared.values.Dynamic.TheVariants as dynamic
 use Rattle.grain_value.specs.declared.values.Held.{Held}
 use Rattle.grain_host.specs.Law.{Reply, call_bound, receiver_bound, reply_bound, verdict_bound}
 use Rattle.grain_host.specs.declared.tables.TableHost.{TableHost}
-use Rattle.grain_host.specs.declared.tables.StopLine.{StopLine}
+use Rattle.grain_host.specs.declared.stop_lines.StopLine.{StopLine}
 use Rattle.grain_host.specs.declared.tables.Turn.{Turn}
 use Rattle.grain_host.specs.declared.tables.Turn.TheVariants as turns
-use Rattle.grain_host.specs.Tables.{print_reply, push_reply, counted, entries_in, len_reply, exit_reply, native_reply, sole, first_of_two, unknown, reply_at, after_at, written_at, pushed, stop_at, stops_bound, verdict, turn, arguments, table_law}
+use Rattle.grain_host.specs.Stops.{stop_at, stops_bound}
+use Rattle.grain_host.specs.Tables.{print_reply, push_reply, counted, entries_in, len_reply, exit_reply, native_reply, sole, first_of_two, unknown, reply_at, after_at, written_at, pushed, verdict, turn, arguments, table_law}
 
 -- one more than the greatest cell of an argument, if there is one, and of arguments
 abbrev pub argument_bound : Option Dynamic → ℕ

@@ -1,11 +1,10 @@
 -- The host in memory: what its calls answer, print and write, by its tables.
-use Rattle.std.specs.Prelude.{◌≡◌, ℕ, ◌+◌, ◌-◌, ◌^◌, max, pos, Bool, true, ◌||◌, ◌&&◌, List, [], ◌∷◌, ◌++◌, Option, Some, None, codes, bytes_eq, ◌==◌, length, map, option_map, if◌then◌else◌}
+use Rattle.std.specs.Prelude.{◌≡◌, ℕ, ◌+◌, ◌-◌, ◌^◌, pos, Bool, ◌||◌, List, [], ◌∷◌, ◌++◌, Option, Some, None, codes, bytes_eq, ◌==◌, length, map, option_map, if◌then◌else◌}
 use Rattle.std.specs.Fmt.{decimal}
 use Rattle.std.specs.Str.{chars}
 use Rattle.std.specs.List.{list_any}
 use Rattle.grain_value.specs.Tree.{Tree}
 use Rattle.grain_value.specs.View.{tree, value_of}
-use Rattle.grain_value.specs.Cells.{cell_bound, is_clean}
 use Rattle.grain_value.specs.Writing.{plain}
 use Rattle.grain_value.specs.declared.values.Dynamic.{Dynamic}
 use Rattle.grain_value.specs.declared.values.Dynamic.TheVariants as dynamic
@@ -14,10 +13,10 @@ use Rattle.grain_fault.specs.Places.{nowhere}
 use Rattle.grain_fault.specs.Problems.{Plain, Runtime, Exit, SystemError}
 use Rattle.grain_host.specs.Law.{Law, Reply, Done, Failed, Verdict, GoOn, Stop, receiver_after}
 use Rattle.grain_host.specs.Answers.{reply_of}
+use Rattle.grain_host.specs.Stops.{stop_at, stops_bound, stops_clean}
 use Rattle.grain_host.specs.declared.host_answers.Args.{Args}
 use Rattle.grain_host.specs.declared.host_answers.HostAnswer.{HostAnswer}
 use Rattle.grain_host.specs.declared.tables.TableHost.{TableHost}
-use Rattle.grain_host.specs.declared.tables.StopLine.{StopLine}
 use Rattle.grain_host.specs.declared.tables.Turn.{Turn}
 use Rattle.grain_host.specs.declared.tables.Turn.TheVariants as turns
 
@@ -179,24 +178,9 @@ written_at turns.Full h values = h.value
 written_at (turns.Failing n) h values = h.value
 written_at (turns.Ready n) h values = pushed h.value (sole (map value_of values))
 
--- the value of the first line for the number
-abbrev pub stop_at : ℕ → List StopLine → Option Dynamic
-stop_at n [] = None
-stop_at n (l ∷ ls) = if l.count == n then Some l.value else stop_at n ls
-
 abbrev pub verdict : Option Dynamic → Verdict
 verdict None = GoOn
 verdict (Some v) = Stop v
-
--- one more than the greatest cell that the tokens of these lines name, and 0 where they name none
-abbrev pub stops_bound : List StopLine → ℕ
-stops_bound [] = 0
-stops_bound (l ∷ ls) = max (cell_bound (tree l.value)) (stops_bound ls)
-
--- whether the tokens of these lines are clean
-abbrev pub stops_clean : List StopLine → Bool
-stops_clean [] = true
-stops_clean (l ∷ ls) = is_clean (tree l.value) && stops_clean ls
 
 abbrev pub table_law : Law TableHost
 table_law = record {

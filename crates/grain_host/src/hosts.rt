@@ -1,6 +1,6 @@
 //! What a machine asks of its host.
 
-ghost use Rattle.std.specs.Prelude.{◌≡◌};
+ghost use Rattle.std.specs.Prelude.{◌≡◌, true};
 ghost use Rattle.grain_host.specs.Law.{Law, IsLawful, native_of};
 ghost use Rattle.grain_host.specs.Answers.{Answers, Hears};
 
@@ -27,6 +27,12 @@ pub trait Host {
     /// Hears that a run has taken `count` operations, and says whether it goes on.
     fn progress(&mut self, alloc: Global, count: u64) -> ProgressAnswer
         ensures { Hears law self.old count result self.new };
+
+    /// It does nothing. Its clause says that all that the host may hand over, beside what it is
+    /// given, is clean: no cell stands directly inside an array or a map. A machine asks for it once,
+    /// where a run begins.
+    fn vouch(&self)
+        ensures { law.holds_clean self.now ≡ true };
 
     ghost lawful: { IsLawful law };
 }

@@ -4,6 +4,7 @@
 mod host_answers;
 mod host_faults;
 mod hosts;
+mod stop_lines;
 mod table_natives;
 mod tables;
 

@@ -1,21 +1,17 @@
 //! A host that lives in memory.
 
-ghost use Rattle.std.specs.Prelude.{◌≡◌, IfOk, IfErr, is_ok, if◌then◌else◌, option_copied};
-ghost use Rattle.grain_host.specs.Tables.{table_law, blank, failing_at, stopping_at, turn, stop_at, IsStep};
+ghost use Rattle.std.specs.Prelude.{◌≡◌, IfOk, IfErr, is_ok, true, if◌then◌else◌};
+ghost use Rattle.grain_value.specs.Cells.{cell_bound, is_clean};
+ghost use Rattle.grain_value.specs.View.{tree};
+ghost use Rattle.grain_host.specs.Tables.{table_law, blank, failing_at, stopping_at, turn, IsStep};
 ghost use Rattle.grain_host.specs.Lawful.{table_lawful};
 
 use crate::host_answers::{Args, HostAnswer, ProgressAnswer};
 use crate::hosts::Host;
+use crate::stop_lines::StopLines;
 use crate::table_natives::{self, key_of, perform};
 use grain_value::{Dynamic, Kinds, List, Native, OutOfMemory, Text};
 use std::alloc::Global;
-
-/// A number of operations at which a run ends, and the token with which it ends.
-#[derive(Drop)]
-struct StopLine {
-    count: u64,
-    value: Dynamic,
-}
 
 // What comes of a call: no further one can be counted, or the call of this number is to fail, or it
 // is done.
@@ -26,13 +22,14 @@ enum Turn {
 }
 
 /// A host that lives in memory. It has the natives `print`, `push`, `len` and `exit`. Its calls are
-/// counted, and calls of given numbers fail.
+/// counted, and calls of given numbers fail. Runs end at given numbers of operations, with tokens
+/// that are clean and name no cell.
 #[derive(Drop)]
 pub struct TableHost {
     printed: Text,
     steps: u64,
     failing: List<u64>,
-    stops: List<StopLine>,
+    stops: StopLines,
 }
 
 impl TableHost {
@@ -44,7 +41,7 @@ impl TableHost {
             printed: Text::new(alloc),
             steps: 0,
             failing: List::new(alloc),
-            stops: List::new(alloc),
+            stops: StopLines::new(alloc),
         }
     }
 
@@ -63,24 +60,15 @@ impl TableHost {
         self.failing.push(n)
     }
 
-    /// A run that has taken this number of operations is to end, with this value as its token. Of
-    /// several lines for a number the first holds. After want of memory the host is as it was.
+    /// A run that has taken this number of operations is to end, with this value as its token. The
+    /// value is clean and names no cell. Of several lines for a number the first holds. After want
+    /// of memory the host is as it was.
     pub fn stop(&mut self, n: u64, value: Dynamic) -> Result<(), OutOfMemory>
+        requires clean { is_clean (tree value) ≡ true }
+        requires cell_free { cell_bound (tree value) ≡ 0 }
         ensures { self.new ≡ (if is_ok result then stopping_at n value self.old else self.old) }
     {
-        self.stops.push(StopLine { count: n, value })
-    }
-
-    // The token for this number of operations, if a run is to end there.
-    fn token(&self, count: u64) -> Option<&Dynamic>
-        ensures { option_copied result ≡ stop_at count self.now.stops }
-    {
-        for line in self.stops.as_slice() {
-            if line.count == count {
-                return Some(&line.value);
-            }
-        }
-        None
+        self.stops.push(n, value)
     }
 
     // What comes of the next call.
@@ -139,12 +127,21 @@ impl Host for TableHost {
     }
 
     fn progress(&mut self, alloc: Global, count: u64) -> ProgressAnswer {
-        match self.token(count) {
+        match self.stops.token(count) {
             None => ProgressAnswer::GoOn,
             Some(value) => match value.copy(alloc) {
                 Ok(value) => ProgressAnswer::Stop(value),
                 Err(OutOfMemory) => ProgressAnswer::Memory,
             },
         }
+    }
+
+    /// It does nothing. Its clauses say what is so of every such host: its tokens are clean, and it
+    /// has no cell to hand over.
+    fn vouch(&self)
+        ensures clean { table_law.holds_clean self.now ≡ true }
+        ensures reach { table_law.reach self.now ≡ 0 }
+    {
+        self.stops.vouch();
     }
 }

@@ -1,6 +1,8 @@
 //! The lines of the host's tables.
 
-ghost use Rattle.std.specs.Prelude.{◌≡◌, IfOk};
+ghost use Rattle.std.specs.Prelude.{◌≡◌, true, IfOk};
+ghost use Rattle.grain_value.specs.Cells.{cell_bound, is_clean};
+ghost use Rattle.grain_value.specs.View.{tree};
 ghost use Rattle.grain_literals.specs.Results.{operand_view};
 ghost use Rattle.grain_listing.specs.HostLines.{count_operand, fail_of, stop_of};
 ghost use Rattle.grain_listing.specs.declared.table.Line.TheVariants as lines;
@@ -27,10 +29,13 @@ fn fail_of(line: &[char]) -> Result<u64, Reason>
     Ok(number)
 }
 
-/// The number of operations and the value after `stop`.
+/// The number of operations and the value after `stop`, which is clean and names no cell.
 fn stop_of(alloc: Global, line: &[char]) -> Result<Result<(u64, Dynamic), Reason>, OutOfMemory>
-    ensures { IfOk result (λ r. r ≡ stop_of line.now) }
+    ensures said { IfOk result (λ r. r ≡ stop_of line.now) }
+    ensures plain { IfOk result (λ r. IfOk r (λ s.
+        (is_clean (tree s.1) ≡ true) × (cell_bound (tree s.1) ≡ 0))) }
 {
+    grain_literals::read_values_name_no_cell();
     match count_operand(line) {
         Err(reason) => Ok(Err(reason)),
         Ok((count, rest)) => match constant_of(alloc, rest)? {
