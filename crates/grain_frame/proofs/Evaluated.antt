@@ -10,7 +10,7 @@ use Rattle.grain_fault.specs.declared.faults.EvalAltResult.{EvalAltResult}
 use Rattle.grain_fault.specs.declared.faults.EvalAltResult.TheVariants as fault
 use Rattle.grain_program.specs.View.{View}
 use Rattle.grain_host.specs.Law.{IsLawful, Law}
-use Rattle.grain_means.specs.Contained.{AnswerNames, ConstantsName, Contained, KeepsToStore, ResultNames}
+use Rattle.grain_means.specs.Contained.{AnswerNames, ConstantsName, Contained, KeepsToStore, ResultNames, WithinStore}
 use Rattle.grain_global.specs.declared.engines.Engine.{Engine}
 use Rattle.grain_means.specs.Worlds.{Answer, Failed, Place, Setup, World}
 use Rattle.grain_means.specs.Rules.{called}
@@ -194,15 +194,26 @@ module _ {H : Type 0} (counted : Counted H) (law : Law H) (p : View) (e : Engine
   has_cause (Err o) h = inl refl
 
   -- what is left names cells of the store only, if what is given does
-  pub keeps_to_store : Kept H → IsLawful law →
+  pub keeps_to_store : Kept H → IsLawful law → law.holds_clean b.host ≡ true →
       (back : Result (Result Dynamic EvalAltResult) OutOfMemory) → Whole back →
       KeepsToStore law p b (answered back) scope cells host
-  keeps_to_store kept lawful back h clean n constants start =
+  keeps_to_store kept lawful vouched back h clean n constants start =
       let run =
       at_stop back h (Some passed) (clear_before 0 passed) (halts_there (is_out back) passed) in
       let done = kept (stopped_at (Some passed)) None (world at_first no_environment)
-      (world at_last no_environment) (answer_of back) clean n lawful constants start run in
+      (world at_last no_environment) (answer_of back) clean n lawful constants (begun start) run in
       (done.0, done.1, done.2, by_result done.0 back done.3) where
+        -- the host vouches for what it hands over
+        begun : {clean : Bool} {n : ℕ} → WithinStore law clean n b.scope b.cells b.host →
+            Contained law clean n b.scope b.cells b.host
+        begun start = record {
+          size = start.size;
+          entries = start.entries;
+          contents = start.contents;
+          reaches = start.reaches;
+          hands = λ s. vouched;
+        }
+
         by_result : (k : ℕ) (back : Result (Result Dynamic EvalAltResult) OutOfMemory) →
             AnswerNames clean k (answer_of back) → ResultNames clean k (answered back)
         by_result k (Ok (Ok v)) named = named

@@ -78,7 +78,8 @@ impl<'e> Machine<'e> {
     /// and the entries that main declares stay after a value; a fault cuts the scope back to its
     /// length. After want of memory the run is the one that is stopped at a mark. The scope's
     /// entries keep their names and order, whatever the end is. Where nothing that is given names a
-    /// cell outside of the store, nothing that is left does, and no cell stays lent.
+    /// cell outside of the store, nothing that is left does, and no cell stays lent. Where the scope,
+    /// the cells and the constants are clean, all that is left is, whatever the host is.
     pub fn run_main<H: Host, L: Ledger>(
         &mut self,
         alloc: Global,
@@ -110,6 +111,7 @@ impl<'e> Machine<'e> {
         ensures clean { IsLeft self.old.stacks self.new.stacks }
         ensures engine { self.new.engine ≡ self.old.engine }
     {
+        host.vouch();
         steps.start();
         self.stacks.cut_trace(0);
         let context = Context {

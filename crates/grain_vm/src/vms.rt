@@ -108,7 +108,8 @@ impl<'e> Vm<'e> {
     /// entries that main declares stay after a value; a fault cuts the scope back to its length.
     /// After want of memory the run is the one that is stopped at a mark. The scope's entries keep
     /// their names and order, whatever the end is. Where nothing that is given names a cell outside
-    /// of the store, nothing that is left does, and no cell stays lent.
+    /// of the store, nothing that is left does, and no cell stays lent. Where the scope, the cells and
+    /// the constants are clean, all that is left is, whatever the host is.
     pub fn eval_with_callbacks<H: Host, L: Ledger>(
         &mut self,
         alloc: Global,

@@ -110,7 +110,7 @@ returns-clause-store g c =
     rw c.answered.ensures
     (keeps_to_store c.counted.ensures g.H.Host.law c.args.program.now engine b after.stacks.trace
     after.scope after.cells c.run_main-back.new.host after.count after.level steps.begun
-    steps.passed c.contained.ensures g.met.H.Host.lawful back goes)
+    steps.passed c.contained.ensures g.met.H.Host.lawful c.vouch.ensures back goes)
 
 pub returns-clause-level : goal.returns-clause-level
 returns-clause-level g c =
