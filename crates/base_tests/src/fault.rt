@@ -6,10 +6,10 @@ mod endings;
 mod places;
 mod wrapped;
 
-use crate::made::quoted;
-use crate::raised::{Raised, fault_of};
+use crate::made::{check_text, map, quoted, text_of};
+use crate::raised::{Kind, fault_of, fault_text};
 use grain_fault::{EvalAltResult, Fault, Faults, Position};
-use grain_value::{Dynamic, Map, OutOfMemory, Text};
+use grain_value::{Dynamic, Map};
 use std::alloc::Global;
 use std::process::Abort;
 
@@ -21,25 +21,19 @@ enum Class {
     Pseudo,
 }
 
-/// A fault, its text and its dumped fields.
-type Row = (Raised, &'static str, &'static str);
+/// A fault and what it is of, its text and its dumped fields.
+type Row = (Kind, &'static str, &'static str, &'static str);
 
-/// Compares what a row says of a fault of this class.
-fn check_row(rt: &impl Abort, alloc: Global, class: Class, row: &Row) -> Result<(), OutOfMemory> {
-    let fault = fault_of(alloc, &row.0)?;
-    check_fault(rt, alloc, class, &fault, [row.1, row.2])
+/// Compares what rows say of faults of this class.
+fn check_rows(rt: &impl Abort, alloc: Global, class: Class, rows: &[Row]) {
+    for row in rows {
+        check_row(rt, alloc, class, row);
+    }
 }
 
-fn check_rows(
-    rt: &impl Abort,
-    alloc: Global,
-    class: Class,
-    rows: &[Row],
-) -> Result<(), OutOfMemory> {
-    for row in rows {
-        check_row(rt, alloc, class, row)?;
-    }
-    Ok(())
+fn check_row(rt: &impl Abort, alloc: Global, class: Class, row: &Row) {
+    let fault = fault_of(rt, alloc, row.0, row.1);
+    check_fault(rt, alloc, class, &fault, (row.2, row.3));
 }
 
 /// Compares a fault's class, its text and its dumped fields, and its name with that in the fields.
@@ -48,77 +42,68 @@ fn check_fault(
     alloc: Global,
     class: Class,
     fault: &EvalAltResult,
-    [text, fields]: [&str; 2],
-) -> Result<(), OutOfMemory> {
+    (text, fields): (&str, &str),
+) {
     check_class(rt, class, fault);
-    let mut out = Text::new(alloc);
-    fault.write_text(&mut out)?;
-    assert_eq!(rt; out.as_str(), text);
-    check_fields(rt, alloc, fault, fields)
+    check_text(rt, fault_text(rt, alloc, fault), text);
+    let map = dumped(rt, Map::new(alloc), fault);
+    assert!(rt; is_named(&map, fault.name()));
+    check_dumped(rt, alloc, map, fields);
 }
 
 fn check_class(rt: &impl Abort, class: Class, fault: &EvalAltResult) {
-    assert_eq!(rt; fault.is_catchable(), matches!(class, Class::Catchable));
-    assert_eq!(rt; fault.is_system_exception(), matches!(class, Class::System));
-    assert_eq!(rt; fault.is_pseudo_error(), matches!(class, Class::Pseudo));
+    assert!(rt; fault.is_catchable() == matches!(class, Class::Catchable));
+    assert!(rt; fault.is_system_exception() == matches!(class, Class::System));
+    assert!(rt; fault.is_pseudo_error() == matches!(class, Class::Pseudo));
 }
 
-fn check_fields(
-    rt: &impl Abort,
-    alloc: Global,
-    fault: &EvalAltResult,
-    fields: &str,
-) -> Result<(), OutOfMemory> {
-    let mut map = Map::new(alloc);
-    fault.dump_fields(&mut map)?;
+/// The map with the fields of the fault.
+fn dumped(rt: &impl Abort, map: Map, fault: &EvalAltResult) -> Map {
+    let mut map = map;
+    fault.dump_fields(&mut map).expect(rt, "memory");
+    map
+}
+
+fn is_named(map: &Map, name: &str) -> bool {
     match map.get("error") {
-        Some(Dynamic::Text(name)) => assert_eq!(rt; fault.name(), name.as_str()),
-        _ => assert!(rt; false),
+        Some(Dynamic::Text(text)) => text.as_str() == name,
+        _ => false,
     }
-    check_dumped(rt, alloc, &Dynamic::Map(map), fields)
 }
 
-fn check_dumped(
-    rt: &impl Abort,
-    alloc: Global,
-    map: &Dynamic,
-    fields: &str,
-) -> Result<(), OutOfMemory> {
-    assert_eq!(rt; quoted(alloc, map)?.as_str(), fields);
-    Ok(())
+fn check_dumped(rt: &impl Abort, alloc: Global, map: Map, fields: &str) {
+    check_text(rt, quoted(rt, alloc, &Dynamic::Map(map)), fields);
 }
 
 #[test]
-fn a_text_is_put_at_the_end(rt: HostRuntime) -> Result<(), OutOfMemory> {
-    let mut out = Text::copy_of(rt.alloc(), "At once: ")?;
-    let fault = EvalAltResult::from_text(rt.alloc(), "boom")?;
-    assert!(rt; fault.write_text(&mut out).is_ok());
-    assert_eq!(rt; out.as_str(), "At once: Runtime error: boom");
-    Ok(())
+fn a_text_is_put_at_the_end(rt: HostRuntime) {
+    let mut out = text_of(&rt, rt.alloc(), "At once: ");
+    let fault = EvalAltResult::from_text(rt.alloc(), "boom").expect(&rt, "memory");
+    fault.write_text(&mut out).expect(&rt, "memory");
+    check_text(&rt, out, "At once: Runtime error: boom");
 }
 
 #[test]
-fn fields_are_put_beside_others(rt: HostRuntime) -> Result<(), OutOfMemory> {
-    let mut map = Map::new(rt.alloc());
-    for (key, integer) in [("error", 1), ("x", 2)] {
-        let key = Text::copy_of(rt.alloc(), key)?;
-        drop(map.insert(key, Dynamic::Int(integer))?);
-    }
-    EvalAltResult::ErrorFor(Position::NONE).dump_fields(&mut map)?;
-    let fields = r#"#{"error": "ErrorFor", "x": 2}"#;
-    check_dumped(&rt, rt.alloc(), &Dynamic::Map(map), fields)
+fn fields_are_put_beside_others(rt: HostRuntime) {
+    let map = map(&rt, rt.alloc(), "error 1, x 2");
+    let fault = EvalAltResult::ErrorFor(Position::NONE);
+    let map = dumped(&rt, map, &fault);
+    check_dumped(&rt, rt.alloc(), map, r#"#{"error": "ErrorFor", "x": 2}"#);
+}
+
+fn check_trace(rt: &impl Abort, trace: &mut Faults, frame: &Fault) {
+    assert!(rt; trace.get(0) == Some(frame));
+    trace.clear();
+    assert!(rt; trace.is_empty());
 }
 
 #[test]
-fn traces_grow(rt: HostRuntime) -> Result<(), OutOfMemory> {
+fn traces_grow(rt: HostRuntime) {
     let frame = Fault {
         address: 12,
         slot: None,
     };
     let mut trace = Faults::new(rt.alloc());
-    trace.push(frame)?;
-    assert_eq!(rt; trace.get(0), Some(&frame));
-    trace.clear();
-    assert!(rt; trace.is_empty());
-    Ok(())
+    trace.push(frame).expect(&rt, "memory");
+    check_trace(&rt, &mut trace, &frame);
 }

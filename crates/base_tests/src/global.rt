@@ -1,8 +1,8 @@
 //! An engine and its first state, with memory enough.
 
-use grain_global::Engine;
+use grain_global::{Engine, GlobalRuntimeState};
 use grain_value::Limits;
-use std::test::Fail;
+use std::process::Abort;
 
 const LIMITS: Limits = Limits {
     operations: 7,
@@ -14,13 +14,18 @@ const LIMITS: Limits = Limits {
     map: 0,
 };
 
+fn check_state(rt: &impl Abort, state: &GlobalRuntimeState) {
+    assert!(rt; state.num_operations() == 0);
+    assert!(rt; state.level == 0);
+}
+
 #[test]
-fn an_engine_begins_with_nothing_run(rt: HostRuntime) -> Result<(), Fail> {
+fn an_engine_begins_with_nothing_run(rt: HostRuntime) {
     let engine = Engine::new(rt.alloc(), LIMITS);
     assert!(rt; engine.fast_operators);
-    assert_eq!(rt; engine.limits.operations, 7);
-    let state = engine.new_global_runtime_state(rt.alloc())?;
-    assert_eq!(rt; state.num_operations(), 0);
-    assert_eq!(rt; state.level, 0);
-    Ok(())
+    assert!(rt; engine.limits.operations == 7);
+    let state = engine
+        .new_global_runtime_state(rt.alloc())
+        .expect(&rt, "memory");
+    check_state(&rt, &state);
 }

@@ -1,110 +1,117 @@
 //! The host in memory, with enough memory, and the faults that a host may answer.
 
-use crate::made::{Flat, Made, array, quoted, value_of};
-use crate::raised::{Broken, OfText, OfTexts, OfValue, Plain, Raised, fault_of, text_of};
+use crate::made::{array, check_text, quoted, text_of, value_of};
+use crate::raised::{Broken, Kind, OfText, OfTexts, OfValue, Plain, Raised, fault_of, named_text};
+use grain_fault::EvalAltResult;
 use grain_host::{Args, Host, HostAnswer, HostFault, ProgressAnswer, TableHost};
-use grain_value::{Array, Dynamic, Held, Kinds, Native, OutOfMemory, Text};
+use grain_value::{Array, Dynamic, Held, Kinds, Native, Text};
 use std::alloc::Global;
 use std::process::Abort;
 
 /// The call's value as a listing has it, an exit's value behind the word, or the name and the text
 /// of a fault.
-fn answered(alloc: Global, answer: HostAnswer) -> Result<Text, OutOfMemory> {
+fn answered(rt: &impl Abort, alloc: Global, answer: HostAnswer) -> Text {
     match answer {
-        HostAnswer::Done(value) => quoted(alloc, &value),
-        HostAnswer::Failed(fault) => failed(alloc, fault),
-        HostAnswer::Memory => Err(OutOfMemory),
+        HostAnswer::Done(value) => quoted(rt, alloc, &value),
+        HostAnswer::Failed(fault) => failed(rt, alloc, fault.into_fault()),
+        HostAnswer::Memory => panic!(rt; "memory"),
     }
 }
 
-fn failed(alloc: Global, fault: HostFault) -> Result<Text, OutOfMemory> {
-    match fault.into_fault().into_exit_value() {
-        Ok(value) => exited(alloc, &value),
-        Err(fault) => text_of(alloc, &fault),
+fn failed(rt: &impl Abort, alloc: Global, fault: EvalAltResult) -> Text {
+    match fault.into_exit_value() {
+        Ok(value) => exited(rt, alloc, &value),
+        Err(fault) => named_text(rt, alloc, &fault),
     }
 }
 
-fn exited(alloc: Global, value: &Dynamic) -> Result<Text, OutOfMemory> {
-    let mut text = Text::copy_of(alloc, "exit ")?;
-    value.write_quoted(&mut text)?;
-    Ok(text)
+fn exited(rt: &impl Abort, alloc: Global, value: &Dynamic) -> Text {
+    let mut text = text_of(rt, alloc, "exit ");
+    value.write_quoted(&mut text).expect(rt, "memory");
+    text
 }
 
-/// Calls the native of this key with one argument.
-fn called(
-    alloc: Global,
-    host: &mut TableHost,
-    key: u64,
-    value: &Made,
-) -> Result<Text, OutOfMemory> {
-    let value = value_of(alloc, value)?;
-    let mut values = Array::new(alloc);
-    values.push(value)?;
-    let mut args = Args {
+/// What the host answers when it is called so.
+fn called(rt: &impl Abort, alloc: Global, host: &mut TableHost, key: u64, args: &mut Args) -> Text {
+    answered(rt, alloc, host.call(alloc, key, args))
+}
+
+/// Arguments without a receiver.
+fn args_of(values: Array) -> Args {
+    Args {
         receiver: None,
         values,
-    };
-    answered(alloc, host.call(alloc, key, &mut args))
+    }
+}
+
+fn one_value(rt: &impl Abort, alloc: Global, said: &str) -> Array {
+    let mut values = Array::new(alloc);
+    let value = value_of(rt, alloc, said);
+    values.push(value).expect(rt, "memory");
+    values
 }
 
 const UNKNOWN: &str = "ErrorSystem: unknown to the table host";
 
 /// The key of a native, its one argument, its answer, and what is printed.
-type Row = (u64, Made, &'static str, &'static str);
+type Row = (u64, &'static str, &'static str, &'static str);
 
 const CALLS: [Row; 9] = [
-    (1, Made::Flat(Flat::Text("hi")), "()", "hi\n"),
-    (1, Made::Flat(Flat::Int(7)), "()", "7\n"),
-    (3, Made::Flat(Flat::Text("fünf")), "4", ""),
-    (3, Made::Array(&[Flat::Unit]), "1", ""),
-    (3, Made::Flat(Flat::Blob(&[9, 9])), "2", ""),
-    (3, Made::Map(&[("k", Flat::Unit)]), "1", ""),
-    (5, Made::Flat(Flat::Int(7)), "exit 7", ""),
+    (1, "text hi", "()", "hi\n"),
+    (1, "7", "()", "7\n"),
+    (3, "text fünf", "4", ""),
+    (3, "array ()", "1", ""),
+    (3, "blob 9 9", "2", ""),
+    (3, "map k ()", "1", ""),
+    (5, "7", "exit 7", ""),
     // No such key, and an argument of another kind.
-    (0, Made::Flat(Flat::Int(7)), UNKNOWN, ""),
-    (3, Made::Flat(Flat::Int(7)), UNKNOWN, ""),
+    (0, "7", UNKNOWN, ""),
+    (3, "7", UNKNOWN, ""),
 ];
 
-fn check_call(rt: &impl Abort, alloc: Global, row: &Row) -> Result<(), OutOfMemory> {
-    let mut host = TableHost::new(alloc);
-    assert_eq!(rt; called(alloc, &mut host, row.0, &row.1)?.as_str(), row.2);
-    assert_eq!(rt; host.printed().as_str(), row.3);
-    Ok(())
+fn check_printed(rt: &impl Abort, host: &TableHost, expected: &str) {
+    assert!(rt; host.printed().as_str() == expected);
+}
+
+/// Compares one call, and what the host has printed by then.
+fn check_call(rt: &impl Abort, alloc: Global, host: &mut TableHost, row: &Row) {
+    let mut args = args_of(one_value(rt, alloc, row.1));
+    check_text(rt, called(rt, alloc, host, row.0, &mut args), row.2);
+    check_printed(rt, host, row.3);
 }
 
 #[test]
-fn calls_with_one_argument(rt: HostRuntime) -> Result<(), OutOfMemory> {
+fn calls_with_one_argument(rt: HostRuntime) {
     for row in &CALLS {
-        check_call(&rt, rt.alloc(), row)?;
+        let mut host = TableHost::new(rt.alloc());
+        check_call(&rt, rt.alloc(), &mut host, row);
     }
-    Ok(())
 }
 
 #[test]
-fn a_call_without_arguments(rt: HostRuntime) -> Result<(), OutOfMemory> {
-    let mut args = Args {
-        receiver: None,
-        values: Array::new(rt.alloc()),
-    };
-    let answer = TableHost::new(rt.alloc()).call(rt.alloc(), 1, &mut args);
-    assert_eq!(rt; answered(rt.alloc(), answer)?.as_str(), UNKNOWN);
-    Ok(())
-}
-
-#[test]
-fn fails(rt: HostRuntime) -> Result<(), OutOfMemory> {
+fn a_call_without_arguments(rt: HostRuntime) {
+    let mut args = args_of(Array::new(rt.alloc()));
     let mut host = TableHost::new(rt.alloc());
-    host.fail(2)?;
-    for (answer, printed) in [
-        ("()", "7\n"),
-        ("ErrorRuntime: Runtime error: host failure 2", "7\n"),
-        ("()", "7\n7\n"),
-    ] {
-        let text = called(rt.alloc(), &mut host, 1, &Made::Flat(Flat::Int(7)))?;
-        assert_eq!(rt; text.as_str(), answer);
-        assert_eq!(rt; host.printed().as_str(), printed);
+    check_text(
+        &rt,
+        called(&rt, rt.alloc(), &mut host, 1, &mut args),
+        UNKNOWN,
+    );
+}
+
+const FAILING: [Row; 3] = [
+    (1, "7", "()", "7\n"),
+    (1, "7", "ErrorRuntime: Runtime error: host failure 2", "7\n"),
+    (1, "7", "()", "7\n7\n"),
+];
+
+#[test]
+fn fails(rt: HostRuntime) {
+    let mut host = TableHost::new(rt.alloc());
+    host.fail(2).expect(&rt, "memory");
+    for row in &FAILING {
+        check_call(&rt, rt.alloc(), &mut host, row);
     }
-    Ok(())
 }
 
 /// The integer with which a run ends at this number of operations.
@@ -115,57 +122,54 @@ fn stopped(alloc: Global, host: &mut TableHost, count: u64) -> Option<i64> {
     }
 }
 
-#[test]
-fn stops(rt: HostRuntime) -> Result<(), OutOfMemory> {
-    let mut host = TableHost::new(rt.alloc());
-    host.stop(3, Dynamic::Int(8))?;
-    host.stop(3, Dynamic::Int(9))?;
-    for (count, token) in [(2, None), (3, Some(8)), (4, None)] {
-        assert_eq!(rt; stopped(rt.alloc(), &mut host, count), token);
-    }
-    Ok(())
+fn check_stops(rt: &impl Abort, alloc: Global, host: &mut TableHost) {
+    assert!(rt; stopped(alloc, host, 2).is_none());
+    assert!(rt; stopped(alloc, host, 3) == Some(8));
+    assert!(rt; stopped(alloc, host, 4).is_none());
 }
 
-/// Calls `push`, and gives the answer.
-fn push(alloc: Global, args: &mut Args) -> Result<Text, OutOfMemory> {
-    answered(alloc, TableHost::new(alloc).call(alloc, 2, args))
+#[test]
+fn stops(rt: HostRuntime) {
+    let mut host = TableHost::new(rt.alloc());
+    host.stop(3, Dynamic::Int(8)).expect(&rt, "memory");
+    host.stop(3, Dynamic::Int(9)).expect(&rt, "memory");
+    check_stops(&rt, rt.alloc(), &mut host);
+}
+
+/// Calls `push`, and compares the answer.
+fn check_push(rt: &impl Abort, alloc: Global, args: &mut Args) {
+    let mut host = TableHost::new(alloc);
+    check_text(rt, called(rt, alloc, &mut host, 2, args), "()");
 }
 
 /// The text of a receiver that is not read-only.
-fn receiver(alloc: Global, args: &Args) -> Result<Text, OutOfMemory> {
+fn receiver(rt: &impl Abort, alloc: Global, args: &Args) -> Text {
     match &args.receiver {
         Some(
             Held {
                 value,
                 read_only: false,
             },
-        ) => quoted(alloc, value),
-        _ => Err(OutOfMemory),
+        ) => quoted(rt, alloc, value),
+        _ => panic!(rt; "no receiver that can be written"),
     }
 }
 
 #[test]
-fn pushes_to_a_receiver(rt: HostRuntime) -> Result<(), OutOfMemory> {
-    let values = array(rt.alloc(), &[Flat::Int(7)])?;
+fn pushes_to_a_receiver(rt: HostRuntime) {
     let array = Dynamic::Array(Array::new(rt.alloc()));
     let mut args = Args {
         receiver: Some(Held::read_write(array)),
-        values,
+        values: one_value(&rt, rt.alloc(), "7"),
     };
-    assert_eq!(rt; push(rt.alloc(), &mut args)?.as_str(), "()");
-    assert_eq!(rt; receiver(rt.alloc(), &args)?.as_str(), "[7]");
-    Ok(())
+    check_push(&rt, rt.alloc(), &mut args);
+    check_text(&rt, receiver(&rt, rt.alloc(), &args), "[7]");
 }
 
 #[test]
-fn pushes_to_a_value(rt: HostRuntime) -> Result<(), OutOfMemory> {
-    let values = array(rt.alloc(), &[Flat::Pair, Flat::Int(7)])?;
-    let mut args = Args {
-        receiver: None,
-        values,
-    };
-    assert_eq!(rt; push(rt.alloc(), &mut args)?.as_str(), "()");
-    Ok(())
+fn pushes_to_a_value(rt: HostRuntime) {
+    let mut args = args_of(array(&rt, rt.alloc(), "pair, 7"));
+    check_push(&rt, rt.alloc(), &mut args);
 }
 
 /// A name, the kinds of the arguments, and the native.
@@ -205,56 +209,58 @@ const RESOLVED: [Resolved; 11] = [
     ("prin", &[4], None),
 ];
 
-fn check_resolved(rt: &impl Abort, alloc: Global, row: &Resolved) -> Result<(), OutOfMemory> {
-    let mut kinds = Kinds::new(alloc);
-    for kind in row.1 {
-        kinds.push(*kind)?;
+fn kinds_of(rt: &impl Abort, alloc: Global, kinds: &[u32]) -> Kinds {
+    let mut list = Kinds::new(alloc);
+    for kind in kinds {
+        list.push(*kind).expect(rt, "memory");
     }
-    assert_eq!(rt; TableHost::new(alloc).resolve(row.0, &kinds), row.2);
-    Ok(())
+    list
+}
+
+fn check_resolved(rt: &impl Abort, alloc: Global, row: &Resolved) {
+    let kinds = kinds_of(rt, alloc, row.1);
+    let native = TableHost::new(alloc).resolve(row.0, &kinds);
+    assert!(rt; native == row.2);
 }
 
 #[test]
-fn resolves(rt: HostRuntime) -> Result<(), OutOfMemory> {
+fn resolves(rt: HostRuntime) {
     for row in &RESOLVED {
-        check_resolved(&rt, rt.alloc(), row)?;
+        check_resolved(&rt, rt.alloc(), row);
     }
-    Ok(())
 }
 
 const HANDED_BACK: [Raised; 13] = [
-    Raised::Plain(Plain::TooManyOperations),
-    Raised::Plain(Plain::TooManyVariables),
-    Raised::Plain(Plain::StackOverflow),
-    Raised::Plain(Plain::TooManyModules),
-    Raised::Plain(Plain::UnboundThis),
-    Raised::Plain(Plain::Memory),
-    Raised::Value(OfValue::Terminated, Made::Flat(Flat::Unit)),
-    Raised::Malformed(Broken::Slot(0, 0)),
-    Raised::Text(OfText::VariableExists, "x"),
-    Raised::Text(OfText::ForbiddenVariable, "x"),
-    Raised::Texts(OfTexts::OutputType, "bool", "i64"),
-    Raised::Value(OfValue::Break, Made::Flat(Flat::Unit)),
-    Raised::Value(OfValue::Return, Made::Flat(Flat::Unit)),
+    (Kind::Plain(Plain::TooManyOperations), ""),
+    (Kind::Plain(Plain::TooManyVariables), ""),
+    (Kind::Plain(Plain::StackOverflow), ""),
+    (Kind::Plain(Plain::TooManyModules), ""),
+    (Kind::Plain(Plain::UnboundThis), ""),
+    (Kind::Plain(Plain::Memory), ""),
+    (Kind::Value(OfValue::Terminated), "()"),
+    (Kind::Malformed(Broken::Slot(0, 0)), ""),
+    (Kind::Text(OfText::VariableExists), "x"),
+    (Kind::Text(OfText::ForbiddenVariable), "x"),
+    (Kind::Texts(OfTexts::OutputType), "bool|i64"),
+    (Kind::Value(OfValue::Break), "()"),
+    (Kind::Value(OfValue::Return), "()"),
 ];
 
 const PASSING: [Raised; 2] = [
-    Raised::Value(OfValue::Exit, Made::Flat(Flat::Int(7))),
-    Raised::Texts(OfTexts::System, "log", "disk is full"),
+    (Kind::Value(OfValue::Exit), "7"),
+    (Kind::Texts(OfTexts::System), "log|disk is full"),
 ];
 
-fn passes(alloc: Global, fault: &Raised) -> Result<bool, OutOfMemory> {
-    let fault = fault_of(alloc, fault)?;
-    Ok(HostFault::new(fault).is_ok())
+fn passes(rt: &impl Abort, alloc: Global, raised: &Raised) -> bool {
+    HostFault::new(fault_of(rt, alloc, raised.0, raised.1)).is_ok()
 }
 
 #[test]
-fn faults_of_the_machine_are_handed_back(rt: HostRuntime) -> Result<(), OutOfMemory> {
-    for fault in &HANDED_BACK {
-        assert!(rt; !passes(rt.alloc(), fault)?);
+fn faults_of_the_machine_are_handed_back(rt: HostRuntime) {
+    for raised in &HANDED_BACK {
+        assert!(rt; !passes(&rt, rt.alloc(), raised));
     }
-    for fault in &PASSING {
-        assert!(rt; passes(rt.alloc(), fault)?);
+    for raised in &PASSING {
+        assert!(rt; passes(&rt, rt.alloc(), raised));
     }
-    Ok(())
 }

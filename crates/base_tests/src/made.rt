@@ -1,119 +1,115 @@
-//! Values that rows of the tests name.
+//! Values that rows of the tests name, and their texts. Want of memory ends a test.
 
-use grain_value::{Array, Blob, Dynamic, FnPtr, Map, OutOfMemory, Text};
+use grain_value::{Array, Blob, Dynamic, FnPtr, Map, Text};
 use std::alloc::Global;
+use std::process::Abort;
 
-/// A value that a row names.
-#[derive(Clone, Copy)]
-pub(crate) enum Flat {
-    Unit,
-    Bool(bool),
-    Int(i64),
-    Char(char),
-    Text(&'static str),
-    Blob(&'static [u8]),
-    /// The first and the last number, and whether the last one belongs to it.
-    Range(i64, i64, bool),
-    Foreign(u32, u64),
-    /// The array `[1, ()]`.
-    Pair,
-}
-
-/// A value that a row names, and what stands in it.
-#[derive(Clone, Copy)]
-pub(crate) enum Made {
-    Flat(Flat),
-    Array(&'static [Flat]),
-    Map(&'static [(&'static str, Flat)]),
-    /// A pointer of this name, with one value before the arguments.
-    Pointer(&'static str, Flat),
-}
-
-pub(crate) fn flat_value(alloc: Global, value: Flat) -> Result<Dynamic, OutOfMemory> {
-    match value {
-        Flat::Unit => Ok(Dynamic::Unit),
-        Flat::Bool(truth) => Ok(Dynamic::Bool(truth)),
-        Flat::Int(integer) => Ok(Dynamic::Int(integer)),
-        Flat::Char(character) => Ok(Dynamic::Char(character)),
-        Flat::Text(text) => Ok(Dynamic::Text(Text::copy_of(alloc, text)?)),
-        Flat::Blob(bytes) => Ok(Dynamic::Blob(blob(alloc, bytes)?)),
-        Flat::Range(from, to, inclusive) => Ok(Dynamic::Range {
-            from,
-            to,
-            inclusive,
-        }),
-        Flat::Foreign(kind, number) => Ok(Dynamic::Foreign { kind, number }),
-        Flat::Pair => Ok(Dynamic::Array(pair(alloc)?)),
+/// The value that a row names: `()`, `true`, `-7`, `char x`, `text ab`, `blob 0 255`, `pair` for
+/// `[1, ()]`, or one that holds such values: `[]`, `array 1, pair`, `map a 1, b text x`, and
+/// `fn f 1` for a pointer with one value before the arguments.
+pub(crate) fn value_of(rt: &impl Abort, alloc: Global, said: &str) -> Dynamic {
+    match said.split_once(' ') {
+        Some(("array", values)) => Dynamic::Array(array(rt, alloc, values)),
+        Some(("map", pairs)) => Dynamic::Map(map(rt, alloc, pairs)),
+        Some(("fn", rest)) => pointer(rt, alloc, rest),
+        _ => flat_value(rt, alloc, said),
     }
 }
 
-pub(crate) fn value_of(alloc: Global, value: &Made) -> Result<Dynamic, OutOfMemory> {
-    match value {
-        Made::Flat(value) => flat_value(alloc, *value),
-        Made::Array(values) => Ok(Dynamic::Array(array(alloc, values)?)),
-        Made::Map(pairs) => Ok(Dynamic::Map(map(alloc, pairs)?)),
-        Made::Pointer(name, value) => pointer(alloc, name, *value),
+/// A value that a row names, and that holds no values of a row.
+pub(crate) fn flat_value(rt: &impl Abort, alloc: Global, said: &str) -> Dynamic {
+    match said.split_once(' ') {
+        Some(("text", text)) => Dynamic::Text(text_of(rt, alloc, text)),
+        Some(("char", text)) => Dynamic::Char(character(rt, text)),
+        Some(("blob", bytes)) => Dynamic::Blob(blob(rt, alloc, bytes)),
+        _ => word_value(rt, alloc, said),
     }
 }
 
-fn blob(alloc: Global, bytes: &[u8]) -> Result<Blob, OutOfMemory> {
+fn word_value(rt: &impl Abort, alloc: Global, word: &str) -> Dynamic {
+    match word {
+        "()" => Dynamic::Unit,
+        "true" => Dynamic::Bool(true),
+        "false" => Dynamic::Bool(false),
+        "pair" => Dynamic::Array(pair(rt, alloc)),
+        "[]" => Dynamic::Array(Array::new(alloc)),
+        _ => Dynamic::Int(word.parse::<i64>().expect(rt, "a row's integer")),
+    }
+}
+
+fn character(rt: &impl Abort, text: &str) -> char {
+    text.chars().next().expect(rt, "a row's character")
+}
+
+pub(crate) fn text_of(rt: &impl Abort, alloc: Global, text: &str) -> Text {
+    Text::copy_of(alloc, text).expect(rt, "memory")
+}
+
+fn blob(rt: &impl Abort, alloc: Global, bytes: &str) -> Blob {
     let mut blob = Blob::new(alloc);
-    for byte in bytes {
-        blob.push(*byte)?;
+    for byte in bytes.split(' ') {
+        let byte = byte.parse::<u8>().expect(rt, "a row's byte");
+        blob.push(byte).expect(rt, "memory");
     }
-    Ok(blob)
+    blob
 }
 
-fn pair(alloc: Global) -> Result<Array, OutOfMemory> {
+fn pair(rt: &impl Abort, alloc: Global) -> Array {
     let mut array = Array::new(alloc);
-    array.push(Dynamic::Int(1))?;
-    array.push(Dynamic::Unit)?;
-    Ok(array)
+    array.push(Dynamic::Int(1)).expect(rt, "memory");
+    array.push(Dynamic::Unit).expect(rt, "memory");
+    array
 }
 
-pub(crate) fn array(alloc: Global, values: &[Flat]) -> Result<Array, OutOfMemory> {
+/// The array of these values, of which there is one at least.
+pub(crate) fn array(rt: &impl Abort, alloc: Global, values: &str) -> Array {
     let mut array = Array::new(alloc);
-    for value in values {
-        array.push(flat_value(alloc, *value)?)?;
+    for value in values.split(", ") {
+        let value = flat_value(rt, alloc, value);
+        array.push(value).expect(rt, "memory");
     }
-    Ok(array)
+    array
 }
 
-fn map(alloc: Global, pairs: &[(&str, Flat)]) -> Result<Map, OutOfMemory> {
+/// The map of these keys with these values, of which there is one at least.
+pub(crate) fn map(rt: &impl Abort, alloc: Global, pairs: &str) -> Map {
     let mut map = Map::new(alloc);
-    for (key, value) in pairs {
-        put(alloc, &mut map, key, *value)?;
+    for pair in pairs.split(", ") {
+        let (key, value) = pair.split_once(' ').expect(rt, "a row's key");
+        put(rt, alloc, &mut map, key, value);
     }
-    Ok(map)
+    map
 }
 
-fn put(alloc: Global, map: &mut Map, key: &str, value: Flat) -> Result<(), OutOfMemory> {
-    let key = Text::copy_of(alloc, key)?;
-    let value = flat_value(alloc, value)?;
-    drop(map.insert(key, value)?);
-    Ok(())
+fn put(rt: &impl Abort, alloc: Global, map: &mut Map, key: &str, value: &str) {
+    let key = text_of(rt, alloc, key);
+    let value = flat_value(rt, alloc, value);
+    drop(map.insert(key, value).expect(rt, "memory"));
 }
 
-fn pointer(alloc: Global, name: &str, value: Flat) -> Result<Dynamic, OutOfMemory> {
-    match FnPtr::new(alloc, name) {
-        Ok(mut pointer) => {
-            pointer.add_curry(flat_value(alloc, value)?)?;
-            Ok(Dynamic::Pointer(pointer))
-        }
-        Err(_) => Err(OutOfMemory),
-    }
+fn pointer(rt: &impl Abort, alloc: Global, said: &str) -> Dynamic {
+    let (name, value) = said.split_once(' ').expect(rt, "a row's name");
+    let mut pointer = FnPtr::new(alloc, name).expect(rt, "a pointer");
+    let value = flat_value(rt, alloc, value);
+    pointer.add_curry(value).expect(rt, "memory");
+    Dynamic::Pointer(pointer)
 }
 
 /// The plain text of a value.
-pub(crate) fn plain(alloc: Global, value: &Dynamic) -> Result<Text, OutOfMemory> {
+pub(crate) fn plain(rt: &impl Abort, alloc: Global, value: &Dynamic) -> Text {
     let mut text = Text::new(alloc);
-    value.write_plain(&mut text)?;
-    Ok(text)
+    value.write_plain(&mut text).expect(rt, "memory");
+    text
 }
 
 /// The quoted text of a value.
-pub(crate) fn quoted(alloc: Global, value: &Dynamic) -> Result<Text, OutOfMemory> {
+pub(crate) fn quoted(rt: &impl Abort, alloc: Global, value: &Dynamic) -> Text {
     let mut text = Text::new(alloc);
-    value.write_quoted(&mut text)?;
-    Ok(text)
+    value.write_quoted(&mut text).expect(rt, "memory");
+    text
+}
+
+/// Compares a text with what is expected.
+pub(crate) fn check_text(rt: &impl Abort, text: Text, expected: &str) {
+    assert_eq!(rt; text.as_str(), expected);
 }

@@ -5,18 +5,26 @@ mod integers;
 mod texts;
 mod truths;
 
-use crate::made::{Flat, flat_value, quoted};
-use crate::raised::text_of;
+use crate::made::{check_text, quoted, text_of, value_of};
+use crate::raised::named_text;
 use grain_ops::{OpAnswer, binary, unary};
-use grain_value::{Dynamic, Limits, OutOfMemory, Text, Token};
+use grain_value::{Dynamic, Limits, Text, Token};
 use std::alloc::Global;
 use std::process::Abort;
 
 /// An operator, and what it answers, as `answered` writes it.
 type Answer = (Token, &'static str);
 
-/// Two values, the limit of texts in bytes, or 0 for none, and what operators answer on them.
-type Row = (Flat, Flat, usize, &'static [Answer]);
+/// A value, an operator, another value, and the answer.
+type Row = (&'static str, Token, &'static str, &'static str);
+
+/// How a value stands to another.
+#[derive(Clone, Copy)]
+enum Order {
+    Less,
+    Equal,
+    Greater,
+}
 
 const NOT_BUILT_IN: &str = "not built in";
 
@@ -65,80 +73,85 @@ fn limits(text: usize) -> Limits {
 }
 
 /// The quoted text of a value, or the name and the text of a fault.
-fn answered(alloc: Global, answer: OpAnswer) -> Result<Text, OutOfMemory> {
+fn answered(rt: &impl Abort, alloc: Global, answer: OpAnswer) -> Text {
     match answer {
-        OpAnswer::NotBuiltIn => Text::copy_of(alloc, NOT_BUILT_IN),
-        OpAnswer::Done(value) => quoted(alloc, &value),
-        OpAnswer::Failed(fault) => text_of(alloc, &fault),
+        OpAnswer::NotBuiltIn => text_of(rt, alloc, NOT_BUILT_IN),
+        OpAnswer::Done(value) => quoted(rt, alloc, &value),
+        OpAnswer::Failed(fault) => named_text(rt, alloc, &fault),
     }
 }
 
-fn check_row(rt: &impl Abort, alloc: Global, row: &Row) -> Result<(), OutOfMemory> {
-    let left = flat_value(alloc, row.0)?;
-    let right = flat_value(alloc, row.1)?;
-    check_operators(rt, alloc, &left, &right, row)
-}
-
-fn check_rows(rt: &impl Abort, alloc: Global, rows: &[Row]) -> Result<(), OutOfMemory> {
-    for row in rows {
-        check_row(rt, alloc, row)?;
-    }
-    Ok(())
-}
-
-fn check_operators(
+/// Compares what an operator answers under a limit of texts in bytes, or 0 for none.
+fn check(
     rt: &impl Abort,
     alloc: Global,
-    left: &Dynamic,
-    right: &Dynamic,
-    row: &Row,
-) -> Result<(), OutOfMemory> {
-    for (token, expected) in row.3 {
-        let answer = binary(alloc, *token, left, right, &limits(row.2));
-        let answer = answered(alloc, answer)?;
-        assert_eq!(rt; answer.as_str(), *expected);
+    limit: usize,
+    (left, right): (&Dynamic, &Dynamic),
+    answer: &Answer,
+) {
+    let text = answered(
+        rt,
+        alloc,
+        binary(alloc, answer.0, left, right, &limits(limit)),
+    );
+    check_text(rt, text, answer.1);
+}
+
+fn check_row(rt: &impl Abort, alloc: Global, row: &Row) {
+    let left = value_of(rt, alloc, row.0);
+    let right = value_of(rt, alloc, row.2);
+    check(rt, alloc, 0, (&left, &right), &(row.1, row.3));
+}
+
+/// Compares what all comparisons answer.
+fn check_order(rt: &impl Abort, alloc: Global, order: Order, operands: (&Dynamic, &Dynamic)) {
+    let answers = match order {
+        Order::Less => &LESS,
+        Order::Equal => &EQUAL,
+        Order::Greater => &GREATER,
+    };
+    for answer in answers {
+        check(rt, alloc, 0, operands, answer);
     }
-    Ok(())
 }
 
 /// An operator, what it is applied to, and its answer.
-type Unary = (Token, Flat, &'static str);
+type Unary = (Token, &'static str, &'static str);
 
 const UNARY: [Unary; 10] = [
-    (Token::Minus, Flat::Int(i64::MAX), "-9223372036854775807"),
+    (Token::Minus, "9223372036854775807", "-9223372036854775807"),
     (
         Token::UnaryMinus,
-        Flat::Int(i64::MAX),
+        "9223372036854775807",
         "-9223372036854775807",
     ),
     (
         Token::Minus,
-        Flat::Int(i64::MIN),
+        "-9223372036854775808",
         "ErrorArithmetic: integer overflow",
     ),
     (
         Token::UnaryMinus,
-        Flat::Int(i64::MIN),
+        "-9223372036854775808",
         "ErrorArithmetic: integer overflow",
     ),
-    (Token::Bang, Flat::Bool(true), "false"),
-    (Token::Bang, Flat::Int(1), NOT_BUILT_IN),
-    (Token::Plus, Flat::Int(1), NOT_BUILT_IN),
-    (Token::Minus, Flat::Bool(true), NOT_BUILT_IN),
-    (Token::Minus, Flat::Unit, NOT_BUILT_IN),
-    (Token::Bang, Flat::Text("a"), NOT_BUILT_IN),
+    (Token::Bang, "true", "false"),
+    (Token::Bang, "1", NOT_BUILT_IN),
+    (Token::Plus, "1", NOT_BUILT_IN),
+    (Token::Minus, "true", NOT_BUILT_IN),
+    (Token::Minus, "()", NOT_BUILT_IN),
+    (Token::Bang, "text a", NOT_BUILT_IN),
 ];
 
-fn answer_on_one(alloc: Global, token: Token, operand: Flat) -> Result<Text, OutOfMemory> {
-    let value = flat_value(alloc, operand)?;
-    answered(alloc, unary(alloc, token, &value))
+fn check_unary(rt: &impl Abort, alloc: Global, row: &Unary) {
+    let value = value_of(rt, alloc, row.1);
+    let text = answered(rt, alloc, unary(alloc, row.0, &value));
+    check_text(rt, text, row.2);
 }
 
 #[test]
-fn operators_on_one_value(rt: HostRuntime) -> Result<(), OutOfMemory> {
-    for (token, operand, expected) in UNARY {
-        let answer = answer_on_one(rt.alloc(), token, operand)?;
-        assert_eq!(rt; answer.as_str(), expected);
+fn operators_on_one_value(rt: HostRuntime) {
+    for row in &UNARY {
+        check_unary(&rt, rt.alloc(), row);
     }
-    Ok(())
 }

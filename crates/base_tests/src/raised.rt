@@ -1,25 +1,31 @@
 //! Faults that rows of the tests name.
 
-use crate::made::{Flat, Made, array, value_of};
+use crate::made::{array, text_of, value_of};
 use grain_fault::{EvalAltResult, MalformedKind, Position};
-use grain_value::{Dynamic, OutOfMemory, Text};
+use grain_value::{Array, Dynamic, Text};
 use std::alloc::Global;
+use std::process::Abort;
 
 const NONE: Position = Position::NONE;
 
-/// A fault without a position that a row names.
+/// A fault without a position that a row names, and the text of which it is made.
+pub(crate) type Raised = (Kind, &'static str);
+
 #[derive(Clone, Copy)]
-pub(crate) enum Raised {
+pub(crate) enum Kind {
     Plain(Plain),
-    Text(OfText, &'static str),
-    Texts(OfTexts, &'static str, &'static str),
+    /// The text is in it.
+    Text(OfText),
+    /// Two texts are in it, which have a bar between them.
+    Texts(OfTexts),
     /// The length and the index.
     ArrayBounds(usize, i64),
     StringBounds(usize, i64),
     BitFieldBounds(usize, i64),
-    Value(OfValue, Made),
-    /// Custom syntax that is unknown, and its tokens.
-    Syntax(&'static [Flat]),
+    /// The text is the value, as a row has it.
+    Value(OfValue),
+    /// Custom syntax that is unknown. The text has its tokens, as a row has the values of an array.
+    Syntax,
     Malformed(Broken),
 }
 
@@ -71,44 +77,46 @@ pub(crate) enum OfValue {
     Exit,
 }
 
-/// What is malformed: the numbers, or the name of a type.
+/// What is malformed: the numbers, or else the text is the name of a type.
 #[derive(Clone, Copy)]
 pub(crate) enum Broken {
     Slot(usize, usize),
     Unwind(usize, usize),
     TryFloor(usize, usize),
-    Template(&'static str),
-    Key(&'static str),
-    Buffer(&'static str),
+    Template,
+    Key,
+    Buffer,
     Total(u16),
 }
 
-pub(crate) fn fault_of(alloc: Global, fault: &Raised) -> Result<EvalAltResult, OutOfMemory> {
-    match fault {
-        Raised::Plain(variant) => Ok(plain_fault(*variant)),
-        Raised::Text(variant, text) => Ok(of_text(*variant, Text::copy_of(alloc, text)?)),
-        Raised::Texts(variant, first, second) => {
-            let first = Text::copy_of(alloc, first)?;
-            let second = Text::copy_of(alloc, second)?;
-            Ok(of_texts(*variant, first, second))
+pub(crate) fn fault_of(rt: &impl Abort, alloc: Global, kind: Kind, of: &str) -> EvalAltResult {
+    match kind {
+        Kind::Plain(variant) => plain_fault(variant),
+        Kind::Text(variant) => of_text(variant, text_of(rt, alloc, of)),
+        Kind::Texts(variant) => {
+            let (first, second) = of.split_once('|').expect(rt, "two texts");
+            let first = text_of(rt, alloc, first);
+            of_texts(variant, first, text_of(rt, alloc, second))
         }
-        Raised::ArrayBounds(length, index) => {
-            Ok(EvalAltResult::ErrorArrayBounds(*length, *index, NONE))
+        Kind::ArrayBounds(length, index) => EvalAltResult::ErrorArrayBounds(length, index, NONE),
+        Kind::StringBounds(length, index) => EvalAltResult::ErrorStringBounds(length, index, NONE),
+        Kind::BitFieldBounds(length, index) => {
+            EvalAltResult::ErrorBitFieldBounds(length, index, NONE)
         }
-        Raised::StringBounds(length, index) => {
-            Ok(EvalAltResult::ErrorStringBounds(*length, *index, NONE))
+        Kind::Value(variant) => of_value(variant, value_of(rt, alloc, of)),
+        Kind::Syntax => {
+            let reason = text_of(rt, alloc, "Unknown prefix");
+            EvalAltResult::ErrorCustomSyntax(reason, tokens(rt, alloc, of), NONE)
         }
-        Raised::BitFieldBounds(length, index) => {
-            Ok(EvalAltResult::ErrorBitFieldBounds(*length, *index, NONE))
-        }
-        Raised::Value(variant, value) => Ok(of_value(*variant, value_of(alloc, value)?)),
-        Raised::Syntax(tokens) => {
-            let reason = Text::copy_of(alloc, "Unknown prefix")?;
-            let tokens = array(alloc, tokens)?;
-            Ok(EvalAltResult::ErrorCustomSyntax(reason, tokens, NONE))
-        }
-        Raised::Malformed(kind) => Ok(EvalAltResult::Malformed(malformed(alloc, kind)?, NONE)),
+        Kind::Malformed(kind) => EvalAltResult::Malformed(malformed(rt, alloc, kind, of), NONE),
     }
+}
+
+fn tokens(rt: &impl Abort, alloc: Global, values: &str) -> Array {
+    if values.is_empty() {
+        return Array::new(alloc);
+    }
+    array(rt, alloc, values)
 }
 
 fn plain_fault(variant: Plain) -> EvalAltResult {
@@ -163,37 +171,35 @@ fn of_value(variant: OfValue, value: Dynamic) -> EvalAltResult {
     }
 }
 
-fn malformed(alloc: Global, kind: &Broken) -> Result<MalformedKind, OutOfMemory> {
+fn malformed(rt: &impl Abort, alloc: Global, kind: Broken, name: &str) -> MalformedKind {
     match kind {
-        Broken::Slot(index, length) => Ok(MalformedKind::SlotPastScope {
-            index: *index,
-            length: *length,
-        }),
-        Broken::Unwind(target, length) => Ok(MalformedKind::UnwindPastScope {
-            target: *target,
-            length: *length,
-        }),
-        Broken::TryFloor(wanted, length) => Ok(MalformedKind::TryFloorBroken {
-            wanted: *wanted,
-            length: *length,
-        }),
-        Broken::Template(name) => Ok(MalformedKind::TemplateNotMap {
-            kind: Text::copy_of(alloc, name)?,
-        }),
-        Broken::Key(name) => Ok(MalformedKind::KeyNotText {
-            kind: Text::copy_of(alloc, name)?,
-        }),
-        Broken::Buffer(name) => Ok(MalformedKind::BufferNotText {
-            kind: Text::copy_of(alloc, name)?,
-        }),
-        Broken::Total(index) => Ok(MalformedKind::MissingTotal { index: *index }),
+        Broken::Slot(index, length) => MalformedKind::SlotPastScope { index, length },
+        Broken::Unwind(target, length) => MalformedKind::UnwindPastScope { target, length },
+        Broken::TryFloor(wanted, length) => MalformedKind::TryFloorBroken { wanted, length },
+        Broken::Template => MalformedKind::TemplateNotMap {
+            kind: text_of(rt, alloc, name),
+        },
+        Broken::Key => MalformedKind::KeyNotText {
+            kind: text_of(rt, alloc, name),
+        },
+        Broken::Buffer => MalformedKind::BufferNotText {
+            kind: text_of(rt, alloc, name),
+        },
+        Broken::Total(index) => MalformedKind::MissingTotal { index },
     }
 }
 
+/// The text of a fault.
+pub(crate) fn fault_text(rt: &impl Abort, alloc: Global, fault: &EvalAltResult) -> Text {
+    let mut out = Text::new(alloc);
+    fault.write_text(&mut out).expect(rt, "memory");
+    out
+}
+
 /// The name and the text of a fault.
-pub(crate) fn text_of(alloc: Global, fault: &EvalAltResult) -> Result<Text, OutOfMemory> {
-    let mut out = Text::copy_of(alloc, fault.name())?;
-    out.push_str(": ")?;
-    fault.write_text(&mut out)?;
-    Ok(out)
+pub(crate) fn named_text(rt: &impl Abort, alloc: Global, fault: &EvalAltResult) -> Text {
+    let mut out = text_of(rt, alloc, fault.name());
+    out.push_str(": ").expect(rt, "memory");
+    fault.write_text(&mut out).expect(rt, "memory");
+    out
 }

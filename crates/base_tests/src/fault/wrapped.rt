@@ -1,21 +1,21 @@
 //! Faults that left calls and modules.
 
 use super::{Class, check_fault};
+use crate::made::text_of;
 use grain_fault::{EvalAltResult, Position};
-use grain_value::{Dynamic, OutOfMemory, Text};
+use grain_value::Dynamic;
 use std::alloc::Global;
 use std::process::Abort;
 
-/// What a fault has left, with the line and the column where it left it, or 0 and 0.
 #[derive(Clone, Copy)]
-enum Wrapper {
-    /// Nothing.
-    None,
-    /// A call of the function, whose program has this source.
-    Call(&'static str, &'static str, u16, u16),
-    /// A module of this name.
-    Module(&'static str, u16, u16),
+enum Left {
+    Call,
+    Module,
 }
+
+/// What a fault has left: a call of the function of this name, whose program has this source, or a
+/// module of this name, with the line and the column where it left it, or 0 and 0.
+type Wrapper = (Left, &'static str, &'static str, u16, u16);
 
 #[derive(Clone, Copy)]
 enum Inner {
@@ -25,113 +25,108 @@ enum Inner {
     StackOverflow,
 }
 
-/// A fault and its name, what it left first and last, and then its text and its dumped fields.
-type Row = ((Inner, &'static str), [Wrapper; 2], [&'static str; 2]);
+/// A fault and its name, what it left one after the other, and then its text and its dumped fields.
+type Row = (
+    Inner,
+    &'static str,
+    &'static [Wrapper],
+    &'static str,
+    &'static str,
+);
 
 const ROWS: [Row; 11] = [
     (
-        (Inner::Thrown, "ErrorRuntime"),
-        [Wrapper::None, Wrapper::None],
-        [
-            "Runtime error: 7 (line 9, position 2)",
-            r#"#{"error": "ErrorRuntime"}"#,
-        ],
+        Inner::Thrown,
+        "ErrorRuntime",
+        &[],
+        "Runtime error: 7 (line 9, position 2)",
+        r#"#{"error": "ErrorRuntime"}"#,
     ),
     (
-        (Inner::Thrown, "ErrorRuntime"),
-        [Wrapper::Call("f", "", 0, 0), Wrapper::None],
-        [
-            "Runtime error: 7 (line 9, position 2)\nin call to function 'f'",
-            r#"#{"error": "ErrorInFunctionCall", "function": "f", "source": ""}"#,
-        ],
+        Inner::Thrown,
+        "ErrorRuntime",
+        &[(Left::Call, "f", "", 0, 0)],
+        "Runtime error: 7 (line 9, position 2)\nin call to function 'f'",
+        r#"#{"error": "ErrorInFunctionCall", "function": "f", "source": ""}"#,
     ),
     (
-        (Inner::Thrown, "ErrorRuntime"),
-        [Wrapper::Call("f", "a", 0, 0), Wrapper::None],
-        [
-            "Runtime error: 7 @ 'a' (line 9, position 2)\nin call to function 'f' (from 'a')",
-            r#"#{"error": "ErrorInFunctionCall", "function": "f", "source": "a"}"#,
-        ],
+        Inner::Thrown,
+        "ErrorRuntime",
+        &[(Left::Call, "f", "a", 0, 0)],
+        "Runtime error: 7 @ 'a' (line 9, position 2)\nin call to function 'f' (from 'a')",
+        r#"#{"error": "ErrorInFunctionCall", "function": "f", "source": "a"}"#,
     ),
     (
-        (Inner::Memory, "Memory"),
-        [Wrapper::Call("anon$1", "a", 4, 0), Wrapper::None],
-        [
-            "Out of memory @ 'a'\nin closure call (from 'a') (line 4)",
-            r#"#{"error": "ErrorInFunctionCall", "function": "anon$1", "source": "a"}"#,
-        ],
+        Inner::Memory,
+        "Memory",
+        &[(Left::Call, "anon$1", "a", 4, 0)],
+        "Out of memory @ 'a'\nin closure call (from 'a') (line 4)",
+        r#"#{"error": "ErrorInFunctionCall", "function": "anon$1", "source": "a"}"#,
     ),
     (
-        (Inner::Thrown, "ErrorRuntime"),
-        [Wrapper::Module("m", 4, 1), Wrapper::None],
-        [
-            "Runtime error: 7 (line 9, position 2)\nin module 'm' (line 4, position 1)",
-            r#"#{"error": "ErrorInModule", "module": "m"}"#,
-        ],
+        Inner::Thrown,
+        "ErrorRuntime",
+        &[(Left::Module, "m", "", 4, 1)],
+        "Runtime error: 7 (line 9, position 2)\nin module 'm' (line 4, position 1)",
+        r#"#{"error": "ErrorInModule", "module": "m"}"#,
     ),
     (
-        (Inner::Thrown, "ErrorRuntime"),
-        [Wrapper::Module("", 0, 0), Wrapper::None],
-        [
-            "Runtime error: 7 (line 9, position 2)\nin module",
-            r#"#{"error": "ErrorInModule", "module": ""}"#,
-        ],
+        Inner::Thrown,
+        "ErrorRuntime",
+        &[(Left::Module, "", "", 0, 0)],
+        "Runtime error: 7 (line 9, position 2)\nin module",
+        r#"#{"error": "ErrorInModule", "module": ""}"#,
     ),
     (
-        (Inner::Thrown, "ErrorRuntime"),
-        [Wrapper::Module("m", 4, 1), Wrapper::Call("f", "a", 0, 0)],
-        [
-            "Runtime error: 7 (line 9, position 2)\n\
-             in module 'm' @ 'a' (line 4, position 1)\n\
-             in call to function 'f' (from 'a')",
-            r#"#{"error": "ErrorInFunctionCall", "function": "f", "source": "a"}"#,
-        ],
+        Inner::Thrown,
+        "ErrorRuntime",
+        &[(Left::Module, "m", "", 4, 1), (Left::Call, "f", "a", 0, 0)],
+        "Runtime error: 7 (line 9, position 2)\n\
+         in module 'm' @ 'a' (line 4, position 1)\n\
+         in call to function 'f' (from 'a')",
+        r#"#{"error": "ErrorInFunctionCall", "function": "f", "source": "a"}"#,
     ),
     (
-        (Inner::Thrown, "ErrorRuntime"),
-        [Wrapper::Call("f", "a", 4, 1), Wrapper::Module("m", 0, 0)],
-        [
-            "Runtime error: 7 @ 'a' (line 9, position 2)\n\
-             in call to function 'f' (from 'a') (line 4, position 1)\n\
-             in module 'm'",
-            r#"#{"error": "ErrorInModule", "module": "m"}"#,
-        ],
+        Inner::Thrown,
+        "ErrorRuntime",
+        &[(Left::Call, "f", "a", 4, 1), (Left::Module, "m", "", 0, 0)],
+        "Runtime error: 7 @ 'a' (line 9, position 2)\n\
+         in call to function 'f' (from 'a') (line 4, position 1)\n\
+         in module 'm'",
+        r#"#{"error": "ErrorInModule", "module": "m"}"#,
     ),
     (
-        (Inner::StackOverflow, "ErrorStackOverflow"),
-        [
-            Wrapper::Call("anon$1", "a", 0, 0),
-            Wrapper::Call("g", "b", 0, 0),
+        Inner::StackOverflow,
+        "ErrorStackOverflow",
+        &[
+            (Left::Call, "anon$1", "a", 0, 0),
+            (Left::Call, "g", "b", 0, 0),
         ],
-        [
-            "Stack overflow @ 'a'\nin closure call (from 'a') @ 'b'\n\
-             in call to function 'g' (from 'b')",
-            r#"#{"error": "ErrorInFunctionCall", "function": "g", "source": "b"}"#,
-        ],
+        "Stack overflow @ 'a'\nin closure call (from 'a') @ 'b'\n\
+         in call to function 'g' (from 'b')",
+        r#"#{"error": "ErrorInFunctionCall", "function": "g", "source": "b"}"#,
     ),
     (
-        (Inner::StackOverflow, "ErrorStackOverflow"),
-        [
-            Wrapper::Call("anon$1", "a", 0, 0),
-            Wrapper::Call("g", "b", 2, 7),
+        Inner::StackOverflow,
+        "ErrorStackOverflow",
+        &[
+            (Left::Call, "anon$1", "a", 0, 0),
+            (Left::Call, "g", "b", 2, 7),
         ],
-        [
-            "Stack overflow @ 'a'\nin closure call (from 'a') @ 'b'\n\
-             in call to function 'g' (from 'b') (line 2, position 7)",
-            r#"#{"error": "ErrorInFunctionCall", "function": "g", "source": "b"}"#,
-        ],
+        "Stack overflow @ 'a'\nin closure call (from 'a') @ 'b'\n\
+         in call to function 'g' (from 'b') (line 2, position 7)",
+        r#"#{"error": "ErrorInFunctionCall", "function": "g", "source": "b"}"#,
     ),
     (
-        (Inner::StackOverflow, "ErrorStackOverflow"),
-        [
-            Wrapper::Call("anon$1", "a", 0, 0),
-            Wrapper::Call("g", "b", 3, 0),
+        Inner::StackOverflow,
+        "ErrorStackOverflow",
+        &[
+            (Left::Call, "anon$1", "a", 0, 0),
+            (Left::Call, "g", "b", 3, 0),
         ],
-        [
-            "Stack overflow @ 'a'\nin closure call (from 'a') @ 'b'\n\
-             in call to function 'g' (from 'b') (line 3)",
-            r#"#{"error": "ErrorInFunctionCall", "function": "g", "source": "b"}"#,
-        ],
+        "Stack overflow @ 'a'\nin closure call (from 'a') @ 'b'\n\
+         in call to function 'g' (from 'b') (line 3)",
+        r#"#{"error": "ErrorInFunctionCall", "function": "g", "source": "b"}"#,
     ),
 ];
 
@@ -152,47 +147,60 @@ fn inner_fault(inner: Inner) -> EvalAltResult {
 
 /// The fault after it has left this. Its own place is filled in last.
 fn wrapped(
+    rt: &impl Abort,
     alloc: Global,
     fault: EvalAltResult,
-    wrapper: Wrapper,
-) -> Result<EvalAltResult, OutOfMemory> {
-    match wrapper {
-        Wrapper::None => Ok(fault),
-        Wrapper::Call(function, source, line, column) => {
-            let fault = in_call(alloc, Box::new(alloc, fault)?, function, source)?;
-            Ok(fault.fill_position(place(line, column)))
+    wrapper: &Wrapper,
+) -> EvalAltResult {
+    let (left, name, source, line, column) = wrapper;
+    let place = place(*line, *column);
+    match left {
+        Left::Call => in_call(rt, alloc, boxed(rt, alloc, fault), name, source).fill_position(
+            place,
+        ),
+        Left::Module => {
+            let inner = boxed(rt, alloc, fault);
+            EvalAltResult::ErrorInModule(text_of(rt, alloc, name), inner, place)
         }
-        Wrapper::Module(module, line, column) => {
-            let inner = Box::new(alloc, fault)?;
-            let module = Text::copy_of(alloc, module)?;
-            Ok(EvalAltResult::ErrorInModule(module, inner, place(line, column)))
-        }
+    }
+}
+
+fn boxed(rt: &impl Abort, alloc: Global, fault: EvalAltResult) -> Box<EvalAltResult> {
+    match Box::new(alloc, fault) {
+        Ok(inner) => inner,
+        Err(_) => panic!(rt; "memory"),
     }
 }
 
 fn in_call(
+    rt: &impl Abort,
     alloc: Global,
     inner: Box<EvalAltResult>,
     function: &str,
     source: &str,
-) -> Result<EvalAltResult, OutOfMemory> {
-    let function = Text::copy_of(alloc, function)?;
-    let source = Text::copy_of(alloc, source)?;
-    Ok(EvalAltResult::ErrorInFunctionCall(function, source, inner, Position::NONE))
+) -> EvalAltResult {
+    let function = text_of(rt, alloc, function);
+    let source = text_of(rt, alloc, source);
+    EvalAltResult::ErrorInFunctionCall(function, source, inner, Position::NONE)
 }
 
-fn check_row(rt: &impl Abort, alloc: Global, row: &Row) -> Result<(), OutOfMemory> {
-    let [first, last] = row.1;
-    let fault = wrapped(alloc, inner_fault(row.0.0), first)?;
-    let fault = wrapped(alloc, fault, last)?;
-    assert_eq!(rt; fault.unwrap_inner().name(), row.0.1);
-    check_fault(rt, alloc, Class::Catchable, &fault, row.2)
+fn wrapped_in(rt: &impl Abort, alloc: Global, inner: Inner, wrappers: &[Wrapper]) -> EvalAltResult {
+    let mut fault = inner_fault(inner);
+    for wrapper in wrappers {
+        fault = wrapped(rt, alloc, fault, wrapper);
+    }
+    fault
+}
+
+fn check_row(rt: &impl Abort, alloc: Global, row: &Row) {
+    let fault = wrapped_in(rt, alloc, row.0, row.2);
+    assert!(rt; fault.unwrap_inner().name() == row.1);
+    check_fault(rt, alloc, Class::Catchable, &fault, (row.3, row.4));
 }
 
 #[test]
-fn wrapped_faults(rt: HostRuntime) -> Result<(), OutOfMemory> {
+fn wrapped_faults(rt: HostRuntime) {
     for row in &ROWS {
-        check_row(&rt, rt.alloc(), row)?;
+        check_row(&rt, rt.alloc(), row);
     }
-    Ok(())
 }

@@ -1,163 +1,125 @@
 //! The op-assignments.
 
 use super::{NOT_BUILT_IN, TOO_LONG, limits};
-use crate::made::{Flat, flat_value, quoted};
-use crate::raised::text_of;
+use crate::made::{check_text, quoted, text_of, value_of};
+use crate::raised::named_text;
 use grain_ops::{AssignAnswer, assign};
-use grain_value::{Dynamic, OutOfMemory, Text, Token};
+use grain_value::{Dynamic, Text, Token};
 use std::alloc::Global;
 use std::process::Abort;
 
-/// An op-assignment, its answer, and the quoted text of the target afterwards.
-type Answer = (Token, &'static str, &'static str);
-
-/// A target, a value, the limit of texts in bytes, or 0 for none, and what op-assignments answer.
-type Row = (Flat, Flat, usize, &'static [Answer]);
+/// A target, an op-assignment, a value, the limit of texts in bytes, or 0 for none, the answer, and
+/// the quoted text of the target afterwards.
+type Row = (
+    &'static str,
+    Token,
+    &'static str,
+    usize,
+    &'static str,
+    &'static str,
+);
 
 const DONE: &str = "done";
 
-const ROWS: [Row; 12] = [
+const ROWS: [Row; 31] = [
+    ("13", Token::PlusAssign, "3", 0, DONE, "16"),
+    ("13", Token::MinusAssign, "3", 0, DONE, "10"),
+    ("13", Token::MultiplyAssign, "3", 0, DONE, "39"),
+    ("13", Token::DivideAssign, "3", 0, DONE, "4"),
+    ("13", Token::ModuloAssign, "3", 0, DONE, "1"),
+    ("13", Token::PowerOfAssign, "3", 0, DONE, "2197"),
+    ("13", Token::LeftShiftAssign, "3", 0, DONE, "104"),
+    ("13", Token::RightShiftAssign, "3", 0, DONE, "1"),
+    ("13", Token::AndAssign, "3", 0, DONE, "1"),
+    ("13", Token::OrAssign, "3", 0, DONE, "15"),
+    ("13", Token::XOrAssign, "3", 0, DONE, "14"),
+    ("true", Token::AndAssign, "true", 0, DONE, "true"),
+    ("true", Token::OrAssign, "true", 0, DONE, "true"),
+    ("true", Token::XOrAssign, "true", 0, DONE, "false"),
+    ("true", Token::PlusAssign, "true", 0, NOT_BUILT_IN, "true"),
     (
-        Flat::Int(13),
-        Flat::Int(3),
+        "true",
+        Token::PowerOfAssign,
+        "true",
         0,
-        &[
-            (Token::PlusAssign, DONE, "16"),
-            (Token::MinusAssign, DONE, "10"),
-            (Token::MultiplyAssign, DONE, "39"),
-            (Token::DivideAssign, DONE, "4"),
-            (Token::ModuloAssign, DONE, "1"),
-            (Token::PowerOfAssign, DONE, "2197"),
-            (Token::LeftShiftAssign, DONE, "104"),
-            (Token::RightShiftAssign, DONE, "1"),
-            (Token::AndAssign, DONE, "1"),
-            (Token::OrAssign, DONE, "15"),
-            (Token::XOrAssign, DONE, "14"),
-        ],
+        NOT_BUILT_IN,
+        "true",
     ),
     (
-        Flat::Bool(true),
-        Flat::Bool(true),
+        "13",
+        Token::ModuloAssign,
+        "0",
         0,
-        &[
-            (Token::AndAssign, DONE, "true"),
-            (Token::OrAssign, DONE, "true"),
-            (Token::XOrAssign, DONE, "false"),
-            (Token::PlusAssign, NOT_BUILT_IN, "true"),
-            (Token::PowerOfAssign, NOT_BUILT_IN, "true"),
-        ],
+        "ErrorArithmetic: Division by zero: 13 % 0",
+        "13",
     ),
+    ("13", Token::Plus, "2", 0, NOT_BUILT_IN, "13"),
+    ("13", Token::EqualsTo, "2", 0, NOT_BUILT_IN, "13"),
+    ("13", Token::Other, "2", 0, NOT_BUILT_IN, "13"),
+    ("13", Token::PlusAssign, "true", 0, NOT_BUILT_IN, "13"),
+    ("13", Token::AndAssign, "true", 0, NOT_BUILT_IN, "13"),
+    ("13", Token::PlusAssign, "text a", 0, NOT_BUILT_IN, "13"),
+    ("13", Token::AndAssign, "text a", 0, NOT_BUILT_IN, "13"),
+    ("text a", Token::PlusAssign, "text é", 5, DONE, r#""aé""#),
+    ("text aé", Token::PlusAssign, "text é", 5, DONE, r#""aéé""#),
     (
-        Flat::Int(13),
-        Flat::Int(0),
-        0,
-        &[(
-            Token::ModuloAssign,
-            "ErrorArithmetic: Division by zero: 13 % 0",
-            "13",
-        )],
-    ),
-    (
-        Flat::Int(13),
-        Flat::Int(2),
-        0,
-        &[
-            (Token::Plus, NOT_BUILT_IN, "13"),
-            (Token::EqualsTo, NOT_BUILT_IN, "13"),
-            (Token::Other, NOT_BUILT_IN, "13"),
-        ],
-    ),
-    (
-        Flat::Int(13),
-        Flat::Bool(true),
-        0,
-        &[
-            (Token::PlusAssign, NOT_BUILT_IN, "13"),
-            (Token::AndAssign, NOT_BUILT_IN, "13"),
-        ],
-    ),
-    (
-        Flat::Int(13),
-        Flat::Text("a"),
-        0,
-        &[
-            (Token::PlusAssign, NOT_BUILT_IN, "13"),
-            (Token::AndAssign, NOT_BUILT_IN, "13"),
-        ],
-    ),
-    (
-        Flat::Text("a"),
-        Flat::Text("é"),
+        "text aéé",
+        Token::PlusAssign,
+        "text é",
         5,
-        &[(Token::PlusAssign, DONE, r#""aé""#)],
+        TOO_LONG,
+        r#""aéé""#,
     ),
     (
-        Flat::Text("aé"),
-        Flat::Text("é"),
+        "text aéé",
+        Token::MinusAssign,
+        "text é",
         5,
-        &[(Token::PlusAssign, DONE, r#""aéé""#)],
+        NOT_BUILT_IN,
+        r#""aéé""#,
     ),
+    ("text a", Token::PlusAssign, "char é", 3, DONE, r#""aé""#),
     (
-        Flat::Text("aéé"),
-        Flat::Text("é"),
-        5,
-        &[
-            (Token::PlusAssign, TOO_LONG, r#""aéé""#),
-            (Token::MinusAssign, NOT_BUILT_IN, r#""aéé""#),
-        ],
-    ),
-    (
-        Flat::Text("a"),
-        Flat::Char('é'),
+        "text aé",
+        Token::PlusAssign,
+        "char é",
         3,
-        &[(Token::PlusAssign, DONE, r#""aé""#)],
+        TOO_LONG,
+        r#""aé""#,
     ),
     (
-        Flat::Text("aé"),
-        Flat::Char('é'),
+        "char x",
+        Token::PlusAssign,
+        "char é",
         3,
-        &[(Token::PlusAssign, TOO_LONG, r#""aé""#)],
-    ),
-    (
-        Flat::Char('x'),
-        Flat::Char('é'),
-        3,
-        &[(Token::PlusAssign, NOT_BUILT_IN, "'x'")],
+        NOT_BUILT_IN,
+        "'x'",
     ),
 ];
 
-fn answered(alloc: Global, answer: AssignAnswer) -> Result<Text, OutOfMemory> {
+fn answered(rt: &impl Abort, alloc: Global, answer: AssignAnswer) -> Text {
     match answer {
-        AssignAnswer::NotBuiltIn => Text::copy_of(alloc, NOT_BUILT_IN),
-        AssignAnswer::Done => Text::copy_of(alloc, DONE),
-        AssignAnswer::Failed(fault) => text_of(alloc, &fault),
+        AssignAnswer::NotBuiltIn => text_of(rt, alloc, NOT_BUILT_IN),
+        AssignAnswer::Done => text_of(rt, alloc, DONE),
+        AssignAnswer::Failed(fault) => named_text(rt, alloc, &fault),
     }
 }
 
-fn assigned(
-    alloc: Global,
-    token: Token,
-    target: &mut Dynamic,
-    row: &Row,
-) -> Result<Text, OutOfMemory> {
-    let value = flat_value(alloc, row.1)?;
-    answered(alloc, assign(alloc, token, target, &value, &limits(row.2)))
+fn check_assigned(rt: &impl Abort, alloc: Global, target: &mut Dynamic, row: &Row) {
+    let value = value_of(rt, alloc, row.2);
+    let answer = assign(alloc, row.1, target, &value, &limits(row.3));
+    check_text(rt, answered(rt, alloc, answer), row.4);
 }
 
-fn check(rt: &impl Abort, alloc: Global, row: &Row, answer: &Answer) -> Result<(), OutOfMemory> {
-    let mut target = flat_value(alloc, row.0)?;
-    let text = assigned(alloc, answer.0, &mut target, row)?;
-    assert_eq!(rt; text.as_str(), answer.1);
-    assert_eq!(rt; quoted(alloc, &target)?.as_str(), answer.2);
-    Ok(())
+fn check_row(rt: &impl Abort, alloc: Global, row: &Row) {
+    let mut target = value_of(rt, alloc, row.0);
+    check_assigned(rt, alloc, &mut target, row);
+    check_text(rt, quoted(rt, alloc, &target), row.5);
 }
 
 #[test]
-fn targets_of_assignments(rt: HostRuntime) -> Result<(), OutOfMemory> {
+fn targets_of_assignments(rt: HostRuntime) {
     for row in &ROWS {
-        for answer in row.3 {
-            check(&rt, rt.alloc(), row, answer)?;
-        }
+        check_row(&rt, rt.alloc(), row);
     }
-    Ok(())
 }

@@ -2,15 +2,16 @@
 
 use grain_value::{Fragment, FragmentItem, Items, MOST_LEVELS, OutOfMemory};
 use std::alloc::Global;
+use std::process::Abort;
 
-/// A copy of a block with an item of each kind.
-fn copied(alloc: Global) -> Result<Items, OutOfMemory> {
+/// A block with an item of each kind.
+fn block(alloc: Global) -> Result<Items, OutOfMemory> {
     let mut items = Items::new(alloc);
     items.push(FragmentItem::Let(3, Fragment::Literal(7)))?;
     items.push(FragmentItem::Eval(Fragment::Name(3)))?;
     items.push(FragmentItem::Eval(Fragment::This))?;
     items.push(FragmentItem::Eval(Fragment::Block(Items::new(alloc))))?;
-    items.copy(alloc)
+    Ok(items)
 }
 
 fn is_empty_block(item: Option<&FragmentItem>) -> bool {
@@ -20,10 +21,8 @@ fn is_empty_block(item: Option<&FragmentItem>) -> bool {
     }
 }
 
-#[test]
-fn blocks_hold_items(rt: HostRuntime) -> Result<(), OutOfMemory> {
-    let items = copied(rt.alloc())?;
-    assert_eq!(rt; items.len(), 4);
+fn check_items(rt: &impl Abort, items: &Items) {
+    assert!(rt; items.len() == 4);
     assert!(rt;
         matches!(
             items.get(0),
@@ -33,7 +32,13 @@ fn blocks_hold_items(rt: HostRuntime) -> Result<(), OutOfMemory> {
     assert!(rt; matches!(items.get(1), Some(FragmentItem::Eval(Fragment::Name(3)))));
     assert!(rt; matches!(items.get(2), Some(FragmentItem::Eval(Fragment::This))));
     assert!(rt; is_empty_block(items.get(3)));
-    Ok(())
+}
+
+#[test]
+fn blocks_hold_items(rt: HostRuntime) {
+    let items = block(rt.alloc()).expect(&rt, "memory");
+    let copy = items.copy(rt.alloc()).expect(&rt, "memory");
+    check_items(&rt, &copy);
 }
 
 /// A fragment within `levels` blocks.
@@ -47,18 +52,17 @@ fn nested(alloc: Global, levels: usize) -> Result<Fragment, OutOfMemory> {
     Ok(fragment)
 }
 
-/// Whether a block takes a copy of the deepest fragment.
-fn block_takes_deepest(alloc: Global) -> Result<bool, OutOfMemory> {
-    let deepest = nested(alloc, MOST_LEVELS)?;
-    let copy = deepest.copy(alloc)?;
+/// Whether a block takes this fragment.
+fn block_takes(alloc: Global, fragment: Fragment) -> bool {
     let mut items = Items::new(alloc);
-    let refused = items.push(FragmentItem::Let(0, copy)).is_err();
-    Ok(!refused || !items.is_empty())
+    let refused = items.push(FragmentItem::Let(0, fragment)).is_err();
+    !refused || !items.is_empty()
 }
 
 #[test]
-fn blocks_nest_so_deep_and_no_deeper(rt: HostRuntime) -> Result<(), OutOfMemory> {
+fn blocks_nest_so_deep_and_no_deeper(rt: HostRuntime) {
     assert!(rt; nested(rt.alloc(), MOST_LEVELS + 1).is_err());
-    assert!(rt; !block_takes_deepest(rt.alloc())?);
-    Ok(())
+    let deepest = nested(rt.alloc(), MOST_LEVELS).expect(&rt, "memory");
+    let copy = deepest.copy(rt.alloc()).expect(&rt, "memory");
+    assert!(rt; !block_takes(rt.alloc(), copy));
 }

@@ -15,25 +15,24 @@ fn nested(alloc: Global, levels: usize) -> Result<Dynamic, OutOfMemory> {
     Ok(value)
 }
 
-/// How many bytes the quoted text of a copy of the deepest value has.
-fn length_of_deepest(alloc: Global) -> Result<usize, OutOfMemory> {
-    let deepest = nested(alloc, MOST_LEVELS)?;
-    let copy = deepest.copy(alloc)?;
-    Ok(quoted(alloc, &copy)?.len())
-}
-
-/// Whether a map takes the deepest value.
-fn map_takes_deepest(alloc: Global) -> Result<bool, OutOfMemory> {
-    let deepest = nested(alloc, MOST_LEVELS)?;
+/// Whether a map takes this value.
+fn map_takes(alloc: Global, value: Dynamic) -> bool {
     let mut map = Map::new(alloc);
-    let refused = map.insert(Text::new(alloc), deepest).is_err();
-    Ok(!refused || !map.is_empty())
+    let refused = map.insert(Text::new(alloc), value).is_err();
+    !refused || !map.is_empty()
 }
 
 #[test]
-fn values_nest_so_deep_and_no_deeper(rt: HostRuntime) -> Result<(), OutOfMemory> {
-    assert_eq!(rt; length_of_deepest(rt.alloc())?, 2 * 1024 + 2);
+fn values_nest_so_deep_and_no_deeper(rt: HostRuntime) {
     assert!(rt; nested(rt.alloc(), MOST_LEVELS + 1).is_err());
-    assert!(rt; !map_takes_deepest(rt.alloc())?);
-    Ok(())
+    let deepest = nested(rt.alloc(), MOST_LEVELS).expect(&rt, "memory");
+    assert!(rt; !map_takes(rt.alloc(), deepest));
+}
+
+#[test]
+fn copies_nest_as_deep(rt: HostRuntime) {
+    let deepest = nested(rt.alloc(), MOST_LEVELS).expect(&rt, "memory");
+    let copy = deepest.copy(rt.alloc()).expect(&rt, "memory");
+    let text = quoted(&rt, rt.alloc(), &copy);
+    assert!(rt; text.len() == 2 * 1024 + 2);
 }

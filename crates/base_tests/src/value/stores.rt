@@ -2,12 +2,13 @@
 
 ghost use Rattle.std.specs.Prelude.{◌<◌, length};
 
-use grain_value::{Dynamic, Held, OutOfMemory, Store};
+use grain_value::{Dynamic, Held, Store};
+use std::process::Abort;
 
-fn add(store: &mut Store, integer: i64) -> Result<usize, OutOfMemory> {
+fn add(rt: &impl Abort, store: &mut Store, integer: i64) -> usize {
     match store.add(Held::read_write(Dynamic::Int(integer))) {
-        Ok(cell) => Ok(cell),
-        Err(_) => Err(OutOfMemory),
+        Ok(cell) => cell,
+        Err(_) => panic!(rt; "memory"),
     }
 }
 
@@ -20,26 +21,38 @@ fn integer_in(store: &Store, cell: usize) -> Option<i64>
     }
 }
 
-#[test]
-fn cells_are_lent_and_given_back(rt: HostRuntime) -> Result<(), OutOfMemory> {
-    let mut store = Store::new(rt.alloc());
-    assert_eq!(rt; add(&mut store, 7)?, 0);
-    assert_eq!(rt; add(&mut store, 8)?, 1);
-    assert_eq!(rt; store.len(), 2);
-    assert_eq!(rt; integer_in(&store, 0), Some(7));
-    let lent = store.lend(1).is_ok();
-    assert_eq!(rt; store.len(), 2);
-    assert!(rt; lent);
+fn check_added(rt: &impl Abort, store: &mut Store) {
+    assert!(rt; add(rt, store, 7) == 0);
+    assert!(rt; add(rt, store, 8) == 1);
+    assert!(rt; store.len() == 2);
+    assert!(rt; integer_in(store, 0) == Some(7));
+}
+
+/// Lends the second cell, and gives it back with another content.
+fn check_lent(rt: &impl Abort, store: &mut Store) {
+    assert!(rt; store.len() == 2);
+    assert!(rt; store.lend(1).is_ok());
+    assert!(rt; store.len() == 2);
     assert!(rt; store.is_busy(1));
-    assert_eq!(rt; integer_in(&store, 1), None);
+    assert!(rt; integer_in(store, 1).is_none());
     let held = Held {
         value: Dynamic::Int(9),
         read_only: true,
     };
     store.give_back(1, held);
-    assert_eq!(rt; store.len(), 2);
+}
+
+fn check_given_back(rt: &impl Abort, store: &Store) {
+    assert!(rt; store.len() == 2);
     assert!(rt; store.is_read_only(1));
     assert!(rt; !store.is_busy(1));
-    assert_eq!(rt; integer_in(&store, 1), Some(9));
-    Ok(())
+    assert!(rt; integer_in(store, 1) == Some(9));
+}
+
+#[test]
+fn cells_are_lent_and_given_back(rt: HostRuntime) {
+    let mut store = Store::new(rt.alloc());
+    check_added(&rt, &mut store);
+    check_lent(&rt, &mut store);
+    check_given_back(&rt, &store);
 }

@@ -1,6 +1,7 @@
 //! The texts of operator tokens.
 
 use grain_value::Token;
+use std::process::Abort;
 
 const OPERATORS: [(&str, Token); 22] = [
     ("+", Token::Plus),
@@ -41,15 +42,19 @@ const ASSIGNMENTS: [(&str, Token); 11] = [
     ("^=", Token::XOrAssign),
 ];
 
+fn check_rows(rt: &impl Abort, rows: &[(&str, Token)]) {
+    for (syntax, token) in rows {
+        assert!(rt; Token::lookup_from_syntax(syntax) == Some(*token));
+    }
+}
+
+const NONE: [&str; 8] = ["", "=", "plus", "<>", "...", "!!", "===", "Other"];
+
 #[test]
 fn tokens_have_texts(rt: HostRuntime) {
-    let tables: [&[(&str, Token)]; 2] = [&OPERATORS, &ASSIGNMENTS];
-    for rows in tables {
-        for (syntax, token) in rows {
-            assert_eq!(rt; Token::lookup_from_syntax(syntax), Some(*token));
-        }
-    }
-    for syntax in ["", "=", "plus", "<>", "...", "!!", "===", "Other"] {
-        assert_eq!(rt; Token::lookup_from_syntax(syntax), None);
+    check_rows(&rt, &OPERATORS);
+    check_rows(&rt, &ASSIGNMENTS);
+    for syntax in &NONE {
+        assert!(rt; Token::lookup_from_syntax(syntax).is_none());
     }
 }
