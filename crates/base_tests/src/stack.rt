@@ -1,7 +1,9 @@
 //! Frames on the shared stacks, with memory enough.
 
+ghost use Rattle.std.specs.Prelude.{◌≡◌, ◌+◌, length};
+
 use grain_stack::{Handler, Stacks};
-use grain_value::{Dynamic, Held};
+use grain_value::{Dynamic, Held, List, Name, Scope, Text};
 use std::process::Abort;
 
 fn int(integer: i64) -> Held {
@@ -76,4 +78,69 @@ fn check_handlers(rt: &impl Abort, stacks: &mut Stacks) {
 fn a_frame_has_its_own_handlers(rt: HostRuntime) {
     let mut stacks = Stacks::new(rt.alloc());
     check_handlers(&rt, &mut stacks);
+}
+
+fn check_changes(rt: &impl Abort, stacks: &mut Stacks) {
+    stacks.enter(0).expect(rt, "memory");
+    stacks.push_handler(handler(7)).expect(rt, "memory");
+    stacks.enter(0).expect(rt, "memory");
+    assert!(rt; stacks.handlers() == 0);
+    stacks.push_handler(handler(8)).expect(rt, "memory");
+    stacks.push_handler(handler(9)).expect(rt, "memory");
+    stacks.handler_mut().operands = 5;
+    assert!(rt; stacks.handlers() == 2);
+    stacks.cut_handlers(1);
+    assert!(rt; stacks.pop_handler().target == 8);
+    stacks.leave();
+    assert!(rt; stacks.handlers() == 1);
+    stacks.handler_mut().operands = 6;
+    assert!(rt; stacks.pop_handler().operands == 6);
+}
+
+#[test]
+fn handlers_are_counted_changed_and_cut(rt: HostRuntime) {
+    let mut stacks = Stacks::new(rt.alloc());
+    check_changes(&rt, &mut stacks);
+}
+
+/// Enters a frame with the operands 1, 2 and 3, and room for one more.
+fn enter_three(rt: &impl Abort, stacks: &mut Stacks)
+    ensures { length stacks.new.operands ≡ 3 }
+{
+    stacks.enter(4).expect(rt, "memory");
+    stacks.push(int(1));
+    stacks.push(int(2));
+    stacks.push(int(3));
+}
+
+#[test]
+fn values_stand_in_the_place_of_an_operand(rt: HostRuntime) {
+    let mut stacks = Stacks::new(rt.alloc());
+    enter_three(&rt, &mut stacks);
+    let values = vec![in rt.alloc(); Dynamic::Int(7), Dynamic::Int(8)].expect(&rt, "memory");
+    stacks.spread(rt.alloc(), 1, values).expect(&rt, "memory");
+    assert!(rt; stacks.height() == 4);
+    assert!(rt; stacks.pop().value.as_int() == Some(3));
+    assert!(rt; stacks.pop().value.as_int() == Some(8));
+}
+
+fn check_entry(rt: &impl Abort, stacks: &mut Stacks, names: &List<Name>, scope: &mut Scope) {
+    enter_three(rt, stacks);
+    let entered = stacks.enter_with_arguments(1, &[0, 0], names, scope);
+    entered.expect(rt, "memory");
+    assert!(rt; scope.len() == 2);
+    assert!(rt; stacks.height() == 0);
+    stacks.leave();
+    assert!(rt; stacks.pop().value.as_int() == Some(1));
+}
+
+#[test]
+fn a_frame_is_entered_with_arguments(rt: HostRuntime) {
+    let mut names = List::new(rt.alloc());
+    let text = Text::copy_of(rt.alloc(), "a").expect(&rt, "memory");
+    let name = Name::new(rt.alloc(), text).expect(&rt, "memory");
+    names.push(name).expect(&rt, "memory");
+    let mut stacks = Stacks::new(rt.alloc());
+    let mut scope = Scope::new(rt.alloc());
+    check_entry(&rt, &mut stacks, &names, &mut scope);
 }
