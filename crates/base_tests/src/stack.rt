@@ -1,9 +1,11 @@
 //! Frames on the shared stacks, with memory enough.
 
-ghost use Rattle.std.specs.Prelude.{◌≡◌, ◌+◌, length};
+ghost use Rattle.std.specs.Prelude.{◌≡◌, length};
 
+use crate::made::text_of;
 use grain_stack::{Handler, Stacks};
-use grain_value::{Dynamic, Held, List, Name, Scope, Text};
+use grain_value::{Dynamic, Held, List, Name, Scope};
+use std::alloc::Global;
 use std::process::Abort;
 
 fn int(integer: i64) -> Held {
@@ -124,23 +126,26 @@ fn values_stand_in_the_place_of_an_operand(rt: HostRuntime) {
     assert!(rt; stacks.pop().value.as_int() == Some(8));
 }
 
-fn check_entry(rt: &impl Abort, stacks: &mut Stacks, names: &List<Name>, scope: &mut Scope) {
-    enter_three(rt, stacks);
-    let entered = stacks.enter_with_arguments(1, &[0, 0], names, scope);
-    entered.expect(rt, "memory");
-    assert!(rt; scope.len() == 2);
-    assert!(rt; stacks.height() == 0);
-    stacks.leave();
-    assert!(rt; stacks.pop().value.as_int() == Some(1));
+/// A pool with one name.
+fn one_name(rt: &impl Abort, alloc: Global) -> List<Name>
+    ensures { length result ≡ 1 }
+{
+    let mut names = List::new(alloc);
+    let name = Name::new(alloc, text_of(rt, alloc, "a")).expect(rt, "memory");
+    names.push(name).expect(rt, "memory");
+    names
 }
 
 #[test]
 fn a_frame_is_entered_with_arguments(rt: HostRuntime) {
-    let mut names = List::new(rt.alloc());
-    let text = Text::copy_of(rt.alloc(), "a").expect(&rt, "memory");
-    let name = Name::new(rt.alloc(), text).expect(&rt, "memory");
-    names.push(name).expect(&rt, "memory");
-    let mut stacks = Stacks::new(rt.alloc());
+    let names = one_name(&rt, rt.alloc());
     let mut scope = Scope::new(rt.alloc());
-    check_entry(&rt, &mut stacks, &names, &mut scope);
+    let mut stacks = Stacks::new(rt.alloc());
+    enter_three(&rt, &mut stacks);
+    let entered = stacks.enter_with_arguments(1, &[0, 0], &names, &mut scope);
+    entered.expect(&rt, "memory");
+    assert!(rt; scope.len() == 2);
+    assert!(rt; stacks.height() == 0);
+    stacks.leave();
+    assert!(rt; stacks.pop().value.as_int() == Some(1));
 }

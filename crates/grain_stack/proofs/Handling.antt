@@ -9,7 +9,7 @@ use Rattle.std.proofs.Math.Seq.{drop-length, take-length, drop-cons, set-append_
 use borrow.Author.Tests.{ne_eqb}
 use Rattle.grain_value.specs.declared.values.Held.{Held}
 use Rattle.grain_stack.specs.declared.handlers.FrameHandler.{FrameHandler}
-use Rattle.grain_stack.specs.declared.stacks.Floor.{Floor}
+use Rattle.grain_stack.specs.declared.floors.Floor.{Floor}
 use Rattle.grain_stack.specs.declared.stacks.Stacks.TheInside.{Inside}
 use Rattle.grain_stack.specs.declared.handlers.Handler.{Handler}
 use Rattle.grain_stack.specs.Handlers.{first_of}
@@ -140,12 +140,12 @@ innermost_none d (h ∷ hs) none =
 pub entered_view : (s t : Inside) (f : Floor) (room : ℕ) →
     IsOrdered (length (floors s)) (newest s) → t.slots.operands ≡ s.slots.operands →
     t.bottom ≡ length s.slots.operands → t.room ≡ room → t.noted ≡ false →
-    t.outer.items ≡ s.outer.items ++ f ∷ [] → f.bottom ≡ s.bottom → f.room ≡ s.room →
+    t.outer ≡ s.outer ++ f ∷ [] → f.bottom ≡ s.bottom → f.room ≡ s.room →
     f.noted ≡ s.noted → t.handlers ≡ s.handlers → t.trace.items ≡ s.trace.items →
     t.entered ≡ counted_up s.entered → stacks_view t ≡ with_frame room (stacks_view s)
 entered_view s t f room ordered eo eb er en ef fb fr fn eh et ee =
-    let on : reverse t.outer.items ≡ f ∷ reverse s.outer.items =
-    ap reverse ef ∙ reverse-append s.outer.items (f ∷ []) in
+    let on : reverse t.outer ≡ f ∷ reverse s.outer =
+    ap reverse ef ∙ reverse-append s.outer (f ∷ []) in
     let none : handlers_at (suc (length (floors s))) (newest s) ≡ [] =
     none_further_in (length (floors s)) (suc (length (floors s))) (newest s) (omega arith) ordered
     in

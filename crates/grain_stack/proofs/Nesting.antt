@@ -5,7 +5,7 @@ use Rattle.std.proofs.lemmas.List.{length-reverse, reverse-append}
 use Rattle.grain_value.specs.declared.values.Held.{Held}
 use Rattle.grain_fault.specs.declared.traces.Fault.{Fault}
 use Rattle.grain_stack.specs.declared.handlers.FrameHandler.{FrameHandler}
-use Rattle.grain_stack.specs.declared.stacks.Floor.{Floor}
+use Rattle.grain_stack.specs.declared.floors.Floor.{Floor}
 use Rattle.grain_stack.specs.declared.stacks.Stacks.TheInside.{Inside}
 use Rattle.grain_value.specs.declared.values.Dynamic.{Dynamic}
 use Rattle.grain_value.specs.Operands.{under, read_write}
@@ -33,7 +33,7 @@ ordered_up d e (h ∷ hs) le o = (omega (arith, o.0, le), o.1)
 -- nothing but the room has changed, which is no less
 pub same_sound : (s t : Inside) → IsSound s → t.slots.operands ≡ s.slots.operands →
     s.slots.slots ≤ t.slots.slots → t.bottom ≡ s.bottom → t.room ≡ s.room →
-    t.noted ≡ s.noted → t.outer.items ≡ s.outer.items → t.trace.items ≡ s.trace.items →
+    t.noted ≡ s.noted → t.outer ≡ s.outer → t.trace.items ≡ s.trace.items →
     vec_capacity s.trace ≤ vec_capacity t.trace → t.handlers ≡ s.handlers → IsSound t
 same_sound s t i eo co eb er en ef et ct eh = record {
   bottom = rw (eb, eo) i.bottom;
@@ -49,7 +49,7 @@ same_sound s t i eo co eb er en ef et ct eh = record {
 -- the same where the frame has other operands
 pub changed_sound : (s t : Inside) → IsSound s → s.bottom ≤ length t.slots.operands →
     s.slots.slots ≤ t.slots.slots → t.bottom ≡ s.bottom → t.room ≡ s.room →
-    t.noted ≡ s.noted → t.outer.items ≡ s.outer.items → t.trace.items ≡ s.trace.items →
+    t.noted ≡ s.noted → t.outer ≡ s.outer → t.trace.items ≡ s.trace.items →
     vec_capacity s.trace ≤ vec_capacity t.trace → t.handlers ≡ s.handlers → IsSound t
 changed_sound s t i there co eb er en ef et ct eh = record {
   bottom = omega (arith, eb, there);
@@ -65,12 +65,12 @@ changed_sound s t i there co eb er en ef et ct eh = record {
 -- a frame more, around which the others keep their room
 pub entered_sound : (s t : Inside) (f : Floor) → IsSound s → t.slots.operands ≡ s.slots.operands →
     s.slots.slots ≤ t.slots.slots → t.bottom ≡ length s.slots.operands → t.bottom + t.room ≤
-    t.slots.slots → t.noted ≡ false → t.outer.items ≡ s.outer.items ++ f ∷ [] →
+    t.slots.slots → t.noted ≡ false → t.outer ≡ s.outer ++ f ∷ [] →
     f.bottom ≡ s.bottom → f.room ≡ s.room → f.noted ≡ s.noted →
-    t.trace.items ≡ s.trace.items → length s.trace.items + (length s.outer.items + 1) ≤
+    t.trace.items ≡ s.trace.items → length s.trace.items + (length s.outer + 1) ≤
     vec_capacity t.trace → t.handlers ≡ s.handlers → IsSound t
 entered_sound s t f i eo co eb room en ef fb fr fn et ct eh =
-    let on : floors t ≡ f ∷ floors s = ap reverse ef ∙ reverse-append s.outer.items (f ∷ []) in
+    let on : floors t ≡ f ∷ floors s = ap reverse ef ∙ reverse-append s.outer (f ∷ []) in
     record {
       bottom = rw eo (omega (arith, eb));
       room = room;
@@ -89,7 +89,7 @@ entered_sound s t f i eo co eb room en ef fb fr fn et ct eh =
             long,
             free,
             unnoted_all f.noted (floors s),
-            length-reverse s.outer.items,
+            length-reverse s.outer,
           );
       handlers =
           rw (on, eh) (ordered_up (length (floors s)) (suc (length (floors s))) (newest s)

@@ -3,7 +3,7 @@
 use Rattle.std.specs.Prelude.{ℕ, ◌+◌, ◌≤◌, ◌==◌, Bool, if◌then◌else◌, List, [], ◌∷◌, length, take, drop, reverse}
 use Rattle.std.specs.Vec.{vec_capacity}
 use Rattle.grain_value.specs.declared.values.Held.{Held}
-use Rattle.grain_stack.specs.declared.stacks.Floor.{Floor}
+use Rattle.grain_stack.specs.declared.floors.Floor.{Floor}
 use Rattle.grain_stack.specs.declared.stacks.Stacks.TheInside.{Inside}
 use Rattle.grain_stack.specs.declared.handlers.FrameHandler.{FrameHandler}
 use Rattle.grain_stack.specs.declared.handlers.Handler.{Handler}
@@ -45,7 +45,7 @@ unnoted noted [] = 0
 unnoted noted (f ∷ fs) = (if noted then 0 else 1) + unnoted f.noted fs
 
 abbrev pub floors : Inside → List Floor
-floors s = reverse s.outer.items
+floors s = reverse s.outer
 
 abbrev pub newest : Inside → List FrameHandler
 newest s = reverse s.handlers.items

@@ -2,6 +2,7 @@
 //! fault.
 #![tactic(auto)]
 
+mod floors;
 mod handlers;
 mod slots;
 mod stacks;

@@ -7,20 +7,13 @@ ghost use Rattle.grain_value.specs.Operands.{top, below, under, rotated, read_wr
 ghost use Rattle.grain_stack.specs.Handlers.{first_of};
 ghost use Rattle.grain_stack.specs.Views.{StackFrame, no_frames, with_frame, without_frame, with_value, joined_frame};
 
+use crate::floors::{Floor, Floors};
 use crate::handlers::{FrameHandler, Handler};
 use crate::slots::Slots;
 use grain_fault::Fault;
 use grain_value::{Dynamic, Held, List, Name, OutOfMemory, Scope};
 use std::alloc::Global;
 use std::marker::Model;
-
-/// Where a frame's operands begin, how many it may have, and whether it has noted a fault.
-#[derive(Drop)]
-pub struct Floor {
-    pub bottom: usize,
-    pub room: usize,
-    pub noted: bool,
-}
 
 /// The operands of all frames, and the trace of a fault. Every call but `new`, `enter`, `trace`,
 /// `cut_trace` and `entered` acts on the innermost frame.
@@ -30,7 +23,7 @@ pub struct Stacks {
     bottom: usize,
     room: usize,
     noted: bool,
-    outer: Vec<Floor>,
+    outer: Floors,
     // those of the inner frames behind those of the outer ones
     handlers: Vec<FrameHandler>,
     trace: Vec<Fault>,
@@ -65,7 +58,7 @@ impl Stacks {
             bottom: 0,
             room: 0,
             noted: false,
-            outer: Vec::new(alloc),
+            outer: Floors::new(alloc),
             handlers: Vec::new(alloc),
             trace: Vec::new(alloc),
             entered: 0,
@@ -129,8 +122,7 @@ impl Stacks {
         match self.slots.bind_arguments(params, names, scope) {
             Ok(()) => {}
             Err(e) => {
-                let around = self.outer.len() - 1;
-                self.outer.truncate(around);
+                self.outer.pop();
                 return Err(e);
             }
         }
@@ -243,14 +235,10 @@ impl Stacks {
         requires bare { self.old.handlers ≡ [] }
         ensures { self.new ≡ joined_frame self.old.outer self.old }
     {
-        match self.outer.pop() {
-            Some(floor) => {
-                self.bottom = floor.bottom;
-                self.room = floor.room;
-                self.noted = floor.noted;
-            }
-            None => unreachable!(),
-        }
+        let floor = self.outer.pop();
+        self.bottom = floor.bottom;
+        self.room = floor.room;
+        self.noted = floor.noted;
     }
 
     /// How many operands the frame has.

@@ -1,6 +1,6 @@
 use Rattle.std.proofs.Common.{◌∙◌, false, length, refl, ap, arith, rules}
 use Rattle.grain_stack.proofs.Handling.{entered_view}
-use Rattle.grain_stack.specs.declared.stacks.Floor.{Floor}
+use Rattle.grain_stack.specs.declared.floors.Floor.{Floor}
 use Rattle.grain_stack.specs.declared.stacks.Stacks.TheInside.{Inside}
 use Rattle.grain_stack.proofs.Nesting.{same_sound, entered_sound}
 use Rattle.grain_stack.proofs.stacks.Stacks.enter.Goals as goal
@@ -18,7 +18,7 @@ invariant_of-self-in_err-reserve-2 c =
 pub invariant_of-self-in_err-push : goal.invariant_of-self-in_err-push
 invariant_of-self-in_err-push c =
     same_sound c.self.inside _ c.self.invariant c.reserve.ensures.operands c.reserve.ensures.slots
-    refl refl refl c.in_err-push.ensures.items c.reserve-2.ensures.items
+    refl refl refl c.in_err-push.ensures c.reserve-2.ensures.items
     c.reserve-2.ensures.capacity refl
 
 pub invariant_of-self-2 : goal.invariant_of-self-2
@@ -31,9 +31,9 @@ invariant_of-self-2 c =
       c.len-self-inside.ensures.value,
       ap length c.reserve.ensures.operands,
       c.in_ok-reserve.ensures.room,
-    )) refl c.in_ok-push.ensures.items refl refl refl
+    )) refl c.in_ok-push.ensures refl refl refl
     c.reserve-2.ensures.items
-    (omega (arith, c.in_ok-reserve-2.ensures.ok, c.len.ensures, c.reserve-2.ensures.len)) refl
+    (omega (arith, c.in_ok-reserve-2.ensures.ok, c.len.ensures.value, c.reserve-2.ensures.len)) refl
 
 pub returns : goal.returns
 returns c =
@@ -55,4 +55,4 @@ returns c =
     (entered_view c.self.inside entered floor c.args.operands c.self.invariant.handlers
     c.reserve.ensures.operands
     (c.len-self-inside.ensures.value ∙ ap length c.reserve.ensures.operands) c.from-room.ensures
-    refl c.in_ok-push.ensures.items refl refl refl refl c.reserve-2.ensures.items (search rules))
+    refl c.in_ok-push.ensures refl refl refl refl c.reserve-2.ensures.items (search rules))

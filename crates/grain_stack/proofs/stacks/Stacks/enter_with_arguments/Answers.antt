@@ -1,5 +1,5 @@
 -- The frame around it has lost the arguments, and there is room for the new one behind what is left.
-use Rattle.std.proofs.Common.{◌≡◌, ◌∙◌, ◌-◌, ◌≤◌, ℕ, false, length, drop, take, refl, ap, arith, rules, length-drop}
+use Rattle.std.proofs.Common.{◌≡◌, ◌∙◌, ◌-◌, ◌≤◌, ◌++◌, ◌∷◌, [], ℕ, List, false, length, drop, take, refl, ap, arith, rules, length-append, length-drop}
 use Rattle.std.proofs.lemmas.List.{take-append-le}
 use Rattle.std.proofs.Math.Seq.{take-length}
 use Rattle.grain_value.specs.Operands.{under}
@@ -8,7 +8,7 @@ use Rattle.grain_stack.proofs.Lists.{length_front}
 use Rattle.grain_stack.specs.Filled.{Filled}
 use Rattle.grain_stack.specs.Views.{StacksView, with_frame}
 use Rattle.grain_stack.specs.Floors.{IsSound}
-use Rattle.grain_stack.specs.declared.stacks.Floor.{Floor}
+use Rattle.grain_stack.specs.declared.floors.Floor.{Floor}
 use Rattle.grain_stack.specs.declared.stacks.Stacks.TheInside.{Inside}
 use Rattle.grain_stack.proofs.Nesting.{same_sound, changed_sound, entered_sound, less_view}
 use Rattle.grain_stack.proofs.stacks.Stacks.enter_with_arguments.Goals as goal
@@ -28,6 +28,13 @@ less_sound s v k i e more le =
       length-drop s.bottom s.slots.operands,
     )) more refl refl refl refl refl (omega arith) refl
 
+-- a list without the one that was put at its end
+without_last : (l : List Floor) (f : Floor) → take (length (l ++ f ∷ []) - 1) (l ++ f ∷ []) ≡ l
+without_last l f =
+    let long : length (l ++ f ∷ []) - 1 ≡ length l = omega (arith, length-append l (f ∷ [])) in
+    ap (λ (n : ℕ). take n (l ++ f ∷ [])) long
+    ∙ take-append-le (length l) l (f ∷ []) (omega arith) ∙ take-length l
+
 pub invariant_of-self : goal.invariant_of-self
 invariant_of-self c =
     same_sound c.self.inside _ c.self.invariant c.reserve.ensures.operands c.reserve.ensures.slots
@@ -41,20 +48,11 @@ invariant_of-self-in_err-reserve-2 c =
 pub invariant_of-self-in_err-push : goal.invariant_of-self-in_err-push
 invariant_of-self-in_err-push c =
     same_sound c.self.inside _ c.self.invariant c.reserve.ensures.operands c.reserve.ensures.slots
-    refl refl refl c.in_err-push.ensures.items c.reserve-2.ensures.items
+    refl refl refl c.in_err-push.ensures c.reserve-2.ensures.items
     c.reserve-2.ensures.capacity refl
 
 pub invariant_of-self-in-Err : goal.invariant_of-self-in-Err
 invariant_of-self-in-Err c =
-    let items = c.self.inside.outer.items in
-    let around : c.len-around.result - 1 ≡ length items =
-    omega (
-      arith,
-      c.len-around.ensures,
-      c.push.ensures.len,
-      c.in_ok-push.ensures.len,
-      c.self.inside.outer.ok.0,
-    ) in
     same_sound c.self.inside _ c.self.invariant
     (ap (λ (v : Filled). v.operands) c.in-Err.ensures.operands ∙ c.reserve.ensures.operands)
     (omega (
@@ -63,9 +61,8 @@ invariant_of-self-in-Err c =
       ap (λ (v : Filled). v.slots) c.in-Err.ensures.operands,
     ))
     refl refl refl
-    (c.truncate.ensures.items ∙ ap (take (c.len-around.result - 1)) c.in_ok-push.ensures.items
-    ∙ take-append-le (c.len-around.result - 1) items _ (omega (arith, around))
-    ∙ ap (λ (n : ℕ). take n items) around ∙ take-length items)
+    (c.pop.ensures.rest ∙ ap (λ (l : List Floor). take (length l - 1) l) c.in_ok-push.ensures
+    ∙ without_last c.self.inside.outer _)
     c.reserve-2.ensures.items c.reserve-2.ensures.capacity refl
 
 pub invariant_of-self-2 : goal.invariant_of-self-2
@@ -89,9 +86,9 @@ invariant_of-self-2 c =
       length_front (length s.slots.operands - k) s.slots.operands (omega arith),
       more,
       c.in_ok-reserve.ensures.room,
-    )) refl c.in_ok-push.ensures.items refl refl refl
+    )) refl c.in_ok-push.ensures refl refl refl
     c.reserve-2.ensures.items
-    (omega (arith, c.in_ok-reserve-2.ensures.ok, c.len-depth.ensures, c.reserve-2.ensures.len)) refl
+    (omega (arith, c.in_ok-reserve-2.ensures.ok, c.len-depth.ensures.value, c.reserve-2.ensures.len)) refl
 
 pub returns-clause-frames : goal.returns-clause-frames
 returns-clause-frames c =
@@ -115,5 +112,5 @@ returns-clause-frames c =
     rw (← c.self.view_is)
     (entered_view (record s { slots = v }) entered floor c.args.operands c.self.invariant.handlers
     refl c.len-self-inside.ensures.value c.from-room.ensures
-    refl c.in_ok-push.ensures.items refl refl refl refl c.reserve-2.ensures.items (search rules)
+    refl c.in_ok-push.ensures refl refl refl refl c.reserve-2.ensures.items (search rules)
     ∙ ap (with_frame c.args.operands) (less_view s v k ops le c.self.invariant.bottom))

@@ -14,8 +14,8 @@ pub returns-then-index-depth : goal.returns-then-index-depth
 returns-then-index-depth c =
     let items = c.self.inside.handlers.items in
     let depth = length (floors c.self.inside) in
-    let long : depth ≡ length c.self.inside.outer.items =
-    length-reverse c.self.inside.outer.items in
+    let long : depth ≡ length c.self.inside.outer =
+    length-reverse c.self.inside.outer in
     let here : c.len-depth.result ≡ depth = search rules in
     let many : c.len-all.result ≡ length items = search rules in
     let other : (c.index.result.now.depth == depth) ≡ false =
@@ -29,8 +29,8 @@ pub own-preserved : goal.own-preserved
 own-preserved c =
     let items = c.self.inside.handlers.items in
     let depth = length (floors c.self.inside) in
-    let long : depth ≡ length c.self.inside.outer.items =
-    length-reverse c.self.inside.outer.items in
+    let long : depth ≡ length c.self.inside.outer =
+    length-reverse c.self.inside.outer in
     let here : c.len-depth.result ≡ depth = search rules in
     let many : c.len-all.result ≡ length items = search rules in
     one_more_seen depth items c.own.count c.index.result.now

@@ -16,8 +16,8 @@ returns-in_default c = elim c.in_default.branch [
       (let depth = length (floors c.self.inside) in
       let items = c.self.inside.handlers.items in
       let h = w.in-Some.newest.now in
-      let long : depth ≡ length c.self.inside.outer.items =
-      length-reverse c.self.inside.outer.items in
+      let long : depth ≡ length c.self.inside.outer =
+      length-reverse c.self.inside.outer in
       let here : w.len.result ≡ depth = search rules in
       let last : slice_get items (length items - 1) ≡ Some h =
       rw (← c.deref.ensures.value)

@@ -8,10 +8,10 @@ use Rattle.grain_stack.proofs.stacks.Stacks.join_frame.Goals as goal
 
 pub invariant_of-self : goal.invariant_of-self
 invariant_of-self c =
-    let rest = reverse c.pop.new.self.items in
-    let on : floors c.self.inside ≡ c.in-Some.floor ∷ rest =
-    ap reverse c.in-Some.ensures.items ∙ reverse-append c.pop.new.self.items
-    (c.in-Some.floor ∷ []) in
+    let rest = reverse c.pop-floor.new.self in
+    let on : floors c.self.inside ≡ c.pop-floor.result ∷ rest =
+    ap reverse c.pop-floor.ensures.last ∙ reverse-append c.pop-floor.new.self
+    (c.pop-floor.result ∷ []) in
     let none : handlers_at (length (floors c.self.inside)) (newest c.self.inside) ≡ [] =
     ap (λ (v : StacksView). v.handlers) c.self.view_is ∙ c.requires.bare in
     let ordered : IsOrdered (length rest) (newest c.self.inside) =
@@ -27,15 +27,15 @@ invariant_of-self c =
 
 pub returns : goal.returns
 returns c =
-    let on : floors c.self.inside ≡ c.in-Some.floor ∷ reverse c.pop.new.self.items =
-    ap reverse c.in-Some.ensures.items ∙ reverse-append c.pop.new.self.items
-    (c.in-Some.floor ∷ []) in
+    let on : floors c.self.inside ≡ c.pop-floor.result ∷ reverse c.pop-floor.new.self =
+    ap reverse c.pop-floor.ensures.last ∙ reverse-append c.pop-floor.new.self
+    (c.pop-floor.result ∷ []) in
     let nested = rw on at c.self.invariant.nested in
     rw (
       ← c.self.view_is,
       on,
-      joined_operands c.in-Some.floor.bottom c.self.inside.bottom
+      joined_operands c.pop-floor.result.bottom c.self.inside.bottom
           c.self.inside.slots.operands nested.0,
-      take_shorter c.in-Some.floor.bottom c.self.inside.bottom c.self.inside.slots.operands
+      take_shorter c.pop-floor.result.bottom c.self.inside.bottom c.self.inside.slots.operands
           nested.0,
     ) refl
