@@ -89,10 +89,13 @@ fn check_changes(rt: &impl Abort, stacks: &mut Stacks) {
     assert!(rt; stacks.handlers() == 0);
     stacks.push_handler(handler(8)).expect(rt, "memory");
     stacks.push_handler(handler(9)).expect(rt, "memory");
-    stacks.handler_mut().operands = 5;
     assert!(rt; stacks.handlers() == 2);
     stacks.cut_handlers(1);
-    assert!(rt; stacks.pop_handler().target == 8);
+    stacks.handler_mut().operands = 5;
+    assert!(rt; stacks.handlers() == 1);
+    let own = stacks.pop_handler();
+    assert!(rt; own.target == 8);
+    assert!(rt; own.operands == 5);
     stacks.leave();
     assert!(rt; stacks.handlers() == 1);
     stacks.handler_mut().operands = 6;
@@ -124,6 +127,8 @@ fn values_stand_in_the_place_of_an_operand(rt: HostRuntime) {
     assert!(rt; stacks.height() == 4);
     assert!(rt; stacks.pop().value.as_int() == Some(3));
     assert!(rt; stacks.pop().value.as_int() == Some(8));
+    assert!(rt; stacks.pop().value.as_int() == Some(7));
+    assert!(rt; stacks.pop().value.as_int() == Some(1));
 }
 
 /// A pool with one name.
@@ -136,6 +141,11 @@ fn one_name(rt: &impl Abort, alloc: Global) -> List<Name>
     names
 }
 
+fn check_entry(rt: &impl Abort, scope: &Scope, index: usize, integer: i64) {
+    let held = scope.get(index).expect(rt, "an entry");
+    assert!(rt; held.value.as_int() == Some(integer));
+}
+
 #[test]
 fn a_frame_is_entered_with_arguments(rt: HostRuntime) {
     let names = one_name(&rt, rt.alloc());
@@ -145,6 +155,8 @@ fn a_frame_is_entered_with_arguments(rt: HostRuntime) {
     let entered = stacks.enter_with_arguments(1, &[0, 0], &names, &mut scope);
     entered.expect(&rt, "memory");
     assert!(rt; scope.len() == 2);
+    check_entry(&rt, &scope, 0, 2);
+    check_entry(&rt, &scope, 1, 3);
     assert!(rt; stacks.height() == 0);
     stacks.leave();
     assert!(rt; stacks.pop().value.as_int() == Some(1));

@@ -59,21 +59,25 @@ wrapper_text (InModule m x p) =
 wrapper_text (SystemError s e) = []
 wrapper_text NoMemory = []
 
--- what happened, of a fault that wraps no other
+-- a failure of the host's own: the reason, after what it is about, if anything
+abbrev pub system_text : List ℕ → List ℕ → List ℕ
+system_text about reason = if length about == 0 then reason else about ++ (codes ": " ++ reason)
+
+-- what happened, of a fault that wraps no other; nothing of one that does
 abbrev pub own_message : Problem → List ℕ
 own_message (Plain k p) = (row k).text
 own_message (InFunctionCall f s x p) = []
 own_message (InModule m x p) = []
-own_message (SystemError s e) = if length s == 0 then e else s ++ (codes ": " ++ e)
+own_message (SystemError s e) = system_text s e
 own_message NoMemory = codes "Out of memory"
 
 -- what happened, without where
 abbrev pub message : Problem → List ℕ
-message (Plain k p) = (row k).text
+message (Plain k p) = own_message (Plain k p)
 message (InFunctionCall f s x p) = message x ++ wrapper_text (InFunctionCall f s x p)
 message (InModule m x p) = message x ++ wrapper_text (InModule m x p)
-message (SystemError s e) = if length s == 0 then e else s ++ (codes ": " ++ e)
-message NoMemory = codes "Out of memory"
+message (SystemError s e) = own_message (SystemError s e)
+message NoMemory = own_message NoMemory
 
 -- what happened, and then where
 abbrev pub fault_text : Problem → List ℕ

@@ -3,6 +3,7 @@
 ghost use Rattle.std.specs.Prelude.{◌++◌, [], Some, length, codes, ◌==◌, if◌then◌else◌};
 ghost use Rattle.std.specs.Fmt.{WritesOnOk, decimal};
 ghost use Rattle.grain_fault.specs.Table.{mismatch_text, size_text, out_of_bounds_text, after_unless_empty, or_else, spaced, kind_text, non_pure_text, thrown_value_text};
+ghost use Rattle.grain_fault.specs.Texts.{system_text};
 ghost use Rattle.grain_value.specs.Writing.{plain};
 
 use crate::faults::MalformedKind;
@@ -44,7 +45,7 @@ pub(crate) fn write_system_error<W: fmt::Write>(
     f: &mut fmt::Formatter<W>,
 ) -> fmt::Result
     ensures { WritesOnOk W.write_str_gives f.old result
-        (if length about.now == 0 then reason.now else about.now ++ (codes ": " ++ reason.now)) f.new }
+        (system_text about.now reason.now) f.new }
 {
     if about.is_empty() {
         f.write_str(reason.as_str())
@@ -78,7 +79,7 @@ pub(crate) fn write_mismatch<W: fmt::Write>(
     write_types(requested, actual, f)
 }
 
-/// Writes the types of a mismatch.
+// Writes the types of a mismatch.
 fn write_types<W: fmt::Write>(
     requested: &Text,
     actual: &Text,
@@ -225,7 +226,7 @@ pub(crate) fn write_runtime_error<W: fmt::Write>(
     write_thrown_value(value, f)
 }
 
-/// Writes a value that was thrown, after a colon. Unit and the empty text write nothing.
+// Writes a value that was thrown, after a colon. Unit and the empty text write nothing.
 fn write_thrown_value<W: fmt::Write>(value: &Dynamic, f: &mut fmt::Formatter<W>) -> fmt::Result
     ensures { WritesOnOk W.write_str_gives f.old result
         (thrown_value_text value.now) f.new }

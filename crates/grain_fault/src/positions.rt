@@ -59,13 +59,6 @@ impl EvalAltResult {
         ensures position { position_of_problem (problem_of self.new)
             ≡ (if never_has_position (problem_of self.old) then nowhere else new_position) }
     {
-        self.put_position(new_position);
-    }
-
-    // The same, as far as the whole fault says it.
-    fn put_position(&mut self, new_position: Position)
-        ensures { problem_of self.new ≡ at_position new_position (problem_of self.old) }
-    {
         match self {
             EvalAltResult::ErrorParsing(_, position) => *position = new_position,
             EvalAltResult::ErrorVariableExists(_, position) => *position = new_position,

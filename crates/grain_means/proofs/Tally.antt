@@ -47,7 +47,7 @@ use Rattle.grain_means.proofs.Missing.{row_of_missing}
 use Rattle.grain_means.specs.Rules.{throws_unit, offered, offered_to, thrown_anew, outer_handlers, push_handler, Receiver, lent, given, given_back, content_now, operator_assigned, op_assign_failed, native_assigned, trees_in, first_is_read_only, on_verdict, progressed, answered, host_called, native_found, native, pushed, written, without, bound, function_found, frame_at, held_at, stepped, is_full, is_stop, or_return, operated, op_assigned, agrees, leave_by_fault, marked, raised, charged, onward, jumped, at_entry, declare, push_outcome, assignment_to_constant, write_entry, store_outcome, branched, tested, skip, unwind, propagate, resume_caller, enter_function, function_entered, call_function, instr, start_instruction, next, position, flattened, flat_or_race, flat_all, all_or_race, data_race, race_text, operand_under, spread, name_at, cells_given_back, cell_written, operand_for, shared, curried, pointer_called, not_a_pointer, jump_if, is_read_only, function_by_name}
 use Rattle.grain_means.specs.Comes.{ProgramPoint, Comes, here, Meets, try_of, tries}
 use Rattle.grain_means.specs.Leavings.{Keeps, AtCheckpoint, Cut, Cuts}
-use Rattle.grain_means.specs.Causes.{Question, native_asked, reply_to, asks_first, EndsWith, HasNoBuiltIn, AssignsByHost, AsksAgain, AsksSecond, AsksNative, AsksLast, FindsNative, HostAnswers, IsCalled, HaveCaughtUnit, HasPosition, Why, Calls, Charges, IsCharged, Overfills, UsesEntry, Unwinds, Tests, Holds, AssignsConstant, Operates, CallsOn, Enters, LeftCall, Raised, Row, Cause, Caused, ReadsLent, AnswersLent, IsLent, AssignsLent, Points, AsksPointer, truth_on_top, truth_read, Misses}
+use Rattle.grain_means.specs.Causes.{Question, native_asked, reply_to, asks_first, EndsWith, HasNoBuiltIn, AssignsByHost, AsksAgain, AsksSecond, AsksNative, AsksLast, FindsNative, HostAnswers, IsCalled, HaveCaughtUnit, HasPosition, Why, Calls, Charges, IsCharged, ReadsTop, Overfills, UsesEntry, Unwinds, Tests, Holds, AssignsConstant, Operates, CallsOn, Enters, LeftCall, Raised, Row, Cause, Caused, ReadsLent, AnswersLent, IsLent, AssignsLent, Points, AsksPointer, truth_on_top, truth_read, Misses}
 use Rattle.grain_means.specs.lemmas.Branches.{of_two}
 use Rattle.grain_means.proofs.Kept.{keeps_nothing, keeps_cut, keeps_push, keeps_set, keeps_given}
 use Rattle.grain_means.proofs.Lengths.{past_scope, cut_short, length_under, length_pushed, length_rotated, spread_length, spread_under}
@@ -492,15 +492,15 @@ module _ {S : Type 0} (m : Setup S) where
       even_declared : (read_only : Bool) (name : List ℕ) →
           (IsLent now (top f.operands) → ReadsLent m.program [] o f now) →
           Sits m root k (stepped f behind_it (below f.operands)) →
-          (m.engine.limits.variables ≤ length now.scope → Overfills m o f now) →
+          (ReadsTop f now → m.engine.limits.variables ≤ length now.scope → Overfills m o f now) →
           Even (now.ran + 1) (declare m read_only name behind_it f start)
       even_declared read_only name lent u fills =
-          even_flat (top f.operands) [] lent _ (λ v _.
+          even_flat (top f.operands) [] lent _ (λ v read.
           let entry : Entry = new_entry name (record { value = v; read_only = read_only }) in
           by_test (Even (now.ran + 1)) (is_full m.engine.limits.variables now.scope) _ _
           (λ full. even_raised (now.ran + 1) (Plain TooManyVariables (position m f)) start steady
           (why (Plain TooManyVariables (position m f)) refl
-          (fills (leb-true m.engine.limits.variables (length now.scope) full))))
+          (fills (v, read) (leb-true m.engine.limits.variables (length now.scope) full))))
           (λ _. even_written (stepped f behind_it (below f.operands)) (λ scope. scope ++ entry ∷ [])
           (keeps_push k.base k.names now.scope entry keeps) refl u))
           (flat now.cells (top f.operands).value) refl
@@ -840,7 +840,7 @@ module _ {S : Type 0} (m : Setup S) where
           (why (Plain (problem.DataTooLarge t) (position m f)) refl (name, args, says))
 
       even_assigned : (n slot : ℕ) → Sits m root k (stepped f behind_it (below f.operands)) →
-          ((h : Held) → Holds now (f.base + slot) true h →
+          (ReadsTop f now → (h : Held) → Holds now (f.base + slot) true h →
           AssignsConstant m.program (name_of m.program n) o f now) →
           (AssignsLent (f.base + slot) f now →
           ReadsLent m.program (name_of m.program n) o f now) →
@@ -850,17 +850,17 @@ module _ {S : Type 0} (m : Setup S) where
           if is_read_only start h then assignment_to_constant m n f start
           else write_entry m h slot (record h { value = v }) (name_of m.program n) behind_it f start))
       even_assigned n slot u constant lent h e =
-          even_flat (top f.operands) (name_of m.program n) (λ none. lent (inl none)) _ (λ v _.
+          even_flat (top f.operands) (name_of m.program n) (λ none. lent (inl none)) _ (λ v read.
           by_test (Even (now.ran + 1)) (is_read_only start h) (assignment_to_constant m n f start)
           (write_entry m h slot (record h { value = v }) (name_of m.program n) behind_it f start)
-          (λ yes. even_constant n (constant h (e, yes)))
+          (λ yes. even_constant n (constant (v, read) h (e, yes)))
           (λ _. even_entry h (name_of m.program n) slot (record h { value = v }) u
           (λ none. lent (inr (h, e, none)))))
           (flat now.cells (top f.operands).value) refl
 
       even_assigned_op : (n : ℕ) (a : AssignOp) (slot : ℕ) →
           Sits m root k (stepped f behind_it (below f.operands)) →
-          ((h : Held) → Holds now (f.base + slot) true h →
+          (ReadsTop f now → (h : Held) → Holds now (f.base + slot) true h →
           AssignsConstant m.program (name_of m.program n) o f now) →
           (AssignsLent (f.base + slot) f now →
           ReadsLent m.program (name_of m.program n) o f now) →
@@ -886,7 +886,7 @@ module _ {S : Type 0} (m : Setup S) where
           (flattened m h (name_of m.program n) f start (λ u.
           store_outcome m (op_assigned m.engine a u v) a h u (record (top f.operands) { value = v })
           slot n behind_it f start))
-          (λ yes. even_constant n (constant h (e, yes)))
+          (λ yes. even_constant n (constant (v, read) h (e, yes)))
           (λ no. even_flat h (name_of m.program n) (λ none. lent (inr (h, e, none))) _ (λ u content.
           even_stored a (name_of m.program a.op_name)
           (record h { value = u } ∷ record (top f.operands) { value = v } ∷ []) h u
@@ -1240,21 +1240,23 @@ module _ {S : Type 0} (m : Setup S) where
         (λ lent. (refl, lent)) e (cell_of h.value) refl)
     even_instr (op.DeclareLocal n) width at = even_declared (op.DeclareLocal n) width at false
         (name_of m.program n) (λ lent. (refl, lent))
-        (sits_at (op.DeclareLocal n) width at refl _ _ (inl refl) (λ _. one_less)) (λ full. full)
+        (sits_at (op.DeclareLocal n) width at refl _ _ (inl refl) (λ _. one_less))
+        (λ reads full. (reads, full))
     even_instr (op.DeclareConst n) width at = even_declared (op.DeclareConst n) width at true
         (name_of m.program n) (λ lent. (refl, lent))
-        (sits_at (op.DeclareConst n) width at refl _ _ (inl refl) (λ _. one_less)) (λ full. full)
+        (sits_at (op.DeclareConst n) width at refl _ _ (inl refl) (λ _. one_less))
+        (λ reads full. (reads, full))
     even_instr (op.AssignLocal slot n) width at =
         even_at (op.AssignLocal slot n) width at slot refl _ (held_at now.scope (f.base + slot))
         refl (even_assigned (op.AssignLocal slot n) width at n slot
         (sits_at (op.AssignLocal slot n) width at refl _ _ (inl refl) (λ _. one_less))
-        (λ h held. (refl, (h, held))) (λ lent. (refl, lent)))
+        (λ reads h held. (refl, (reads, (h, held)))) (λ lent. (refl, lent)))
     even_instr (op.AssignLocalOp slot n a) width at =
         even_at (op.AssignLocalOp slot n a) width at slot refl _ (held_at now.scope (f.base + slot))
         refl
         (even_assigned_op (op.AssignLocalOp slot n a) width at n (assign_op_of m.program a) slot
         (sits_at (op.AssignLocalOp slot n a) width at refl _ _ (inl refl) (λ _. one_less))
-        (λ h held. (refl, (h, held))) (λ lent. (refl, lent))
+        (λ reads h held. (refl, (reads, (h, held)))) (λ lent. (refl, lent))
         (λ question asks native found called answer answers lent. record {
           slot = slot;
           index = n;
@@ -1342,7 +1344,8 @@ module _ {S : Type 0} (m : Setup S) where
         (λ v. sits_at (op.Call n count) width at refl _ _ (inl refl)
         (λ _. omega
         (arith, length_pushed (under count f.operands) v, length_under count f.operands)))
-        (λ lent. (refl, lent)) (λ is. is) (λ g args on charged low many. (g, args, on, charged, low, many))
+        (λ lent. (refl, lent)) (λ is. is)
+        (λ g args on charged low many. (g, args, on, charged, low, many))
         (function_found m.program n count) (λ none args read. (refl, read, none))
         (λ g e. (e, refl)) (λ g e valid. fits_found m.program valid (function_of m.program n count) g 0 e)
     even_instr (op.CallOp n count o) width at =
@@ -1387,7 +1390,8 @@ module _ {S : Type 0} (m : Setup S) where
           spread_under p n f.operands,
           enough,
         )))
-        (λ lent. (refl, inr (p, points, lent))) (λ is. is) (λ g args on charged low many. (g, args, on, charged, low, many))
+        (λ lent. (refl, inr (p, points, lent))) (λ is. is)
+        (λ g args on charged low many. (g, args, on, charged, low, many))
         (function_by_name m.program p.name count)
         (λ none args read. (p, points, refl, read, none))
         (λ g e. (p, points, e, refl))

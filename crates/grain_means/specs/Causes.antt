@@ -85,10 +85,17 @@ HasTooMany m o f w = (g : Function) × (args : List Held) × CallsOn m.program g
     × IsCharged m w × (w.level < m.engine.limits.levels)
     × (m.engine.limits.variables < length g.params)
 
--- a declaration finds the scope full, or a function that is called has too many parameters
+-- the last operand can be read: it is no cell whose content is lent
+abbrev pub ReadsTop : {S : Type 0} → Frame → World S → Type 0
+ReadsTop f w = (v : Dynamic) × (flat w.cells (top f.operands).value ≡ Some v)
+
+-- a declaration of an operand that can be read finds the scope full, or a function that is called has
+-- too many parameters
 abbrev pub Overfills : {S : Type 0} → Setup S → Op → Frame → World S → Type 0
-Overfills m (op.DeclareLocal n) f w = m.engine.limits.variables ≤ length w.scope
-Overfills m (op.DeclareConst n) f w = m.engine.limits.variables ≤ length w.scope
+Overfills m (op.DeclareLocal n) f w =
+    ReadsTop f w × (m.engine.limits.variables ≤ length w.scope)
+Overfills m (op.DeclareConst n) f w =
+    ReadsTop f w × (m.engine.limits.variables ≤ length w.scope)
 Overfills m (op.Call n k) f w = HasTooMany m (op.Call n k) f w
 Overfills m (op.CallFnPtr n) f w = HasTooMany m (op.CallFnPtr n) f w
 Overfills m o f w = ⊥
@@ -131,12 +138,12 @@ Throws o = ⊥
 abbrev pub Holds : {S : Type 0} → World S → ℕ → Bool → Held → Type 0
 Holds w i read_only h = (held_at w.scope i ≡ Some h) × (is_read_only w h ≡ read_only)
 
--- it assigns to an entry that can only be read, and tells this name
+-- it assigns an operand that can be read to an entry that can only be read, and tells this name
 abbrev pub AssignsConstant : {S : Type 0} → View → List ℕ → Op → Frame → World S → Type 0
 AssignsConstant program s (op.AssignLocal slot n) f w =
-    (s ≡ name_of program n) × ((h : Held) × Holds w (f.base + slot) true h)
+    (s ≡ name_of program n) × ReadsTop f w × ((h : Held) × Holds w (f.base + slot) true h)
 AssignsConstant program s (op.AssignLocalOp slot n a) f w =
-    (s ≡ name_of program n) × ((h : Held) × Holds w (f.base + slot) true h)
+    (s ≡ name_of program n) × ReadsTop f w × ((h : Held) × Holds w (f.base + slot) true h)
 AssignsConstant program s o f w = ⊥
 
 -- a call looks for a function of this name with these arguments, and there is none

@@ -38,7 +38,8 @@ pub record CellNames (clean : Bool) (n : ℕ) (c : Cell) : Type 0 where
   pub flat : cell_of c.held.value ≡ None
   pub names : HeldNames clean n c.held
 
--- a scope and a store of n cells, and a host that reaches no further
+-- a scope and a store of n cells, whose values are clean if the flag says so, and a host that reaches
+-- no further
 pub record WithinStore {S : Type 0} (law : Law S) (clean : Bool) (n : ℕ) (scope : List Entry)
     (cells : List Cell) (host : S) : Type 0 where
   pub size : length cells ≡ n

@@ -14,8 +14,8 @@ pub struct Floor {
     pub noted: bool,
 }
 
-/// The floors of the frames that wait, the newest last. Behind them lie those of frames that were
-/// entered since, whose places the next ones take.
+/// The floors of the frames that wait, the newest last. After them lie floors that were taken off,
+/// whose places the next ones take.
 #[derive(Drop)]
 pub struct Floors {
     floors: Vec<Floor>,
@@ -50,6 +50,7 @@ impl Floors {
         ensures value { result ≡ length self.now }
         ensures bounded { result < 18446744073709551615 }
     {
+        // a vector is never that long, so its length bounds the height
         let _places = self.floors.len();
         self.height
     }

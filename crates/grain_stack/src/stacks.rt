@@ -15,8 +15,8 @@ use grain_value::{Dynamic, Held, List, Name, OutOfMemory, Scope};
 use std::alloc::Global;
 use std::marker::Model;
 
-/// The operands of all frames, and the trace of a fault. Every call but `new`, `enter`, `trace`,
-/// `cut_trace` and `entered` acts on the innermost frame.
+/// The operands of all frames, and the trace of a fault. Every call but `new`, `enter`,
+/// `enter_with_arguments`, `trace`, `cut_trace` and `entered` acts on the innermost frame.
 #[derive(Drop)]
 pub struct Stacks {
     slots: Slots,
@@ -452,7 +452,7 @@ impl Stacks {
         }
     }
 
-    /// How many handlers the frame has. It looks at no others.
+    /// How many handlers the frame has. It looks at one of another frame at most.
     pub fn handlers(&self) -> usize
         ensures { result ≡ length self.now.handlers }
     {

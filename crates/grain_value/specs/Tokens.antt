@@ -3,9 +3,9 @@ use Rattle.std.specs.Prelude.{ℕ, List, Option, Some, None, codes, bytes_eq, if
 use Rattle.grain_value.specs.declared.tokens.Token.{Token}
 use Rattle.grain_value.specs.declared.tokens.Token.TheVariants as token
 
--- operators that assign, and the two names
-abbrev pub assigning_token_in : List ℕ → Option Token
-assigning_token_in t =
+-- the token that is written so, from the operators that assign on: these, and the two names
+abbrev pub token_from_assignments : List ℕ → Option Token
+token_from_assignments t =
     if bytes_eq t (codes "+=") then Some token.PlusAssign
     else (if bytes_eq t (codes "-=") then Some token.MinusAssign
     else (if bytes_eq t (codes "*=") then Some token.MultiplyAssign
@@ -21,9 +21,10 @@ assigning_token_in t =
     else (if bytes_eq t (codes "other") then Some token.Other
     else None))))))))))))
 
--- these, and operators that compare, that make ranges and that negate a truth value
-abbrev pub comparing_token_in : List ℕ → Option Token
-comparing_token_in t =
+-- the same from the operators that compare on: those that compare, that make ranges and that negate a
+-- truth value, and then the former
+abbrev pub token_from_comparisons : List ℕ → Option Token
+token_from_comparisons t =
     if bytes_eq t (codes "==") then Some token.EqualsTo
     else (if bytes_eq t (codes "!=") then Some token.NotEqualsTo
     else (if bytes_eq t (codes "<") then Some token.LessThan
@@ -33,9 +34,9 @@ comparing_token_in t =
     else (if bytes_eq t (codes "..") then Some token.ExclusiveRange
     else (if bytes_eq t (codes "..=") then Some token.InclusiveRange
     else (if bytes_eq t (codes "!") then Some token.Bang
-    else assigning_token_in t))))))))
+    else token_from_assignments t))))))))
 
--- all: these, and operators of arithmetic and of bits
+-- the same of all: operators of arithmetic and of bits, and then the former
 abbrev pub token_in : List ℕ → Option Token
 token_in t =
     if bytes_eq t (codes "+") then Some token.Plus
@@ -49,4 +50,4 @@ token_in t =
     else (if bytes_eq t (codes "&") then Some token.Ampersand
     else (if bytes_eq t (codes "|") then Some token.Pipe
     else (if bytes_eq t (codes "^") then Some token.XOr
-    else comparing_token_in t))))))))))
+    else token_from_comparisons t))))))))))

@@ -1,7 +1,7 @@
 //! Operator tokens.
 
 ghost use Rattle.std.specs.Prelude.{◌≡◌};
-ghost use Rattle.grain_value.specs.Tokens.{token_in, comparing_token_in, assigning_token_in};
+ghost use Rattle.grain_value.specs.Tokens.{token_in, token_from_comparisons, token_from_assignments};
 
 /// An operator, by which an instruction finds its built-in.
 #[derive(Clone, Copy, Debug, PartialEq, Eq)]
@@ -91,13 +91,13 @@ impl Token {
             "&" => Some(Token::Ampersand),
             "|" => Some(Token::Pipe),
             "^" => Some(Token::XOr),
-            _ => Token::comparing_from_syntax(syntax),
+            _ => Token::lookup_from_comparisons(syntax),
         }
     }
 
-    // The same but for operators of arithmetic and of bits.
-    fn comparing_from_syntax(syntax: &str) -> Option<Token>
-        ensures { result ≡ comparing_token_in syntax.now }
+    // The same from the operators that compare on: those of arithmetic and of bits are left out.
+    fn lookup_from_comparisons(syntax: &str) -> Option<Token>
+        ensures { result ≡ token_from_comparisons syntax.now }
     {
         match syntax {
             "==" => Some(Token::EqualsTo),
@@ -109,13 +109,13 @@ impl Token {
             ".." => Some(Token::ExclusiveRange),
             "..=" => Some(Token::InclusiveRange),
             "!" => Some(Token::Bang),
-            _ => Token::assigning_from_syntax(syntax),
+            _ => Token::lookup_from_assignments(syntax),
         }
     }
 
-    // The same of operators that assign, of `neg` and of `other` alone.
-    fn assigning_from_syntax(syntax: &str) -> Option<Token>
-        ensures { result ≡ assigning_token_in syntax.now }
+    // The same from the operators that assign on: these, `neg` and `other`.
+    fn lookup_from_assignments(syntax: &str) -> Option<Token>
+        ensures { result ≡ token_from_assignments syntax.now }
     {
         match syntax {
             "+=" => Some(Token::PlusAssign),

@@ -109,7 +109,8 @@ impl<'e> Vm<'e> {
     /// After want of memory the run is the one that is stopped at a mark. The scope's entries keep
     /// their names and order, whatever the end is. Where nothing that is given names a cell outside
     /// of the store, nothing that is left does, and no cell stays lent. Where the scope, the cells and
-    /// the constants are clean, all that is left is, whatever the host is.
+    /// the constants are clean, which means that no cell stands directly inside an array or a map, so
+    /// is all that is left, whatever the host is.
     pub fn eval_with_callbacks<H: Host, L: Ledger>(
         &mut self,
         alloc: Global,
