@@ -1250,13 +1250,13 @@ module _ {S : Type 0} (m : Setup S) where
         even_at (op.AssignLocal slot n) width at slot refl _ (held_at now.scope (f.base + slot))
         refl (even_assigned (op.AssignLocal slot n) width at n slot
         (sits_at (op.AssignLocal slot n) width at refl _ _ (inl refl) (λ _. one_less))
-        (λ reads h held. (refl, (reads, (h, held)))) (λ lent. (refl, lent)))
+        (λ reads h held. (refl, reads, (h, held))) (λ lent. (refl, lent)))
     even_instr (op.AssignLocalOp slot n a) width at =
         even_at (op.AssignLocalOp slot n a) width at slot refl _ (held_at now.scope (f.base + slot))
         refl
         (even_assigned_op (op.AssignLocalOp slot n a) width at n (assign_op_of m.program a) slot
         (sits_at (op.AssignLocalOp slot n a) width at refl _ _ (inl refl) (λ _. one_less))
-        (λ reads h held. (refl, (reads, (h, held)))) (λ lent. (refl, lent))
+        (λ reads h held. (refl, reads, (h, held))) (λ lent. (refl, lent))
         (λ question asks native found called answer answers lent. record {
           slot = slot;
           index = n;
