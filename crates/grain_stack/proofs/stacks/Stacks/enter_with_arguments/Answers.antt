@@ -14,10 +14,10 @@ use Rattle.grain_stack.proofs.Nesting.{same_sound, changed_sound, entered_sound,
 use Rattle.grain_stack.proofs.stacks.Stacks.enter_with_arguments.Goals as goal
 
 -- the frame without its last operands
-less_sound : (s : Inside) (v : Filled) (k : ℕ) → IsSound s →
+fewer_sound : (s : Inside) (v : Filled) (k : ℕ) → IsSound s →
     v.operands ≡ under k s.slots.operands → s.slots.slots ≤ v.slots →
     k ≤ length (drop s.bottom s.slots.operands) → IsSound (record s { slots = v })
-less_sound s v k i e more le =
+fewer_sound s v k i e more le =
     changed_sound s _ i
     (omega (
       arith,
@@ -76,7 +76,7 @@ invariant_of-self-2 c =
     let more = ap (λ (v : Filled). v.slots) c.in-Ok.ensures.operands in
     let le : k ≤ length (drop s.bottom s.slots.operands) = omega (arith, own, c.requires.there) in
     let sound : IsSound (record s { slots = v }) =
-    less_sound s v k c.self.invariant ops (omega (arith, more, c.reserve.ensures.slots)) le in
+    fewer_sound s v k c.self.invariant ops (omega (arith, more, c.reserve.ensures.slots)) le in
     entered_sound (record s { slots = v }) _ _ sound refl (omega arith)
     c.len-self-inside.ensures.value
     (omega (
