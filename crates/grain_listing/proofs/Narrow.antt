@@ -4,8 +4,8 @@ use Rattle.std.specs.Str.{encode_utf8_all}
 use Rattle.grain_words.specs.Words.{is_over, next_word}
 use Rattle.std.specs.Int.{w16, w32, to_le_bytes}
 use Rattle.grain_fault.specs.declared.places.Position.{Position}
-use Rattle.grain_program.specs.declared.code.instructions.Op.{Op}
-use Rattle.grain_program.specs.declared.code.instructions.Op.TheVariants as op
+use Rattle.grain_program.specs.declared.code.instruction_set.Op.{Op}
+use Rattle.grain_program.specs.declared.code.instruction_set.Op.TheVariants as op
 use Rattle.grain_program.specs.InstructionSet.{tag_of, fields_of}
 use Rattle.grain_words.specs.Numerals.{number, begins_letter}
 use Rattle.grain_literals.specs.Steps.{and_then, present}

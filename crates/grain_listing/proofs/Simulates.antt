@@ -17,7 +17,7 @@ use Rattle.grain_host.specs.Tables.{failing_at, stopping_at}
 use Rattle.grain_listing.specs.Flags.{flag_of}
 use Rattle.grain_listing.specs.HostLines.{fail_of, stop_of}
 use Rattle.grain_listing.specs.Headers.{stack_of, assign_of, header_of, is_crowded}
-use Rattle.grain_program.specs.declared.code.instructions.Op.{Op}
+use Rattle.grain_program.specs.declared.code.instruction_set.Op.{Op}
 use Rattle.grain_program.specs.InstructionSet.{tag_of, fields_of}
 use Rattle.grain_listing.specs.Instructions.{kinds_of}
 use Rattle.grain_listing.specs.Table.{line_of, stands, is_block}

@@ -3,7 +3,7 @@
 use Rattle.std.specs.Prelude.{ℕ, List, map}
 use Rattle.std.specs.Fmt.{decimal}
 use Rattle.grain_words.specs.Spelled.{spaced, text_of}
-use Rattle.grain_program.specs.declared.code.instructions.Op.{Op}
+use Rattle.grain_program.specs.declared.code.instruction_set.Op.{Op}
 use Rattle.grain_program.specs.declared.code.fields.Field.{Field}
 use Rattle.grain_program.specs.Fields.{number_of}
 use Rattle.grain_program.specs.InstructionSet.{word_of, fields_of}

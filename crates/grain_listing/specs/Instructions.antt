@@ -1,10 +1,10 @@
 -- The instructions' words, and how their lines are read.
-use Rattle.std.specs.Prelude.{ℕ, List, [], ◌∷◌, map, Option, Some, None, bytes_eq, if◌then◌else◌}
-use Rattle.grain_program.specs.declared.code.instructions.Op.{Op}
+use Rattle.std.specs.Prelude.{ℕ, List, [], ◌∷◌, Option, Some, None, bytes_eq, if◌then◌else◌}
+use Rattle.grain_program.specs.declared.code.instruction_set.Op.{Op}
 use Rattle.grain_program.specs.declared.code.fields.Field.{Field}
 use Rattle.grain_program.specs.Fields.{Size, one, two, four, size_of}
 pub use Rattle.grain_program.specs.InstructionSet.{word_of}
-use Rattle.grain_program.specs.InstructionSet.{instructions, tag_of, fields_of}
+use Rattle.grain_program.specs.InstructionSet.{all_instructions, tag_of, fields_of}
 use Rattle.grain_listing.specs.declared.table.OperandKind.{OperandKind}
 use Rattle.grain_listing.specs.declared.table.OperandKind.TheVariants as kinds
 
@@ -23,15 +23,11 @@ kinds_of (f ∷ fs) = kind_of (size_of f) ∷ kinds_of fs
 abbrev pub encoding_of : Op → ℕ × List OperandKind
 encoding_of o = (tag_of o, kinds_of (fields_of o))
 
--- what the table has for the word
-abbrev pub op_among : List (List ℕ × Op) → List ℕ → Option Op
+-- the first of these instructions that has the word
+abbrev pub op_among : List Op → List ℕ → Option Op
 op_among [] w = None
-op_among (x ∷ xs) w = if bytes_eq w x.0 then Some x.1 else op_among xs w
+op_among (o ∷ os) w = if bytes_eq w (word_of o) then Some o else op_among os w
 
--- the instructions with their words; the numbers of their operands say nothing
-abbrev pub words_of : List (List ℕ → Op) → List (List ℕ × Op)
-words_of os = map (λ make. (word_of (make []), make [])) os
-
--- the instruction with the word
+-- the instruction with the word; the numbers of its operands say nothing
 unfoldable pub op_named : List ℕ → Option Op
-op_named w = op_among (words_of instructions) w
+op_named w = op_among all_instructions w

@@ -1,4 +1,3 @@
-pub mod Tables
 pub mod Limits
 pub mod Flags
 pub mod Results

@@ -9,7 +9,7 @@ ghost use Rattle.grain_value.specs.View.{tree};
 ghost use Rattle.grain_value.specs.Writing.{quoted};
 ghost use Rattle.grain_value.specs.declared.values.Dynamic.{Dynamic};
 ghost use Rattle.grain_words.specs.Lines.{lines_of};
-ghost use Rattle.grain_program.specs.declared.code.instructions.Op.{Op};
+ghost use Rattle.grain_program.specs.declared.code.instruction_set.Op.{Op};
 ghost use Rattle.grain_program.specs.Spelling.{OpFits, spelling};
 ghost use Rattle.grain_literals.specs.Steps.{and_then};
 ghost use Rattle.grain_literals.specs.Listed.{IsListed};

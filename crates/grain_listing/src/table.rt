@@ -1,9 +1,8 @@
 //! The words that begin a line, and what may stand where.
 
-ghost use Rattle.std.specs.Prelude.{◌≡◌, map, option_map, Some};
-ghost use Rattle.grain_program.specs.declared.code.instructions.Op.{Op};
-ghost use Rattle.grain_listing.specs.Instructions.{word_of, encoding_of, op_among, op_named};
-ghost use Rattle.grain_listing.specs.views.Tables.{value_op, flow_op};
+ghost use Rattle.std.specs.Prelude.{◌≡◌, option_map, Some};
+ghost use Rattle.grain_program.specs.declared.code.instruction_set.Op.{Op};
+ghost use Rattle.grain_listing.specs.Instructions.{word_of, encoding_of, op_named};
 ghost use Rattle.grain_listing.specs.Table.{own_line, line_of, is_pools, is_block, is_after, stands};
 
 use crate::later::is_later;
@@ -59,83 +58,19 @@ pub enum Line {
     Later,
 }
 
-/// The instructions of values and variables, by their words.
-const VALUES: [(&str, Op); 17] = [
-    ("load_const", Op::LoadConst(0)),
-    ("unit", Op::Unit),
-    ("false", Op::False),
-    ("true", Op::True),
-    ("load_local", Op::LoadLocal(0)),
-    ("store_local", Op::StoreLocal(0)),
-    ("store_const", Op::StoreConst(0)),
-    ("store_shared", Op::StoreShared(0)),
-    ("declare_local", Op::DeclareLocal(0)),
-    ("declare_const", Op::DeclareConst(0)),
-    ("assign_local", Op::AssignLocal(0, 0)),
-    ("assign_local_op", Op::AssignLocalOp(0, 0, 0)),
-    ("load_shared", Op::LoadShared(0)),
-    ("share", Op::Share(0)),
-    ("is_shared", Op::IsShared),
-    ("pop", Op::Pop),
-    ("rotate", Op::Rotate(0)),
-];
-
-/// The instructions that go elsewhere, call, count, cut or catch, by their words.
-const FLOW: [(&str, Op); 18] = [
-    ("jump", Op::Jump(0)),
-    ("jump_if_false", Op::JumpIfFalse(0)),
-    ("jump_if_true", Op::JumpIfTrue(0)),
-    ("skip_if_not_unit", Op::SkipIfNotUnit(0)),
-    ("call", Op::Call(0, 0)),
-    ("call_op", Op::CallOp(0, 0, 0)),
-    ("make_closure", Op::MakeClosure(0)),
-    ("curry", Op::Curry(0)),
-    ("call_fn_ptr", Op::CallFnPtr(0)),
-    ("unwind_to", Op::UnwindTo(0)),
-    ("tick", Op::Tick),
-    ("checkpoint", Op::Checkpoint),
-    ("statement", Op::Statement(0)),
-    ("push_handler", Op::PushHandler(0)),
-    ("push_handler_var", Op::PushHandlerVar(0, 0)),
-    ("pop_handler", Op::PopHandler),
-    ("throw", Op::Throw),
-    ("return", Op::Return),
-];
-
-fn find(ops: &[(&str, Op)], word: &[char]) -> Option<Op>
-    ensures { result ≡ op_among (map (λ e. (e.0.now, e.1)) ops.now) word.now }
-{
-    for (first, op) in ops {
-        if is_word(word, *first) {
-            return Some(*op);
-        }
-    }
-    None
-}
-
-#[tactic(auto, unfolding(crate::specs::views::Tables::value_op))]
-fn value_op(word: &[char]) -> Option<Op>
-    ensures { result ≡ value_op word.now }
-{
-    find(&VALUES, word)
-}
-
-#[tactic(auto, unfolding(crate::specs::views::Tables::flow_op))]
-fn flow_op(word: &[char]) -> Option<Op>
-    ensures { result ≡ flow_op word.now }
-{
-    find(&FLOW, word)
-}
-
-/// The instruction with the word.
-#[tactic(auto, using(crate::proofs::Spelled::found_first, crate::proofs::Spelled::found_second))]
+/// The instruction with the word, whatever the numbers of its operands are.
+#[tactic(auto, using(crate::proofs::Spelled::found_here, crate::proofs::Spelled::other_here, crate::proofs::Spelled::none_here))]
 fn op_named(word: &[char]) -> Option<Op>
     ensures { result ≡ op_named word.now }
 {
-    if let Some(op) = value_op(word) {
-        return Some(op);
+    'tags: for tag in 0..=u8::MAX {
+        if let Some(op) = Op::of_tag(tag) {
+            if is_word(word, op.descriptor().word) {
+                return Some(op);
+            }
+        }
     }
-    flow_op(word)
+    None
 }
 
 /// A line that is no instruction's.

@@ -5,8 +5,8 @@ use Rattle.std.specs.List.{flat_map, AllByRecursion}
 use Rattle.std.proofs.lemmas.List.{drop_at}
 use Rattle.std.proofs.lemmas.List.Concat.{flat_map-append, flat_map-cons}
 use Rattle.std.proofs.lemmas.Nat.{from_le_bytes-to_le_bytes_2, from_le_bytes-to_le_bytes_4}
-use Rattle.grain_program.specs.declared.code.instructions.Op.{Op}
-use Rattle.grain_program.specs.declared.code.instructions.Op.TheVariants as op
+use Rattle.grain_program.specs.declared.code.instruction_set.Op.{Op}
+use Rattle.grain_program.specs.declared.code.instruction_set.Op.TheVariants as op
 use Rattle.grain_program.specs.declared.code.fields.Field.{Field}
 use Rattle.grain_program.specs.Fields.{Size, one, two, four, bytes_of, size_of, number_of, span, NumberFits, FieldFits}
 use Rattle.grain_program.specs.InstructionSet.{tag_of, fields_of}

@@ -1,7 +1,7 @@
 -- What an instruction needs a program to have, by its row.
 use Rattle.std.specs.Prelude.{ℕ, ◌≡◌, ◌==◌, Bool}
 use Rattle.std.specs.Int.RustNames.{bit_and}
-use Rattle.grain_program.specs.declared.code.instructions.Op.{Op}
+use Rattle.grain_program.specs.declared.code.instruction_set.Op.{Op}
 use Rattle.grain_program.specs.InstructionSet.{row}
 
 -- the bit of the capability that the instruction needs, or no bit

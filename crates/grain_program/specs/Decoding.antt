@@ -1,8 +1,8 @@
 -- How an instruction is read: its tag, and after it operands of one, two or four bytes, the lowest
 -- byte first.
-use Rattle.std.specs.Prelude.{ℕ, ◌+◌, List, [], ◌∷◌, drop, map, Option, Some, None, ◌==◌, if◌then◌else◌}
+use Rattle.std.specs.Prelude.{ℕ, ◌+◌, List, [], ◌∷◌, drop, map, replicate, Option, Some, None, option_map, ◌==◌, if◌then◌else◌}
 use Rattle.std.specs.Int.{w16, w32, from_le_bytes}
-use Rattle.grain_program.specs.declared.code.instructions.Op.{Op}
+use Rattle.grain_program.specs.declared.code.instruction_set.Op.{Op}
 use Rattle.grain_program.specs.Fields.{Size, one, two, four, bytes_of, size_of, span}
 use Rattle.grain_program.specs.InstructionSet.{instructions, tag_of, fields_of}
 
@@ -53,6 +53,10 @@ by_formats (r ∷ rs) tag rest =
 -- the instruction of the tag, and its width
 unfoldable pub by_tag : ℕ → List ℕ → Option (Op × ℕ)
 by_tag tag rest = by_formats formats tag rest
+
+-- the instruction of the tag, with zeros for the numbers of its operands
+unfoldable pub op_of_tag : ℕ → Option Op
+op_of_tag tag = option_map (λ x. x.0) (by_tag tag (replicate 8 0))
 
 -- how wide an instruction of the tag is, or 0 if there is none
 abbrev pub width_in : List Format → ℕ → ℕ

@@ -1,7 +1,7 @@
 -- What each instruction takes and gives, where it leads, and what it does to the handlers of its
 -- frame, by its row.
 use Rattle.std.specs.Prelude.{ℕ, List, [], ◌∷◌, Option, nat_lt, if◌then◌else◌}
-use Rattle.grain_program.specs.declared.code.instructions.Op.{Op}
+use Rattle.grain_program.specs.declared.code.instruction_set.Op.{Op}
 use Rattle.grain_program.specs.declared.code.effects.Effect.{Effect}
 use Rattle.grain_program.specs.declared.code.effects.Flow.{Flow}
 use Rattle.grain_program.specs.declared.code.effects.Flow.TheVariants as flow

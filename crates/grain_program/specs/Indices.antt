@@ -4,7 +4,7 @@ use Rattle.std.specs.Prelude.{ℕ, ◌≡◌, ◌<◌, ◌&&◌, nat_lt, Bool, t
 use Rattle.std.specs.List.{AllByRecursion}
 use Rattle.grain_program.specs.declared.code.parts.AssignOp.{AssignOp}
 use Rattle.grain_program.specs.declared.code.functions.Function.{Function}
-use Rattle.grain_program.specs.declared.code.instructions.Op.{Op}
+use Rattle.grain_program.specs.declared.code.instruction_set.Op.{Op}
 use Rattle.grain_program.specs.declared.code.fields.Field.{Field}
 use Rattle.grain_program.specs.declared.code.fields.Field.TheVariants as field
 use Rattle.grain_program.specs.Fields.{every}

@@ -1,9 +1,9 @@
 -- The instruction set. Each instruction has one row, and whatever else is defined of an instruction
 -- is read from its row: its bytes, how it is read, its line in a listing, its operands, where it
 -- goes, its entries of pools and its capability.
-use Rattle.std.specs.Prelude.{ℕ, ◌+◌, List, [], ◌∷◌, codes, slice_index}
-use Rattle.grain_program.specs.declared.code.instructions.Op.{Op}
-use Rattle.grain_program.specs.declared.code.instructions.Op.TheVariants as op
+use Rattle.std.specs.Prelude.{ℕ, ◌+◌, List, [], ◌∷◌, map, codes, slice_index}
+use Rattle.grain_program.specs.declared.code.instruction_set.Op.{Op}
+use Rattle.grain_program.specs.declared.code.instruction_set.Op.TheVariants as op
 use Rattle.grain_program.specs.declared.code.fields.Field.{Field}
 use Rattle.grain_program.specs.declared.code.fields.Field.TheVariants as field
 
@@ -135,7 +135,7 @@ second numbers = slice_index numbers 1
 abbrev third : List ℕ → ℕ
 third numbers = slice_index numbers 2
 
--- every instruction, made from the numbers of its fields
+-- every instruction, by ascending tag, made from the numbers of its fields
 abbrev pub instructions : List (List ℕ → Op)
 instructions =
     (λ n. op.LoadConst (first n)) ∷
@@ -174,6 +174,10 @@ instructions =
     (λ n. op.Throw) ∷
     (λ n. op.Return) ∷
     []
+
+-- every instruction once, by ascending tag, with zeros for the numbers of its fields
+unfoldable pub all_instructions : List Op
+all_instructions = map (λ make. make []) instructions
 
 -- the operands in the instruction's bytes
 abbrev pub fields_of : Op → List Field

@@ -1,7 +1,7 @@
 -- A frame that stands at an instruction with as many operands and with such handlers as a typing
 -- says, and what the verifier has shown of that instruction.
 use Rattle.std.specs.Prelude.{ℕ, ◌≡◌, ◌<◌, ◌≤◌, ◌+◌, ◌-◌, false, List, [], ◌∷◌, length, slice_get, Option, Some, None}
-use Rattle.grain_program.specs.declared.code.instructions.Op.{Op}
+use Rattle.grain_program.specs.declared.code.instruction_set.Op.{Op}
 use Rattle.grain_program.specs.declared.code.parts.Chunk.{Chunk}
 use Rattle.grain_program.specs.View.{View}
 use Rattle.grain_program.specs.Effects.{takes_of, gives_of, leads_of, handling_of}

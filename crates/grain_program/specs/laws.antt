@@ -1,6 +1,7 @@
 -- Lemmas on the definitions, which the proofs of this crate and of those above it cite. No contract
 -- names them.
 pub mod Widths
+pub mod Tags
 pub mod Starts
 pub mod Layout
 pub mod TypedAt

@@ -6,6 +6,7 @@ pub mod descriptors;
 pub mod effects;
 pub mod fields;
 pub mod functions;
-pub mod instructions;
+pub mod instruction_set;
+pub mod numbers;
 pub mod parts;
 pub mod pools;

@@ -12,7 +12,7 @@ pub use code::descriptors::Descriptor;
 pub use code::effects::{Effect, Flow, Handling};
 pub use code::fields::{Field, Fields};
 pub use code::functions::{Function, Functions, Indices};
-pub use code::instructions::Op;
+pub use code::instruction_set::Op;
 pub use code::parts::{AssignOp, Chunk, Parts, PositionEntry};
 pub use code::pools::{AssignOps, Names, Positions, Tokens};
 pub use programs::{Program, verify};

@@ -13,7 +13,7 @@ ghost use Rattle.grain_program.specs.declared.verifier.refusals.Refusal.TheVaria
 
 use crate::code::bytes::read_there;
 use crate::code::functions::{Function, Functions};
-use crate::code::instructions::Op;
+use crate::code::instruction_set::Op;
 use crate::code::parts::{AssignOp, Chunk, Parts, PositionEntry};
 use crate::code::pools::Names;
 use crate::lookups::{

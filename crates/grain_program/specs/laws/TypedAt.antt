@@ -4,7 +4,7 @@ use Rattle.std.specs.Prelude.{ℕ, suc, ◌≡◌, ◌<◌, ◌≤◌, ◌+◌, 
 use Rattle.std.proofs.Common.{sym, subst, ◌∙◌, inl, inr, arith}
 use Rattle.std.proofs.lemmas.Bool.{ltb-false}
 use Rattle.std.specs.List.{AllByRecursion}
-use Rattle.grain_program.specs.declared.code.instructions.Op.{Op}
+use Rattle.grain_program.specs.declared.code.instruction_set.Op.{Op}
 use Rattle.grain_program.specs.declared.code.parts.Chunk.{Chunk}
 use Rattle.grain_program.specs.declared.code.functions.Function.{Function}
 use Rattle.grain_program.specs.View.{View}
@@ -14,7 +14,7 @@ use Rattle.grain_program.specs.declared.code.effects.Flow.{Flow}
 use Rattle.grain_program.specs.declared.code.effects.Flow.TheVariants as flow
 use Rattle.grain_program.specs.declared.code.effects.Handling.{Handling}
 use Rattle.grain_program.specs.declared.code.effects.Handling.TheVariants as handling
-use Rattle.grain_program.specs.declared.code.instructions.Op.TheVariants as op
+use Rattle.grain_program.specs.declared.code.instruction_set.Op.TheVariants as op
 use Rattle.grain_program.specs.declared.code.fields.Field.{Field}
 use Rattle.grain_program.specs.declared.code.fields.Field.TheVariants as field
 use Rattle.grain_program.specs.Fields.{targets_of}

@@ -3,7 +3,7 @@ use Rattle.std.specs.Prelude.{ℕ, suc, ◌+◌, ◌≡◌, ◌≤◌, Bool, tru
 use Rattle.std.proofs.Common.{arith, length-drop, refl, ap, ◌∙◌, ◌<◌, sym}
 use Rattle.std.proofs.Math.Seq.{drop-cons}
 use Rattle.std.proofs.lemmas.Bool.{leb-true}
-use Rattle.grain_program.specs.declared.code.instructions.Op.{Op}
+use Rattle.grain_program.specs.declared.code.instruction_set.Op.{Op}
 use Rattle.grain_program.specs.Fields.{Size, one, two, four, bytes_of, span}
 use Rattle.grain_program.specs.Decoding.{number_at, joined, numbers_at, Format, formats, made, by_formats, by_tag, width_in, width_of, op_in, op_at}
 
@@ -101,6 +101,16 @@ by_tag_width : (tag : ℕ) (rest : List ℕ) (x : Op × ℕ) → by_tag tag rest
     → width_of tag ≡ x.1
 unfolding by_tag width_of
 by_tag_width tag rest x e = by_formats_width formats tag rest x e
+
+-- a tag that has no width is the tag of no instruction
+pub by_tag_none : (tag : ℕ) (rest : List ℕ) → width_of tag ≡ 0 → by_tag tag rest ≡ None
+unfolding by_tag
+by_tag_none tag rest none = at (by_tag tag rest) refl where
+  at : (o : Option (Op × ℕ)) → by_tag tag rest ≡ o → by_tag tag rest ≡ None
+  at None e = e
+  at (Some x) e =
+      let w = by_formats_within formats tag rest x e in
+      absurd (omega (arith, none, w.0, by_tag_width tag rest x e))
 
 -- where an instruction stands, its tag and its operands are there
 pub op_at_there : (code : List ℕ) (address : ℕ) (x : Op × ℕ) → op_at code address ≡ Some x →

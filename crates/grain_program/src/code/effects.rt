@@ -3,7 +3,7 @@
 ghost use Rattle.std.specs.Prelude.{◌≡◌};
 ghost use Rattle.grain_program.specs.Effects.{effect_of};
 
-use crate::code::instructions::Op;
+use crate::code::instruction_set::Op;
 
 /// Where the machine goes after an instruction.
 #[derive(Clone, Copy, Debug, PartialEq, Eq)]

@@ -1,0 +1,400 @@
+//! The instruction set: what each instruction means in a line, how it is read from its bytes, and
+//! its row.
+
+ghost use Rattle.std.specs.Prelude.{◌≡◌, ◌<◌, ◌≤◌, ◌+◌, length, Some};
+ghost use Rattle.grain_program.specs.InstructionSet.{word_of, tag_of, fields_of};
+ghost use Rattle.grain_program.specs.Decoding.{by_tag, width_of};
+ghost use Rattle.grain_program.specs.Spelling.{OpFits};
+ghost use Rattle.grain_program.specs.Effects.{effect_of};
+ghost use Rattle.grain_program.specs.Capabilities.{needs};
+
+use crate::code::caps::Caps;
+use crate::code::descriptors::{Descriptor, needing, on_handlers, plain};
+use crate::code::effects::{Flow, Handling};
+use crate::code::fields::{Field, Fields};
+use crate::code::numbers::{four_there, one_there, two_there};
+
+/// One instruction. Its operands stand in the order of its bytes: C a constant, N a name, S a slot,
+/// A an op-assignment, O an operator token, T a target address and d a plain number; a count or
+/// another number U is one byte.
+#[derive(Clone, Copy, Debug, PartialEq, Eq)]
+pub enum Op {
+    /// `load_const C`: a copy of the constant.
+    LoadConst(u16),
+    /// `unit`: the value unit.
+    Unit,
+    /// `false`: that truth value.
+    False,
+    /// `true`: that truth value.
+    True,
+    /// `load_local S`: what the entry holds.
+    LoadLocal(u16),
+    /// `store_local S`: writes the entry, which can be written afterwards.
+    StoreLocal(u16),
+    /// `store_const S`: writes the entry, which can only be read afterwards.
+    StoreConst(u16),
+    /// `store_shared S`: writes the entry, which keeps the operand's read-only flag.
+    StoreShared(u16),
+    /// `declare_local N`: a new entry of that name.
+    DeclareLocal(u16),
+    /// `declare_const N`: a new entry of that name, which can only be read.
+    DeclareConst(u16),
+    /// `assign_local S N`: an assignment to the entry.
+    AssignLocal(u16, u16),
+    /// `assign_local_op S N A`: an op-assignment to the entry.
+    AssignLocalOp(u16, u16, u16),
+    /// `load_shared S`: what the entry holds; a cell stays a cell.
+    LoadShared(u16),
+    /// `share S`: makes the entry a cell, unless it is one.
+    Share(u16),
+    /// `is_shared`: whether the last operand is a cell.
+    IsShared,
+    /// `pop`: takes the last operand away.
+    Pop,
+    /// `rotate U`: the last operand goes under U others.
+    Rotate(u8),
+    /// `jump T`.
+    Jump(u32),
+    /// `jump_if_false T`.
+    JumpIfFalse(u32),
+    /// `jump_if_true T`.
+    JumpIfTrue(u32),
+    /// `skip_if_not_unit T`: looks at the last operand.
+    SkipIfNotUnit(u32),
+    /// `call N n`: the function of that name on the n last operands.
+    Call(u16, u8),
+    /// `call_op N n O`: the operator on the n last operands.
+    CallOp(u16, u8, u16),
+    /// `make_closure N`: a pointer to the functions of that name.
+    MakeClosure(u16),
+    /// `curry n`: the n last operands go to the values of the pointer below them.
+    Curry(u8),
+    /// `call_fn_ptr n`: the function of the pointer below the n last operands, on its values and
+    /// on these.
+    CallFnPtr(u8),
+    /// `unwind_to d`: cuts the scope to d entries above the base.
+    UnwindTo(u16),
+    /// `tick`: costs an operation.
+    Tick,
+    /// `checkpoint`: the scope is not cut below its present length.
+    Checkpoint,
+    /// `statement d`: does nothing.
+    Statement(u16),
+    /// `push_handler T`: a handler, which leads to the target.
+    PushHandler(u32),
+    /// `push_handler_var T N`: a handler with a variable of that name.
+    PushHandlerVar(u32, u16),
+    /// `pop_handler`: the innermost handler goes.
+    PopHandler,
+    /// `throw`: raises the last operand.
+    Throw,
+    /// `return`: the last operand, or unit.
+    Return,
+}
+
+// The instruction of a tag, with its operands from the bytes after it, which are there, into `op`,
+// and its width, or 0 for a tag of no instruction. It is written where it is wanted, and not handed
+// on as a part of larger values: so the compiler sees which instruction each tag gives, and a match
+// on what was read needs no second jump.
+#[inline(always)]
+#[tactic(auto, unfolding(crate::specs::Decoding::by_tag, crate::specs::Decoding::width_of))]
+pub(crate) fn tagged(tag: u8, rest: &[u8], op: &mut Op) -> usize
+    requires { width_of tag ≤ length rest.now + 1 }
+    ensures wide { result ≡ width_of tag }
+    ensures read { 0 < result → by_tag tag rest.now ≡ Some (op.new, result) }
+{
+    match tag {
+        0x01 => {
+            *op = Op::LoadConst(two_there(rest));
+            3
+        }
+        0x02 => {
+            *op = Op::Unit;
+            1
+        }
+        0x03 => {
+            *op = Op::False;
+            1
+        }
+        0x04 => {
+            *op = Op::True;
+            1
+        }
+        0x05 => {
+            *op = Op::LoadLocal(two_there(rest));
+            3
+        }
+        0x06 => {
+            *op = Op::StoreLocal(two_there(rest));
+            3
+        }
+        0x07 => {
+            *op = Op::StoreConst(two_there(rest));
+            3
+        }
+        0x08 => {
+            *op = Op::StoreShared(two_there(rest));
+            3
+        }
+        0x0d => {
+            *op = Op::DeclareLocal(two_there(rest));
+            3
+        }
+        0x0e => {
+            *op = Op::DeclareConst(two_there(rest));
+            3
+        }
+        0x10 => {
+            let name = &rest[2..];
+            *op = Op::AssignLocal(two_there(rest), two_there(name));
+            5
+        }
+        0x11 => {
+            let name = &rest[2..];
+            let assign = &name[2..];
+            *op = Op::AssignLocalOp(two_there(rest), two_there(name), two_there(assign));
+            7
+        }
+        0x17 => {
+            *op = Op::LoadShared(two_there(rest));
+            3
+        }
+        0x18 => {
+            *op = Op::Share(two_there(rest));
+            3
+        }
+        0x1a => {
+            *op = Op::IsShared;
+            1
+        }
+        0x1b => {
+            *op = Op::Pop;
+            1
+        }
+        0x1c => {
+            *op = Op::Rotate(one_there(rest));
+            2
+        }
+        0x1d => {
+            *op = Op::Jump(four_there(rest));
+            5
+        }
+        0x1e => {
+            *op = Op::JumpIfFalse(four_there(rest));
+            5
+        }
+        0x1f => {
+            *op = Op::JumpIfTrue(four_there(rest));
+            5
+        }
+        0x20 => {
+            *op = Op::SkipIfNotUnit(four_there(rest));
+            5
+        }
+        0x22 => {
+            let count = &rest[2..];
+            *op = Op::Call(two_there(rest), one_there(count));
+            4
+        }
+        0x23 => {
+            let count = &rest[2..];
+            let token = &count[1..];
+            *op = Op::CallOp(two_there(rest), one_there(count), two_there(token));
+            6
+        }
+        0x27 => {
+            *op = Op::MakeClosure(two_there(rest));
+            3
+        }
+        0x29 => {
+            *op = Op::Curry(one_there(rest));
+            2
+        }
+        0x2a => {
+            *op = Op::CallFnPtr(one_there(rest));
+            2
+        }
+        0x38 => {
+            *op = Op::UnwindTo(two_there(rest));
+            3
+        }
+        0x39 => {
+            *op = Op::Tick;
+            1
+        }
+        0x3a => {
+            *op = Op::Checkpoint;
+            1
+        }
+        0x3b => {
+            *op = Op::Statement(two_there(rest));
+            3
+        }
+        0x3c => {
+            *op = Op::PushHandler(four_there(rest));
+            5
+        }
+        0x3d => {
+            let name = &rest[4..];
+            *op = Op::PushHandlerVar(four_there(rest), two_there(name));
+            7
+        }
+        0x3e => {
+            *op = Op::PopHandler;
+            1
+        }
+        0x49 => {
+            *op = Op::Throw;
+            1
+        }
+        0x4a => {
+            *op = Op::Return;
+            1
+        }
+        _ => 0,
+    }
+}
+
+impl Op {
+    /// The row of the instruction.
+    #[inline(always)]
+    pub fn descriptor(self) -> Descriptor
+        ensures word { result.word.now ≡ word_of self }
+        ensures tag { result.tag ≡ tag_of self }
+        ensures fields { result.fields ≡ fields_of self }
+        ensures effect { result.effect ≡ effect_of self }
+        ensures capability { result.capability.0 ≡ needs self }
+        ensures fits { OpFits self }
+    {
+        match self {
+            Op::LoadConst(constant) => {
+                let fields = Fields::one(Field::Constant(constant));
+                plain("load_const", 0x01, fields, 0, 1, Flow::Next)
+            }
+            Op::Unit => plain("unit", 0x02, Fields::none(), 0, 1, Flow::Next),
+            Op::False => plain("false", 0x03, Fields::none(), 0, 1, Flow::Next),
+            Op::True => plain("true", 0x04, Fields::none(), 0, 1, Flow::Next),
+            Op::LoadLocal(slot) => {
+                let fields = Fields::one(Field::Slot(slot));
+                plain("load_local", 0x05, fields, 0, 1, Flow::Next)
+            }
+            Op::StoreLocal(slot) => {
+                let fields = Fields::one(Field::Slot(slot));
+                plain("store_local", 0x06, fields, 1, 0, Flow::Next)
+            }
+            Op::StoreConst(slot) => {
+                let fields = Fields::one(Field::Slot(slot));
+                plain("store_const", 0x07, fields, 1, 0, Flow::Next)
+            }
+            Op::StoreShared(slot) => {
+                let fields = Fields::one(Field::Slot(slot));
+                plain("store_shared", 0x08, fields, 1, 0, Flow::Next)
+            }
+            Op::DeclareLocal(name) => {
+                let fields = Fields::one(Field::Name(name));
+                plain("declare_local", 0x0d, fields, 1, 0, Flow::Next)
+            }
+            Op::DeclareConst(name) => {
+                let fields = Fields::one(Field::Name(name));
+                plain("declare_const", 0x0e, fields, 1, 0, Flow::Next)
+            }
+            Op::AssignLocal(slot, name) => {
+                let fields = Fields::two(Field::Slot(slot), Field::Name(name));
+                plain("assign_local", 0x10, fields, 1, 0, Flow::Next)
+            }
+            Op::AssignLocalOp(slot, name, assign) => {
+                let assign = Field::Assignment(assign);
+                let fields = Fields::three(Field::Slot(slot), Field::Name(name), assign);
+                plain("assign_local_op", 0x11, fields, 1, 0, Flow::Next)
+            }
+            Op::LoadShared(slot) => {
+                let fields = Fields::one(Field::Slot(slot));
+                plain("load_shared", 0x17, fields, 0, 1, Flow::Next)
+            }
+            Op::Share(slot) => {
+                let fields = Fields::one(Field::Slot(slot));
+                let share = plain("share", 0x18, fields, 0, 0, Flow::Next);
+                needing(Caps::CLOSURE, share)
+            }
+            Op::IsShared => {
+                let is_shared = plain("is_shared", 0x1a, Fields::none(), 1, 1, Flow::Next);
+                needing(Caps::CLOSURE, is_shared)
+            }
+            Op::Pop => plain("pop", 0x1b, Fields::none(), 1, 0, Flow::Next),
+            Op::Rotate(under) => {
+                let fields = Fields::one(Field::Count(under));
+                let moved = u32::from(under) + 1;
+                plain("rotate", 0x1c, fields, moved, moved, Flow::Next)
+            }
+            Op::Jump(target) => {
+                let fields = Fields::one(Field::Target(target));
+                plain("jump", 0x1d, fields, 0, 0, Flow::Jump(target))
+            }
+            Op::JumpIfFalse(target) => {
+                let fields = Fields::one(Field::Target(target));
+                plain("jump_if_false", 0x1e, fields, 1, 0, Flow::Branch(target))
+            }
+            Op::JumpIfTrue(target) => {
+                let fields = Fields::one(Field::Target(target));
+                plain("jump_if_true", 0x1f, fields, 1, 0, Flow::Branch(target))
+            }
+            Op::SkipIfNotUnit(target) => {
+                let fields = Fields::one(Field::Target(target));
+                plain("skip_if_not_unit", 0x20, fields, 1, 1, Flow::Branch(target))
+            }
+            Op::Call(name, count) => {
+                let fields = Fields::two(Field::Name(name), Field::Count(count));
+                let call = plain("call", 0x22, fields, u32::from(count), 1, Flow::Next);
+                needing(Caps::FUNCTION, call)
+            }
+            Op::CallOp(name, count, token) => {
+                let token = Field::Token(token);
+                let fields = Fields::three(Field::Name(name), Field::Count(count), token);
+                plain("call_op", 0x23, fields, u32::from(count), 1, Flow::Next)
+            }
+            Op::MakeClosure(name) => {
+                let fields = Fields::one(Field::Name(name));
+                let closure = plain("make_closure", 0x27, fields, 0, 1, Flow::Next);
+                needing(Caps::FUNCTION, closure)
+            }
+            Op::Curry(count) => {
+                let fields = Fields::one(Field::Count(count));
+                let curry = plain("curry", 0x29, fields, u32::from(count) + 1, 1, Flow::Next);
+                needing(Caps::FUNCTION, curry)
+            }
+            Op::CallFnPtr(count) => {
+                let fields = Fields::one(Field::Count(count));
+                let taken = u32::from(count) + 1;
+                let pointer = plain("call_fn_ptr", 0x2a, fields, taken, 1, Flow::Next);
+                needing(Caps::FUNCTION, pointer)
+            }
+            Op::UnwindTo(depth) => {
+                let fields = Fields::one(Field::Number(depth));
+                plain("unwind_to", 0x38, fields, 0, 0, Flow::Next)
+            }
+            Op::Tick => plain("tick", 0x39, Fields::none(), 0, 0, Flow::Next),
+            Op::Checkpoint => plain("checkpoint", 0x3a, Fields::none(), 0, 0, Flow::Next),
+            Op::Statement(depth) => {
+                let fields = Fields::one(Field::Number(depth));
+                plain("statement", 0x3b, fields, 0, 0, Flow::Next)
+            }
+            Op::PushHandler(target) => {
+                let fields = Fields::one(Field::Target(target));
+                let handling = Handling::Push(target, None);
+                on_handlers("push_handler", 0x3c, fields, Flow::Branch(target), handling)
+            }
+            Op::PushHandlerVar(target, name) => {
+                let fields = Fields::two(Field::Target(target), Field::Name(name));
+                let branch = Flow::Branch(target);
+                let handling = Handling::Push(target, Some(name));
+                on_handlers("push_handler_var", 0x3d, fields, branch, handling)
+            }
+            Op::PopHandler => {
+                let fields = Fields::none();
+                on_handlers("pop_handler", 0x3e, fields, Flow::Next, Handling::Pop)
+            }
+            Op::Throw => plain("throw", 0x49, Fields::none(), 1, 0, Flow::End),
+            Op::Return => plain("return", 0x4a, Fields::none(), 0, 0, Flow::End),
+        }
+    }
+}
