@@ -1,10 +1,10 @@
 -- What the program answers: a status and a text.
 use Rattle.std.specs.Prelude.{◌≡◌, ◌⊎◌, ℕ, Bool, true, false, List, [], ◌∷◌, ◌++◌, Option, Result, Ok, Err, IfSome, codes, bytes_eq}
 use Rattle.std.specs.Fmt.{decimal}
+use Rattle.grain_program.specs.Refusals.{refusal_name}
 use Rattle.grain_program.specs.Rules.{address_of}
 use Rattle.grain_program.specs.Typing.{IsProgram, IsRefusal}
 use Rattle.grain_program.specs.declared.verifier.refusals.Refusal.{Refusal}
-use Rattle.grain_program.specs.declared.verifier.refusals.Refusal.TheVariants as refusals
 use Rattle.grain_literals.specs.Reasons.{reason_text}
 use Rattle.grain_listing.specs.Reading.{SetUp, reads}
 use Rattle.grain_commands.specs.Puts.{PutWhole, PutPart}
@@ -26,20 +26,6 @@ usage_text = codes "usage: run, check, list or self N" ++ line_end
 abbrev pub bad_line_text : BadLine → List ℕ
 bad_line_text bad =
     codes "listing line " ++ decimal bad.line ++ codes ": " ++ reason_text bad.reason ++ line_end
-
--- the name of its variant
-abbrev pub refusal_name : Refusal → List ℕ
-refusal_name (refusals.Undecodable a) = codes "Undecodable"
-refusal_name (refusals.PoolIndex a) = codes "PoolIndex"
-refusal_name (refusals.JumpTarget a) = codes "JumpTarget"
-refusal_name (refusals.FallsOff a) = codes "FallsOff"
-refusal_name (refusals.HeightDisagrees a) = codes "HeightDisagrees"
-refusal_name (refusals.TooDeep a) = codes "TooDeep"
-refusal_name (refusals.Underflow a) = codes "Underflow"
-refusal_name (refusals.HandlerDisagrees a) = codes "HandlerDisagrees"
-refusal_name (refusals.UnderTry a) = codes "UnderTry"
-refusal_name (refusals.Capability a) = codes "Capability"
-refusal_name refusals.Memory = codes "Memory"
 
 abbrev pub refusal_text : Refusal → List ℕ
 refusal_text r =

@@ -5,7 +5,7 @@ ghost use Rattle.std.specs.Fmt.{decimal};
 ghost use Rattle.grain_program.specs.declared.verifier.refusals.Refusal.TheVariants as refusals;
 ghost use Rattle.grain_listing.specs.Reading.{reads};
 ghost use Rattle.grain_commands.specs.Reports.{line_end};
-ghost use Rattle.grain_commands.specs.Replies.{is_run, usage_text, bad_line_text, refusal_name, refusal_text, Replies};
+ghost use Rattle.grain_commands.specs.Replies.{is_run, usage_text, bad_line_text, refusal_text, Replies};
 ghost use Rattle.grain_listing.specs.SetUpView.{set_up_of, IsReady};
 
 use crate::execution::run_program;
@@ -74,24 +74,6 @@ fn no_listing(alloc: Global, bad: BadLine) -> Result<Reply, OutOfMemory>
     Ok(Reply { status: 3, text })
 }
 
-fn refusal_name(refusal: Refusal) -> &'static str
-    ensures { result.now ≡ refusal_name refusal }
-{
-    match refusal {
-        Refusal::Undecodable(_) => "Undecodable",
-        Refusal::PoolIndex(_) => "PoolIndex",
-        Refusal::JumpTarget(_) => "JumpTarget",
-        Refusal::FallsOff(_) => "FallsOff",
-        Refusal::HeightDisagrees(_) => "HeightDisagrees",
-        Refusal::TooDeep(_) => "TooDeep",
-        Refusal::Underflow(_) => "Underflow",
-        Refusal::HandlerDisagrees(_) => "HandlerDisagrees",
-        Refusal::UnderTry(_) => "UnderTry",
-        Refusal::Capability(_) => "Capability",
-        Refusal::Memory => "Memory",
-    }
-}
-
 fn refused(alloc: Global, refusal: Refusal) -> Result<Reply, OutOfMemory>
     ensures status { IfOk result (λ r. r.status ≡ 4) }
     ensures text { IfOk result (λ r. r.text ≡ refusal_text refusal) }
@@ -106,7 +88,7 @@ fn refused(alloc: Global, refusal: Refusal) -> Result<Reply, OutOfMemory>
         "refused at ",
         refusal.address(),
         ": ",
-        refusal_name(refusal),
+        refusal.name(),
     )?;
     Ok(Reply { status: 4, text })
 }

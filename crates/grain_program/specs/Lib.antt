@@ -13,6 +13,7 @@ pub mod Capabilities
 pub mod Layout
 pub mod Starts
 pub mod Rules
+pub mod Refusals
 pub mod Shapes
 pub mod Typing
 pub mod TypedAt

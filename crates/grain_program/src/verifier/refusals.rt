@@ -2,6 +2,7 @@
 
 ghost use Rattle.std.specs.Prelude.{◌≡◌};
 ghost use Rattle.grain_program.specs.declared.verifier.refusals.Refusal.TheVariants.{Memory};
+ghost use Rattle.grain_program.specs.Refusals.{refusal_name};
 ghost use Rattle.grain_program.specs.Rules.{address_of, rule_of, precedes, earlier};
 
 use grain_value::OutOfMemory;
@@ -56,6 +57,25 @@ impl Refusal {
             Refusal::UnderTry(address) => address,
             Refusal::Capability(address) => address,
             Refusal::Memory => 0,
+        }
+    }
+
+    /// The name of its variant.
+    pub fn name(self) -> &'static str
+        ensures { result.now ≡ refusal_name self }
+    {
+        match self {
+            Refusal::Undecodable(_) => "Undecodable",
+            Refusal::PoolIndex(_) => "PoolIndex",
+            Refusal::JumpTarget(_) => "JumpTarget",
+            Refusal::FallsOff(_) => "FallsOff",
+            Refusal::HeightDisagrees(_) => "HeightDisagrees",
+            Refusal::TooDeep(_) => "TooDeep",
+            Refusal::Underflow(_) => "Underflow",
+            Refusal::HandlerDisagrees(_) => "HandlerDisagrees",
+            Refusal::UnderTry(_) => "UnderTry",
+            Refusal::Capability(_) => "Capability",
+            Refusal::Memory => "Memory",
         }
     }
 
