@@ -9,7 +9,7 @@ use Rattle.grain_program.specs.Typing.{In}
 use Rattle.grain_stack.specs.Views.{StacksView}
 use Rattle.grain_value.specs.declared.memory.OutOfMemory.{OutOfMemory}
 use Rattle.grain_program.specs.declared.code.parts.Chunk.{Chunk}
-use Rattle.grain_program.specs.declared.code.instructions.Op.{Op}
+use Rattle.grain_program.specs.declared.code.instruction_set.Op.{Op}
 use Rattle.grain_frame.specs.declared.loops.Attempt.{Attempt}
 use Rattle.grain_frame.specs.declared.loops.Attempt.TheVariants as attempt
 use Rattle.grain_program.specs.declared.code.effects.Handling.{Handling}

@@ -6,7 +6,7 @@ use Rattle.grain_value.specs.declared.memory.OutOfMemory.{OutOfMemory}
 use Rattle.grain_value.specs.Operands.{arguments, under}
 use Rattle.grain_ops.specs.Outcomes.{NotBuiltIn}
 use Rattle.grain_program.specs.View.{View, name_of}
-use Rattle.grain_program.specs.declared.code.instructions.Op.TheVariants as op
+use Rattle.grain_program.specs.declared.code.instruction_set.Op.TheVariants as op
 use Rattle.grain_stack.specs.Views.{StacksView}
 use Rattle.grain_stack.specs.declared.handlers.Handler.{Handler}
 use Rattle.grain_host.specs.Law.{Law}

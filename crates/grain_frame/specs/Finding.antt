@@ -5,7 +5,7 @@ use Rattle.grain_program.specs.View.{View}
 use Rattle.grain_program.specs.Effects.{takes_of, gives_of, leads_of, handling_of}
 use Rattle.grain_program.specs.declared.code.effects.Handling.TheVariants as handling
 use Rattle.grain_program.specs.declared.code.functions.Function.{Function}
-use Rattle.grain_program.specs.declared.code.instructions.Op.{Op}
+use Rattle.grain_program.specs.declared.code.instruction_set.Op.{Op}
 use Rattle.grain_host.specs.Law.{Law}
 use Rattle.grain_global.specs.declared.engines.Engine.{Engine}
 use Rattle.grain_means.specs.Rules.{instr, enter_function}

@@ -5,7 +5,7 @@ ghost use Rattle.grain_value.specs.declared.values.Held.{Held};
 ghost use Rattle.grain_value.specs.Cells.{flat, idle};
 ghost use Rattle.grain_value.specs.Operands.{top};
 ghost use Rattle.grain_program.specs.Indices.{InPools};
-ghost use Rattle.grain_program.specs.declared.code.instructions.Op.TheVariants as op;
+ghost use Rattle.grain_program.specs.declared.code.instruction_set.Op.TheVariants as op;
 ghost use Rattle.grain_means.specs.Rules.{flag_of_cell, held_at, if_fast, op_assigned, store_outcome};
 ghost use Rattle.grain_ops.specs.Outcomes.{Gave};
 ghost use Rattle.grain_ops.specs.Operators.{assignment};

@@ -9,7 +9,7 @@ ghost use Rattle.grain_value.specs.Cells.{flat, content, idle};
 ghost use Rattle.grain_value.specs.Operands.{top, below, read_write};
 ghost use Rattle.grain_program.specs.Indices.{InPools};
 ghost use Rattle.grain_program.specs.View.{View, name_of};
-ghost use Rattle.grain_program.specs.declared.code.instructions.Op.TheVariants as op;
+ghost use Rattle.grain_program.specs.declared.code.instruction_set.Op.TheVariants as op;
 ghost use Rattle.grain_global.specs.declared.engines.Engine.{Engine};
 ghost use Rattle.grain_means.specs.Rules.{store_local, declare, flattened, shared, cell_written, onward, stepped, held_at};
 ghost use Rattle.grain_frame.specs.Abstraction.{frame_in, Implements, Performs, Ready};

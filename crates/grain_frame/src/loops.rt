@@ -8,7 +8,7 @@ ghost use Rattle.grain_program.specs.Typing.{IsProgram};
 ghost use Rattle.grain_program.specs.View.{View};
 ghost use Rattle.grain_global.specs.declared.engines.Engine.{Engine};
 ghost use Rattle.grain_stack.specs.Views.{IsLeft};
-ghost use Rattle.grain_program.specs.declared.code.instructions.Op.TheVariants as op;
+ghost use Rattle.grain_program.specs.declared.code.instruction_set.Op.TheVariants as op;
 ghost use Rattle.grain_means.specs.Worlds.{Go, InFrame, Setup};
 ghost use Rattle.grain_means.specs.Rules.{called, closed, enter_function};
 ghost use Rattle.grain_means.specs.Simulation.{Simulates, SimulatesExactly, StopPersists};

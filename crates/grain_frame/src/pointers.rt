@@ -8,7 +8,7 @@ ghost use Rattle.grain_fault.specs.declared.faults.EvalAltResult.TheVariants as 
 ghost use Rattle.grain_program.specs.View.{position_of};
 ghost use Rattle.grain_value.specs.Cells.{flat};
 ghost use Rattle.grain_value.specs.Looking.{pointer_of};
-ghost use Rattle.grain_program.specs.declared.code.instructions.Op.TheVariants as op;
+ghost use Rattle.grain_program.specs.declared.code.instruction_set.Op.TheVariants as op;
 ghost use Rattle.grain_means.specs.Rules.{operand_under, trees_in};
 ghost use Rattle.grain_frame.specs.Abstraction.{Performs, Raises, Ready};
 ghost use Rattle.grain_frame.specs.Finding.{Finds};

@@ -5,7 +5,7 @@
 ghost use Rattle.std.specs.Prelude.{◌≡◌, ◌<◌, ◌≤◌, ◌+◌, ◌-◌, ◌∷◌, [], length, Ok, Some, cond, nat_lt};
 ghost use Rattle.grain_program.specs.Indices.{InPools};
 ghost use Rattle.grain_program.specs.TypedAt.{IsTypedAt};
-ghost use Rattle.grain_program.specs.declared.code.instructions.Op.TheVariants as op;
+ghost use Rattle.grain_program.specs.declared.code.instruction_set.Op.TheVariants as op;
 ghost use Rattle.grain_value.specs.Operands.{arguments};
 ghost use Rattle.grain_ops.specs.Agreement.{Agrees, IsGiven};
 ghost use Rattle.grain_means.specs.Rules.{jumped, stepped, jump_if, operated, flat_all};

@@ -1,7 +1,7 @@
 -- The frames to which a run comes, and what a valid program has there.
 use Rattle.std.specs.Prelude.{◌≡◌, ◌≤◌, ℕ, List, Some, false, length, map}
 use Rattle.grain_fault.specs.Problems.{Problem}
-use Rattle.grain_program.specs.declared.code.instructions.Op.{Op}
+use Rattle.grain_program.specs.declared.code.instruction_set.Op.{Op}
 use Rattle.grain_program.specs.Effects.{takes_of, handling_of}
 use Rattle.grain_program.specs.Shapes.{TryHandler, lacks_handler}
 use Rattle.grain_program.specs.Indices.{InPools}

@@ -25,8 +25,8 @@ use Rattle.grain_program.specs.declared.code.parts.AssignOp.{AssignOp}
 use Rattle.grain_program.specs.declared.code.parts.Chunk.{Chunk}
 use Rattle.grain_program.specs.declared.code.functions.Function.{Function}
 use Rattle.grain_program.specs.Lookups.{function_of, function_by_text}
-use Rattle.grain_program.specs.declared.code.instructions.Op.{Op}
-use Rattle.grain_program.specs.declared.code.instructions.Op.TheVariants as op
+use Rattle.grain_program.specs.declared.code.instruction_set.Op.{Op}
+use Rattle.grain_program.specs.declared.code.instruction_set.Op.TheVariants as op
 use Rattle.grain_program.specs.View.{View, const_of, name_of, token_of, assign_op_of, position_of, source_text, or_empty}
 use Rattle.grain_program.specs.Decoding.{op_at}
 use Rattle.grain_global.specs.declared.engines.Engine.{Engine}

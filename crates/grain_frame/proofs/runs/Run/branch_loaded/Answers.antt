@@ -2,7 +2,7 @@ use Rattle.grain_frame.proofs.Arms.{typed_with}
 -- The branch is done from where its comparison would have left the frame.
 use Rattle.std.proofs.Common.{◌≡◌, ◌≤◌, length, refl, rules, arith, w64, FitsSigned}
 use Rattle.std.proofs.lemmas.Int.{to_z-of_z}
-use Rattle.grain_program.specs.declared.code.instructions.Op.TheVariants as op
+use Rattle.grain_program.specs.declared.code.instruction_set.Op.TheVariants as op
 use Rattle.grain_frame.specs.Following.{answered, loaded, begun_one}
 use Rattle.grain_frame.proofs.Arms.{tried, stepped}
 use Rattle.grain_frame.proofs.Branching.{length_answered}

@@ -1,6 +1,6 @@
 -- What is found is found for the instruction at which the frame stands.
 use Rattle.std.proofs.Common.{refl, subst}
-use Rattle.grain_program.specs.declared.code.instructions.Op.TheVariants as op
+use Rattle.grain_program.specs.declared.code.instruction_set.Op.TheVariants as op
 use Rattle.grain_frame.specs.Abstraction.{IsPending}
 use Rattle.grain_frame.specs.Finding.{FindsHere, found_of}
 use Rattle.grain_frame.specs.declared.activations.Activation.{Activation}

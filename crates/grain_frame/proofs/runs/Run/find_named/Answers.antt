@@ -1,7 +1,7 @@
 -- The native of the name is called.
 use Rattle.std.proofs.Common.{◌≡◌, ◌∙◌, None, ap, arith, refl, rules}
 use Rattle.grain_program.specs.View.{name_of}
-use Rattle.grain_program.specs.declared.code.instructions.Op.TheVariants as op
+use Rattle.grain_program.specs.declared.code.instruction_set.Op.TheVariants as op
 use Rattle.grain_means.specs.Rules.{function_found}
 use Rattle.grain_frame.proofs.Arms.{implements_after}
 use Rattle.grain_frame.proofs.Found.{finds_of}

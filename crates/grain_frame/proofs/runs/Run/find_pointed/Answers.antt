@@ -7,7 +7,7 @@ use Rattle.grain_value.specs.Writing.{type_name_of}
 use Rattle.grain_fault.specs.declared.faults.EvalAltResult.TheVariants as fault
 use Rattle.grain_program.specs.Lookups.{CalledByText, function_by_text}
 use Rattle.grain_program.specs.View.{position_of}
-use Rattle.grain_program.specs.declared.code.instructions.Op.TheVariants as op
+use Rattle.grain_program.specs.declared.code.instruction_set.Op.TheVariants as op
 use Rattle.grain_stack.specs.Views.{StacksView}
 use Rattle.grain_means.specs.Rules.{call_function, function_by_name, operand_under, race_text}
 use Rattle.grain_means.specs.Means.{setup}

@@ -1,6 +1,6 @@
 use Rattle.grain_frame.proofs.Arms.{typed_with}
 use Rattle.std.proofs.Common.{◌≡◌, ◌+◌, ◌-◌, ℕ, length, refl, inl, subst, arith}
-use Rattle.grain_program.specs.declared.code.instructions.Op.TheVariants as op
+use Rattle.grain_program.specs.declared.code.instruction_set.Op.TheVariants as op
 use Rattle.grain_program.specs.TypedAt.{IsTypedAt}
 use Rattle.grain_frame.specs.Abstraction.{tries_in}
 use Rattle.grain_frame.proofs.Arms.{tried_out, tried_or, tried_on, stepped, stands, leads_typed}

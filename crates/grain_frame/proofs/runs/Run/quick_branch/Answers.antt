@@ -1,7 +1,7 @@
 use Rattle.grain_frame.proofs.Arms.{typed_with}
 -- The branch is done from where its comparison would have left the frame.
 use Rattle.std.proofs.Common.{◌≡◌, ◌-◌, length, refl, arith}
-use Rattle.grain_program.specs.declared.code.instructions.Op.TheVariants as op
+use Rattle.grain_program.specs.declared.code.instruction_set.Op.TheVariants as op
 use Rattle.grain_frame.specs.Following.{answered, begun_one}
 use Rattle.grain_frame.proofs.Arms.{tried, stepped}
 use Rattle.grain_frame.proofs.Branching.{length_answered}

@@ -2,7 +2,7 @@
 use Rattle.std.proofs.Common.{rules, ◌≡◌, ◌+◌, List, inl, length, refl, ap, arith, w64, FitsSigned}
 use Rattle.std.proofs.lemmas.Int.{to_z-of_z}
 use Rattle.grain_value.specs.declared.values.Held.{Held}
-use Rattle.grain_program.specs.declared.code.instructions.Op.TheVariants as op
+use Rattle.grain_program.specs.declared.code.instruction_set.Op.TheVariants as op
 use Rattle.grain_frame.specs.Following.{moved, loaded, begun_behind}
 use Rattle.grain_frame.proofs.Arms.{tried, stepped, leads_typed}
 use Rattle.grain_frame.proofs.Loading.{length_loaded, stepped_on}

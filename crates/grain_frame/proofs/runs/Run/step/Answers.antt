@@ -1,7 +1,7 @@
 use Rattle.grain_frame.proofs.Arms.{typed_with}
 use Rattle.std.proofs.Common.{◌∙◌, ◌∷◌, ◌+◌, ◌-◌, ap, refl, length, Some, None}
-use Rattle.grain_program.specs.declared.code.instructions.Op.{Op}
-use Rattle.grain_program.specs.declared.code.instructions.Op.TheVariants as op
+use Rattle.grain_program.specs.declared.code.instruction_set.Op.{Op}
+use Rattle.grain_program.specs.declared.code.instruction_set.Op.TheVariants as op
 use Rattle.grain_frame.specs.Catching.{armed, around}
 use Rattle.grain_frame.proofs.Arms.{here, stepped, stepped_with}
 use Rattle.grain_frame.proofs.Handled.{one_tried, outer_tried, outer_above, some_tried}
