@@ -9,7 +9,8 @@ ghost use Rattle.grain_commands.specs.Streams.{Rose, TakenWithin};
 use crate::inputs::{SourceFailed, read_all};
 use crate::laws::statuses_are_due;
 use crate::outputs::{SinkFailed, write_all};
-use crate::replies::{Reply, is_run, run_listing, usage};
+use crate::pipeline::run_listing;
+use crate::replies::{Reply, usage};
 use crate::sinks::Sink;
 use crate::sources::Source;
 use crate::status::Status;
@@ -17,6 +18,16 @@ use grain_value::OutOfMemory;
 use grain_vm::Steps;
 use std::alloc::Global;
 use std::sync::ledger::Ledger;
+
+/// Whether the words are the command `run`.
+fn is_run(words: &[String]) -> bool
+    ensures { result ≡ is_run (map string_bytes words.now) }
+{
+    match words {
+        [word] => word.as_str() == "run",
+        _ => false,
+    }
+}
 
 /// What is answered to the words and to what the source holds.
 fn answer<S: Source, L: Ledger>(

@@ -4,13 +4,13 @@
 
 mod call_numbers;
 mod commands;
-mod execution;
 mod host;
 mod inputs;
 mod laws;
 mod memory_sink;
 mod memory_source;
 mod outputs;
+mod pipeline;
 mod program;
 mod replies;
 mod reports;
@@ -25,8 +25,9 @@ pub use host::run_standard;
 pub use laws::statuses_are_due;
 pub use memory_sink::MemorySink;
 pub use memory_source::MemorySource;
+pub use pipeline::run_listing;
 pub use program::{Exit, run_args};
-pub use replies::{Reply, run_listing};
+pub use replies::Reply;
 pub use sinks::{Put, Sink};
 pub use sources::{Read, Source};
 pub use standard::{StdSink, StdSource};

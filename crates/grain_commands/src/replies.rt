@@ -1,20 +1,19 @@
-//! What the program answers: a status and a text.
+//! The replies, each a status and the text that is written.
 
-ghost use Rattle.std.specs.Prelude.{◌≡◌, ◌≢◌, ◌++◌, Ok, IfOk, map, string_bytes};
+ghost use Rattle.std.specs.Prelude.{◌≡◌, ◌≢◌, ◌++◌, IfOk};
 ghost use Rattle.std.specs.Fmt.{decimal};
+ghost use Rattle.grain_fault.specs.Problems.{problem_of};
+ghost use Rattle.grain_fault.specs.declared.faults.EvalAltResult.TheVariants as faults;
 ghost use Rattle.grain_program.specs.declared.verifier.refusals.Refusal.TheVariants as refusals;
-ghost use Rattle.grain_listing.specs.Reading.{reads};
-ghost use Rattle.grain_commands.specs.Reports.{line_end};
-ghost use Rattle.grain_commands.specs.Replies.{is_run, usage_text, bad_line_text, refusal_text, Replies};
-ghost use Rattle.grain_listing.specs.SetUpView.{set_up_of, IsReady};
+ghost use Rattle.grain_commands.specs.Reports.{line_end, report_value, report_fault};
+ghost use Rattle.grain_commands.specs.Replies.{usage_text, bad_line_text, refusal_text};
 
-use crate::execution::run_program;
-use grain_listing::{BadLine, Setup, read};
-use grain_program::{Refusal, verify};
-use grain_value::{OutOfMemory, Text};
-use grain_vm::Steps;
+use crate::reports::{report_fault, report_value};
+use grain_fault::{EvalAltResult, Fault};
+use grain_listing::BadLine;
+use grain_program::Refusal;
+use grain_value::{Dynamic, OutOfMemory, Store, Text};
 use std::alloc::Global;
-use std::sync::ledger::Ledger;
 
 /// A status, and the text that is written.
 #[derive(Drop)]
@@ -23,17 +22,7 @@ pub struct Reply {
     pub text: Text,
 }
 
-/// Whether the words are the command `run`.
-pub fn is_run(words: &[String]) -> bool
-    ensures { result ≡ is_run (map string_bytes words.now) }
-{
-    match words {
-        [word] => word.as_str() == "run",
-        _ => false,
-    }
-}
-
-/// The reply to words that are no command.
+/// The reply to words that are no command: 2, and the usage.
 pub fn usage(alloc: Global) -> Result<Reply, OutOfMemory>
     ensures status { IfOk result (λ r. r.status ≡ 2) }
     ensures text { IfOk result (λ r. r.text ≡ usage_text) }
@@ -42,6 +31,7 @@ pub fn usage(alloc: Global) -> Result<Reply, OutOfMemory>
     Ok(Reply { status: 2, text })
 }
 
+/// A line with a number in it: the lead, the number, the colon and the name.
 fn push_line(
     out: &mut Text,
     lead: &str,
@@ -59,7 +49,8 @@ fn push_line(
     out.push_str("\n")
 }
 
-fn no_listing(alloc: Global, bad: BadLine) -> Result<Reply, OutOfMemory>
+/// The reply to bytes that are no listing: 3, the first line that is wrong, and why.
+pub fn no_listing(alloc: Global, bad: BadLine) -> Result<Reply, OutOfMemory>
     ensures status { IfOk result (λ r. r.status ≡ 3) }
     ensures text { IfOk result (λ r. r.text ≡ bad_line_text bad) }
 {
@@ -74,7 +65,9 @@ fn no_listing(alloc: Global, bad: BadLine) -> Result<Reply, OutOfMemory>
     Ok(Reply { status: 3, text })
 }
 
-fn refused(alloc: Global, refusal: Refusal) -> Result<Reply, OutOfMemory>
+/// The reply to a listing whose parts are refused: 4, the address, and the rule. If the refusal is
+/// want of memory, there is none.
+pub fn refused(alloc: Global, refusal: Refusal) -> Result<Reply, OutOfMemory>
     ensures status { IfOk result (λ r. r.status ≡ 4) }
     ensures text { IfOk result (λ r. r.text ≡ refusal_text refusal) }
     ensures rule { IfOk result (λ _. refusal ≢ refusals.Memory) }
@@ -93,38 +86,40 @@ fn refused(alloc: Global, refusal: Refusal) -> Result<Reply, OutOfMemory>
     Ok(Reply { status: 4, text })
 }
 
-/// Verifies what a listing says and runs it.
-fn run_set_up<L: Ledger>(
+/// The reply to a run that ended in a value: 0, what was printed, and the value's report.
+pub fn value_reply(
     alloc: Global,
-    setup: Setup,
-    steps: &mut Steps<L>,
+    printed: &Text,
+    value: &Dynamic,
+    cells: &Store,
 ) -> Result<Reply, OutOfMemory>
-    requires { IsReady setup }
-    ensures { IfOk result (λ r. Replies (Ok (set_up_of setup)) r.status r.text) }
+    ensures status { IfOk result (λ r. r.status ≡ 0) }
+    ensures text { IfOk result (λ r. r.text ≡ printed.now ++ report_value cells.now value.now) }
 {
-    let Setup {
-        parts,
-        limits,
-        fast_operators,
-        host,
-        scope,
-    } = setup;
-    match verify(alloc, parts) {
-        Err(refusal) => refused(alloc, refusal),
-        Ok(program) => run_program(alloc, &program, limits, fast_operators, host, scope, steps),
-    }
+    let report = report_value(alloc, value, cells)?;
+    let mut text = printed.copy(alloc)?;
+    text.push_str(report.as_str())?;
+    Ok(Reply { status: 0, text })
 }
 
-/// Reads a listing, verifies what it says and runs it.
-pub fn run_listing<L: Ledger>(
+/// The reply to a run that ended in a fault: 1, what was printed, and the fault's report. If the
+/// fault is want of memory, there is none.
+pub fn fault_reply(
     alloc: Global,
-    bytes: &[u8],
-    steps: &mut Steps<L>,
+    printed: &Text,
+    fault: &EvalAltResult,
+    trace: &[Fault],
 ) -> Result<Reply, OutOfMemory>
-    ensures { IfOk result (λ r. Replies (reads bytes.now) r.status r.text) }
+    ensures status { IfOk result (λ r. r.status ≡ 1) }
+    ensures text { IfOk result (λ r.
+        r.text ≡ printed.now ++ report_fault (problem_of fault.now) trace.now) }
+    ensures memory { IfOk result (λ _. fault.now ≢ faults.Memory) }
 {
-    match read(alloc, bytes)? {
-        Err(bad) => no_listing(alloc, bad),
-        Ok(setup) => run_set_up(alloc, setup, steps),
+    if let EvalAltResult::Memory = fault {
+        return Err(OutOfMemory);
     }
+    let report = report_fault(alloc, fault, trace)?;
+    let mut text = printed.copy(alloc)?;
+    text.push_str(report.as_str())?;
+    Ok(Reply { status: 1, text })
 }

@@ -1,7 +1,7 @@
 use Rattle.std.proofs.Common.{◌≡◌, rules, Err}
 use Rattle.grain_listing.specs.Reading.{reads}
 use Rattle.grain_commands.proofs.Answering.{answers_reason}
-use Rattle.grain_commands.proofs.replies.run_listing.Goals as goal
+use Rattle.grain_commands.proofs.pipeline.run_listing.Goals as goal
 
 pub returns-in-Err : goal.returns-in-Err
 returns-in-Err g c =

@@ -2,7 +2,7 @@ use Rattle.std.proofs.Common.{◌≡◌, rules}
 use Rattle.grain_program.specs.View.{view_of}
 use Rattle.grain_listing.specs.SetUpView.{set_up_of}
 use Rattle.grain_commands.proofs.Answering.{answers_refusal, answers_end}
-use Rattle.grain_commands.proofs.replies.run_set_up.Goals as goal
+use Rattle.grain_commands.proofs.pipeline.run_set_up.Goals as goal
 
 pub returns-in-Err : goal.returns-in-Err
 returns-in-Err g c =

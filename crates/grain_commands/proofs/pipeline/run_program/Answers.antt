@@ -5,7 +5,7 @@ use Rattle.grain_means.specs.Means.{Begin}
 use Rattle.grain_frame.specs.Machines.{begin, finish}
 use Rattle.grain_commands.specs.Runs.{engine_of, start}
 use Rattle.grain_commands.proofs.Ends.{engine_is, begin_is, value_told, fault_told}
-use Rattle.grain_commands.proofs.execution.run_program.Goals as goal
+use Rattle.grain_commands.proofs.pipeline.run_program.Goals as goal
 
 pub returns-in-Ok : goal.returns-in-Ok
 returns-in-Ok g c =

@@ -1,0 +1,82 @@
+//! What `run` does with the bytes of its source: it reads a listing, verifies what that says, and
+//! runs the program.
+
+ghost use Rattle.std.specs.Prelude.{◌<◌, Ok, IfOk};
+ghost use Rattle.grain_listing.specs.Reading.{reads};
+ghost use Rattle.grain_listing.specs.SetUpView.{set_up_of, IsReady};
+ghost use Rattle.grain_commands.specs.Replies.{Replies};
+ghost use Rattle.grain_commands.specs.Runs.{Reported, engine_of, start};
+
+use crate::replies::{Reply, fault_reply, no_listing, refused, value_reply};
+use grain_host::TableHost;
+use grain_listing::{Setup, read};
+use grain_program::{Program, verify};
+use grain_value::{Limits, OutOfMemory, Scope, Store};
+use grain_vm::{Engine, Steps, Vm};
+use std::alloc::Global;
+use std::sync::ledger::Ledger;
+
+/// Runs the program on the scope, with the host, and reports the end. At least one operation is
+/// allowed.
+fn run_program<L: Ledger>(
+    alloc: Global,
+    program: &Program,
+    limits: Limits,
+    fast_operators: bool,
+    host: TableHost,
+    scope: Scope,
+    steps: &mut Steps<L>,
+) -> Result<Reply, OutOfMemory>
+    requires { 0 < limits.operations }
+    ensures { IfOk result (λ r. Reported program.now (engine_of limits fast_operators)
+        (start scope host) r.status r.text) }
+{
+    let mut engine = Engine::new(alloc, limits);
+    engine.fast_operators = fast_operators;
+    let mut vm = Vm::new(alloc, &engine)?;
+    let mut scope = scope;
+    let mut cells = Store::new(alloc);
+    let mut host = host;
+    match vm.eval_with_callbacks(alloc, &mut host, &mut cells, &mut scope, program, steps) {
+        Ok(value) => value_reply(alloc, host.printed(), &value, &cells),
+        Err(fault) => fault_reply(alloc, host.printed(), &fault, vm.fault_trace()),
+    }
+}
+
+/// Verifies what a listing says and runs it.
+fn run_set_up<L: Ledger>(
+    alloc: Global,
+    setup: Setup,
+    steps: &mut Steps<L>,
+) -> Result<Reply, OutOfMemory>
+    requires { IsReady setup }
+    ensures { IfOk result (λ r. Replies (Ok (set_up_of setup)) r.status r.text) }
+{
+    let Setup {
+        parts,
+        limits,
+        fast_operators,
+        host,
+        scope,
+    } = setup;
+    match verify(alloc, parts) {
+        Err(refusal) => refused(alloc, refusal),
+        Ok(program) => run_program(alloc, &program, limits, fast_operators, host, scope, steps),
+    }
+}
+
+/// Reads a listing, verifies what it says and runs it. The reply's status is 3 if the bytes are no
+/// listing, 4 if its parts are refused, 0 if the run ends in a value and 1 if in a fault. The error
+/// is want of memory, wherever on the way it comes.
+pub fn run_listing<L: Ledger>(
+    alloc: Global,
+    bytes: &[u8],
+    steps: &mut Steps<L>,
+) -> Result<Reply, OutOfMemory>
+    ensures { IfOk result (λ r. Replies (reads bytes.now) r.status r.text) }
+{
+    match read(alloc, bytes)? {
+        Err(bad) => no_listing(alloc, bad),
+        Ok(setup) => run_set_up(alloc, setup, steps),
+    }
+}
