@@ -13,7 +13,7 @@ use Rattle.grain_program.specs.View.{View}
 use Rattle.grain_global.specs.declared.engines.Engine.{Engine}
 use Rattle.grain_value.specs.declared.scopes.Entry.{Entry}
 use Rattle.grain_value.specs.declared.stores.Cell.{Cell}
-use Rattle.grain_frame.specs.Machines.{begin}
+use Rattle.grain_vm.specs.Machines.{begin}
 use Rattle.grain_vm.specs.VmView.{VmView}
 use Rattle.grain_means.specs.Worlds.{Answer, Came, Failed}
 use Rattle.grain_means.specs.Means.{Begin, Finish, Means, Evaluates}

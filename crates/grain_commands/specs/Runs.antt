@@ -11,7 +11,7 @@ use Rattle.grain_program.specs.View.{View}
 use Rattle.grain_global.specs.declared.engines.Engine.{Engine}
 use Rattle.grain_means.specs.Worlds.{Answer, Came, Failed}
 use Rattle.grain_means.specs.Means.{Begin, Finish, Means}
-use Rattle.grain_frame.specs.Machines.{begin}
+use Rattle.grain_vm.specs.Machines.{begin}
 use Rattle.grain_commands.specs.Reports.{report_value, report_fault}
 
 -- the limits that the listing says, and whether it says that operators are fast

@@ -7,9 +7,9 @@ pub mod Cells
 pub mod Table
 pub mod Classes
 pub mod Exits
-pub mod OperatorFaults
 pub mod Positions
 pub mod Texts
 pub mod Chains
 pub mod Fields
+pub mod CatchValues
 pub mod FieldsView

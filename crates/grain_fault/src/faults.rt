@@ -2,7 +2,6 @@
 
 ghost use Rattle.std.specs.Prelude.{◌≡◌, Some, None, IfOk, IfErr};
 ghost use Rattle.grain_fault.specs.Exits.{exit_value};
-ghost use Rattle.grain_fault.specs.OperatorFaults.{IsOperatorFault};
 ghost use Rattle.grain_fault.specs.Places.{nowhere};
 ghost use Rattle.grain_fault.specs.Problems.{Plain, Runtime, problem_of};
 ghost use Rattle.grain_value.specs.declared.values.Dynamic.TheVariants as dynamic;
@@ -118,15 +117,6 @@ pub enum EvalAltResult {
     Memory,
 }
 
-/// What a fault says that a built-in operator raises.
-#[derive(Drop)]
-pub enum OperatorFault {
-    /// Why arithmetic has no result.
-    Arithmetic(Text),
-    /// What of a value would be too large.
-    DataTooLarge(Text),
-}
-
 /// Drops a fault and what it wraps, one after the other: how deep the wrappers are nested takes no
 /// room on the stack.
 impl Drop for EvalAltResult {
@@ -193,17 +183,6 @@ impl EvalAltResult {
         match self {
             EvalAltResult::Exit(value, _) => Ok(value),
             fault => Err(fault),
-        }
-    }
-
-    /// What the fault says, if it is one that a built-in operator raises.
-    pub fn into_operator_fault(self) -> Option<OperatorFault>
-        ensures { IsOperatorFault self result }
-    {
-        match self {
-            EvalAltResult::ErrorArithmetic(reason, _) => Some(OperatorFault::Arithmetic(reason)),
-            EvalAltResult::ErrorDataTooLarge(what, _) => Some(OperatorFault::DataTooLarge(what)),
-            _ => None,
         }
     }
 }

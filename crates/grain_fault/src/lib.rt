@@ -1,6 +1,7 @@
 //! Faults: what ends a run without a value, where it was raised, and how it is printed.
 #![tactic(auto)]
 
+mod catch_values;
 mod chains;
 mod classes;
 mod fault_parts;
@@ -11,6 +12,7 @@ mod places;
 mod positions;
 mod traces;
 
-pub use faults::{EvalAltResult, MalformedKind, OperatorFault, RhaiResult, RhaiResultOf};
+pub use catch_values::caught_value;
+pub use faults::{EvalAltResult, MalformedKind, RhaiResult, RhaiResultOf};
 pub use places::Position;
 pub use traces::{Fault, Faults};

@@ -1,15 +1,15 @@
 -- An op-assignment to the value of an entry is one to the entry.
-use Rattle.std.proofs.Common.{◌≡◌, ◌∙◌, ◌<◌, ℕ, zero, suc, List, [], ◌∷◌, Some, None, Result, Ok, Err, length, refl, ap, subst, arith}
-use Rattle.grain_value.specs.declared.memory.OutOfMemory.{OutOfMemory}
+use Rattle.std.proofs.Common.{◌≡◌, ◌∙◌, ◌<◌, ℕ, zero, suc, List, [], ◌∷◌, Some, None, length, refl, ap, subst, arith}
 use Rattle.grain_value.specs.declared.values.Dynamic.{Dynamic}
 use Rattle.grain_value.specs.declared.values.Held.{Held}
 use Rattle.grain_value.specs.declared.scopes.Entry.{Entry}
 use Rattle.grain_value.specs.Scopes.{set_held}
 use Rattle.grain_ops.specs.Outcomes.{Outcome}
 use Rattle.grain_means.specs.Rules.{held_at}
-use Rattle.grain_frame.specs.Operated.{Assigned, AssignedEntry}
-use Rattle.grain_frame.specs.declared.operated.OpAssigned.{OpAssigned}
-use Rattle.grain_frame.specs.declared.operated.OpAssigned.TheVariants as assigned
+use Rattle.grain_ops.specs.Answers.{Assigns}
+use Rattle.grain_ops.specs.declared.answers.AssignAnswer.{AssignAnswer}
+use Rattle.grain_ops.specs.declared.answers.AssignAnswer.TheVariants as assigned
+use Rattle.grain_frame.specs.Operated.{AssignedEntry}
 
 -- an entry that is written with what it holds is as it was
 pub same_entry : (es : List Entry) (i : ℕ) (h : Held) → held_at es i ≡ Some h → set_held es i h ≡ es
@@ -29,18 +29,14 @@ unchanged : (before after : List Entry) (i : ℕ) (h : Held) (v : Dynamic) →
 unchanged before after i h v is same written =
     written ∙ ap (λ (x : Dynamic). set_held before i (with h x)) same ∙ same_entry before i h is
 
-pub entry_assigned : (r : Result OpAssigned OutOfMemory) (o : Outcome) (before after : List Entry)
-    (i : ℕ) (h : Held) (v : Dynamic) → held_at before i ≡ Some h → Assigned r o h.value v →
+pub entry_assigned : (r : AssignAnswer) (o : Outcome) (before after : List Entry) (i : ℕ) (h : Held)
+    (v : Dynamic) → held_at before i ≡ Some h → Assigns r o h.value v →
     after ≡ set_held before i (with h v) → AssignedEntry r o before after i h
-entry_assigned (Ok assigned.NotBuiltIn) o before after i h v is a written =
+entry_assigned assigned.NotBuiltIn o before after i h v is a written =
     (a.0, unchanged before after i h v is a.1 written)
-entry_assigned (Ok assigned.Done) o before after i h v is a written = (v, a, written)
-entry_assigned (Ok (assigned.Arithmetic text)) o before after i h v is a written =
+entry_assigned assigned.Done o before after i h v is a written = (v, a, written)
+entry_assigned (assigned.Failed x) o before after i h v is a written =
     (a.0, unchanged before after i h v is a.1 written)
-entry_assigned (Ok (assigned.TooLarge what)) o before after i h v is a written =
-    (a.0, unchanged before after i h v is a.1 written)
-entry_assigned (Err e) o before after i h v is a written =
-    unchanged before after i h v is a written
 
 -- an entry within a scope is there
 pub is_there : (es : List Entry) (i : ℕ) → i < length es → held_at es i ≡ None → ⊥

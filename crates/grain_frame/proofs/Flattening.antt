@@ -40,7 +40,7 @@ one_value o a b is also = cc
 
 -- no operator takes three values or more
 pub many_values : (limits : Limits) (token : Token) (vs : List Dynamic) → 3 ≤ length vs →
-    NotBuiltIn ≡ operation limits token vs
+    operation limits token vs ≡ NotBuiltIn
 many_values limits token [] many = absurd (omega (arith, many))
 many_values limits token (a ∷ []) many = absurd (omega (arith, many))
 many_values limits token (a ∷ b ∷ []) many = absurd (omega (arith, many))

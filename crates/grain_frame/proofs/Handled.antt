@@ -4,7 +4,7 @@ use Rattle.grain_program.specs.Shapes.{handled, lacks_handler}
 use Rattle.grain_program.specs.declared.code.effects.Handling.TheVariants as handling
 use Rattle.grain_stack.specs.declared.handlers.Handler.{Handler}
 use Rattle.grain_frame.specs.Abstraction.{tries_in, Above}
-use Rattle.grain_frame.specs.Catching.{armed, around}
+use Rattle.grain_frame.specs.Handling.{armed, around}
 use Rattle.grain_frame.specs.declared.runs.Run.{Run}
 
 -- one handler more

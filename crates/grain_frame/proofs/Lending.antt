@@ -25,9 +25,9 @@ use Rattle.grain_means.specs.Rules.{back_in_cell, back_in_entry, flattened, mark
 use Rattle.grain_means.specs.Simulation.{Computation, Environment, SimulatesExactly, stopped, world}
 use Rattle.grain_means.specs.Means.{setup}
 use Rattle.grain_means.specs.lemmas.Stretches.{then_exactly}
-use Rattle.grain_frame.specs.Counts.{Counts}
-use Rattle.grain_frame.specs.Abstraction.{abstraction, frame_in, continuation, KeepsFrame, Implements}
-use Rattle.grain_frame.specs.Following.{moved, marked_once}
+use Rattle.grain_global.specs.StepsView.{StepsView}
+use Rattle.grain_frame.specs.Abstraction.{abstraction, frame_in, continuation, KeepsFrame, Implements, moment}
+use Rattle.grain_frame.specs.Abstraction.{moved, marked_once}
 use Rattle.grain_frame.specs.Natives.{EndsBy, Serves, served_run}
 use Rattle.grain_frame.specs.Targets.{Assigns, CanBeLent, HoldsAt, put_in, receiver_at, taken_out}
 use Rattle.grain_frame.specs.declared.targets.Target.{Target}
@@ -90,9 +90,9 @@ operator_at m name h u v slot n next f w plain =
     (λ q. write_entry m h slot (record { value = q; read_only = b }) (name_of m.program n) next f
     w1)) (raised m f)) plain refl
 
-module _ {H : Type 0} (law : Law H) (s : Run H) (n : Counts) (host : H) (key : ℕ) (t : Target)
+module _ {H : Type 0} (law : Law H) (s : Run H) (n : StepsView) (host : H) (key : ℕ) (t : Target)
     (h : Held) (values : List Tree) (p : Position) (there : HoldsAt s t h) (left : Args)
-    (host' : H) (n' : Counts) (u back : Held) (mid after : Run H)
+    (host' : H) (n' : StepsView) (u back : Held) (mid after : Run H)
     (taken : mid ≡ taken_out s t u) (given : left.receiver ≡ Some back)
     (put : after ≡ put_in mid t back) where
   held_back : (g : Held) → left.receiver ≡ Some g → after ≡ put_in s t g
@@ -147,7 +147,7 @@ module _ {H : Type 0} (law : Law H) (s : Run H) (n : Counts) (host : H) (key : �
   lends answer r answers ends = by_reply (reply_of answer) answers r ends
 
 module _ {H : Type 0} (law : Law H) (p : View) (engine : Engine) (f : Activation) (s t : Run H)
-    (n k : Counts) (host mid : H) {rule : Computation H} (scope : List Entry) (cells : List Cell)
+    (n k : StepsView) (host mid : H) {rule : Computation H} (scope : List Entry) (cells : List Cell)
     (run : t ≡ record s { scope = scope; cells = cells }) (long : length scope ≡ length s.scope)
     (before : k.before ≡ n.before) (inside : f.base ≤ length s.scope) where
   -- the operand is used up, and the frame goes on
@@ -156,8 +156,9 @@ module _ {H : Type 0} (law : Law H) (p : View) (engine : Engine) (f : Activation
       (λ m place w. onward m (frame_in f s place)
       (stepped (frame_in f s place) next (below s.stacks.operands)) w) →
       stacks ≡ record t.stacks { operands = below t.stacks.operands } → f.address < next →
-      Implements law p engine f s n rule (next ∷ []) 1 0 s.stacks.handlers (Ok progress.Continues)
-      (moved f next) (record t { stacks = stacks }) (marked_once k) host mid
+      Implements (setup law p engine) (moment f s n host) rule (next ∷ []) 1 0 s.stacks.handlers
+      (Ok progress.Continues)
+      (moment (moved f next) (record t { stacks = stacks }) (marked_once k) mid)
   native_used next stacks does es ahead = record {
     same = then_exactly does second;
     kept = keeps;
@@ -195,19 +196,20 @@ module _ {H : Type 0} (law : Law H) (p : View) (engine : Engine) (f : Activation
 
   -- what follows from it is done where the run then stands
   pub native_then : (via : StacksView → Computation H) (f' : Activation) (s' : Run H)
-      (n' : Counts) (host' : H) {ts : List ℕ} {takes gives : ℕ}
+      (n' : StepsView) (host' : H) {ts : List ℕ} {takes gives : ℕ}
       {r : Result Progress OutOfMemory} →
       SimulatesExactly (setup law p engine) (abstraction s n host) rule false
       (abstraction t k mid) (via s.stacks) →
-      Implements law p engine f t k (via t.stacks) ts takes gives t.stacks.handlers r f' s' n' mid
-      host' →
-      Implements law p engine f s n rule ts takes gives s.stacks.handlers r f' s' n' host host'
+      Implements (setup law p engine) (moment f t k mid) (via t.stacks) ts takes gives
+      t.stacks.handlers r (moment f' s' n' host') →
+      Implements (setup law p engine) (moment f s n host) rule ts takes gives s.stacks.handlers r
+      (moment f' s' n' host')
   native_then via f' s' n' host' {ts} {takes} {gives} {r} does second =
       implements_then law p engine f s t n k host mid f' s' n' host' does
       (scope_kept law p engine f s t n k host mid scope cells run long inside)
       (ap (λ (q : Run H). q.stacks) run) before
-      (subst (λ (v : StacksView). Implements law p engine f t k (via v) ts takes gives v.handlers r
-      f' s' n' mid host') (ap (λ (q : Run H). q.stacks) run) second)
+      (subst (λ (v : StacksView). Implements (setup law p engine) (moment f t k mid) (via v) ts
+      takes gives v.handlers r (moment f' s' n' host')) (ap (λ (q : Run H). q.stacks) run) second)
 
 -- a target is written beside the operands
 put_stacks : {H : Type 0} (s : Run H) (v : StacksView) (i : ℕ) (c : Option ℕ) (h : Held) →
@@ -222,7 +224,7 @@ put_keeps s i None h = refl
 put_keeps s i (Some n) h = refl
 
 module _ {H : Type 0} (law : Law H) (p : View) (engine : Engine) (f : Activation) (s : Run H)
-    (n : Counts) (host : H) (t : Target) (h : Held) (slot next : ℕ) (to : Assigns f t slot h)
+    (n : StepsView) (host : H) (t : Target) (h : Held) (slot next : ℕ) (to : Assigns f t slot h)
     (can : CanBeLent s t) (inside : f.base ≤ length s.scope)
     (operand : 0 < length s.stacks.operands) (ahead : f.address < next) where
   -- the target is written, the operand is used up, and the frame goes on
@@ -234,8 +236,8 @@ module _ {H : Type 0} (law : Law H) (p : View) (engine : Engine) (f : Activation
       ≡ write_entry (stopped (setup law p engine) stop) h slot g
       (name (stopped (setup law p engine) stop)) next (frame_in f s place)
       (world (abstraction s n host) u)) →
-      Implements law p engine f s n rule (next ∷ []) 1 0 s.stacks.handlers (Ok progress.Continues)
-      (moved f next) after (marked_once (marked_once n)) host host
+      Implements (setup law p engine) (moment f s n host) rule (next ∷ []) 1 0 s.stacks.handlers
+      (Ok progress.Continues) (moment (moved f next) after (marked_once (marked_once n)) host)
   writes g name stacks after {rule} popped is alike = rw after_is (record {
     same = record {
       this = refl;
@@ -296,8 +298,9 @@ module _ {H : Type 0} (law : Law H) (p : View) (engine : Engine) (f : Activation
       ≡ write_entry (stopped (setup law p engine) stop) h slot g
       (name (stopped (setup law p engine) stop)) next (frame_in f s place)
       (world (abstraction s n host) u)) →
-      Implements law p engine f s n rule (next ∷ []) 1 0 s.stacks.handlers (Ok progress.Continues)
-      (moved f next) (record mid { stacks = stacks }) (marked_once (marked_once n)) host host
+      Implements (setup law p engine) (moment f s n host) rule (next ∷ []) 1 0 s.stacks.handlers
+      (Ok progress.Continues) (moment (moved f next) (record mid { stacks = stacks })
+      (marked_once (marked_once n)) host)
   writes_first g name mid stacks written popped alike =
       writes g name stacks (record mid { stacks = stacks })
       (popped ∙ ap (λ (v : StacksView). record v { operands = below v.operands }) same)

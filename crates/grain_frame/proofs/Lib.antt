@@ -1,24 +1,10 @@
-pub mod Measure
-pub mod Turns
-pub mod Mains
-pub mod Arms
-pub mod Branching
-pub mod Loading
-pub mod Evaluated
-pub mod Pairs
-pub mod Calling
-pub mod Found
-pub mod AssignedEntries
-pub mod Failing
-pub mod Flattening
-pub mod Charging
-pub mod Serving
-pub mod Signing
-pub mod Jumping
-pub mod Handing
-pub mod Targeting
-pub mod Sharing
-pub mod Lending
-pub mod Handled
-pub mod Offering
-pub mod CatchSteps
+mod AssignedEntries
+mod Flattening
+mod Currying
+mod Serving
+mod Jumping
+mod Handing
+mod Targeting
+mod Sharing
+mod Lending
+mod Handled

@@ -17,15 +17,15 @@ use Rattle.grain_global.specs.declared.engines.Engine.{Engine}
 use Rattle.grain_stack.specs.declared.handlers.Handler.{Handler}
 use Rattle.grain_means.specs.Worlds.{Act, Frame, Place, Setup, World}
 use Rattle.grain_means.specs.Rules.{Receiver, native, kinds_in, trees_in, raised}
-use Rattle.grain_means.specs.Signatures.{not_found}
+use Rattle.grain_host.specs.Signatures.{not_found}
 use Rattle.grain_value.specs.View.{value_of}
 use Rattle.grain_value.specs.laws.Same.{value_of-tree}
 use Rattle.grain_frame.specs.declared.native_calls.Arguments.{Arguments}
 use Rattle.grain_means.specs.Simulation.{Computation, SimulatesExactly}
 use Rattle.grain_means.specs.Means.{setup}
 use Rattle.grain_means.specs.lemmas.Stretches.{then_exactly}
-use Rattle.grain_frame.specs.Counts.{Counts}
-use Rattle.grain_frame.specs.Abstraction.{abstraction, frame_in, is_out, continuation, native_continuation, KeepsFrame, ContinuesAt, Progresses, Implements}
+use Rattle.grain_global.specs.StepsView.{StepsView}
+use Rattle.grain_frame.specs.Abstraction.{abstraction, frame_in, is_out, continuation, native_continuation, KeepsFrame, ContinuesAt, Progresses, Implements, moment}
 use Rattle.grain_frame.specs.Natives.{Describes, Seeks, Serves}
 use Rattle.grain_frame.specs.declared.activations.Activation.{Activation}
 use Rattle.grain_frame.specs.declared.native_calls.NativeEnd.{NativeEnd}
@@ -55,7 +55,8 @@ seeks_none law host name word args a q x describes none same is = inl (
 
 -- no native takes what is lent and this argument
 pub lent_none : {H : Type 0} (law : Law H) (host : H) (name word : List ℕ) (index : ℕ)
-    (cell : Option ℕ) (h v : Held) (kinds : List ℕ) (values : List Tree) (q : Position) (x : EvalAltResult) →
+    (cell : Option ℕ) (h v : Held) (kinds : List ℕ) (values : List Tree) (q : Position) (x :
+    EvalAltResult) →
     kinds ≡ kinds_in (h ∷ v ∷ []) → values ≡ trees_in (h ∷ v ∷ []) →
     native_of law host word kinds ≡ None → word ≡ name →
     problem_of x ≡ not_found name (map value_of values) q →
@@ -68,13 +69,13 @@ lent_none law host name word index cell h v kinds values q x kinds_are trees_are
       (ap (λ (ts : List Tree). map value_of ts) trees_are ∙ values_are (h ∷ v ∷ [])),
 )
 
-module _ {H : Type 0} (law : Law H) (s : Run H) (n : Counts) (host : H) (q : Position)
+module _ {H : Type 0} (law : Law H) (s : Run H) (n : StepsView) (host : H) (q : Position)
     (m : Setup H) (name : List ℕ) (lend : Option Receiver) (args : List Held)
     (f : Option Place → Frame) (go : Setup H → Option Place → Dynamic → World H → Act H)
     (fails : Setup H → Option Place → Problem → World H → Act H) (own : m.law ≡ law)
     (at : (place : Option Place) → position_of m.program (f place).address ≡ q) where
   -- what the code says of a native that it was to call
-  abbrev pub Calls : Result NativeEnd OutOfMemory → Run H → Counts → H → Type 0
+  abbrev pub Calls : Result NativeEnd OutOfMemory → Run H → StepsView → H → Type 0
   Calls r s' n' host' = SimulatesExactly m (abstraction s n host)
       (λ m place w. native m name lend args (f place) w (go m place) (fails m place))
       (is_out r) (abstraction s' n' host') (native_continuation r f go fails)
@@ -95,7 +96,7 @@ module _ {H : Type 0} (law : Law H) (s : Run H) (n : Counts) (host : H) (q : Pos
 
   -- it is called
   pub serves : (key : ℕ) (values : List Tree) (r : Result NativeEnd OutOfMemory) (s' : Run H)
-      (n' : Counts) (host' : H) → Seeks law host name lend args q (sought.Native key values) →
+      (n' : StepsView) (host' : H) → Seeks law host name lend args q (sought.Native key values) →
       Serves law s n host key lend values q r s' n' host' → Calls r s' n' host'
   serves key values r s' n' host' seeks did =
       called r (subst (λ (ts : List Tree). Serves law s n host seeks.0.key lend ts q r s' n' host')
@@ -172,16 +173,18 @@ later_lands engine f f' s t s' ts takes gives hs (Ok progress.Failed) le es l = 
 later_lands engine f f' s t s' ts takes gives hs (Err e) le es l = tt
 
 module _ {H : Type 0} (law : Law H) (p : View) (engine : Engine) (f : Activation) (s t : Run H)
-    (n k : Counts) (host mid : H) where
+    (n k : StepsView) (host mid : H) where
   -- a rule that begins with a stretch at which the frame stays
-  pub implements_then : (f' : Activation) (s' : Run H) (n' : Counts) (host' : H)
+  pub implements_then : (f' : Activation) (s' : Run H) (n' : StepsView) (host' : H)
       {rule via : Computation H} {ts : List ℕ} {takes gives : ℕ} {hs : List Handler}
       {r : Result Progress OutOfMemory} →
       SimulatesExactly (setup law p engine) (abstraction s n host) rule false
       (abstraction t k mid) via → KeepsFrame f s f t → t.stacks ≡ s.stacks →
       k.before ≡ n.before →
-      Implements law p engine f t k via ts takes gives hs r f' s' n' mid host' →
-      Implements law p engine f s n rule ts takes gives hs r f' s' n' host host'
+      Implements (setup law p engine) (moment f t k mid) via ts takes gives hs r
+      (moment f' s' n' host') →
+      Implements (setup law p engine) (moment f s n host) rule ts takes gives hs r
+      (moment f' s' n' host')
   implements_then f' s' n' host' {rule} {via} {ts} {takes} {gives} {hs} {r} first kept stacks before
       does = record {
         same = then_exactly first does.same;
@@ -209,13 +212,15 @@ module _ {H : Type 0} (law : Law H) (p : View) (engine : Engine) (f : Activation
   module _ {rule : Computation H} {ts : List ℕ} {takes gives : ℕ} {hs : List Handler}
       (go : Setup H → Option Place → Dynamic → World H → Act H)
       (fails : Setup H → Option Place → Problem → World H → Act H) (scope : List Entry)
-      (cells : List Cell) (run : t ≡ record s { scope = scope; cells = cells }) (long : length scope ≡ length s.scope)
+      (cells : List Cell) (run : t ≡ record s { scope = scope; cells = cells }) (long : length scope
+      ≡ length s.scope)
       (before : k.before ≡ n.before) (inside : f.base ≤ length s.scope) where
     -- memory is out
     pub native_wants : (e : OutOfMemory) (r : Result Progress OutOfMemory) → is_out r ≡ true →
         SimulatesExactly (setup law p engine) (abstraction s n host) rule true
         (abstraction t k mid) (native_continuation (Err e) (frame_in f s) go fails) →
-        Implements law p engine f s n rule ts takes gives hs r f t k host mid
+        Implements (setup law p engine) (moment f s n host) rule ts takes gives hs r
+        (moment f t k mid)
     native_wants e (Ok y) er does = absurd cc
     native_wants e (Err y) er does = record {
       same = rw run (record {
@@ -229,11 +234,12 @@ module _ {H : Type 0} (law : Law H) (p : View) (engine : Engine) (f : Activation
     }
 
     -- its fault is raised
-    pub native_raised : (x : EvalAltResult) (s' : Run H) (n' : Counts) →
+    pub native_raised : (x : EvalAltResult) (s' : Run H) (n' : StepsView) →
         SimulatesExactly (setup law p engine) (abstraction s n host) rule false
         (abstraction t k mid) (λ m place w. raised m (frame_in f s place) (problem_of x) w) →
         s' ≡ record t { fault = x } → n' ≡ record k { passed = k.passed + 1 } →
-        Implements law p engine f s n rule ts takes gives hs (Ok progress.Failed) f s' n' host mid
+        Implements (setup law p engine) (moment f s n host) rule ts takes gives hs (Ok
+        progress.Failed) (moment f s' n' mid)
     native_raised x s' n' does es en = record {
       same = then_exactly does second;
       kept = kept_on f f f s t s' (scope_kept scope cells run long inside) (rw (es, run) (record {

@@ -11,25 +11,26 @@ use Rattle.grain_host.specs.Law.{Law}
 use Rattle.grain_global.specs.declared.engines.Engine.{Engine}
 use Rattle.grain_means.specs.Rules.{shared}
 use Rattle.grain_means.specs.lemmas.Scopes.{length_set_held}
-use Rattle.grain_frame.specs.Counts.{Counts}
-use Rattle.grain_frame.specs.Abstraction.{frame_in, Implements}
-use Rattle.grain_frame.specs.Following.{moved, marked_once}
+use Rattle.grain_global.specs.StepsView.{StepsView}
+use Rattle.grain_means.specs.Means.{setup}
+use Rattle.grain_frame.specs.Abstraction.{frame_in, Implements, moment}
+use Rattle.grain_frame.specs.Abstraction.{moved, marked_once}
 use Rattle.grain_frame.specs.declared.activations.Activation.{Activation}
 use Rattle.grain_frame.specs.declared.runs.Progress.TheVariants as progress
 use Rattle.grain_frame.specs.declared.runs.Run.{Run}
 use Rattle.grain_frame.proofs.Targeting.{entry_twice}
 
 pub shares : {H : Type 0} (law : Law H) (p : View) (engine : Engine) (f : Activation) (s : Run H)
-    (n : Counts) (host : H) (h : Held) (slot index next cell : ℕ) (mid : Run H)
+    (n : StepsView) (host : H) (h : Held) (slot index next cell : ℕ) (mid : Run H)
     (scope : List Entry) → f.base + slot ≡ index → cell ≡ length s.cells →
     mid ≡ record s {
       scope = set_held s.scope index (read_write dynamic.Unit);
       cells = s.cells ++ idle h ∷ [];
     } → scope ≡ set_held mid.scope index (read_write (dynamic.Cell cell)) →
     f.base ≤ length s.scope → f.address < next →
-    Implements law p engine f s n (λ m place w. shared m None h slot next (frame_in f s place) w)
-    (next ∷ []) 0 0 s.stacks.handlers (Ok progress.Continues) (moved f next)
-    (record mid { scope = scope }) (marked_once (marked_once (marked_once n))) host host
+    Implements (setup law p engine) (moment f s n host) (λ m place w. shared m None h slot next
+    (frame_in f s place) w) (next ∷ []) 0 0 s.stacks.handlers (Ok progress.Continues) (moment (moved
+    f next) (record mid { scope = scope }) (marked_once (marked_once (marked_once n))) host)
 shares {H = H} law p engine f s n host h slot index next cell mid scope at number made written
     inside ahead = rw after_is (record {
       same = record {

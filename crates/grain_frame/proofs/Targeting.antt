@@ -1,5 +1,5 @@
 -- What a target holds is taken out of it, and something is put back.
-use Rattle.std.proofs.Common.{◌≡◌, ◌∙◌, ◌<◌, ◌+◌, ℕ, zero, suc, List, [], ◌∷◌, Option, Some, None, Bool, true, false, Result, Ok, Err, length, refl, sym, ap, subst, arith}
+use Rattle.std.proofs.Common.{◌≡◌, ◌∙◌, ◌<◌, ◌+◌, ℕ, zero, suc, List, [], ◌∷◌, Option, Some, None, Bool, true, false, length, refl, sym, ap, subst, arith}
 use Rattle.std.specs.Prelude.{◌||◌, is_some, option_map, slice_get, slice_set}
 use Rattle.grain_value.specs.Cells.{content, content_flag, flat, idle, is_busy, lent, standing}
 use Rattle.grain_value.specs.Looking.{cell_of}
@@ -7,7 +7,6 @@ use Rattle.grain_value.specs.Operands.{read_write}
 use Rattle.grain_value.specs.Scopes.{set_held}
 use Rattle.grain_value.specs.declared.scopes.Entry.{Entry}
 use Rattle.grain_value.specs.declared.stores.Cell.{Cell}
-use Rattle.grain_value.specs.declared.memory.OutOfMemory.{OutOfMemory}
 use Rattle.grain_value.specs.declared.values.Dynamic.{Dynamic}
 use Rattle.grain_value.specs.declared.values.Dynamic.TheVariants as dynamic
 use Rattle.grain_value.specs.declared.values.Held.{Held}
@@ -15,16 +14,16 @@ use Rattle.grain_fault.specs.Problems.{Problem}
 use Rattle.grain_program.specs.View.{name_of}
 use Rattle.grain_program.specs.declared.code.parts.AssignOp.{AssignOp}
 use Rattle.grain_means.specs.Worlds.{Act, Frame, Place, Setup, World}
-use Rattle.grain_means.specs.Signatures.{says_missing}
+use Rattle.grain_host.specs.Signatures.{says_missing}
 use Rattle.grain_means.specs.Rules.{back_in_cell, back_in_entry, cell_written, content_now, flag_of_cell, held_at, held_or, marked, op_assign_failed, operator_assigned, written}
 use Rattle.grain_means.specs.lemmas.Scopes.{length_set_held}
 use Rattle.grain_frame.specs.Targets.{AssignedTarget, Assigns, CanBeLent, FreeCell, HeldBy, HoldsAt, IsLentAt, content_at, put_in, taken_out, value_or_unit}
 use Rattle.grain_ops.specs.Outcomes.{Outcome}
 use Rattle.grain_frame.specs.Abstraction.{frame_in}
 use Rattle.grain_frame.specs.declared.activations.Activation.{Activation}
-use Rattle.grain_frame.specs.Operated.{Assigned}
-use Rattle.grain_frame.specs.declared.operated.OpAssigned.{OpAssigned}
-use Rattle.grain_frame.specs.declared.operated.OpAssigned.TheVariants as assigned
+use Rattle.grain_ops.specs.Answers as ops
+use Rattle.grain_ops.specs.declared.answers.AssignAnswer.{AssignAnswer}
+use Rattle.grain_ops.specs.declared.answers.AssignAnswer.TheVariants as assigned
 use Rattle.grain_frame.specs.declared.runs.Run.{Run}
 use Rattle.grain_frame.specs.declared.targets.Target.{Target}
 use Rattle.grain_frame.proofs.AssignedEntries.{same_entry}
@@ -248,24 +247,22 @@ module _ {H : Type 0} (s : Run H) (n i : ℕ) (h : Held) (v : Dynamic) (mid afte
     (holds : slice_get s.cells n ≡ Some (idle h)) (taken : mid ≡ slice_set s.cells n (lent h))
     (back : after ≡ slice_set mid n (idle (record h { value = v }))) where
   written_once : after ≡ slice_set s.cells n (idle (record h { value = v }))
-  written_once = back ∙ (ap (λ (cs : List Cell). slice_set cs n (idle (record h { value = v }))) taken
-      ∙ cell_twice s.cells n (lent h) (idle (record h { value = v })))
+  written_once = back ∙
+      (ap (λ (cs : List Cell). slice_set cs n (idle (record h { value = v }))) taken ∙ cell_twice s.cells n (lent h) (idle (record h { value = v })))
 
   as_before : v ≡ h.value → record s { cells = after } ≡ s
   as_before same =
       ap (λ (cs : List Cell). record s { cells = cs })
-      (written_once ∙ (ap (λ (x : Dynamic). slice_set s.cells n (idle (record h { value = x }))) same
+      (written_once ∙ (ap (λ (x : Dynamic). slice_set s.cells n (idle (record h { value = x })))
+      same
       ∙ same_cell s.cells n (idle h) holds))
 
-  pub content_assigned : (r : Result OpAssigned OutOfMemory) (o : Outcome) →
-      Assigned r o h.value v →
+  pub content_assigned : (r : AssignAnswer) (o : Outcome) → ops.Assigns r o h.value v →
       AssignedTarget r o s (record s { cells = after }) (record { index = i; cell = Some n }) h
-  content_assigned (Ok assigned.NotBuiltIn) o did = (did.0, as_before did.1)
-  content_assigned (Ok assigned.Done) o did =
+  content_assigned assigned.NotBuiltIn o did = (did.0, as_before did.1)
+  content_assigned assigned.Done o did =
       (v, did, ap (λ (cs : List Cell). record s { cells = cs }) written_once)
-  content_assigned (Ok (assigned.Arithmetic text)) o did = (did.0, as_before did.1)
-  content_assigned (Ok (assigned.TooLarge what)) o did = (did.0, as_before did.1)
-  content_assigned (Err e) o did = as_before did
+  content_assigned (assigned.Failed x) o did = (did.0, as_before did.1)
 
 -- a target that can be lent holds something
 pub held_there : {H : Type 0} (s : Run H) (t : Target) → CanBeLent s t →
@@ -318,8 +315,8 @@ pub readable_free : {H : Type 0} (s : Run H) (v : Dynamic) (c : Option ℕ) → 
     is_some (flat s.cells v) ≡ true → FreeCell s c
 readable_free s v None is read = tt
 readable_free s v (Some n) is read = by_cell (slice_get s.cells n) (rw is at read) where
-  by_flag : (h : Held) (b : Bool) → is_some (content (Some (record { held = h; busy = b }))) ≡ true →
-      Some b ≡ Some false
+  by_flag : (h : Held) (b : Bool) →
+      is_some (content (Some (record { held = h; busy = b }))) ≡ true → Some b ≡ Some false
   by_flag h true read = absurd cc
   by_flag h false read = refl
 

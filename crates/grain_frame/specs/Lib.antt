@@ -1,19 +1,14 @@
--- How the machine's code is joined to the meaning. A reader of the public contracts reads Counts
--- and Machines; Abstraction has the words of the contracts inside.
-pub mod Counts
-pub mod MachineView
-pub mod Machines
+-- How the machine's code is joined to the meaning: what the code has of a world, and what a stretch of
+-- it does. `lemmas` has what the crate above cites.
 pub mod Abstraction
-pub mod Catching
-pub mod Following
+pub mod Handling
 pub mod Operated
 pub mod Natives
 pub mod Targets
 pub mod Pointers
-pub mod Finding
+pub mod lemmas
+pub use Rattle.grain_global.specs.StepsView
 pub use Rattle.grain_means.specs.Means
-pub use Rattle.grain_means.specs.Causes
-pub use Rattle.grain_means.specs.Comes
-pub use Rattle.grain_means.specs.Leavings
 pub use Rattle.grain_means.specs.Worlds
+pub use Rattle.grain_means.specs.Rules
 pub use Rattle.grain_stack.specs.Views

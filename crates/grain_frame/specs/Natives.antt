@@ -10,9 +10,9 @@ use Rattle.grain_fault.specs.Positions.{at_position_if_none}
 use Rattle.grain_fault.specs.Problems.{Problem, Plain, NonPureCall, problem_of}
 use Rattle.grain_host.specs.Law.{Law, Reply, native_of}
 use Rattle.grain_host.specs.Law as reply
-use Rattle.grain_means.specs.Signatures.{not_found}
-use Rattle.grain_means.specs.Rules.{Receiver, lent, given, given_back, cells_given_back, kinds_in, trees_in, first_is_read_only}
-use Rattle.grain_frame.specs.Counts.{Counts}
+use Rattle.grain_host.specs.Signatures.{not_found}
+use Rattle.grain_means.specs.Rules.{Receiver, lent_held, given, given_back, cells_given_back, kinds_in, trees_in, first_is_read_only}
+use Rattle.grain_global.specs.StepsView.{StepsView}
 use Rattle.grain_frame.specs.declared.native_calls.Arguments.{Arguments}
 use Rattle.grain_frame.specs.declared.native_calls.Sought.{Sought}
 use Rattle.grain_frame.specs.declared.native_calls.Sought.TheVariants as sought
@@ -42,7 +42,7 @@ Seeks law s name r args p (sought.Fault x) =
     × (problem_of x ≡ Plain (NonPureCall name) p))
 
 -- what comes of the host's answer: two marks are passed, or where memory is out, none
-abbrev pub EndsBy : Option Reply → Position → Result NativeEnd OutOfMemory → Counts → Counts →
+abbrev pub EndsBy : Option Reply → Position → Result NativeEnd OutOfMemory → StepsView → StepsView →
     Type 0
 EndsBy said p (Ok (native_end.Value v)) n n' =
     (said ≡ Some (reply.Done v)) × (n' ≡ record n { passed = n.passed + 1 + 1 })
@@ -61,16 +61,16 @@ served_run law s host key r values =
 
 -- the host was called with a key, what is lent and values: two marks are passed; where memory is
 -- out, nothing changed
-abbrev pub Serves : {H : Type 0} → Law H → Run H → Counts → H → ℕ → Option Receiver → List Tree →
-    Position → Result NativeEnd OutOfMemory → Run H → Counts → H → Type 0
+abbrev pub Serves : {H : Type 0} → Law H → Run H → StepsView → H → ℕ → Option Receiver → List Tree →
+    Position → Result NativeEnd OutOfMemory → Run H → StepsView → H → Type 0
 Serves law s n host key r values p (Ok (native_end.Value v)) s' n' host' =
-    (reply.Done v ≡ law.call_reply host key (lent r) values)
-    × (host' ≡ law.call_after host key (lent r) values)
+    (reply.Done v ≡ law.call_reply host key (lent_held r) values)
+    × (host' ≡ law.call_after host key (lent_held r) values)
     × (s' ≡ served_run law s host key r values)
     × (n' ≡ record n { passed = n.passed + 1 + 1 })
 Serves law s n host key r values p (Ok (native_end.Fault x)) s' n' host' = (y : Problem)
-    × (reply.Failed y ≡ law.call_reply host key (lent r) values)
-    × (host' ≡ law.call_after host key (lent r) values)
+    × (reply.Failed y ≡ law.call_reply host key (lent_held r) values)
+    × (host' ≡ law.call_after host key (lent_held r) values)
     × (problem_of x ≡ at_position_if_none p y) × (s' ≡ served_run law s host key r values)
     × (n' ≡ record n { passed = n.passed + 1 + 1 })
 Serves law s n host key r values p (Err e) s' n' host' = (host' ≡ host) × (s' ≡ s) × (n' ≡ n)

@@ -1,5 +1,5 @@
 -- Where an assignment writes: an entry of the scope, or the cell that it is.
-use Rattle.std.specs.Prelude.{◌≡◌, ◌<◌, ◌+◌, ℕ, List, Option, Some, None, length, option_map, slice_get, slice_set, true, false, Result, Ok, Err}
+use Rattle.std.specs.Prelude.{◌≡◌, ◌<◌, ◌≤◌, ◌+◌, ℕ, List, Option, Some, None, length, option_map, slice_get, slice_set, true, false}
 use Rattle.grain_value.specs.declared.values.Dynamic.{Dynamic}
 use Rattle.grain_value.specs.declared.values.Dynamic.TheVariants as dynamic
 use Rattle.grain_value.specs.declared.values.Held.{Held}
@@ -8,12 +8,14 @@ use Rattle.grain_value.specs.Looking.{cell_of}
 use Rattle.grain_value.specs.Operands.{read_write, top}
 use Rattle.grain_value.specs.Cells.{idle, lent, is_busy, standing}
 use Rattle.grain_means.specs.Rules.{Receiver, flag_of_cell, held_at}
-use Rattle.grain_value.specs.declared.memory.OutOfMemory.{OutOfMemory}
-use Rattle.grain_ops.specs.Outcomes.{Outcome, NotBuiltIn, Gave, ArithmeticFault, TooLarge}
+use Rattle.grain_ops.specs.Outcomes.{Outcome, NotBuiltIn, Gave}
 use Rattle.grain_frame.specs.declared.activations.Activation.{Activation}
-use Rattle.grain_frame.specs.declared.operated.OpAssigned.{OpAssigned}
-use Rattle.grain_frame.specs.declared.operated.OpAssigned.TheVariants as assigned
+use Rattle.grain_program.specs.View.{View}
+use Rattle.grain_ops.specs.Answers.{FailsSo}
+use Rattle.grain_ops.specs.declared.answers.AssignAnswer.{AssignAnswer}
+use Rattle.grain_ops.specs.declared.answers.AssignAnswer.TheVariants as assigned
 use Rattle.grain_frame.specs.declared.runs.Run.{Run}
+use Rattle.grain_frame.specs.declared.assignments.Assignment.{Assignment}
 use Rattle.grain_frame.specs.declared.targets.Target.{Target}
 
 -- the entry is there, and the cell, which is not lent
@@ -96,13 +98,23 @@ pub record AssignsHere {H : Type 0} (s : Run H) (f : Activation) (t : Target) (s
   pub there : held_at s.scope t.index ≡ Some h
   pub flag : flag_of_cell t.cell s.cells ≡ false
 
+-- an op-assignment can be done: its target can be lent, the operand is there, and the names are in
+-- their pool
+pub record CanAssign {H : Type 0} (p : View) (f : Activation) (s : Run H) (a : Assignment) :
+    Type 0 where
+  pub inside : f.base ≤ length s.scope
+  pub target : CanBeLent s a.target
+  pub operand : 0 < length s.stacks.operands
+  pub ahead : f.address < a.next
+  pub first : a.operator.op_assign_name < length p.names
+  pub second : a.operator.op_name < length p.names
+  pub variable : a.variable < length p.names
+
 -- an op-assignment writes the target if it is done, with the flag that it had, and changes nothing
 -- else
-abbrev pub AssignedTarget : {H : Type 0} → Result OpAssigned OutOfMemory → Outcome →
-    (old new : Run H) → Target → Held → Type 0
-AssignedTarget (Ok assigned.NotBuiltIn) o s s' t h = (o ≡ NotBuiltIn) × (s' ≡ s)
-AssignedTarget (Ok assigned.Done) o s s' t h =
+abbrev pub AssignedTarget : {H : Type 0} → AssignAnswer → Outcome → (old new : Run H) → Target →
+    Held → Type 0
+AssignedTarget assigned.NotBuiltIn o s s' t h = (o ≡ NotBuiltIn) × (s' ≡ s)
+AssignedTarget assigned.Done o s s' t h =
     (v : Dynamic) × (o ≡ Gave v) × (s' ≡ put_in s t (record h { value = v }))
-AssignedTarget (Ok (assigned.Arithmetic text)) o s s' t h = (o ≡ ArithmeticFault text) × (s' ≡ s)
-AssignedTarget (Ok (assigned.TooLarge what)) o s s' t h = (o ≡ TooLarge what) × (s' ≡ s)
-AssignedTarget (Err e) o s s' t h = s' ≡ s
+AssignedTarget (assigned.Failed x) o s s' t h = FailsSo x o × (s' ≡ s)

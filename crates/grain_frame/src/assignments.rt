@@ -1,29 +1,42 @@
 //! Assignments to an entry of the scope, or to the cell that it is.
 
-ghost use Rattle.std.specs.Prelude.{◌≡◌, ◌<◌, ◌≤◌, ◌+◌, ◌∷◌, [], ℕ, length, Ok, Some, None, IfOk, IfSome, is_some, true, slice_get};
+ghost use Rattle.std.specs.Prelude.{◌≡◌, ◌<◌, ◌≤◌, ◌∷◌, [], ℕ, length, Some, None, IfOk, IfSome, is_some, true, slice_get};
 ghost use Rattle.grain_value.specs.declared.values.Held.{Held};
 ghost use Rattle.grain_value.specs.Cells.{flat, idle};
 ghost use Rattle.grain_value.specs.Operands.{top};
 ghost use Rattle.grain_program.specs.Indices.{InPools};
-ghost use Rattle.grain_program.specs.declared.code.instruction_set.Op.TheVariants as op;
 ghost use Rattle.grain_means.specs.Rules.{flag_of_cell, held_at, if_fast, op_assigned, store_outcome};
 ghost use Rattle.grain_ops.specs.Outcomes.{Gave};
 ghost use Rattle.grain_ops.specs.Operators.{assignment};
+ghost use Rattle.grain_frame.specs.Abstraction.{frame_in, Implements, Performs, Ready, setup_of, moment};
+ghost use Rattle.grain_frame.specs.Targets.{FreeCell, CanBeLent, HoldsAt, AssignedTarget, AssignsHere, CanAssign, content_at, kept_operand, kept_value};
+ghost use Rattle.grain_program.specs.declared.code.instruction_set.Op.TheVariants as op;
 ghost use Rattle.grain_value.specs.declared.values.Dynamic.TheVariants as dynamic;
-ghost use Rattle.grain_frame.specs.Abstraction.{frame_in, Implements, Performs, Ready};
-ghost use Rattle.grain_frame.specs.Targets.{FreeCell, CanBeLent, HoldsAt, AssignedTarget, AssignsHere, content_at, kept_operand, kept_value};
 
 use crate::activations::Activation;
 use crate::contexts::Context;
-use crate::operated::{OpAssigned, assign_entry, op_assigned, quick_assigned};
+use crate::operated::{assign_entry, quick_assigned};
 use crate::runs::{Progress, Run};
-use crate::steps::Steps;
 use crate::targets::Target;
+use grain_global::Steps;
 use grain_host::Host;
+use grain_ops::{AssignAnswer, assign};
 use grain_program::AssignOp;
 use grain_stack::Stacks;
 use grain_value::{Dynamic, Held, OutOfMemory, Token};
 use std::sync::ledger::Ledger;
+
+/// An op-assignment of the last operand: where it writes, the index of the variable's name, the
+/// operators, the copy of the content of the operand's cell that was kept, if it is one, and the
+/// address at which the frame goes on.
+#[derive(Drop)]
+pub struct Assignment {
+    pub target: Target,
+    pub variable: u16,
+    pub operator: AssignOp,
+    pub kept: Option<Dynamic>,
+    pub next: usize,
+}
 
 /// The last operand as it was read: the copy of its cell's content that was kept, or the operand
 /// itself, if it is no cell.
@@ -52,9 +65,8 @@ impl<H: Host> Run<H> {
         requires ready { Ready frame.old self.old (op.AssignLocal slot name) next }
         requires pools { InPools context.program.now (op.AssignLocal slot name) }
         ensures performs { (host : H) →
-            Performs H.law context.entry.program.now context.entry.engine.now frame.old self.old
-            steps.old (op.AssignLocal slot name) next result frame.new self.new steps.new host
-            host }
+            Performs (setup_of H.law context.entry) (moment frame.old self.old steps.old host)
+            (op.AssignLocal slot name) next result (moment frame.new self.new steps.new host) }
     {
         let index = self.slot_index(frame, slot);
         let Some(held) = self.scope.get(index) else {
@@ -64,13 +76,13 @@ impl<H: Host> Run<H> {
         let free = held.value.flat(&self.cells).is_some();
         let read_only = held.read_only | self.is_constant(cell);
         if !self.is_readable() {
-            return self.variable_lent(context, steps, frame.address, name);
+            return self.data_race_of(context, steps, frame.address, name);
         }
         if read_only {
             return self.assignment_to_constant(context, steps, frame.address, name);
         }
         if !free {
-            return self.variable_lent(context, steps, frame.address, name);
+            return self.data_race_of(context, steps, frame.address, name);
         }
         let value = self.take_flat()?;
         self.write(Target { index, cell }, Held::read_write(value));
@@ -95,9 +107,9 @@ impl<H: Host> Run<H> {
     ) -> Result<Progress, OutOfMemory>
         requires ready { Ready frame.old self.old (op.AssignLocalOp slot name assign_op) next }
         requires pools { InPools context.program.now (op.AssignLocalOp slot name assign_op) }
-        ensures performs { Performs H.law context.entry.program.now context.entry.engine.now
-            frame.old self.old steps.old (op.AssignLocalOp slot name assign_op) next result
-            frame.new self.new steps.new host.old host.new }
+        ensures performs { Performs (setup_of H.law context.entry)
+            (moment frame.old self.old steps.old host.old) (op.AssignLocalOp slot name assign_op)
+            next result (moment frame.new self.new steps.new host.new) }
     {
         let index = self.slot_index(frame, slot);
         let Some(held) = self.scope.get(index) else {
@@ -107,20 +119,23 @@ impl<H: Host> Run<H> {
         let free = held.value.flat(&self.cells).is_some();
         let read_only = held.read_only | self.is_constant(cell);
         if !self.is_readable() {
-            return self.variable_lent(context, steps, frame.address, name);
+            return self.data_race_of(context, steps, frame.address, name);
         }
         if read_only {
             return self.assignment_to_constant(context, steps, frame.address, name);
         }
         if !free {
-            return self.variable_lent(context, steps, frame.address, name);
+            return self.data_race_of(context, steps, frame.address, name);
         }
         let kept = self.kept_operand()?;
-        let target = Target { index, cell };
-        let assign_op = context.program.assign_op(u32::from(assign_op));
-        self.op_assign_target(
-            context, host, steps, frame, target, name, assign_op, &kept, next,
-        )
+        let assignment = Assignment {
+            target: Target { index, cell },
+            variable: name,
+            operator: *context.program.assign_op(u32::from(assign_op)),
+            kept,
+            next,
+        };
+        self.op_assign_target(context, host, steps, frame, &assignment)
     }
 
     // Whether the content of a cell, if it is one, can only be read.
@@ -150,8 +165,7 @@ impl<H: Host> Run<H> {
         }
     }
 
-    // An op-assignment of the last operand, as it was read, to a target that can be written. The
-    // variable has the name at the index.
+    // An op-assignment to a target that can be written.
     #[inline(always)]
     fn op_assign_target<L: Ledger>(
         &mut self,
@@ -159,50 +173,35 @@ impl<H: Host> Run<H> {
         host: &mut H,
         steps: &mut Steps<L>,
         frame: &mut Activation,
-        target: Target,
-        variable: u16,
-        assign_op: &AssignOp,
-        kept: &Option<Dynamic>,
-        next: usize,
+        assignment: &Assignment,
     ) -> Result<Progress, OutOfMemory>
-        requires inside { frame.old.base ≤ length self.old.scope }
-        requires target { CanBeLent self.old target }
-        requires operand { 0 < length self.old.stacks.operands }
-        requires ahead { frame.old.address < next }
-        requires first { assign_op.now.op_assign_name < length context.program.now.names }
-        requires second { assign_op.now.op_name < length context.program.now.names }
-        requires variable { variable < length context.program.now.names }
-        ensures implements { (h : Held) (slot : ℕ) → AssignsHere self.old frame.old target slot h →
-            Implements H.law context.entry.program.now context.entry.engine.now frame.old self.old
-            steps.old (λ m place w. store_outcome m
-            (op_assigned m.engine assign_op.now (content_at self.old target)
-            (kept_operand kept.now self.old.stacks.operands).value)
-            assign_op.now h (content_at self.old target)
-            (kept_operand kept.now self.old.stacks.operands) slot variable next
-            (frame_in frame.old self.old place) w)
-            (next ∷ []) 1 0 self.old.stacks.handlers result frame.new self.new
-            steps.new host.old host.new }
+        requires can { CanAssign context.program.now frame.old self.old assignment.now }
+        ensures implements { (h : Held) (slot : ℕ) → AssignsHere self.old frame.old
+            assignment.now.target slot h →
+            Implements (setup_of H.law context.entry) (moment frame.old self.old steps.old host.old)
+            (λ m place w. store_outcome m (op_assigned m.engine assignment.now.operator
+            (content_at self.old assignment.now.target)
+            (kept_operand assignment.now.kept self.old.stacks.operands).value)
+            assignment.now.operator h (content_at self.old assignment.now.target)
+            (kept_operand assignment.now.kept self.old.stacks.operands) slot assignment.now.variable
+            assignment.now.next (frame_in frame.old self.old place) w) (assignment.now.next ∷ []) 1
+            0 self.old.stacks.handlers result (moment frame.new self.new steps.new host.new) }
     {
-        match self.assign_target(context, assign_op.op_assign, target, kept)? {
-            OpAssigned::Done => {
+        let token = assignment.operator.op_assign;
+        match self.assign_target(context, token, assignment.target, &assignment.kept) {
+            AssignAnswer::Done => {
                 let _value = self.stacks.pop();
                 steps.mark();
-                frame.address = next;
+                frame.address = assignment.next;
                 steps.mark();
                 Ok(Progress::Continues)
             }
-            OpAssigned::Arithmetic(text) => Ok(self.arithmetic(
-                context,
-                steps,
-                frame.address,
-                text,
-            )),
-            OpAssigned::TooLarge(what) => {
-                Ok(self.data_too_large(context, steps, frame.address, what))
+            AssignAnswer::Failed(fault) => {
+                self.operator_failed(context, steps, frame.address, fault)
             }
-            OpAssigned::NotBuiltIn => self.native_assigned(
-                context, host, steps, frame, target, variable, assign_op, kept, next,
-            ),
+            AssignAnswer::NotBuiltIn => {
+                self.native_assigned(context, host, steps, frame, assignment)
+            }
         }
     }
 
@@ -215,7 +214,7 @@ impl<H: Host> Run<H> {
         token: Token,
         target: Target,
         kept: &Option<Dynamic>,
-    ) -> Result<OpAssigned, OutOfMemory>
+    ) -> AssignAnswer
         requires target { CanBeLent self.old target }
         requires operand { 0 < length self.old.stacks.operands }
         ensures assigned { (h : Held) → HoldsAt self.old target h →
@@ -237,7 +236,7 @@ impl<H: Host> Run<H> {
         token: Token,
         index: usize,
         kept: &Option<Dynamic>,
-    ) -> Result<OpAssigned, OutOfMemory>
+    ) -> AssignAnswer
         requires there { index < length self.old.scope }
         requires operand { 0 < length self.old.stacks.operands }
         ensures assigned { (h : Held) → held_at self.old.scope index ≡ Some h →
@@ -266,7 +265,7 @@ impl<H: Host> Run<H> {
         token: Token,
         cell: usize,
         kept: &Option<Dynamic>,
-    ) -> Result<OpAssigned, OutOfMemory>
+    ) -> AssignAnswer
         requires free { FreeCell self.old (Some cell) }
         requires operand { 0 < length self.old.stacks.operands }
         ensures assigned { (i : ℕ) (h : Held) →
@@ -282,7 +281,7 @@ impl<H: Host> Run<H> {
         let read_only = self.cells.is_constant(cell);
         let value = Dynamic::Int(number);
         self.cells.set(cell, Held { value, read_only });
-        Ok(OpAssigned::Done)
+        AssignAnswer::Done
     }
 
     // The integer that an op-assignment makes of a cell's content and of the last operand, as it was
@@ -316,7 +315,7 @@ impl<H: Host> Run<H> {
         token: Token,
         cell: usize,
         kept: &Option<Dynamic>,
-    ) -> Result<OpAssigned, OutOfMemory>
+    ) -> AssignAnswer
         requires free { FreeCell self.old (Some cell) }
         requires operand { 0 < length self.old.stacks.operands }
         ensures assigned { (i : ℕ) (h : Held) →
@@ -327,14 +326,15 @@ impl<H: Host> Run<H> {
             (record { index = i; cell = Some cell }) h }
     {
         if !context.engine.fast_operators {
-            return Ok(OpAssigned::NotBuiltIn);
+            return AssignAnswer::NotBuiltIn;
         }
         let mut held = match self.cells.lend(cell) {
             Ok(held) => held,
             Err(_) => unreachable!(),
         };
         let value = operand(&self.stacks, kept);
-        let assigned = op_assigned(self.alloc, context.engine, token, &mut held.value, value);
+        let limits = &context.engine.limits;
+        let assigned = assign(self.alloc, token, &mut held.value, value, limits);
         self.cells.give_back(cell, held);
         assigned
     }

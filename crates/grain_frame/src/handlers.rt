@@ -1,16 +1,17 @@
 //! Instructions on handlers.
 
-ghost use Rattle.std.specs.Prelude.{◌<◌, ◌≤◌, ◌∷◌, [], length, Ok, cond, nat_lt};
-ghost use Rattle.grain_program.specs.declared.code.instruction_set.Op.TheVariants as op;
+ghost use Rattle.std.specs.Prelude.{◌<◌, ◌∷◌, [], length, Ok, cond, nat_lt};
 ghost use Rattle.grain_program.specs.View.{View};
 ghost use Rattle.grain_global.specs.declared.engines.Engine.{Engine};
 ghost use Rattle.grain_means.specs.Rules.{instr, push_handler};
-ghost use Rattle.grain_frame.specs.Abstraction.{frame_in, Implements, Ready};
-ghost use Rattle.grain_frame.specs.Catching.{armed, around};
+ghost use Rattle.grain_means.specs.Means.{setup};
+ghost use Rattle.grain_frame.specs.Abstraction.{frame_in, Implements, Ready, moment};
+ghost use Rattle.grain_frame.specs.Handling.{armed, around};
+ghost use Rattle.grain_program.specs.declared.code.instruction_set.Op.TheVariants as op;
 
 use crate::activations::Activation;
 use crate::runs::{Progress, Run};
-use crate::steps::Steps;
+use grain_global::Steps;
 use grain_host::Host;
 use grain_stack::Handler;
 use grain_value::OutOfMemory;
@@ -29,11 +30,11 @@ impl<H: Host> Run<H> {
     ) -> Result<Progress, OutOfMemory>
         requires ready { Ready frame.old self.old (op.PushHandler target) next }
         ensures implements { (program : View) (engine : Engine) (host : H) →
-            Implements H.law program engine frame.old self.old steps.old
+            Implements (setup H.law program engine) (moment frame.old self.old steps.old host)
             (λ m place w. push_handler m target variable next (frame_in frame.old self.old place) w)
             (cond (nat_lt target next) (target ∷ next ∷ []) (next ∷ target ∷ [])) 0 0
-            (armed target variable self.old ∷ self.old.stacks.handlers) result frame.new self.new
-            steps.new host host }
+            (armed target variable self.old ∷ self.old.stacks.handlers) result
+            (moment frame.new self.new steps.new host) }
     {
         let handler = Handler {
             target,
@@ -58,10 +59,10 @@ impl<H: Host> Run<H> {
         requires ready { Ready frame.old self.old op.PopHandler next }
         requires there { 0 < length self.old.stacks.handlers }
         ensures implements { (program : View) (engine : Engine) (host : H) →
-            Implements H.law program engine frame.old self.old steps.old
+            Implements (setup H.law program engine) (moment frame.old self.old steps.old host)
             (λ m place w. instr m op.PopHandler next (frame_in frame.old self.old place) w)
-            (next ∷ []) 0 0 (around self.old.stacks.handlers) (Ok result) frame.new self.new
-            steps.new host host }
+            (next ∷ []) 0 0 (around self.old.stacks.handlers) (Ok result)
+            (moment frame.new self.new steps.new host) }
     {
         let _handler = self.stacks.pop_handler();
         frame.address = next;

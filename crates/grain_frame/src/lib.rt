@@ -1,34 +1,29 @@
-//! The loop: how a frame runs, instruction by instruction, how functions are called, and how main
-//! is run.
+//! A frame's run: what a run has, what charges, raises and asks the host, and one method for each
+//! instruction that calls no function.
 #![tactic(auto)]
 
 mod activations;
 mod assignments;
-mod branches;
-mod calls;
-mod catch_values;
-mod catching;
 mod charges;
 mod contexts;
-mod finding;
 mod handlers;
-mod loaded;
 mod locals;
-mod loops;
-mod machines;
 mod native_assignments;
 mod native_calls;
 mod operands;
 mod operated;
 mod pointers;
-mod quick;
 mod raising;
 mod runs;
 mod saved;
-mod signatures;
-mod steps;
+mod stepping;
 mod targets;
 mod transfers;
 
-pub use machines::Machine;
-pub use steps::Steps;
+pub use activations::Activation;
+pub use contexts::Context;
+pub use operated::{quick_assigned, quick_assigned_with};
+pub use pointers::Under;
+pub use runs::{Progress, Run};
+pub use saved::SavedScopes;
+pub use transfers::agrees;

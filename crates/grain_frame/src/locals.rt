@@ -1,23 +1,24 @@
 //! Instructions on the scope's entries.
 
-ghost use Rattle.std.specs.Prelude.{◌≡◌, ◌<◌, ◌≤◌, ◌+◌, ◌-◌, ◌++◌, ◌∷◌, [], ℕ, length, Ok, Some, IfOk, is_ok, is_some, true, if◌then◌else◌, slice_get};
+ghost use Rattle.std.specs.Prelude.{◌≡◌, ◌<◌, ◌≤◌, ◌+◌, ◌++◌, ◌∷◌, [], ℕ, length, Ok, Some, IfOk, is_ok, is_some, true, if◌then◌else◌, slice_get};
 ghost use Rattle.grain_value.specs.declared.values.Held.{Held};
-ghost use Rattle.grain_value.specs.declared.values.Dynamic.{Dynamic};
-ghost use Rattle.grain_value.specs.declared.values.Dynamic.TheVariants as dynamic;
 ghost use Rattle.grain_value.specs.Scopes.{set_held};
 ghost use Rattle.grain_value.specs.Cells.{flat, content, idle};
 ghost use Rattle.grain_value.specs.Operands.{top, below, read_write};
 ghost use Rattle.grain_program.specs.Indices.{InPools};
 ghost use Rattle.grain_program.specs.View.{View, name_of};
-ghost use Rattle.grain_program.specs.declared.code.instruction_set.Op.TheVariants as op;
 ghost use Rattle.grain_global.specs.declared.engines.Engine.{Engine};
 ghost use Rattle.grain_means.specs.Rules.{store_local, declare, flattened, shared, cell_written, onward, stepped, held_at};
-ghost use Rattle.grain_frame.specs.Abstraction.{frame_in, Implements, Performs, Ready};
+ghost use Rattle.grain_means.specs.Means.{setup};
+ghost use Rattle.grain_frame.specs.Abstraction.{frame_in, Implements, Performs, Ready, setup_of, moment};
+ghost use Rattle.grain_value.specs.declared.values.Dynamic.TheVariants as dynamic;
+ghost use Rattle.grain_program.specs.declared.code.instruction_set.Op.TheVariants as op;
 
 use crate::activations::Activation;
 use crate::contexts::Context;
 use crate::runs::{Progress, Run};
-use crate::steps::Steps;
+use grain_fault::{EvalAltResult, MalformedKind, Position};
+use grain_global::Steps;
 use grain_host::Host;
 use grain_value::{Dynamic, Held, OutOfMemory};
 use std::mem;
@@ -36,8 +37,8 @@ impl<H: Host> Run<H> {
     ) -> Result<Progress, OutOfMemory>
         requires ready { Ready frame.old self.old (op.LoadLocal slot) next }
         ensures performs { (host : H) →
-            Performs H.law context.entry.program.now context.entry.engine.now frame.old self.old
-            steps.old (op.LoadLocal slot) next result frame.new self.new steps.new host host }
+            Performs (setup_of H.law context.entry) (moment frame.old self.old steps.old host)
+            (op.LoadLocal slot) next result (moment frame.new self.new steps.new host) }
     {
         let index = self.slot_index(frame, slot);
         match self.scope.get(index) {
@@ -48,9 +49,9 @@ impl<H: Host> Run<H> {
                     steps.mark();
                     Ok(Progress::Continues)
                 }
-                None => self.entry_lent(context, steps, frame.address, index),
+                None => self.data_race_at(context, steps, frame.address, index),
             },
-            None => { Ok(self.slot_past_scope(context, steps, frame.address, index)) }
+            None => Ok(self.slot_past_scope(context, steps, frame.address, index)),
         }
     }
 
@@ -65,8 +66,8 @@ impl<H: Host> Run<H> {
     ) -> Result<Progress, OutOfMemory>
         requires ready { Ready frame.old self.old (op.LoadShared slot) next }
         ensures performs { (host : H) →
-            Performs H.law context.entry.program.now context.entry.engine.now frame.old self.old
-            steps.old (op.LoadShared slot) next result frame.new self.new steps.new host host }
+            Performs (setup_of H.law context.entry) (moment frame.old self.old steps.old host)
+            (op.LoadShared slot) next result (moment frame.new self.new steps.new host) }
     {
         let index = self.slot_index(frame, slot);
         match self.scope.get(index) {
@@ -76,7 +77,7 @@ impl<H: Host> Run<H> {
                 steps.mark();
                 Ok(Progress::Continues)
             }
-            None => { Ok(self.slot_past_scope(context, steps, frame.address, index)) }
+            None => Ok(self.slot_past_scope(context, steps, frame.address, index)),
         }
     }
 
@@ -91,8 +92,8 @@ impl<H: Host> Run<H> {
     ) -> Result<Progress, OutOfMemory>
         requires ready { Ready frame.old self.old (op.Share slot) next }
         ensures performs { (host : H) →
-            Performs H.law context.entry.program.now context.entry.engine.now frame.old self.old
-            steps.old (op.Share slot) next result frame.new self.new steps.new host host }
+            Performs (setup_of H.law context.entry) (moment frame.old self.old steps.old host)
+            (op.Share slot) next result (moment frame.new self.new steps.new host) }
     {
         let index = self.slot_index(frame, slot);
         let Some(held) = self.scope.get(index) else {
@@ -117,10 +118,10 @@ impl<H: Host> Run<H> {
         requires ahead { frame.old.address < next }
         ensures implements { (program : View) (engine : Engine) (host : H) (h : Held) (slot : ℕ) →
             held_at self.old.scope index ≡ Some h → frame.old.base + slot ≡ index →
-            Implements H.law program engine frame.old self.old steps.old
+            Implements (setup H.law program engine) (moment frame.old self.old steps.old host)
             (λ m place w. shared m None h slot next (frame_in frame.old self.old place) w)
-            (next ∷ []) 0 0 self.old.stacks.handlers result frame.new self.new steps.new host
-            host }
+            (next ∷ []) 0 0 self.old.stacks.handlers result
+            (moment frame.new self.new steps.new host) }
     {
         let cell = self.make_cell(index)?;
         steps.mark();
@@ -171,11 +172,11 @@ impl<H: Host> Run<H> {
         next: usize,
     ) -> Result<Progress, OutOfMemory>
         requires ready { Ready frame.old self.old (op.StoreLocal slot) next }
-        ensures implements { (host : H) → Implements H.law context.entry.program.now
-            context.entry.engine.now frame.old self.old steps.old
+        ensures implements { (host : H) →
+            Implements (setup_of H.law context.entry) (moment frame.old self.old steps.old host)
             (λ m place w. store_local m read_only slot next (frame_in frame.old self.old place) w)
-            (next ∷ []) 1 0 self.old.stacks.handlers result frame.new self.new
-            steps.new host host }
+            (next ∷ []) 1 0 self.old.stacks.handlers result
+            (moment frame.new self.new steps.new host) }
     {
         let index = self.slot_index(frame, slot);
         let Some(held) = self.scope.get(index) else {
@@ -209,18 +210,18 @@ impl<H: Host> Run<H> {
         requires inside { frame.old.base ≤ length self.old.scope }
         requires operand { 0 < length self.old.stacks.operands }
         requires ahead { frame.old.address < next }
-        ensures implements { (host : H) → Implements H.law context.entry.program.now
-            context.entry.engine.now frame.old self.old steps.old
+        ensures implements { (host : H) →
+            Implements (setup_of H.law context.entry) (moment frame.old self.old steps.old host)
             (λ m place w. flattened m (top self.old.stacks.operands) []
             (frame_in frame.old self.old place) w (λ v. cell_written m (slice_get w.cells cell) cell
             (record { value = v; read_only = read_only }) [] (frame_in frame.old self.old place) w
             (onward m (frame_in frame.old self.old place)
             (stepped (frame_in frame.old self.old place) next (below self.old.stacks.operands)))))
-            (next ∷ []) 1 0 self.old.stacks.handlers result frame.new self.new
-            steps.new host host }
+            (next ∷ []) 1 0 self.old.stacks.handlers result
+            (moment frame.new self.new steps.new host) }
     {
         if !self.is_readable() || self.cells.find(cell).is_none() {
-            return self.operand_lent(context, steps, frame.address);
+            return self.data_race(context, steps, frame.address, "");
         }
         let value = self.take_flat()?;
         self.cells.set(cell, Held { value, read_only });
@@ -290,18 +291,18 @@ impl<H: Host> Run<H> {
     ) -> Result<Progress, OutOfMemory>
         requires ready { Ready frame.old self.old (op.DeclareLocal name) next }
         requires pools { InPools context.program.now (op.DeclareLocal name) }
-        ensures implements { (host : H) → Implements H.law context.entry.program.now
-            context.entry.engine.now frame.old self.old steps.old
+        ensures implements { (host : H) →
+            Implements (setup_of H.law context.entry) (moment frame.old self.old steps.old host)
             (λ m place w. declare m read_only (name_of m.program name) next
-            (frame_in frame.old self.old place) w)
-            (next ∷ []) 1 0 self.old.stacks.handlers result frame.new self.new
-            steps.new host host }
+            (frame_in frame.old self.old place) w) (next ∷ []) 1 0 self.old.stacks.handlers result
+            (moment frame.new self.new steps.new host) }
     {
         if !self.is_readable() {
-            return self.operand_lent(context, steps, frame.address);
+            return self.data_race(context, steps, frame.address, "");
         }
         if self.scope.len() >= context.engine.limits.variables {
-            return Ok(self.too_many_variables(context, steps, frame.address));
+            let fault = EvalAltResult::ErrorTooManyVariables(Position::NONE);
+            return Ok(self.raise_at(context, steps, frame.address, fault));
         }
         let name = context.program.names().at(usize::from(name));
         let value = self.take_flat()?;
@@ -323,13 +324,15 @@ impl<H: Host> Run<H> {
     ) -> Progress
         requires ready { Ready frame.old self.old (op.UnwindTo depth) next }
         ensures performs { (host : H) →
-            Performs H.law context.entry.program.now context.entry.engine.now frame.old self.old
-            steps.old (op.UnwindTo depth) next (Ok result) frame.new self.new steps.new host host }
+            Performs (setup_of H.law context.entry) (moment frame.old self.old steps.old host)
+            (op.UnwindTo depth) next (Ok result) (moment frame.new self.new steps.new host) }
     {
         let length = self.scope.len();
         let target = frame.base + usize::from(depth);
         if target > length {
-            return self.unwind_past_scope(context, steps, frame.address, target);
+            let kind = MalformedKind::UnwindPastScope { target, length };
+            let fault = EvalAltResult::Malformed(kind, Position::NONE);
+            return self.raise_at(context, steps, frame.address, fault);
         }
         self.scope.rewind(target);
         frame.address = next;
@@ -346,8 +349,8 @@ impl<H: Host> Run<H> {
     ) -> Progress
         requires ready { Ready frame.old self.old op.Checkpoint next }
         ensures performs { (program : View) (engine : Engine) (host : H) →
-            Performs H.law program engine frame.old self.old steps.old op.Checkpoint next
-            (Ok result) frame.new self.new steps.new host host }
+            Performs (setup H.law program engine) (moment frame.old self.old steps.old host)
+            op.Checkpoint next (Ok result) (moment frame.new self.new steps.new host) }
     {
         frame.floor = self.scope.len();
         frame.address = next;
@@ -355,9 +358,9 @@ impl<H: Host> Run<H> {
         Progress::Continues
     }
 
-    // The place of a slot in the scope.
+    /// The place of a slot in the scope.
     #[inline(always)]
-    pub(crate) fn slot_index(&self, frame: &Activation, slot: u16) -> usize
+    pub fn slot_index(&self, frame: &Activation, slot: u16) -> usize
         requires { frame.now.base ≤ length self.now.scope }
         ensures { result ≡ frame.now.base + slot }
     {

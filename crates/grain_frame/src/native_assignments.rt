@@ -12,22 +12,20 @@ ghost use Rattle.grain_program.specs.View.{name_of, position_of};
 ghost use Rattle.grain_means.specs.Worlds.{Setup, Frame, Place, World, Act};
 ghost use Rattle.grain_means.specs.Rules.{flattened, native, native_assigned, op_assign_failed, operator_assigned, write_entry};
 ghost use Rattle.grain_means.specs.Simulation.{SimulatesExactly};
-ghost use Rattle.grain_frame.specs.Abstraction.{abstraction, frame_in, is_out, native_continuation, Implements};
+ghost use Rattle.grain_frame.specs.Abstraction.{abstraction, frame_in, is_out, native_continuation, Implements, setup_of, moment};
 ghost use Rattle.grain_frame.specs.Natives.{Seeks, Serves};
-ghost use Rattle.grain_frame.specs.Targets.{Assigns, AssignsHere, CanBeLent, HoldsAt, content_at, kept_operand, receiver_at};
+ghost use Rattle.grain_frame.specs.Targets.{Assigns, AssignsHere, CanAssign, CanBeLent, HoldsAt, content_at, kept_operand, receiver_at};
 ghost use Rattle.grain_frame.specs.declared.targets.Target.{Target};
 
 use crate::activations::Activation;
-use crate::assignments::operand;
+use crate::assignments::{Assignment, operand};
 use crate::contexts::Context;
 use crate::native_calls::{Arguments, NativeEnd, Sought, seek, served};
 use crate::runs::{Progress, Run};
-use crate::signatures::{not_found, says_missing};
-use crate::steps::Steps;
 use crate::targets::Target;
 use grain_fault::{EvalAltResult, Position};
-use grain_host::{Args, Host};
-use grain_program::AssignOp;
+use grain_global::Steps;
+use grain_host::{Args, Host, not_found, says_missing};
 use grain_value::{Array, Dynamic, Held, Kinds, OutOfMemory, Text};
 use std::alloc::Global;
 use std::sync::ledger::Ledger;
@@ -151,9 +149,8 @@ impl<H: Host> Run<H> {
         }
     }
 
-    // The host's op-assignment of the last operand, as it was read, to which what the target holds is
-    // lent; where it has none of that name, the host's operator. The variable has the name at the
-    // index.
+    // The host's op-assignment, to which what the target holds is lent; where it has none of that
+    // name, the host's operator.
     #[cold]
     #[inline(never)]
     pub(crate) fn native_assigned<L: Ledger>(
@@ -162,42 +159,34 @@ impl<H: Host> Run<H> {
         host: &mut H,
         steps: &mut Steps<L>,
         frame: &mut Activation,
-        target: Target,
-        variable: u16,
-        assign_op: &AssignOp,
-        kept: &Option<Dynamic>,
-        next: usize,
+        assignment: &Assignment,
     ) -> Result<Progress, OutOfMemory>
-        requires inside { frame.old.base ≤ length self.old.scope }
-        requires target { CanBeLent self.old target }
-        requires operand { 0 < length self.old.stacks.operands }
-        requires ahead { frame.old.address < next }
-        requires first { assign_op.now.op_assign_name < length context.program.now.names }
-        requires second { assign_op.now.op_name < length context.program.now.names }
-        requires variable { variable < length context.program.now.names }
-        ensures implements { (h : Held) (slot : ℕ) → AssignsHere self.old frame.old target slot h →
-            Implements H.law context.entry.program.now context.entry.engine.now frame.old self.old
-            steps.old (λ m place w. native_assigned m assign_op.now h (content_at self.old target)
-            (kept_operand kept.now self.old.stacks.operands) slot variable next
-            (frame_in frame.old self.old place) w)
-            (next ∷ []) 1 0 self.old.stacks.handlers result
-            frame.new self.new steps.new host.old host.new }
+        requires can { CanAssign context.program.now frame.old self.old assignment.now }
+        ensures implements { (h : Held) (slot : ℕ) → AssignsHere self.old frame.old
+            assignment.now.target slot h →
+            Implements (setup_of H.law context.entry) (moment frame.old self.old steps.old host.old)
+            (λ m place w. native_assigned m assignment.now.operator h
+            (content_at self.old assignment.now.target)
+            (kept_operand assignment.now.kept self.old.stacks.operands) slot assignment.now.variable
+            assignment.now.next (frame_in frame.old self.old place) w) (assignment.now.next ∷ []) 1
+            0 self.old.stacks.handlers result (moment frame.new self.new steps.new host.new) }
     {
-        let name = context.program.name(assign_op.op_assign_name);
+        let name = context.program.name(assignment.operator.op_assign_name);
         let position = context.program.position(frame.address);
-        let value = operand(&self.stacks, kept);
+        let target = assignment.target;
+        let value = operand(&self.stacks, &assignment.kept);
         let lent = self.content(target);
         let sought = seek_lent(self.alloc, host, name, lent, value, position)?;
         match self.call_lent(host, steps, sought, target, position)? {
             NativeEnd::Value(_) => {
                 let _value = self.stacks.pop();
-                frame.address = next;
+                frame.address = assignment.next;
                 steps.mark();
                 Ok(Progress::Continues)
             }
-            NativeEnd::Fault(fault) => self.op_assign_failed(
-                context, host, steps, frame, target, variable, assign_op, kept, fault, next,
-            ),
+            NativeEnd::Fault(fault) => {
+                self.op_assign_failed(context, host, steps, frame, assignment, fault)
+            }
         }
     }
 
@@ -209,79 +198,56 @@ impl<H: Host> Run<H> {
         host: &mut H,
         steps: &mut Steps<L>,
         frame: &mut Activation,
-        target: Target,
-        variable: u16,
-        assign_op: &AssignOp,
-        kept: &Option<Dynamic>,
+        assignment: &Assignment,
         fault: EvalAltResult,
-        next: usize,
     ) -> Result<Progress, OutOfMemory>
-        requires inside { frame.old.base ≤ length self.old.scope }
-        requires target { CanBeLent self.old target }
-        requires operand { 0 < length self.old.stacks.operands }
-        requires ahead { frame.old.address < next }
-        requires first { assign_op.now.op_assign_name < length context.program.now.names }
-        requires second { assign_op.now.op_name < length context.program.now.names }
-        requires variable { variable < length context.program.now.names }
-        ensures implements { (h : Held) (slot : ℕ) → Assigns frame.old target slot h →
-            Implements H.law context.entry.program.now context.entry.engine.now frame.old self.old
-            steps.old (λ m place w. op_assign_failed m assign_op.now h
-            (kept_operand kept.now self.old.stacks.operands) slot variable next
-            (frame_in frame.old self.old place) (problem_of fault) w)
-            (next ∷ []) 1 0 self.old.stacks.handlers result
-            frame.new self.new steps.new host.old host.new }
+        requires can { CanAssign context.program.now frame.old self.old assignment.now }
+        ensures implements { (h : Held) (slot : ℕ) → Assigns frame.old assignment.now.target slot h
+            →
+            Implements (setup_of H.law context.entry) (moment frame.old self.old steps.old host.old)
+            (λ m place w. op_assign_failed m assignment.now.operator h
+            (kept_operand assignment.now.kept self.old.stacks.operands) slot assignment.now.variable
+            assignment.now.next (frame_in frame.old self.old place) (problem_of fault) w)
+            (assignment.now.next ∷ []) 1 0 self.old.stacks.handlers result
+            (moment frame.new self.new steps.new host.new) }
     {
-        let name = context.program.name(assign_op.op_assign_name);
+        let name = context.program.name(assignment.operator.op_assign_name);
         if says_missing(name, &fault) {
-            let name = assign_op.op_name;
-            self.operator_assigned(
-                context, host, steps, frame, target, variable, name, kept, next,
-            )
+            self.operator_assigned(context, host, steps, frame, assignment)
         } else {
             Ok(self.raise(steps, fault))
         }
     }
 
-    // The host's native of a name on copies of what the target holds and of the last operand, as it
-    // was read, whose value the target takes.
+    // The host's operator on copies of what the target holds and of the operand, whose value the
+    // target takes.
     fn operator_assigned<L: Ledger>(
         &mut self,
         context: Context<'_>,
         host: &mut H,
         steps: &mut Steps<L>,
         frame: &mut Activation,
-        target: Target,
-        variable: u16,
-        name: u32,
-        kept: &Option<Dynamic>,
-        next: usize,
+        assignment: &Assignment,
     ) -> Result<Progress, OutOfMemory>
-        requires inside { frame.old.base ≤ length self.old.scope }
-        requires target { CanBeLent self.old target }
-        requires operand { 0 < length self.old.stacks.operands }
-        requires ahead { frame.old.address < next }
-        requires pool { name < length context.program.now.names }
-        requires variable { variable < length context.program.now.names }
-        ensures implements { (h : Held) (slot : ℕ) → Assigns frame.old target slot h →
-            Implements H.law context.entry.program.now context.entry.engine.now frame.old self.old
-            steps.old (λ m place w. operator_assigned m (name_of m.program name) h
-            (read_write (content_at self.old target))
-            (kept_operand kept.now self.old.stacks.operands) slot variable next
-            (frame_in frame.old self.old place) w)
-            (next ∷ []) 1 0 self.old.stacks.handlers result
-            frame.new self.new steps.new host.old host.new }
+        requires can { CanAssign context.program.now frame.old self.old assignment.now }
+        ensures implements { (h : Held) (slot : ℕ) → Assigns frame.old assignment.now.target slot h
+            →
+            Implements (setup_of H.law context.entry) (moment frame.old self.old steps.old host.old)
+            (λ m place w. operator_assigned m (name_of m.program assignment.now.operator.op_name) h
+            (read_write (content_at self.old assignment.now.target))
+            (kept_operand assignment.now.kept self.old.stacks.operands) slot assignment.now.variable
+            assignment.now.next (frame_in frame.old self.old place) w) (assignment.now.next ∷ []) 1
+            0 self.old.stacks.handlers result (moment frame.new self.new steps.new host.new) }
     {
         let mut arguments = Arguments::new(self.alloc);
-        arguments.push(self.alloc, self.content(target), false)?;
-        let value = operand(&self.stacks, kept);
+        arguments.push(self.alloc, self.content(assignment.target), false)?;
+        let value = operand(&self.stacks, &assignment.kept);
         arguments.push(self.alloc, value, self.stacks.top().read_only)?;
-        let name = context.program.name(name);
+        let name = context.program.name(assignment.operator.op_name);
         let position = context.program.position(frame.address);
         let sought = seek(self.alloc, host, name, arguments, position)?;
         match self.call_native(host, steps, sought, position)? {
-            NativeEnd::Value(value) => {
-                self.assign_answer(context, steps, frame, target, variable, value, next)
-            }
+            NativeEnd::Value(value) => self.assign_answer(context, steps, frame, assignment, value),
             NativeEnd::Fault(fault) => Ok(self.raise(steps, fault)),
         }
     }
@@ -292,31 +258,26 @@ impl<H: Host> Run<H> {
         context: Context<'_>,
         steps: &mut Steps<L>,
         frame: &mut Activation,
-        target: Target,
-        variable: u16,
+        assignment: &Assignment,
         value: Dynamic,
-        next: usize,
     ) -> Result<Progress, OutOfMemory>
-        requires inside { frame.old.base ≤ length self.old.scope }
-        requires target { CanBeLent self.old target }
-        requires operand { 0 < length self.old.stacks.operands }
-        requires ahead { frame.old.address < next }
-        requires variable { variable < length context.program.now.names }
-        ensures implements { (host : H) (h : Held) (slot : ℕ) → Assigns frame.old target slot h →
-            Implements H.law context.entry.program.now context.entry.engine.now frame.old self.old
-            steps.old (λ m place w. flattened m (read_write value) (name_of m.program variable)
+        requires can { CanAssign context.program.now frame.old self.old assignment.now }
+        ensures implements { (host : H) (h : Held) (slot : ℕ) → Assigns frame.old
+            assignment.now.target slot h →
+            Implements (setup_of H.law context.entry) (moment frame.old self.old steps.old host)
+            (λ m place w. flattened m (read_write value) (name_of m.program assignment.now.variable)
             (frame_in frame.old self.old place) w (λ v. write_entry m h slot (read_write v)
-            (name_of m.program variable) next (frame_in frame.old self.old place) w))
-            (next ∷ []) 1 0 self.old.stacks.handlers result
-            frame.new self.new steps.new host host }
+            (name_of m.program assignment.now.variable) assignment.now.next
+            (frame_in frame.old self.old place) w)) (assignment.now.next ∷ []) 1 0
+            self.old.stacks.handlers result (moment frame.new self.new steps.new host) }
     {
         let Some(value) = self.read_of(value)? else {
-            return self.variable_lent(context, steps, frame.address, variable);
+            return self.data_race_of(context, steps, frame.address, assignment.variable);
         };
         let _operand = self.stacks.pop();
-        self.write(target, Held::read_write(value));
+        self.write(assignment.target, Held::read_write(value));
         steps.mark();
-        frame.address = next;
+        frame.address = assignment.next;
         steps.mark();
         Ok(Progress::Continues)
     }

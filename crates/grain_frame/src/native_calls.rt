@@ -13,10 +13,9 @@ ghost use Rattle.grain_fault.specs.Problems.{Problem};
 ghost use Rattle.grain_host.specs.Answers.{reply_of};
 
 use crate::runs::Run;
-use crate::signatures::not_found;
-use crate::steps::Steps;
 use grain_fault::{EvalAltResult, Position};
-use grain_host::{Args, Host, HostAnswer};
+use grain_global::Steps;
+use grain_host::{Args, Host, HostAnswer, not_found};
 use grain_value::{Array, Dynamic, Held, Kinds, OutOfMemory, Store, Text};
 use std::alloc::Global;
 use std::sync::ledger::Ledger;

@@ -1,25 +1,25 @@
 //! Instructions on operands alone.
 
-ghost use Rattle.std.specs.Prelude.{◌≡◌, ◌<◌, ◌≤◌, ◌+◌, ◌-◌, ◌∷◌, [], List, length, Ok, IfOk, IfSome, None, Some, is_some, true};
-ghost use Rattle.grain_program.specs.View.{View, name_of};
-ghost use Rattle.grain_program.specs.declared.code.instruction_set.Op.TheVariants as op;
-ghost use Rattle.grain_value.specs.declared.values.Dynamic.TheVariants as dynamic;
+ghost use Rattle.std.specs.Prelude.{◌≡◌, ◌<◌, ◌≤◌, ◌-◌, ◌∷◌, [], List, length, Ok, None, Some, is_some, true};
+ghost use Rattle.grain_program.specs.View.{View};
 ghost use Rattle.grain_value.specs.Operands.{arguments, under};
 ghost use Rattle.grain_global.specs.declared.engines.Engine.{Engine};
-ghost use Rattle.grain_ops.specs.Outcomes.{Gave};
 ghost use Rattle.grain_means.specs.Rules.{pushed, operated, native, raised, flat_all, call_function};
 ghost use Rattle.grain_value.specs.declared.values.Held.{Held};
-ghost use Rattle.grain_frame.specs.Abstraction.{frame_in, Implements, Performs, Ready};
-ghost use Rattle.grain_frame.specs.Operated.{outcome_of};
+ghost use Rattle.grain_means.specs.Means.{setup};
+ghost use Rattle.grain_frame.specs.Abstraction.{frame_in, Implements, Performs, Ready, setup_of, moment};
+ghost use Rattle.grain_ops.specs.Answers.{Answers};
 ghost use Rattle.grain_program.specs.Indices.{InPools};
+ghost use Rattle.grain_program.specs.declared.code.instruction_set.Op.TheVariants as op;
 
 use crate::activations::Activation;
 use crate::contexts::Context;
 use crate::native_calls::{Arguments, NativeEnd, are_readable, seek};
-use crate::operated::{Operated, operate};
+use crate::operated::operate;
 use crate::runs::{Progress, Run};
-use crate::steps::Steps;
+use grain_global::Steps;
 use grain_host::Host;
+use grain_ops::OpAnswer;
 use grain_value::{Array, Dynamic, FnPtr, Held, OutOfMemory, Text};
 use std::sync::ledger::Ledger;
 
@@ -37,11 +37,10 @@ impl<H: Host> Run<H> {
         requires room { length self.old.stacks.operands < self.old.stacks.room }
         requires ahead { frame.old.address < next }
         ensures implements { (program : View) (engine : Engine) (host : H) →
-            Implements H.law program engine frame.old self.old steps.old
+            Implements (setup H.law program engine) (moment frame.old self.old steps.old host)
             (λ m place w. pushed m (frame_in frame.old self.old place) next self.old.stacks.operands
-            value w)
-            (next ∷ []) 0 1 self.old.stacks.handlers (Ok result) frame.new self.new
-            steps.new host host }
+            value w) (next ∷ []) 0 1 self.old.stacks.handlers (Ok result)
+            (moment frame.new self.new steps.new host) }
     {
         self.stacks.push(Held::read_write(value));
         frame.address = next;
@@ -62,8 +61,8 @@ impl<H: Host> Run<H> {
         requires ready { Ready frame.old self.old (op.LoadConst constant) next }
         requires pools { InPools context.program.now (op.LoadConst constant) }
         ensures performs { (host : H) →
-            Performs H.law context.entry.program.now context.entry.engine.now frame.old self.old
-            steps.old (op.LoadConst constant) next result frame.new self.new steps.new host host }
+            Performs (setup_of H.law context.entry) (moment frame.old self.old steps.old host)
+            (op.LoadConst constant) next result (moment frame.new self.new steps.new host) }
     {
         self.stacks
             .push_copy(self.alloc, context.program.constant(u32::from(constant)))?;
@@ -81,8 +80,8 @@ impl<H: Host> Run<H> {
     ) -> Progress
         requires ready { Ready frame.old self.old op.Pop next }
         ensures performs { (program : View) (engine : Engine) (host : H) →
-            Performs H.law program engine frame.old self.old steps.old op.Pop next (Ok result)
-            frame.new self.new steps.new host host }
+            Performs (setup H.law program engine) (moment frame.old self.old steps.old host) op.Pop
+            next (Ok result) (moment frame.new self.new steps.new host) }
     {
         let _value = self.stacks.pop();
         frame.address = next;
@@ -100,8 +99,8 @@ impl<H: Host> Run<H> {
     ) -> Progress
         requires ready { Ready frame.old self.old (op.Rotate under) next }
         ensures performs { (program : View) (engine : Engine) (host : H) →
-            Performs H.law program engine frame.old self.old steps.old (op.Rotate under) next
-            (Ok result) frame.new self.new steps.new host host }
+            Performs (setup H.law program engine) (moment frame.old self.old steps.old host)
+            (op.Rotate under) next (Ok result) (moment frame.new self.new steps.new host) }
     {
         self.stacks.rotate(usize::from(under));
         frame.address = next;
@@ -124,24 +123,21 @@ impl<H: Host> Run<H> {
     ) -> Result<Progress, OutOfMemory>
         requires ready { Ready frame.old self.old (op.CallOp name count token) next }
         requires pools { InPools context.program.now (op.CallOp name count token) }
-        ensures performs { Performs H.law context.entry.program.now context.entry.engine.now
-            frame.old self.old steps.old (op.CallOp name count token) next result frame.new self.new
-            steps.new host.old host.new }
+        ensures performs { Performs (setup_of H.law context.entry)
+            (moment frame.old self.old steps.old host.old) (op.CallOp name count token) next result
+            (moment frame.new self.new steps.new host.new) }
     {
         let arguments = usize::from(count);
         if !self.are_readable(arguments) {
-            return self.operand_lent(context, steps, frame.address);
+            return self.data_race(context, steps, frame.address, "");
         }
-        match self.operate(context, token, arguments)? {
-            Operated::Value(value) => {
+        match self.operate(context, token, arguments) {
+            OpAnswer::Done(value) => {
                 self.stacks.cut(self.stacks.height() - arguments);
                 Ok(self.push_on(steps, frame, value, next))
             }
-            Operated::Arithmetic(text) => Ok(self.arithmetic(context, steps, frame.address, text)),
-            Operated::TooLarge(what) => {
-                Ok(self.data_too_large(context, steps, frame.address, what))
-            }
-            Operated::NotBuiltIn => {
+            OpAnswer::Failed(fault) => self.operator_failed(context, steps, frame.address, fault),
+            OpAnswer::NotBuiltIn => {
                 let name = context.program.name(u32::from(name));
                 self.native_on(context, host, steps, frame, name, arguments, next)
             }
@@ -179,16 +175,14 @@ impl<H: Host> Run<H> {
             (flat_all self.old.cells (arguments count self.old.stacks.operands)) ≡ true }
         requires room { length self.old.stacks.operands - count < self.old.stacks.room }
         requires ahead { frame.old.address < next }
-        ensures implements { (args : List Held) →
-            flat_all self.old.cells (arguments count self.old.stacks.operands) ≡ Some args →
-            Implements H.law context.entry.program.now context.entry.engine.now
-            frame.old self.old steps.old
+        ensures implements { (args : List Held) → flat_all self.old.cells
+            (arguments count self.old.stacks.operands) ≡ Some args →
+            Implements (setup_of H.law context.entry) (moment frame.old self.old steps.old host.old)
             (λ m place w. native m name.now None args (frame_in frame.old self.old place) w
             (λ v w1. pushed m (frame_in frame.old self.old place) next
             (under count self.old.stacks.operands) v w1)
-            (raised m (frame_in frame.old self.old place)))
-            (next ∷ []) count 1 self.old.stacks.handlers result
-            frame.new self.new steps.new host.old host.new }
+            (raised m (frame_in frame.old self.old place))) (next ∷ []) count 1
+            self.old.stacks.handlers result (moment frame.new self.new steps.new host.new) }
     {
         let operands = self.stacks.frame_operands();
         let given = &operands[operands.len() - count..];
@@ -204,10 +198,10 @@ impl<H: Host> Run<H> {
         }
     }
 
-    // What follows where no function has the name: the native, or the fault that an operand is a lent
-    // cell. It is done on a copy of the frame, so that the loop can hold its own in registers.
+    /// What follows where no function has the name: the native, or the fault that an operand is a lent
+    /// cell. It is done on a copy of the frame, so that the loop can hold its own in registers.
     #[inline(always)]
-    pub(crate) fn native_on_copy<L: Ledger>(
+    pub fn native_by_name_on_copy<L: Ledger>(
         &mut self,
         context: Context<'_>,
         host: &mut H,
@@ -221,24 +215,23 @@ impl<H: Host> Run<H> {
         requires operands { count ≤ length self.old.stacks.operands }
         requires room { length self.old.stacks.operands - count < self.old.stacks.room }
         requires ahead { frame.old.address < next }
-        ensures implements { Implements H.law context.entry.program.now context.entry.engine.now
-            frame.old self.old steps.old
-            (λ m place w. call_function m None name.now count
-            (frame_in frame.old self.old place) next w)
-            (next ∷ []) count 1 self.old.stacks.handlers result
-            frame.new self.new steps.new host.old host.new }
+        ensures implements { Implements (setup_of H.law context.entry)
+            (moment frame.old self.old steps.old host.old)
+            (λ m place w. call_function m None name.now count (frame_in frame.old self.old place)
+            next w) (next ∷ []) count 1 self.old.stacks.handlers result
+            (moment frame.new self.new steps.new host.new) }
     {
         let mut copy = *frame;
-        let progress = self.native_called(context, host, steps, &mut copy, name, count, next);
+        let progress = self.native_by_name(context, host, steps, &mut copy, name, count, next);
         frame.address = copy.address;
         frame.floor = copy.floor;
         progress
     }
 
-    // The same on the frame itself.
+    /// The same on the frame itself.
     #[cold]
     #[inline(never)]
-    pub(crate) fn native_called<L: Ledger>(
+    pub fn native_by_name<L: Ledger>(
         &mut self,
         context: Context<'_>,
         host: &mut H,
@@ -252,36 +245,30 @@ impl<H: Host> Run<H> {
         requires operands { count ≤ length self.old.stacks.operands }
         requires room { length self.old.stacks.operands - count < self.old.stacks.room }
         requires ahead { frame.old.address < next }
-        ensures implements { Implements H.law context.entry.program.now context.entry.engine.now
-            frame.old self.old steps.old
-            (λ m place w. call_function m None name.now count
-            (frame_in frame.old self.old place) next w)
-            (next ∷ []) count 1 self.old.stacks.handlers result
-            frame.new self.new steps.new host.old host.new }
+        ensures implements { Implements (setup_of H.law context.entry)
+            (moment frame.old self.old steps.old host.old)
+            (λ m place w. call_function m None name.now count (frame_in frame.old self.old place)
+            next w) (next ∷ []) count 1 self.old.stacks.handlers result
+            (moment frame.new self.new steps.new host.new) }
     {
         if !self.are_readable(count) {
-            return self.operand_lent(context, steps, frame.address);
+            return self.data_race(context, steps, frame.address, "");
         }
         self.native_on(context, host, steps, frame, name, count, next)
     }
 
     // What an operator makes of the last `count` operands, as they are read, if operators are fast.
     #[inline(never)]
-    fn operate(
-        &self,
-        context: Context<'_>,
-        token: u16,
-        count: usize,
-    ) -> Result<Operated, OutOfMemory>
+    fn operate(&self, context: Context<'_>, token: u16, count: usize) -> OpAnswer
         requires operands { count ≤ length self.now.stacks.operands }
         requires pool { token < length context.program.now.tokens }
         ensures { (args : List Held) →
             flat_all self.now.cells (arguments count self.now.stacks.operands) ≡ Some args →
-            IfOk result (λ r. outcome_of r
-            ≡ operated context.entry.program.now context.entry.engine.now token args) }
+            Answers result (operated context.entry.program.now context.entry.engine.now token
+            args) }
     {
         if !context.engine.fast_operators {
-            return Ok(Operated::NotBuiltIn);
+            return OpAnswer::NotBuiltIn;
         }
         let token = context.program.token(u32::from(token));
         let operands = self.stacks.frame_operands();
@@ -303,8 +290,8 @@ impl<H: Host> Run<H> {
     ) -> Progress
         requires ready { Ready frame.old self.old op.IsShared next }
         ensures performs { (program : View) (engine : Engine) (host : H) →
-            Performs H.law program engine frame.old self.old steps.old op.IsShared next
-            (Ok result) frame.new self.new steps.new host host }
+            Performs (setup H.law program engine) (moment frame.old self.old steps.old host)
+            op.IsShared next (Ok result) (moment frame.new self.new steps.new host) }
     {
         let shared = self.stacks.pop().value.as_cell().is_some();
         self.stacks.push(Held::read_write(Dynamic::Bool(shared)));
@@ -325,8 +312,8 @@ impl<H: Host> Run<H> {
         requires ready { Ready frame.old self.old (op.MakeClosure name) next }
         requires pools { InPools context.program.now (op.MakeClosure name) }
         ensures performs { (host : H) →
-            Performs H.law context.entry.program.now context.entry.engine.now frame.old self.old
-            steps.old (op.MakeClosure name) next result frame.new self.new steps.new host host }
+            Performs (setup_of H.law context.entry) (moment frame.old self.old steps.old host)
+            (op.MakeClosure name) next result (moment frame.new self.new steps.new host) }
     {
         let name = context.program.name(u32::from(name)).copy(self.alloc)?;
         let curry = Array::new(self.alloc);

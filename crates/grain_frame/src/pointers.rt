@@ -1,24 +1,22 @@
 //! Pointers to functions: values that are added to one, and its call.
 
-ghost use Rattle.std.specs.Prelude.{◌≡◌, ◌<◌, ◌≤◌, ◌+◌, ◌-◌, ◌++◌, length, codes, Ok, IfOk, Some};
+ghost use Rattle.std.specs.Prelude.{◌≡◌, ◌<◌, ◌≤◌, ◌+◌, ◌++◌, length, codes, IfOk, Some};
 ghost use Rattle.grain_value.specs.declared.values.Dynamic.{Dynamic};
 ghost use Rattle.grain_value.specs.Writing.{type_name_of};
 ghost use Rattle.grain_value.specs.Operands.{arguments};
-ghost use Rattle.grain_fault.specs.declared.faults.EvalAltResult.TheVariants as fault;
+ghost use Rattle.grain_fault.specs.Problems.{Plain, MismatchDataType};
 ghost use Rattle.grain_program.specs.View.{position_of};
 ghost use Rattle.grain_value.specs.Cells.{flat};
 ghost use Rattle.grain_value.specs.Looking.{pointer_of};
-ghost use Rattle.grain_program.specs.declared.code.instruction_set.Op.TheVariants as op;
 ghost use Rattle.grain_means.specs.Rules.{operand_under, trees_in};
-ghost use Rattle.grain_frame.specs.Abstraction.{Performs, Raises, Ready};
-ghost use Rattle.grain_frame.specs.Finding.{Finds};
+ghost use Rattle.grain_frame.specs.Abstraction.{Performs, Raises, Ready, setup_of, moment};
 ghost use Rattle.grain_frame.specs.Pointers.{StandsUnder};
+ghost use Rattle.grain_program.specs.declared.code.instruction_set.Op.TheVariants as op;
 
 use crate::activations::Activation;
 use crate::contexts::Context;
-use crate::finding::Found;
 use crate::runs::{Progress, Run};
-use crate::steps::Steps;
+use grain_global::Steps;
 use grain_host::Host;
 use grain_value::{Dynamic, FnPtr, Held, OutOfMemory};
 use std::alloc::Global;
@@ -48,8 +46,8 @@ fn add_copies(alloc: Global, pointer: &mut FnPtr, held: &[Held]) -> Result<(), O
 }
 
 impl<H: Host> Run<H> {
-    // What stands under the last `count` operands.
-    fn under(&self, count: usize) -> Under
+    /// What stands under the last `count` operands.
+    pub fn under(&self, count: usize) -> Under
         requires { count < length self.now.stacks.operands }
         ensures { StandsUnder result
             (flat self.now.cells (operand_under count self.now.stacks.operands).value) }
@@ -61,8 +59,8 @@ impl<H: Host> Run<H> {
         }
     }
 
-    // A copy of the pointer under the last `count` operands.
-    fn pointer_under(&self, count: usize) -> Result<FnPtr, OutOfMemory>
+    /// A copy of the pointer under the last `count` operands.
+    pub fn pointer_under(&self, count: usize) -> Result<FnPtr, OutOfMemory>
         requires there { count < length self.now.stacks.operands }
         requires pointer { StandsUnder Under.Pointer
             (flat self.now.cells (operand_under count self.now.stacks.operands).value) }
@@ -76,10 +74,10 @@ impl<H: Host> Run<H> {
         }
     }
 
-    // The fault that what stands under the last `count` operands is no pointer.
+    /// The fault that what stands under the last `count` operands is no pointer.
     #[cold]
     #[inline(never)]
-    fn no_pointer<L: Ledger>(
+    pub fn not_a_pointer<L: Ledger>(
         &mut self,
         context: Context<'_>,
         steps: &mut Steps<L>,
@@ -91,14 +89,14 @@ impl<H: Host> Run<H> {
             (flat self.old.cells (operand_under count self.old.stacks.operands).value) }
         ensures { (v : Dynamic) →
             flat self.old.cells (operand_under count self.old.stacks.operands).value ≡ Some v →
-            Raises self.old steps.old (fault.ErrorMismatchDataType (codes "Fn") (type_name_of v)
+            Raises self.old steps.old (Plain (MismatchDataType (codes "Fn") (type_name_of v))
             (position_of context.entry.program.now address)) result self.new steps.new }
     {
         let type_name = match self.stacks.peek(count).value.flat(&self.cells) {
             Some(value) => value.own_type_name(self.alloc)?,
             None => unreachable!(),
         };
-        self.not_a_pointer(context, steps, address, type_name)
+        self.mismatch(context, steps, address, "Fn", type_name)
     }
 
     // `curry`: the last `count` operands go behind the values of the pointer under them.
@@ -112,14 +110,14 @@ impl<H: Host> Run<H> {
     ) -> Result<Progress, OutOfMemory>
         requires ready { Ready frame.old self.old (op.Curry count) next }
         ensures performs { (host : H) →
-            Performs H.law context.entry.program.now context.entry.engine.now frame.old self.old
-            steps.old (op.Curry count) next result frame.new self.new steps.new host host }
+            Performs (setup_of H.law context.entry) (moment frame.old self.old steps.old host)
+            (op.Curry count) next result (moment frame.new self.new steps.new host) }
     {
         let count = usize::from(count);
         match self.under(count) {
-            Under::Lent => return self.operand_lent(context, steps, frame.address),
+            Under::Lent => return self.data_race(context, steps, frame.address, ""),
             Under::Other => {
-                return self.no_pointer(context, steps, frame.address, count);
+                return self.not_a_pointer(context, steps, frame.address, count);
             }
             Under::Pointer => {}
         }
@@ -138,41 +136,5 @@ impl<H: Host> Run<H> {
     {
         let operands = self.stacks.frame_operands();
         add_copies(self.alloc, pointer, &operands[operands.len() - count..])
-    }
-
-    // `call_fn_ptr`: the function of the name of the pointer under the last `count` operands, with as
-    // many parameters as the pointer has values and there are operands. The pointer's values take its
-    // place. If there is no such function, the native of that name is called on all of them.
-    #[inline(never)]
-    pub(crate) fn find_pointed<L: Ledger>(
-        &mut self,
-        context: Context<'_>,
-        host: &mut H,
-        steps: &mut Steps<L>,
-        frame: &mut Activation,
-        count: u8,
-        next: usize,
-    ) -> Result<Found, OutOfMemory>
-        requires ready { Ready frame.old self.old (op.CallFnPtr count) next }
-        ensures finds { Finds H.law context.entry.program.now context.entry.engine.now frame.old
-            self.old steps.old (op.CallFnPtr count) next result frame.new self.new steps.new
-            host.old host.new }
-    {
-        let count = usize::from(count);
-        match self.under(count) {
-            Under::Lent => Found::of(self.operand_lent(context, steps, frame.address)),
-            Under::Other => Found::of(self.no_pointer(context, steps, frame.address, count)),
-            Under::Pointer => {
-                let FnPtr { name, curry } = self.pointer_under(count)?;
-                let total = curry.len() + count;
-                self.stacks.spread(self.alloc, count, curry.into_vec())?;
-                match context.program.function_named(name.as_str(), total) {
-                    Some(number) => Ok(Found::Function(number, next)),
-                    None => Found::of(self.native_called(
-                        context, host, steps, frame, &name, total, next,
-                    )),
-                }
-            }
-        }
     }
 }

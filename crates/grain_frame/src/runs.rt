@@ -1,12 +1,11 @@
 //! What a run has, but for its frame.
 
-ghost use Rattle.std.specs.Prelude.{◌≡◌, ◌<◌, ◌+◌, nat_lt, true, if◌then◌else◌, Ok, Err};
+ghost use Rattle.std.specs.Prelude.{◌≡◌, ◌<◌, ◌+◌, nat_lt, true, if◌then◌else◌};
 ghost use Rattle.grain_fault.specs.declared.faults.EvalAltResult.TheVariants as fault;
 
 use crate::saved::SavedScopes;
-use crate::steps::Steps;
 use grain_fault::EvalAltResult;
-use grain_global::Engine;
+use grain_global::{Engine, Steps};
 use grain_host::Host;
 use grain_stack::Stacks;
 use grain_value::{Scope, Store};
@@ -42,15 +41,6 @@ pub enum Progress {
     Returned,
     /// A fault is raised in the frame. It lies in the run.
     Failed,
-}
-
-/// How a frame ended.
-#[derive(Clone, Copy, Debug, PartialEq, Eq)]
-pub enum FrameEnd {
-    /// With a value, which is its last operand, or unit if it has none.
-    Value,
-    /// With a fault, which lies in the run.
-    Fault,
 }
 
 impl<H: Host> Run<H> {

@@ -1,17 +1,18 @@
 //! Transfers, and how a frame goes on or is over.
 
-ghost use Rattle.std.specs.Prelude.{◌≡◌, ◌<◌, ◌≤◌, ◌+◌, ◌-◌, ◌∷◌, [], length, Ok, cond, nat_lt};
-ghost use Rattle.grain_program.specs.declared.code.instruction_set.Op.TheVariants as op;
+ghost use Rattle.std.specs.Prelude.{◌≡◌, ◌<◌, ◌≤◌, ◌∷◌, [], length, Ok, cond, nat_lt};
 ghost use Rattle.grain_program.specs.View.{View};
 ghost use Rattle.grain_global.specs.declared.engines.Engine.{Engine};
 ghost use Rattle.grain_means.specs.Rules.{onward, jumped, stepped, agrees, jump_if};
-ghost use Rattle.grain_frame.specs.Abstraction.{frame_in, Implements, Performs, Ready};
+ghost use Rattle.grain_means.specs.Means.{setup};
+ghost use Rattle.grain_frame.specs.Abstraction.{frame_in, Implements, Performs, Ready, setup_of, moment};
+ghost use Rattle.grain_program.specs.declared.code.instruction_set.Op.TheVariants as op;
 
 use crate::activations::Activation;
 use crate::contexts::Context;
 use crate::runs::{Progress, Run};
-use crate::steps::Steps;
 use grain_fault::EvalAltResult;
+use grain_global::Steps;
 use grain_host::Host;
 use grain_value::OutOfMemory;
 use std::sync::ledger::Ledger;
@@ -28,20 +29,20 @@ impl<H: Host> Run<H> {
         requires inside { frame.old.base ≤ length self.old.scope }
         requires ahead { frame.old.address < next }
         ensures implements { (program : View) (engine : Engine) (host : H) →
-            Implements H.law program engine frame.old self.old steps.old
+            Implements (setup H.law program engine) (moment frame.old self.old steps.old host)
             (λ m place w. onward m (frame_in frame.old self.old place)
             (stepped (frame_in frame.old self.old place) next self.old.stacks.operands) w)
-            (next ∷ []) 0 0 self.old.stacks.handlers (Ok result) frame.new self.new
-            steps.new host host }
+            (next ∷ []) 0 0 self.old.stacks.handlers (Ok result)
+            (moment frame.new self.new steps.new host) }
     {
         frame.address = next;
         steps.mark();
         Progress::Continues
     }
 
-    // `jump`: goes on at an address. A transfer to one that does not lie ahead costs an operation.
+    /// `jump`: goes on at an address. A transfer to one that does not lie ahead costs an operation.
     #[inline(always)]
-    pub(crate) fn jump_to<L: Ledger>(
+    pub fn jump_to<L: Ledger>(
         &mut self,
         context: Context<'_>,
         host: &mut H,
@@ -50,12 +51,12 @@ impl<H: Host> Run<H> {
         target: usize,
     ) -> Result<Progress, OutOfMemory>
         requires inside { frame.old.base ≤ length self.old.scope }
-        ensures implements { Implements H.law context.entry.program.now context.entry.engine.now
-            frame.old self.old steps.old
+        ensures implements { Implements (setup_of H.law context.entry)
+            (moment frame.old self.old steps.old host.old)
             (λ m place w. jumped m (frame_in frame.old self.old place)
             (stepped (frame_in frame.old self.old place) target self.old.stacks.operands) w)
-            (target ∷ []) 0 0 self.old.stacks.handlers result frame.new self.new
-            steps.new host.old host.new }
+            (target ∷ []) 0 0 self.old.stacks.handlers result
+            (moment frame.new self.new steps.new host.new) }
     {
         if target > frame.address {
             frame.address = target;
@@ -80,9 +81,9 @@ impl<H: Host> Run<H> {
         next: usize,
     ) -> Result<Progress, OutOfMemory>
         requires ready { Ready frame.old self.old op.Tick next }
-        ensures performs { Performs H.law context.entry.program.now context.entry.engine.now
-            frame.old self.old steps.old op.Tick next result frame.new self.new steps.new host.old
-            host.new }
+        ensures performs { Performs (setup_of H.law context.entry)
+            (moment frame.old self.old steps.old host.old) op.Tick next result
+            (moment frame.new self.new steps.new host.new) }
     {
         if !self.charge(context, host, steps, frame.address)? {
             return Ok(Progress::Failed);
@@ -106,15 +107,14 @@ impl<H: Host> Run<H> {
         next: usize,
     ) -> Result<Progress, OutOfMemory>
         requires ready { Ready frame.old self.old (op.JumpIfFalse target) next }
-        ensures implements { Implements H.law context.entry.program.now context.entry.engine.now
-            frame.old self.old steps.old
+        ensures implements { Implements (setup_of H.law context.entry)
+            (moment frame.old self.old steps.old host.old)
             (λ m place w. jump_if m wanted target next (frame_in frame.old self.old place) w)
-            (cond (nat_lt target next) (target ∷ next ∷ []) (next ∷ target ∷ []))
-            1 0 self.old.stacks.handlers result frame.new self.new steps.new host.old
-            host.new }
+            (cond (nat_lt target next) (target ∷ next ∷ []) (next ∷ target ∷ [])) 1 0
+            self.old.stacks.handlers result (moment frame.new self.new steps.new host.new) }
     {
         let Some(value) = self.stacks.top().value.flat(&self.cells) else {
-            return self.operand_lent(context, steps, frame.address);
+            return self.data_race(context, steps, frame.address, "");
         };
         match value.as_bool() {
             Some(truth) => {
@@ -127,7 +127,7 @@ impl<H: Host> Run<H> {
             }
             None => {
                 let type_name = value.own_type_name(self.alloc)?;
-                self.not_a_bool(context, steps, frame.address, type_name)
+                self.mismatch(context, steps, frame.address, "bool", type_name)
             }
         }
     }
@@ -143,9 +143,9 @@ impl<H: Host> Run<H> {
         next: usize,
     ) -> Result<Progress, OutOfMemory>
         requires ready { Ready frame.old self.old (op.SkipIfNotUnit target) next }
-        ensures performs { Performs H.law context.entry.program.now context.entry.engine.now
-            frame.old self.old steps.old (op.SkipIfNotUnit target) next result frame.new self.new
-            steps.new host.old host.new }
+        ensures performs { Performs (setup_of H.law context.entry)
+            (moment frame.old self.old steps.old host.old) (op.SkipIfNotUnit target) next result
+            (moment frame.new self.new steps.new host.new) }
     {
         if self.stacks.top().value.is_unit() {
             Ok(self.go_on(steps, frame, next))
@@ -164,21 +164,21 @@ impl<H: Host> Run<H> {
     ) -> Result<Progress, OutOfMemory>
         requires ready { Ready frame.old self.old op.Throw next }
         ensures performs { (host : H) →
-            Performs H.law context.entry.program.now context.entry.engine.now frame.old self.old
-            steps.old op.Throw next result frame.new self.new steps.new host host }
+            Performs (setup_of H.law context.entry) (moment frame.old self.old steps.old host)
+            op.Throw next result (moment frame.new self.new steps.new host) }
     {
         let _next = next;
         if !self.is_readable() {
-            return self.operand_lent(context, steps, frame.address);
+            return self.data_race(context, steps, frame.address, "");
         }
         let position = context.program.position(frame.address);
         let value = self.take_flat()?;
         Ok(self.raise(steps, EvalAltResult::ErrorRuntime(value, position)))
     }
 
-    // `return`: the frame gives its last operand, or unit if it has none.
+    /// `return`: the frame gives its last operand, or unit if it has none.
     #[inline(always)]
-    pub(crate) fn return_value<L: Ledger>(
+    pub fn return_value<L: Ledger>(
         &mut self,
         steps: &mut Steps<L>,
         frame: &Activation,
@@ -187,8 +187,8 @@ impl<H: Host> Run<H> {
         requires ready { Ready frame.now self.old op.Return next }
         ensures over { result ≡ Progress.Returned }
         ensures performs { (program : View) (engine : Engine) (host : H) →
-            Performs H.law program engine frame.now self.old steps.old op.Return next (Ok result)
-            frame.now self.new steps.new host host }
+            Performs (setup H.law program engine) (moment frame.now self.old steps.old host)
+            op.Return next (Ok result) (moment frame.now self.new steps.new host) }
     {
         let _next = next;
         steps.mark();

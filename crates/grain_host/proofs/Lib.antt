@@ -1,2 +1,3 @@
 mod Given
 mod PlainStops
+mod Signing

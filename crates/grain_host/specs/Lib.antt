@@ -9,3 +9,4 @@ pub mod Tables
 pub mod Reaching
 pub mod Clean
 pub mod Lawful
+pub mod Signatures

@@ -4,6 +4,7 @@
 mod host_answers;
 mod host_faults;
 mod hosts;
+mod signatures;
 mod stop_lines;
 mod table_natives;
 mod tables;
@@ -11,4 +12,5 @@ mod tables;
 pub use host_answers::{Args, HostAnswer, ProgressAnswer};
 pub use host_faults::HostFault;
 pub use hosts::Host;
+pub use signatures::{not_found, says_missing};
 pub use tables::TableHost;

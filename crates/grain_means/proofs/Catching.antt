@@ -12,7 +12,7 @@ use Rattle.grain_fault.specs.Problems.{Problem, Plain, NoMemory, Malformed, Term
 use Rattle.grain_program.specs.View.{name_of, position_of}
 use Rattle.grain_host.specs.Law.{Verdict, GoOn, Stop}
 use Rattle.grain_means.specs.Worlds.{Act, Go, Failed, World, Setup, Frame, Handler, InFrame, InCatch}
-use Rattle.grain_means.specs.CatchValues.{caught_value}
+use Rattle.grain_fault.specs.CatchValues.{caught_value}
 use Rattle.grain_means.specs.Rules.{is_full, is_stop, leave_by_fault, marked, on_verdict, progressed, charged_or, escaped, bind_caught, catching, caught, position}
 use Rattle.grain_means.specs.Comes.{CatchPoint, Comes, try_of, tries}
 use Rattle.grain_means.specs.Leavings.{Keeps, Cut}

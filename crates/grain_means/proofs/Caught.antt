@@ -23,7 +23,7 @@ use Rattle.grain_fault.specs.Texts.{fault_text}
 use Rattle.grain_fault.specs.declared.places.Position.{Position}
 use Rattle.grain_host.specs.Clean.{both_true, first_true, second_true}
 use Rattle.grain_host.specs.Law.{is_plain}
-use Rattle.grain_means.specs.CatchValues.{caught_value, fault_map, thrown_in, value_or_map, with_place, with_source}
+use Rattle.grain_fault.specs.CatchValues.{caught_value, fault_map, thrown_in, value_or_map, with_place, with_source}
 use Rattle.grain_means.specs.Contained.{Names, ProblemNames}
 
 -- a fault at another position names the same cells, and is as clean

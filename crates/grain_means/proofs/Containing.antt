@@ -36,11 +36,11 @@ use Rattle.grain_host.specs.Clean.{both_true}
 use Rattle.grain_host.specs.Law.{GoOn, IsLawful, Reply, Stop, Verdict, call_bound, call_is_clean, is_plain, native_of, receiver_bound, receiver_is_plain, reply_bound, reply_is_clean, verdict_bound, verdict_is_clean, written}
 use Rattle.grain_host.specs.Law as reply
 use Rattle.grain_means.specs.Contained.{AnswerNames, CellNames, ConstantsName, Contained, EntryNames, HeldNames, Names, ProblemNames}
-use Rattle.grain_means.specs.CatchValues.{caught_value}
+use Rattle.grain_fault.specs.CatchValues.{caught_value}
 use Rattle.grain_means.specs.Ends.{Ends, ended, went, joined}
 use Rattle.grain_means.specs.Rules as rules
-use Rattle.grain_means.specs.Rules.{Receiver, agrees, back_in_cell, back_in_entry, catching, cells_given_back, content_now, curried_in, bound, exit_of, first_is_read_only, flag_of_cell, flat_all, function_by_name, function_found, frame_at, given, given_back, held_at, held_or, if_armed, is_full, is_read_only, is_stop, lent, name_at, operand_under, operated, op_assigned, or_return, outer_handlers, race_text, spread, stepped, thrown_anew, throws_unit, trees_in, without}
-use Rattle.grain_means.specs.Signatures.{index_text, not_found, says_missing, signature_text, type_at, unknown_property, unwritable_property}
+use Rattle.grain_means.specs.Rules.{Receiver, agrees, back_in_cell, back_in_entry, catching, cells_given_back, content_now, curried_in, bound, exit_of, first_is_read_only, flag_of_cell, flat_all, function_by_name, function_found, frame_at, given, given_back, held_at, held_or, if_armed, is_full, is_read_only, is_stop, lent_held, name_at, operand_under, operated, op_assigned, or_return, outer_handlers, race_text, spread, stepped, thrown_anew, throws_unit, trees_in, without}
+use Rattle.grain_host.specs.Signatures.{index_text, not_found, says_missing, signature_text, type_at, unknown_property, unwritable_property}
 use Rattle.grain_means.specs.Worlds.{Act, Go, End, Then, Answer, Came, Failed, Frame, Handler, InCatch, InFrame, Place, Setup, Todo, World}
 use Rattle.grain_means.proofs.Caught.{caught_names, filled_names, first_names, placed_names, sole_names}
 use Rattle.grain_means.proofs.CellFree.{none_names}
@@ -371,27 +371,27 @@ module _ {S : Type 0} (m : Setup S) (lawful : IsLawful m.law) (clean : Bool)
       -- what the host may hand over
       call_names : (r : Option Receiver) (args : List Held) (w : World S) → At n w →
           ReceiverNames clean n r → Arguments clean n args →
-          call_bound m.law w.host (lent r) (trees_in args) ≤ n
+          call_bound m.law w.host (lent_held r) (trees_in args) ≤ n
       call_names r args w at receiver given =
           max-le {a = m.law.reach w.host}
-          {b = max (receiver_bound (lent r)) (cell_bound (array (pack (trees_in args))))} at.reaches
-          (max-le {a = receiver_bound (lent r)}
+          {b = max (receiver_bound (lent_held r)) (cell_bound (array (pack (trees_in args))))} at.reaches
+          (max-le {a = receiver_bound (lent_held r)}
           {b = cell_bound (array (pack (trees_in args)))} (own r receiver)
           (trees_name clean n args (plain_operands clean n args given)).0) where
-            own : (r : Option Receiver) → ReceiverNames clean n r → receiver_bound (lent r) ≤ n
+            own : (r : Option Receiver) → ReceiverNames clean n r → receiver_bound (lent_held r) ≤ n
             own None h = omega arith
             own (Some q) h = h.0.0
 
       call_clean : (r : Option Receiver) (args : List Held) (w : World S) → At n w →
           ReceiverNames clean n r → Arguments clean n args → clean ≡ true →
-          call_is_clean m.law w.host (lent r) (trees_in args) ≡ true
+          call_is_clean m.law w.host (lent_held r) (trees_in args) ≡ true
       call_clean r args w at receiver given s =
           both_true (m.law.holds_clean w.host)
-          (receiver_is_plain (lent r) && list_all is_plain (trees_in args)) (at.hands s)
-          (both_true (receiver_is_plain (lent r)) (list_all is_plain (trees_in args))
+          (receiver_is_plain (lent_held r) && list_all is_plain (trees_in args)) (at.hands s)
+          (both_true (receiver_is_plain (lent_held r)) (list_all is_plain (trees_in args))
           (own r receiver) (plain_trees clean n args given s)) where
             own : (r : Option Receiver) → ReceiverNames clean n r →
-                receiver_is_plain (lent r) ≡ true
+                receiver_is_plain (lent_held r) ≡ true
             own None h = refl
             own (Some q) h = plain_tree clean n q.held h s
 
@@ -423,17 +423,17 @@ module _ {S : Type 0} (m : Setup S) (lawful : IsLawful m.law) (clean : Bool)
 
       module _ (key : ℕ) (r : Option Receiver) (args : List Held) (w : World S) (at : At n w)
           (receiver : ReceiverNames clean n r) (given : Arguments clean n args) where
-        after_reaches : m.law.reach (m.law.call_after w.host key (lent r) (trees_in args)) ≤ n
+        after_reaches : m.law.reach (m.law.call_after w.host key (lent_held r) (trees_in args)) ≤ n
         after_reaches = omega (
           arith,
-          lawful.stays_within w.host key (lent r) (trees_in args),
+          lawful.stays_within w.host key (lent_held r) (trees_in args),
           call_names r args w at receiver given,
         )
 
         after_hands : clean ≡ true →
-            m.law.holds_clean (m.law.call_after w.host key (lent r) (trees_in args)) ≡ true
+            m.law.holds_clean (m.law.call_after w.host key (lent_held r) (trees_in args)) ≡ true
         after_hands s =
-            lawful.stays_clean w.host key (lent r) (trees_in args)
+            lawful.stays_clean w.host key (lent_held r) (trees_in args)
             (call_clean r args w at receiver given s)
 
       -- the world once the host has answered
@@ -441,7 +441,7 @@ module _ {S : Type 0} (m : Setup S) (lawful : IsLawful m.law) (clean : Bool)
           ReceiverNames clean n r → Arguments clean n args →
           Contained m.law clean n (given_back m.law w.host key (trees_in args) r w.scope)
           (cells_given_back m.law w.host key (trees_in args) r w.cells)
-          (m.law.call_after w.host key (lent r) (trees_in args))
+          (m.law.call_after w.host key (lent_held r) (trees_in args))
       answers_at key None args w at receiver given = record {
         size = at.size;
         entries = at.entries;
@@ -508,23 +508,23 @@ module _ {S : Type 0} (m : Setup S) (lawful : IsLawful m.law) (clean : Bool)
             let values = trees_in args in
             let after = answers_at key r args w at receiver given in
             let back : World S → World S = λ v. record v {
-              host = m.law.call_after v.host key (lent r) values;
+              host = m.law.call_after v.host key (lent_held r) values;
               scope = given_back m.law v.host key values r v.scope;
               cells = cells_given_back m.law v.host key values r v.cells;
             } in
             marks f w (λ w1. rules.marked m f (back w1) (λ w2. rules.answered m
-            (m.law.call_reply w1.host key (lent r) values) f w2 go fails)) at
+            (m.law.call_reply w1.host key (lent_held r) values) f w2 go fails)) at
             (marks f (back (record w { passed = w.passed + 1 })) (λ w2. rules.answered m
-            (m.law.call_reply w.host key (lent r) values) f w2 go fails) after
-            (answered (m.law.call_reply w.host key (lent r) values)
+            (m.law.call_reply w.host key (lent_held r) values) f w2 go fails) after
+            (answered (m.law.call_reply w.host key (lent_held r) values)
             (record (back w) { passed = w.passed + 1 + 1 }) after
             (lends_plain key r args w at receiver given) (
               omega (
                 arith,
-                lawful.replies_within w.host key (lent r) values,
+                lawful.replies_within w.host key (lent_held r) values,
                 call_names r args w at receiver given,
               ),
-              λ s. lawful.replies_clean w.host key (lent r) values
+              λ s. lawful.replies_clean w.host key (lent_held r) values
                   (call_clean r args w at receiver given s),
             )))
 

@@ -7,7 +7,7 @@ use Rattle.grain_fault.specs.Problems.{FaultKind, FunctionNotFound, DotExpr, Ind
 use Rattle.grain_means.specs.Worlds.{Setup}
 use Rattle.grain_means.specs.Comes.{ProgramPoint}
 use Rattle.grain_means.specs.Causes.{Raises, FindsNone}
-use Rattle.grain_means.specs.Signatures.{missing_kind}
+use Rattle.grain_host.specs.Signatures.{missing_kind}
 
 -- what holds of both holds of the chosen one
 of_either : (P : FaultKind → Type 0) (b : Bool) (x y : FaultKind) → P x → P y →

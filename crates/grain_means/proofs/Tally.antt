@@ -38,16 +38,16 @@ use Rattle.grain_value.specs.declared.values.FnPtr.{FnPtr}
 use Rattle.grain_program.specs.Lookups.{function_of, function_by_text}
 use Rattle.grain_means.proofs.Readable.{stays_readable}
 use Rattle.grain_means.specs.Worlds.{Act, Go, End, Then, Answer, Came, Failed, World, Setup, Frame, Handler, InFrame, InCatch}
-use Rattle.grain_means.specs.Signatures.{not_found, says_missing}
+use Rattle.grain_host.specs.Signatures.{not_found, says_missing}
 use Rattle.grain_host.specs.Law.{Reply, Verdict, GoOn, Stop, native_of}
 use Rattle.grain_host.specs.Law as reply
 use Rattle.grain_value.specs.declared.natives.Native.{Native}
 use Rattle.grain_means.proofs.Moving.{placed_if_none, unit_anywhere, unit_caught}
 use Rattle.grain_means.proofs.Missing.{row_of_missing}
-use Rattle.grain_means.specs.Rules.{throws_unit, offered, offered_to, thrown_anew, outer_handlers, push_handler, Receiver, lent, given, given_back, content_now, operator_assigned, op_assign_failed, native_assigned, trees_in, first_is_read_only, on_verdict, progressed, answered, host_called, native_found, native, pushed, written, without, bound, function_found, frame_at, held_at, stepped, is_full, is_stop, or_return, operated, op_assigned, agrees, leave_by_fault, marked, raised, charged, onward, jumped, at_entry, declare, push_outcome, assignment_to_constant, write_entry, store_outcome, branched, tested, skip, unwind, propagate, resume_caller, enter_function, function_entered, call_function, instr, start_instruction, next, position, flattened, flat_or_race, flat_all, all_or_race, data_race, race_text, operand_under, spread, name_at, cells_given_back, cell_written, operand_for, shared, curried, pointer_called, not_a_pointer, jump_if, is_read_only, function_by_name}
+use Rattle.grain_means.specs.Rules.{throws_unit, offered, offered_to, thrown_anew, outer_handlers, push_handler, Receiver, lent_held, given, given_back, content_now, operator_assigned, op_assign_failed, native_assigned, trees_in, first_is_read_only, on_verdict, progressed, answered, host_called, native_found, native, pushed, written, without, bound, function_found, frame_at, held_at, stepped, is_full, is_stop, or_return, operated, op_assigned, agrees, leave_by_fault, marked, raised, charged, onward, jumped, at_entry, declare, push_outcome, assignment_to_constant, write_entry, store_outcome, branched, tested, skip, unwind, propagate, resume_caller, enter_function, function_entered, call_function, instr, start_instruction, next, position, flattened, flat_or_race, flat_all, all_or_race, data_race, race_text, operand_under, spread, name_at, cells_given_back, cell_written, operand_for, shared, curried, pointer_called, not_a_pointer, jump_if, is_read_only, function_by_name}
 use Rattle.grain_means.specs.Comes.{ProgramPoint, Comes, here, Meets, try_of, tries}
 use Rattle.grain_means.specs.Leavings.{Keeps, AtCheckpoint, Cut, Cuts}
-use Rattle.grain_means.specs.Causes.{Question, native_asked, reply_to, asks_first, EndsWith, HasNoBuiltIn, AssignsByHost, AsksAgain, AsksSecond, AsksNative, AsksLast, FindsNative, HostAnswers, IsCalled, HaveCaughtUnit, HasPosition, Why, Calls, Charges, IsCharged, ReadsTop, Overfills, UsesEntry, Unwinds, Tests, Holds, AssignsConstant, Operates, CallsOn, Enters, LeftCall, Raised, Row, Cause, Caused, ReadsLent, AnswersLent, IsLent, AssignsLent, Points, AsksPointer, truth_on_top, truth_read, Misses}
+use Rattle.grain_means.specs.Causes.{Question, native_asked, reply_to, asks_first, EndsWith, HasNoBuiltIn, AssignsByHost, AsksAgain, AsksSecond, AsksNative, AsksLast, FindsNative, HostAnswers, IsCalled, HaveCaughtUnit, HasPosition, Why, Calls, Charges, IsCharged, ReadsTop, Overfills, UsesEntry, Unwinds, Tests, Holds, AssignsConstant, Operates, CallsOn, Enters, LeftCall, Raised, Row, Cause, Caused, ReadsLent, AnswersLent, IsLent, AssignsLent, StoresLent, Points, AsksPointer, truth_on_top, truth_read, Misses}
 use Rattle.grain_means.specs.lemmas.Branches.{of_two}
 use Rattle.grain_means.proofs.Kept.{keeps_nothing, keeps_cut, keeps_push, keeps_set, keeps_given}
 use Rattle.grain_means.proofs.Lengths.{past_scope, cut_short, length_under, length_pushed, length_rotated, spread_length, spread_under}
@@ -526,7 +526,7 @@ module _ {S : Type 0} (m : Setup S) where
 
         abbrev answered_by : ℕ → World S
         answered_by key =
-            served w (m.law.call_after w.host key (lent r) (trees_in args))
+            served w (m.law.call_after w.host key (lent_held r) (trees_in args))
             (given_back m.law w.host key (trees_in args) r w.scope)
             (cells_given_back m.law w.host key (trees_in args) r w.cells)
 
@@ -600,12 +600,12 @@ module _ {S : Type 0} (m : Setup S) where
                 let x = Plain (problem.NonPureCall name) (position m f) in
                 let g = holding operands in
                 let after : World S → World S = λ w1. record w1 {
-                  host = m.law.call_after w1.host n.key (lent r) (trees_in args);
+                  host = m.law.call_after w1.host n.key (lent_held r) (trees_in args);
                   scope = given_back m.law w1.host n.key (trees_in args) r w1.scope;
                   cells = cells_given_back m.law w1.host n.key (trees_in args) r w1.cells;
                 } in
                 let answers : World S → World S → Act S =
-                λ w1 w2. answered m (m.law.call_reply w1.host n.key (lent r) (trees_in args)) g w2 go
+                λ w1 w2. answered m (m.law.call_reply w1.host n.key (lent_held r) (trees_in args)) g w2 go
                 fails in
                 let before : World S = record w { passed = w.passed + 1 } in
                 by_test (Even ran) (n.writes && first_is_read_only (given r args)) (fails x w)
@@ -614,7 +614,7 @@ module _ {S : Type 0} (m : Setup S) where
                 refused n e both.0 both.1)
                 (λ called. even_marked ran w s (λ w1. marked m g (after w1) (answers w1))
                 (even_marked ran (after before) (steady_after n.key) (answers before)
-                (even_answered n e called (m.law.call_reply w.host n.key (lent r) (trees_in args)) refl)))
+                (even_answered n e called (m.law.call_reply w.host n.key (lent_held r) (trees_in args)) refl)))
 
         even_native_in : ((x : Problem) → AsksLast m x asked point) → (operands : List Held) →
             Enough operands → (go : Dynamic → World S → Act S) →
@@ -720,7 +720,7 @@ module _ {S : Type 0} (m : Setup S) where
       -- the last operand into an entry, or its cell
       even_stored_in : (read_only : Bool) (slot : ℕ) (before : Held) →
           Sits m root k (stepped f behind_it (below f.operands)) →
-          (AssignsLent (f.base + slot) f now → ReadsLent m.program [] o f now) →
+          (StoresLent (f.base + slot) f now → ReadsLent m.program [] o f now) →
           held_at now.scope (f.base + slot) ≡ Some before →
           (cell : Option ℕ) → cell_of before.value ≡ cell →
           Even (now.ran + 1) (operand_for m cell f start
@@ -729,11 +729,12 @@ module _ {S : Type 0} (m : Setup S) where
       even_stored_in read_only slot before u lent held None is =
           even_entry before [] slot
           (record { value = (top f.operands).value; read_only = read_only }) u
-          (λ none. lent (inr (before, held, none)))
+          (λ none. let read : Some before.value ≡ None = rw is at none in absurd cc)
       even_stored_in read_only slot before u lent held (Some n) is =
-          even_flat (top f.operands) [] (λ none. lent (inl none)) _
+          even_flat (top f.operands) [] (λ none. lent (before, n, held, is, inl none)) _
           (λ v _. even_entry before [] slot (record { value = v; read_only = read_only }) u
-          (λ none. lent (inr (before, held, none)))) (flat now.cells (top f.operands).value) refl
+          (λ none. lent (before, n, held, is, inr none))) (flat now.cells (top f.operands).value)
+          refl
 
       -- an op-assignment that no built-in does
       module _ (a : AssignOp) (slot n : ℕ) (h : Held) (u : Dynamic) (v : Held)
@@ -850,12 +851,12 @@ module _ {S : Type 0} (m : Setup S) where
           if is_read_only start h then assignment_to_constant m n f start
           else write_entry m h slot (record h { value = v }) (name_of m.program n) behind_it f start))
       even_assigned n slot u constant lent h e =
-          even_flat (top f.operands) (name_of m.program n) (λ none. lent (inl none)) _ (λ v read.
+          even_flat (top f.operands) (name_of m.program n) (λ none. lent (h, e, inl none)) _ (λ v read.
           by_test (Even (now.ran + 1)) (is_read_only start h) (assignment_to_constant m n f start)
           (write_entry m h slot (record h { value = v }) (name_of m.program n) behind_it f start)
           (λ yes. even_constant n (constant (v, read) h (e, yes)))
-          (λ _. even_entry h (name_of m.program n) slot (record h { value = v }) u
-          (λ none. lent (inr (h, e, none)))))
+          (λ no. even_entry h (name_of m.program n) slot (record h { value = v }) u
+          (λ none. lent (h, e, inr (no, none)))))
           (flat now.cells (top f.operands).value) refl
 
       even_assigned_op : (n : ℕ) (a : AssignOp) (slot : ℕ) →
@@ -881,16 +882,17 @@ module _ {S : Type 0} (m : Setup S) where
           store_outcome m (op_assigned m.engine a u v) a h u (record (top f.operands) { value = v })
           slot n behind_it f start)))
       even_assigned_op n a slot on constant lent answers says by_host h e =
-          even_flat (top f.operands) (name_of m.program n) (λ none. lent (inl none)) _ (λ v read.
+          even_flat (top f.operands) (name_of m.program n) (λ none. lent (h, e, inl none)) _ (λ v read.
           by_test (Even (now.ran + 1)) (is_read_only start h) (assignment_to_constant m n f start)
           (flattened m h (name_of m.program n) f start (λ u.
           store_outcome m (op_assigned m.engine a u v) a h u (record (top f.operands) { value = v })
           slot n behind_it f start))
           (λ yes. even_constant n (constant (v, read) h (e, yes)))
-          (λ no. even_flat h (name_of m.program n) (λ none. lent (inr (h, e, none))) _ (λ u content.
+          (λ no. even_flat h (name_of m.program n) (λ none. lent (h, e, inr (no, none))) _
+          (λ u content.
           even_stored a (name_of m.program a.op_name)
           (record h { value = u } ∷ record (top f.operands) { value = v } ∷ []) h u
-          (record (top f.operands) { value = v }) slot n on (λ none. lent (inr (h, e, none))) answers
+          (record (top f.operands) { value = v }) slot n on (λ none. lent (h, e, inr (no, none))) answers
           (op_assigned m.engine a u v) (says h u v (e, no) content read)
           (by_host h u v (e, no) content read))
           (flat now.cells h.value) refl))
@@ -1100,13 +1102,13 @@ module _ {S : Type 0} (m : Setup S) where
           (enough : Enough (under count operands)) →
           ((v : Dynamic) →
           Sits m root k (stepped f behind_it (under count operands ++ read_write v ∷ []))) →
-          (flat_all now.cells (arguments count operands) ≡ None →
-          ReadsLent m.program [] o f now) →
           (Calls m.program o f now → Charges m.program o f now) →
           ((g : Function) (args : List Held) → CallsOn m.program g args o f now →
           IsCharged m now → now.level < m.engine.limits.levels →
           m.engine.limits.variables < length g.params → Overfills m o f now) →
           (found : Option Function) →
+          (found ≡ None → flat_all now.cells (arguments count operands) ≡ None →
+          ReadsLent m.program [] o f now) →
           (found ≡ None → (args : List Held) →
           flat_all now.cells (arguments count operands) ≡ Some args →
           Misses m.program name args o f now) →
@@ -1115,8 +1117,8 @@ module _ {S : Type 0} (m : Setup S) where
           ((g : Function) → found ≡ Some g → IsProgram m.program →
           Fitting m.program (frame_at g.chunk 0 None)) →
           Even (now.ran + 1) (call_function m found name count (holding operands) behind_it start)
-      even_called name count operands full enough u lent charges fills None misses calls fits =
-          even_flat_all operands full (arguments count operands) lent _ (λ args e.
+      even_called name count operands full enough u charges fills None lent misses calls fits =
+          even_flat_all operands full (arguments count operands) (lent refl) _ (λ args e.
           let q : AsksNative m
           (record {
             host = start.host;
@@ -1133,7 +1135,7 @@ module _ {S : Type 0} (m : Setup S) where
           (stepped f behind_it (under count operands ++ read_write v ∷ []))
           (answered_by start steady name None args q n.key) steady trace (inl refl) (u v)))
           (flat_all now.cells (arguments count operands)) refl
-      even_called name count operands full enough u lent charges fills (Some g) misses calls fits =
+      even_called name count operands full enough u charges fills (Some g) lent misses calls fits =
           let on : CallsOn m.program g (arguments count operands) o f now = calls g refl in
           let is : Calls m.program o f now = (g, arguments count operands, on) in
           even_entered g count operands full enough u is (charges is)
@@ -1344,9 +1346,9 @@ module _ {S : Type 0} (m : Setup S) where
         (λ v. sits_at (op.Call n count) width at refl _ _ (inl refl)
         (λ _. omega
         (arith, length_pushed (under count f.operands) v, length_under count f.operands)))
-        (λ lent. (refl, lent)) (λ is. is)
-        (λ g args on charged low many. (g, args, on, charged, low, many))
-        (function_found m.program n count) (λ none args read. (refl, read, none))
+        (λ is. is) (λ g args on charged low many. (g, args, on, charged, low, many))
+        (function_found m.program n count) (λ none lent. (refl, none, lent))
+        (λ none args read. (refl, read, none))
         (λ g e. (e, refl)) (λ g e valid. fits_found m.program valid (function_of m.program n count) g 0 e)
     even_instr (op.CallOp n count o) width at =
         even_flat_all (op.CallOp n count o) width at f.operands (omega arith)
@@ -1390,9 +1392,9 @@ module _ {S : Type 0} (m : Setup S) where
           spread_under p n f.operands,
           enough,
         )))
-        (λ lent. (refl, inr (p, points, lent))) (λ is. is)
-        (λ g args on charged low many. (g, args, on, charged, low, many))
+        (λ is. is) (λ g args on charged low many. (g, args, on, charged, low, many))
         (function_by_name m.program p.name count)
+        (λ none lent. (refl, inr (p, points, none, lent)))
         (λ none args read. (p, points, refl, read, none))
         (λ g e. (p, points, e, refl))
         (λ g e valid. fits_found m.program valid (function_by_text m.program p.name count) g 0 e))

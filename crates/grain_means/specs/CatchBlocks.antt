@@ -7,7 +7,7 @@ use Rattle.grain_fault.specs.Classes.{catchable}
 use Rattle.grain_fault.specs.Problems.{Problem}
 use Rattle.grain_program.specs.View.{View, name_of}
 use Rattle.grain_means.specs.Worlds.{Act, Go, End, Failed, World, Setup, Frame, InFrame}
-use Rattle.grain_means.specs.CatchValues.{caught_value}
+use Rattle.grain_fault.specs.CatchValues.{caught_value}
 use Rattle.grain_host.specs.Law.{Law}
 use Rattle.grain_global.specs.declared.engines.Engine.{Engine}
 use Rattle.grain_means.specs.Rules.{caught, main}

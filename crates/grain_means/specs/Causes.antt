@@ -25,11 +25,11 @@ use Rattle.grain_program.specs.View.{View, name_of, assign_op_of, position_of, s
 use Rattle.grain_global.specs.declared.engines.Engine.{Engine}
 use Rattle.grain_ops.specs.Outcomes.{Outcome, NotBuiltIn, ArithmeticFault, TooLarge}
 use Rattle.grain_means.specs.Worlds.{Act, Go, Answer, Came, Failed, World, Setup, Handler, Frame, InFrame}
-use Rattle.grain_means.specs.Signatures.{missing_kind, not_found, says_missing}
+use Rattle.grain_host.specs.Signatures.{missing_kind, not_found, says_missing}
 use Rattle.grain_host.specs.Law.{Law, Reply, GoOn, Stop, native_of}
 use Rattle.grain_host.specs.Law as reply
 use Rattle.grain_value.specs.declared.natives.Native.{Native}
-use Rattle.grain_means.specs.Rules.{Receiver, lent, given, given_back, cells_given_back, content_now, name_at, flat_all, spread, operand_under, race_text, is_read_only, function_by_name, kinds_in, trees_in, first_is_read_only, throws_unit, bound, frame_at, held_at, function_found, is_stop, position, main, operated, op_assigned}
+use Rattle.grain_means.specs.Rules.{Receiver, lent_held, given, given_back, cells_given_back, content_now, name_at, flat_all, spread, operand_under, race_text, is_read_only, function_by_name, kinds_in, trees_in, first_is_read_only, throws_unit, bound, frame_at, held_at, function_found, is_stop, position, main, operated, op_assigned}
 use Rattle.grain_means.specs.Means.{Begin, setup, first_world}
 use Rattle.grain_means.specs.Comes.{ProgramPoint, CatchPoint, Comes, ComesToCatch, Meets}
 
@@ -85,7 +85,7 @@ HasTooMany m o f w = (g : Function) × (args : List Held) × CallsOn m.program g
     × IsCharged m w × (w.level < m.engine.limits.levels)
     × (m.engine.limits.variables < length g.params)
 
--- the last operand can be read: it is no cell whose content is lent
+-- the last operand can be read: it is no cell whose content is lent, or that is not there
 abbrev pub ReadsTop : {S : Type 0} → Frame → World S → Type 0
 ReadsTop f w = (v : Dynamic) × (flat w.cells (top f.operands).value ≡ Some v)
 
@@ -212,7 +212,7 @@ native_asked m q = native_of m.law q.host q.name (kinds_in (all_args q))
 
 -- the host's answer where the native of this key is asked for
 abbrev pub reply_to : {S : Type 0} → Setup S → Question S → ℕ → Reply
-reply_to m q key = m.law.call_reply q.host key (lent q.lent) (trees_in q.args)
+reply_to m q key = m.law.call_reply q.host key (lent_held q.lent) (trees_in q.args)
 
 -- the native of this key is called: it does not write its first argument, or that can be written
 abbrev pub IsCalled : {S : Type 0} → Question S → Native → Type 0
@@ -229,7 +229,7 @@ EndsWith m f w q x host left cells =
     ⊎ ((n : Native) × (native_asked m q ≡ Some n) × IsCalled q n ×
     ((y : Problem) × (reply_to m q n.key ≡ reply.Failed y) ×
     (x ≡ at_position_if_none (position m f) y) ×
-    (host ≡ m.law.call_after q.host n.key (lent q.lent) (trees_in q.args)) ×
+    (host ≡ m.law.call_after q.host n.key (lent_held q.lent) (trees_in q.args)) ×
     (left ≡ given_back m.law q.host n.key (trees_in q.args) q.lent w.scope) ×
     (cells ≡ cells_given_back m.law q.host n.key (trees_in q.args) q.lent w.cells)))
 
@@ -444,18 +444,25 @@ Mistypes r a o f w =
 abbrev pub IsLent : {S : Type 0} → World S → Held → Type 0
 IsLent w h = flat w.cells h.value ≡ None
 
--- of an op-assignment: the value that it assigns, or what it assigns to, is a lent cell
+-- of an assignment to an entry that is there: the value that it assigns is a lent cell, or the entry,
+-- which can be written, is one
 abbrev pub AssignsLent : {S : Type 0} → ℕ → Frame → World S → Type 0
-AssignsLent i f w = IsLent w (top f.operands) ⊎ ((h : Held) × (held_at w.scope i ≡ Some h) ×
-    IsLent w h)
+AssignsLent i f w = (h : Held) × (held_at w.scope i ≡ Some h) ×
+    (IsLent w (top f.operands) ⊎ ((is_read_only w h ≡ false) × IsLent w h))
+
+-- of a store into an entry that is a cell: the value that it stores, or the entry, is a lent one; into
+-- any other entry the value goes as it is
+abbrev pub StoresLent : {S : Type 0} → ℕ → Frame → World S → Type 0
+StoresLent i f w = (h : Held) × (n : ℕ) × (held_at w.scope i ≡ Some h) ×
+    (cell_of h.value ≡ Some n) × (IsLent w (top f.operands) ⊎ IsLent w h)
 
 -- it reads or writes a cell whose content is lent, at the variable of this name
 abbrev pub ReadsLent : {S : Type 0} → View → List ℕ → Op → Frame → World S → Type 0
 ReadsLent program name (op.LoadLocal s) f w = (name ≡ name_at w.scope (f.base + s)) ×
     ((h : Held) × (held_at w.scope (f.base + s) ≡ Some h) × IsLent w h)
-ReadsLent program name (op.StoreLocal s) f w = (name ≡ []) × AssignsLent (f.base + s) f w
-ReadsLent program name (op.StoreConst s) f w = (name ≡ []) × AssignsLent (f.base + s) f w
-ReadsLent program name (op.StoreShared s) f w = (name ≡ []) × AssignsLent (f.base + s) f w
+ReadsLent program name (op.StoreLocal s) f w = (name ≡ []) × StoresLent (f.base + s) f w
+ReadsLent program name (op.StoreConst s) f w = (name ≡ []) × StoresLent (f.base + s) f w
+ReadsLent program name (op.StoreShared s) f w = (name ≡ []) × StoresLent (f.base + s) f w
 ReadsLent program name (op.DeclareLocal n) f w = (name ≡ []) × IsLent w (top f.operands)
 ReadsLent program name (op.DeclareConst n) f w = (name ≡ []) × IsLent w (top f.operands)
 ReadsLent program name (op.AssignLocal s n) f w =
@@ -464,13 +471,14 @@ ReadsLent program name (op.AssignLocalOp s n a) f w =
     (name ≡ name_of program n) × AssignsLent (f.base + s) f w
 ReadsLent program name (op.JumpIfFalse t) f w = (name ≡ []) × IsLent w (top f.operands)
 ReadsLent program name (op.JumpIfTrue t) f w = (name ≡ []) × IsLent w (top f.operands)
-ReadsLent program name (op.Call n k) f w =
-    (name ≡ []) × (flat_all w.cells (arguments k f.operands) ≡ None)
+ReadsLent program name (op.Call n k) f w = (name ≡ []) × (function_found program n k ≡ None) ×
+    (flat_all w.cells (arguments k f.operands) ≡ None)
 ReadsLent program name (op.CallOp n k t) f w =
     (name ≡ []) × (flat_all w.cells (arguments k f.operands) ≡ None)
 ReadsLent program name (op.Curry n) f w = (name ≡ []) × IsLent w (operand_under n f.operands)
 ReadsLent program name (op.CallFnPtr n) f w = (name ≡ []) ×
     (IsLent w (operand_under n f.operands) ⊎ ((p : FnPtr) × Points p n f w ×
+    (function_by_name program p.name (length p.curry + n) ≡ None) ×
     (flat_all w.cells (arguments (length p.curry + n) (spread p n f).operands) ≡ None)))
 ReadsLent program name op.Throw f w = (name ≡ []) × IsLent w (top f.operands)
 ReadsLent program name o f w = ⊥

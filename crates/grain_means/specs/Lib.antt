@@ -1,9 +1,8 @@
--- What a program means. A reader of the contracts reads Worlds, CatchValues, Rules, Ends, Means,
--- Comes, Causes, Leavings and CatchBlocks, in this order. Length and Simulation say how runs are
--- counted and how code is joined to them.
+-- What a program means. A reader of the contracts reads Worlds, Rules, Ends, Means, Comes, Causes,
+-- Leavings and CatchBlocks, in this order, and beside Rules what the variable of a catch holds
+-- (CatchValues) and how a function that is not found is named (Signatures). Length and Simulation
+-- say how runs are counted and how code is joined to them.
 pub mod Worlds
-pub mod Signatures
-pub mod CatchValues
 pub mod Rules
 pub mod Ends
 pub mod Length
@@ -16,5 +15,7 @@ pub mod CatchBlocks
 pub mod Contained
 pub mod lemmas
 pub use Rattle.grain_value.specs.Operands
+pub use Rattle.grain_fault.specs.CatchValues
+pub use Rattle.grain_host.specs.Signatures
 pub use Rattle.grain_ops.specs.Outcomes
 pub use Rattle.grain_ops.specs.Operators

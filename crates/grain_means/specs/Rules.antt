@@ -33,8 +33,8 @@ use Rattle.grain_global.specs.declared.engines.Engine.{Engine}
 use Rattle.grain_ops.specs.Outcomes.{Outcome, NotBuiltIn, Gave, ArithmeticFault, TooLarge}
 use Rattle.grain_ops.specs.Operators.{operation, assignment}
 use Rattle.grain_means.specs.Worlds.{Answer, Came, Failed, Place, Handler, Frame, World, Todo, InFrame, InCatch, Act, Go, End, Then, Setup}
-use Rattle.grain_means.specs.CatchValues.{caught_value}
-use Rattle.grain_means.specs.Signatures.{not_found, says_missing}
+use Rattle.grain_fault.specs.CatchValues.{caught_value}
+use Rattle.grain_host.specs.Signatures.{not_found, says_missing}
 use Rattle.grain_host.specs.Law.{Law, Reply, Verdict, GoOn, Stop, native_of}
 use Rattle.grain_host.specs.Law as reply
 
@@ -129,8 +129,8 @@ pub record Receiver : Type 0 where
   pub cell : Option ℕ
   pub held : Held
 
-abbrev pub lent : Option Receiver → Option Held
-lent r = option_map (λ q. q.held) r
+abbrev pub lent_held : Option Receiver → Option Held
+lent_held r = option_map (λ q. q.held) r
 
 -- all arguments of a native: what is lent stands first
 abbrev pub given : Option Receiver → List Held → List Held
@@ -423,11 +423,11 @@ module _ {S : Type 0} (m : Setup S) where
   host_called key r args f w go fails =
       marked f w (λ w1.
       marked f (record w1 {
-        host = m.law.call_after w1.host key (lent r) (trees_in args);
+        host = m.law.call_after w1.host key (lent_held r) (trees_in args);
         scope = given_back m.law w1.host key (trees_in args) r w1.scope;
         cells = cells_given_back m.law w1.host key (trees_in args) r w1.cells;
       }) (λ w2.
-      answered (m.law.call_reply w1.host key (lent r) (trees_in args)) f w2 go fails))
+      answered (m.law.call_reply w1.host key (lent_held r) (trees_in args)) f w2 go fails))
 
   -- a native that writes its first argument is not called where that can only be read
   abbrev pub native_called : Native → List ℕ → Option Receiver → List Held → Frame → World S →

@@ -15,7 +15,7 @@ use Rattle.grain_program.specs.Decoding.{op_at}
 use Rattle.grain_program.specs.Effects.{effect_of, leads}
 use Rattle.grain_program.specs.Starts.{Start}
 use Rattle.grain_program.specs.Rules.{InstructionStart}
-use Rattle.grain_program.specs.Shapes.{TryHandler, Shape, height_after, after, lacks_handler, is_under, stepped, same_handlers, clash, shape_at}
+use Rattle.grain_program.specs.Shapes.{TryHandler, Shape, height_after, after, lacks_handler, is_under, shape_after, same_handlers, clash, shape_at}
 use Rattle.grain_program.specs.Typing.{In, Agrees, AnalysisState, ◌>>=◌, unless, noted, meets, arrive, arrive_all, take_op, take_at}
 use Rattle.grain_program.proofs.Ascending.{new_in, old_in, new_or_old, one_longer}
 use Rattle.grain_program.proofs.Cells.{free, free_put}
@@ -42,7 +42,7 @@ tested a e s few lacks under deep =
     cond (few || lacks) (Err (refusal.Underflow a)) (cond under (Err (refusal.UnderTry a))
     (cond deep (Err (refusal.TooDeep a)) (Ok (after e s))))
 
-pub stepped_is : (max a : ℕ) (e : Effect) (s t : Shape) → stepped max a e s ≡ Ok t
+pub stepped_is : (max a : ℕ) (e : Effect) (s t : Shape) → shape_after max a e s ≡ Ok t
     → Stepped max e s t
 stepped_is max a e s t k =
     at (nat_lt s.height e.takes) (lacks_handler e.handling s.handlers)
@@ -67,7 +67,7 @@ stepped_is max a e s t k =
 pub stepped_ok : (max a : ℕ) (e : Effect) (s : Shape) → e.takes ≤ s.height
     → lacks_handler e.handling s.handlers ≡ false
     → is_under (s.height - e.takes) s.handlers ≡ false → height_after e s ≤ max
-    → stepped max a e s ≡ Ok (after e s)
+    → shape_after max a e s ≡ Ok (after e s)
 stepped_ok max a e s le handler above room =
     ap (λ (b : Bool). tested a e s b (lacks_handler e.handling s.handlers)
     (is_under (s.height - e.takes) s.handlers) (nat_lt max (height_after e s)))
@@ -265,12 +265,12 @@ module _ (s : Shape) where
 pub record Moved (code : List ℕ) (max a : ℕ) (r : Op × ℕ) (t : Shape) (f g : AnalysisState) : Type 0
   where
     pub shape : Shape
-    pub stepped : Stepped max (effect_of r.0) t shape
+    pub shape_after : Stepped max (effect_of r.0) t shape
     pub spread : Spread shape f g (leads (effect_of r.0).flow (a + r.1))
 
 module _ (code : List ℕ) (max a : ℕ) (r : Op × ℕ) (t : Shape) (f : AnalysisState) (is : op_at code
     a ≡ Some r) (known : shape_at f.shapes a ≡ Some t) where
-  taking : take_at code max a f ≡ (stepped max a (effect_of r.0) t >>= λ s. arrive_all s
+  taking : take_at code max a f ≡ (shape_after max a (effect_of r.0) t >>= λ s. arrive_all s
       (leads (effect_of r.0).flow (a + r.1)) f)
   taking = ap (λ o. take_op max a f o (shape_at f.shapes a)) is
       ∙ ap (λ o. take_op max a f (Some r) o) known
@@ -279,11 +279,11 @@ module _ (code : List ℕ) (max a : ℕ) (r : Op × ℕ) (t : Shape) (f : Analys
       → b < length f.shapes) → take_at code max a f ≡ Ok g → Moved code max a r t f g
   moved g within e =
       let m =
-      then_ok (stepped max a (effect_of r.0) t) (λ s. arrive_all s (leads (effect_of r.0).flow
+      then_ok (shape_after max a (effect_of r.0) t) (λ s. arrive_all s (leads (effect_of r.0).flow
       (a + r.1)) f) g (sym taking ∙ e) in
       record {
         shape = m.0;
-        stepped = stepped_is max a (effect_of r.0) t m.0 m.1;
+        shape_after = stepped_is max a (effect_of r.0) t m.0 m.1;
         spread =
             arrive_all_spread m.0 (leads (effect_of r.0).flow (a + r.1)) f g within m.2;
       }

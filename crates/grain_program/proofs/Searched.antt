@@ -11,7 +11,7 @@ use Rattle.grain_program.specs.declared.verifier.shapes.NumberedShape.{NumberedS
 use Rattle.grain_program.specs.declared.verifier.refusals.Refusal.{Refusal}
 use Rattle.grain_program.specs.Decoding.{op_at}
 use Rattle.grain_program.specs.Effects.{effect_of, leads}
-use Rattle.grain_program.specs.Shapes.{TryHandler, Shape, stepped, shape_at}
+use Rattle.grain_program.specs.Shapes.{TryHandler, Shape, shape_after, shape_at}
 use Rattle.grain_program.specs.HandlerLists.{Grows}
 use Rattle.grain_program.specs.Numbered.{numbered_at, shape_of, known_of, AreNumbered, Search, state_of}
 use Rattle.grain_program.specs.Typing.{AnalysisState, ◌>>=◌, nothing_seen, with_lowest, meets, arrive, arrive_all, take_op, take_at, Gives}
@@ -157,7 +157,7 @@ lowest_of (Some a) f shapes waiting now ls same h =
 module _ (code : List ℕ) (max a : ℕ) (f : Search) (r : Op × ℕ) (s : NumberedShape)
     (is : op_at code a ≡ Some r) (known : numbered_at f.shapes a ≡ Some s) where
   taking : take_at code max a (state_of f)
-      ≡ (stepped max a (effect_of r.0) (shape_of f.lists s) >>= λ t. arrive_all t
+      ≡ (shape_after max a (effect_of r.0) (shape_of f.lists s) >>= λ t. arrive_all t
       (leads (effect_of r.0).flow (a + r.1)) (state_of f))
   taking = ap (λ (o : Option (Op × ℕ)). take_op max a (state_of f) o (shape_at (state_of f).shapes
       a)) is
@@ -166,7 +166,7 @@ module _ (code : List ℕ) (max a : ℕ) (f : Search) (r : Op × ℕ) (s : Numbe
 
   -- the shape after it comes to where it leads
   stepped_on : (g : AnalysisState) (t : Shape) (o : Result (Unit {0}) Refusal)
-      → stepped max a (effect_of r.0) (shape_of f.lists s) ≡ Ok t
+      → shape_after max a (effect_of r.0) (shape_of f.lists s) ≡ Ok t
       → Gives g o (arrive_all t (leads (effect_of r.0).flow (a + r.1)) (state_of f))
       → Gives g o (take_at code max a (state_of f))
   stepped_on g t o e h =
@@ -180,7 +180,7 @@ pub taken_on : (code : List ℕ) (max a : ℕ) (f : Search) (shapes : List (Opti
     → AreNumbered ls shapes → Grows ls more → (r : Op × ℕ) → op_at code a ≡ Some r
     → (s : NumberedShape) → numbered_at shapes a ≡ Some s
     → (e : Effect) → e ≡ effect_of r.0 → (g : AnalysisState) (t : Shape)
-    (o : Result (Unit {0}) Refusal) → stepped max a e (shape_of ls s) ≡ Ok t
+    (o : Result (Unit {0}) Refusal) → shape_after max a e (shape_of ls s) ≡ Ok t
     → Gives g o (arrive_all t (leads e.flow (a + r.1)) (state_of (record {
       shapes = shapes;
       waiting = waiting;
@@ -190,7 +190,7 @@ pub taken_on : (code : List ℕ) (max a : ℕ) (f : Search) (shapes : List (Opti
 taken_on code max a f shapes waiting ls more same numbers grows r is s known e row g t o k h =
     subst (λ (x : Search). Gives g o (take_at code max a (state_of x))) same
     (stepped_on code max a (search_of ls shapes waiting) r s is known g t o
-    (subst (λ (x : Effect). stepped max a x (shape_of ls s) ≡ Ok t) row k)
+    (subst (λ (x : Effect). shape_after max a x (shape_of ls s) ≡ Ok t) row k)
     (subst (λ (x : Effect). Gives g o (arrive_all t (leads x.flow (a + r.1)) (state_of (search_of ls
     shapes waiting)))) row
     (subst (λ (x : AnalysisState). Gives g o (arrive_all t (leads e.flow (a + r.1)) x))

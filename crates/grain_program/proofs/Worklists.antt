@@ -175,16 +175,16 @@ module _ (p : View) (chunks : List Chunk) (laid : layout_fault (length p.code) c
               let both : Some read.0 ≡ Some r = sym read.1 ∙ is in
               let same : read.0 ≡ r = cc in
               let chunk : c ≡ d = same_chunk p chunks tiles i j c d a g k start s in
-              let after = m.stepped.is in
+              let after = m.shape_after.is in
               subst (λ (x : Chunk). Agrees (shape_at h'.shapes) x.max_stack a r.1 (effect_of r.0)
               known.0) chunk
               (subst (λ (x : Op × ℕ). Agrees (shape_at h'.shapes) c.max_stack a x.1 (effect_of x.0)
               known.0) same
               (record {
-                enough = m.stepped.enough;
-                handler = m.stepped.handler;
-                above = m.stepped.above;
-                room = m.stepped.room;
+                enough = m.shape_after.enough;
+                handler = m.shape_after.handler;
+                above = m.shape_after.above;
+                room = m.shape_after.room;
                 arrives =
                     λ b q. m.spread.there b q ∙ ap (λ (x : Shape). Some x) (sym after);
               }))

@@ -64,8 +64,8 @@ is_under height (h ∷ hs) = nat_lt height h.height
 -- the shape after the instruction at the address, unless there are too few operands or handlers for
 -- it, or else it takes operands that were there at the push of the innermost handler, or else there
 -- are too many after it
-abbrev pub stepped : ℕ → ℕ → Effect → Shape → Result Shape Refusal
-stepped max a e s =
+abbrev pub shape_after : ℕ → ℕ → Effect → Shape → Result Shape Refusal
+shape_after max a e s =
     if nat_lt s.height e.takes || lacks_handler e.handling s.handlers then Err (refusal.Underflow a)
     else if is_under (s.height - e.takes) s.handlers then Err (refusal.UnderTry a)
     else if nat_lt max (height_after e s) then Err (refusal.TooDeep a)

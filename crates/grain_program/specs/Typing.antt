@@ -16,7 +16,7 @@ use Rattle.grain_program.specs.Effects.{effect_of, leads}
 use Rattle.grain_program.specs.Layout.{chunks_in, layout_fault}
 use Rattle.grain_program.specs.Starts.{Start}
 use Rattle.grain_program.specs.Rules.{Splits, RefusedBeforeHeights}
-use Rattle.grain_program.specs.Shapes.{Shape, bare, height_after, after, lacks_handler, is_under, stepped, clash, shape_at}
+use Rattle.grain_program.specs.Shapes.{Shape, bare, height_after, after, lacks_handler, is_under, shape_after, clash, shape_at}
 
 -- the number is in the list
 abbrev pub In : ℕ → List ℕ → Type 0
@@ -101,7 +101,7 @@ abbrev pub take_op : ℕ → ℕ → AnalysisState → Option (Op × ℕ) → Op
 take_op max a f None s = Ok f
 take_op max a f (Some r) None = Ok f
 take_op max a f (Some r) (Some s) =
-    stepped max a (effect_of r.0) s >>= λ t. arrive_all t (leads (effect_of r.0).flow (a + r.1)) f
+    shape_after max a (effect_of r.0) s >>= λ t. arrive_all t (leads (effect_of r.0).flow (a + r.1)) f
 
 abbrev pub take_at : List ℕ → ℕ → ℕ → AnalysisState → Result AnalysisState Refusal
 take_at code max a f = take_op max a f (op_at code a) (shape_at f.shapes a)

@@ -1,0 +1,13 @@
+mod Measure
+mod Turns
+mod Tried
+mod Mains
+mod Branching
+mod Loading
+mod Evaluated
+mod Pairs
+mod Calling
+mod Entering
+mod Found
+mod Offering
+mod CatchSteps

@@ -7,12 +7,12 @@ ghost use Rattle.grain_means.specs.CatchBlocks.{CatchesRightly};
 ghost use Rattle.grain_means.specs.Comes.{Provided};
 ghost use Rattle.grain_means.specs.Leavings.{Leaves};
 ghost use Rattle.grain_means.specs.Means.{Evaluates};
-ghost use Rattle.grain_frame.specs.Counts.{instructions};
-ghost use Rattle.grain_frame.specs.Machines.{begin, finish};
+ghost use Rattle.grain_global.specs.StepsView.{instructions};
+ghost use Rattle.grain_vm.specs.Machines.{begin, finish};
 
+use crate::machines::Machine;
 use grain_fault::{Fault, RhaiResult};
-use grain_frame::{Machine, Steps};
-use grain_global::{Engine, GlobalRuntimeState};
+use grain_global::{Engine, GlobalRuntimeState, Steps};
 use grain_host::Host;
 use grain_program::Program;
 use grain_value::{OutOfMemory, Scope, Store};

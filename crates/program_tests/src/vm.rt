@@ -4,8 +4,7 @@ ghost use Rattle.std.specs.Prelude.{◌≡◌, ◌<◌};
 ghost use Rattle.grain_listing.specs.SetUpView.{IsReady};
 
 use grain_fault::{Fault, RhaiResult};
-use grain_frame::Steps;
-use grain_global::{Engine, GlobalRuntimeState};
+use grain_global::{Engine, GlobalRuntimeState, Steps};
 use grain_listing::{Setup, read};
 use grain_program::verify;
 use grain_value::{Dynamic, OutOfMemory, Scope, Store};

@@ -10,7 +10,7 @@ use Rattle.grain_program.specs.Typing.{IsProgram, IsRefusal}
 use Rattle.grain_program.specs.View.{View}
 use Rattle.grain_global.specs.declared.engines.Engine.{Engine}
 use Rattle.grain_means.specs.Means.{Begin, Evaluates}
-use Rattle.grain_frame.specs.Machines.{begin, finish}
+use Rattle.grain_vm.specs.Machines.{begin, finish}
 use Rattle.grain_global.specs.declared.states.GlobalRuntimeState.{GlobalRuntimeState}
 use Rattle.grain_value.specs.declared.stores.Cell.{Cell}
 use Rattle.grain_listing.specs.Reading.{SetUp}

@@ -5,7 +5,6 @@ ghost use Rattle.grain_program.specs.Fields.{one, two, four};
 ghost use Rattle.grain_program.specs.Decoding.{number_at};
 
 /// The number of the first byte.
-#[inline(always)]
 pub(crate) fn one_there(bytes: &[u8]) -> u8
     requires { 1 ≤ length bytes.now }
     ensures { number_at one bytes.now ≡ Some result }
@@ -14,7 +13,6 @@ pub(crate) fn one_there(bytes: &[u8]) -> u8
 }
 
 /// The number of the first two bytes.
-#[inline(always)]
 pub(crate) fn two_there(bytes: &[u8]) -> u16
     requires { 2 ≤ length bytes.now }
     ensures { number_at two bytes.now ≡ Some result }
@@ -24,7 +22,6 @@ pub(crate) fn two_there(bytes: &[u8]) -> u16
 }
 
 /// The number of the first four bytes.
-#[inline(always)]
 pub(crate) fn four_there(bytes: &[u8]) -> u32
     requires { 4 ≤ length bytes.now }
     ensures { number_at four bytes.now ≡ Some result }

@@ -120,7 +120,7 @@ impl HeightAnalysis {
             unreachable!()
         };
         let effect = Effect::of(op);
-        match self.handlers.stepped(shape, max, address, effect) {
+        match self.handlers.shape_after(shape, max, address, effect) {
             Ok(after) => self.arrive_by(after, effect.flow, address + width),
             Err(refusal) => Err(refusal),
         }

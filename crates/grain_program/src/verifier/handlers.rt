@@ -2,7 +2,7 @@
 //! same where their numbers are.
 
 ghost use Rattle.std.specs.Prelude.{◌≡◌, ◌<◌, ◌≤◌, ◌^◌, [], ◌∷◌, length, IfOk, MatchOption};
-ghost use Rattle.grain_program.specs.Shapes.{outer, handled, lacks_handler, is_under, stepped, clash};
+ghost use Rattle.grain_program.specs.Shapes.{outer, handled, lacks_handler, is_under, shape_after, clash};
 ghost use Rattle.grain_program.specs.HandlerLists.{handler_of, list_at, Grows};
 ghost use Rattle.grain_program.specs.Numbered.{shape_of, Leaves};
 
@@ -157,7 +157,7 @@ impl HandlerLists {
 
     /// The shape after an instruction of this effect at the address, where a frame may have max
     /// operands.
-    pub fn stepped(
+    pub fn shape_after(
         &mut self,
         shape: NumberedShape,
         max: u16,
@@ -168,7 +168,7 @@ impl HandlerLists {
         ensures grown { Grows self.old self.new }
         ensures small { IfOk result (λ after. after.height < 2 ^ 16) }
         ensures within { IfOk result (λ after. after.list ≤ length self.new) }
-        ensures exact { Leaves self.new result (stepped max address effect (shape_of self.old
+        ensures exact { Leaves self.new result (shape_after max address effect (shape_of self.old
             shape)) }
     {
         if shape.height < effect.takes || self.lacks_handler(effect.handling, shape.list) {

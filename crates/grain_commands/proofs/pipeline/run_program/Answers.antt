@@ -2,7 +2,7 @@ use Rattle.std.proofs.Common.{◌≡◌, ◌∙◌, ap, refl}
 use Rattle.grain_host.specs.declared.tables.TableHost.{TableHost}
 use Rattle.grain_global.specs.declared.engines.Engine.{Engine}
 use Rattle.grain_means.specs.Means.{Begin}
-use Rattle.grain_frame.specs.Machines.{begin, finish}
+use Rattle.grain_vm.specs.Machines.{begin, finish}
 use Rattle.grain_commands.specs.Runs.{engine_of, start}
 use Rattle.grain_commands.proofs.Ends.{engine_is, begin_is, value_told, fault_told}
 use Rattle.grain_commands.proofs.pipeline.run_program.Goals as goal

@@ -17,11 +17,11 @@ returns c = λ h is.
     let same : held ≡ h = cc in
     let fast : c.args.engine.now.fast_operators ≡ true = search rules in
     rw fast
-    (subst (λ (x : Held). AssignedEntry c.op_assigned.result
+    (subst (λ (x : Held). AssignedEntry c.assign.result
     (assignment limits c.args.token x.value c.args.value.now) scope
     (set_held scope c.args.index
-    (record { value = c.op_assigned.new.target; read_only = held.read_only }))
+    (record { value = c.assign.new.target; read_only = held.read_only }))
     c.args.index x) same
-    (entry_assigned c.op_assigned.result
+    (entry_assigned c.assign.result
     (assignment limits c.args.token held.value c.args.value.now) scope _ c.args.index held
-    c.op_assigned.new.target there c.op_assigned.ensures refl))
+    c.assign.new.target there c.assign.ensures refl))

@@ -8,7 +8,7 @@ use Rattle.grain_fault.specs.declared.traces.Fault.{Fault}
 use Rattle.grain_host.specs.Law.{Law}
 use Rattle.grain_program.specs.View.{View}
 use Rattle.grain_global.specs.declared.engines.Engine.{Engine}
-use Rattle.grain_frame.specs.Machines.{begin, finish}
+use Rattle.grain_vm.specs.Machines.{begin, finish}
 use Rattle.grain_vm.specs.VmView.{VmView}
 use Rattle.grain_means.specs.Means.{Begin, Evaluates}
 use Rattle.run_examples.specs.Rules.{engine_of, start, Ran}

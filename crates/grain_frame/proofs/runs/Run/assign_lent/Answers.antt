@@ -12,7 +12,7 @@ returns g c = record {
       one_cell (slice_get s.cells c.args.cell) c.in-Ok.held h c.in-Ok.ensures.content.0 is in
       let fast : c.args.context.engine.now.fast_operators ≡ true = search rules in
       rw (fast, ← same, ← c.operand-value.ensures)
-      (content_assigned s c.args.cell i c.in-Ok.held c.op_assigned-assigned.new.target
+      (content_assigned s c.args.cell i c.in-Ok.held c.assign-assigned.new.target
       c.lend.new.self c.give_back.new.self c.in-Ok.ensures.content.0 c.in-Ok.ensures.content.1
-      c.give_back.ensures c.op_assigned-assigned.result _ c.op_assigned-assigned.ensures);
+      c.give_back.ensures c.assign-assigned.result _ c.assign-assigned.ensures);
 }

@@ -12,8 +12,8 @@ use Rattle.grain_frame.specs.Abstraction.{abstraction, frame_in}
 use Rattle.grain_frame.specs.Targets.{Assigns, CanBeLent, put_in}
 use Rattle.grain_frame.specs.declared.runs.Run.{Run}
 use Rattle.grain_frame.specs.declared.targets.Target.{Target}
-use Rattle.grain_fault.specs.declared.faults.EvalAltResult.TheVariants as fault
-use Rattle.grain_frame.proofs.Failing.{lent_raises, raises_here}
+use Rattle.grain_fault.specs.Problems.{Plain, DataRace, AssignmentToConstant}
+use Rattle.grain_frame.specs.lemmas.Failing.{lent_raises, raises_here}
 use Rattle.grain_frame.proofs.AssignedEntries.{is_within}
 use Rattle.grain_frame.proofs.Flattening.{value_there}
 use Rattle.grain_frame.proofs.Lending.{writes}
@@ -65,9 +65,9 @@ returns-then-not-is_readable g c =
     let none : flat s.cells (top s.stacks.operands).value ≡ None = search rules in
     record {
       performs = λ host. raises_here g.H.Host.law p c.args.context.engine.now f s
-          c.variable_lent.new.self c.args.steps.now c.variable_lent.new.steps host
-          (fault.ErrorDataRace (race_text (name_of p c.args.name)) (position_of p f.address))
-          c.variable_lent.result c.variable_lent.ensures c.requires.ready.inside
+          c.data_race_of.new.self c.args.steps.now c.data_race_of.new.steps host
+          (Plain (DataRace (race_text (name_of p c.args.name))) (position_of p f.address))
+          c.data_race_of.result c.data_race_of.ensures c.requires.ready.inside
           (λ stop u place. rw (at, none) refl);
     }
 
@@ -85,7 +85,7 @@ returns-then-read_only g c =
     record {
       performs = λ host. raises_here g.H.Host.law p c.args.context.engine.now f s
           c.assignment_to_constant.new.self c.args.steps.now c.assignment_to_constant.new.steps host
-          (fault.ErrorAssignmentToConstant (name_of p c.args.name) (position_of p f.address))
+          (Plain (AssignmentToConstant (name_of p c.args.name)) (position_of p f.address))
           c.assignment_to_constant.result c.assignment_to_constant.ensures c.requires.ready.inside
           (λ stop u place. rw (at, read.1, constant) refl);
     }
@@ -118,10 +118,10 @@ returns-then-not-free g c =
     let engine = c.args.context.engine.now in
     record {
       performs = λ host. raises_here g.H.Host.law p engine f s
-          c.variable_lent-then-not-free.new.self c.args.steps.now
-          c.variable_lent-then-not-free.new.steps host
-          (fault.ErrorDataRace (race_text (name_of p c.args.name)) (position_of p f.address))
-          c.variable_lent-then-not-free.result c.variable_lent-then-not-free.ensures
+          c.data_race_of-then-not-free.new.self c.args.steps.now
+          c.data_race_of-then-not-free.new.steps host
+          (Plain (DataRace (race_text (name_of p c.args.name))) (position_of p f.address))
+          c.data_race_of-then-not-free.result c.data_race_of-then-not-free.ensures
           c.requires.ready.inside (λ stop u place.
           rw (at, read.1, writable) (lent_raises (stopped (setup g.H.Host.law p engine) stop)
           held.value (f.base + c.args.slot) (record held { value = read.0 }) (name_of p c.args.name)

@@ -4,7 +4,7 @@ use Rattle.std.specs.Prelude.{◌||◌, is_some}
 use Rattle.grain_value.specs.Cells.{flat}
 use Rattle.grain_value.specs.Looking.{cell_of}
 use Rattle.grain_value.specs.Operands.{top}
-use Rattle.grain_fault.specs.declared.faults.EvalAltResult.TheVariants as fault
+use Rattle.grain_fault.specs.Problems.{Plain, DataRace, AssignmentToConstant}
 use Rattle.grain_program.specs.View.{assign_op_of, name_of, position_of}
 use Rattle.grain_means.specs.Rules.{flag_of_cell, held_at, op_assigned, race_text}
 use Rattle.grain_means.specs.Means.{setup}
@@ -12,9 +12,9 @@ use Rattle.grain_means.specs.Simulation.{stopped, world}
 use Rattle.grain_frame.specs.Abstraction.{abstraction, frame_in, is_out}
 use Rattle.grain_frame.specs.Targets.{AssignsHere, content_at}
 use Rattle.grain_frame.specs.declared.targets.Target.{Target}
-use Rattle.grain_frame.proofs.Arms.{implements_as}
+use Rattle.grain_frame.specs.lemmas.Arms.{implements_as}
 use Rattle.grain_frame.proofs.AssignedEntries.{is_within}
-use Rattle.grain_frame.proofs.Failing.{raises_here, store_stops, wants_memory}
+use Rattle.grain_frame.specs.lemmas.Failing.{raises_here, store_stops, wants_memory}
 use Rattle.grain_frame.proofs.Flattening.{value_there}
 use Rattle.grain_frame.proofs.Targeting.{content_read, left_plain, readable_free, right_plain}
 use Rattle.grain_frame.proofs.runs.Run.assign_local_op.Goals as goal
@@ -64,27 +64,35 @@ returns-then-not-free g c =
     let none : flat s.cells held.value ≡ None = search rules in
     record {
       performs = raises_here g.H.Host.law p c.args.context.engine.now f s
-          c.variable_lent-then-not-free.new.self c.args.steps.now
-          c.variable_lent-then-not-free.new.steps c.args.host.now
-          (fault.ErrorDataRace (race_text (name_of p c.args.name)) (position_of p f.address))
-          c.variable_lent-then-not-free.result c.variable_lent-then-not-free.ensures
+          c.data_race_of-then-not-free.new.self c.args.steps.now
+          c.data_race_of-then-not-free.new.steps c.args.host.now
+          (Plain (DataRace (race_text (name_of p c.args.name))) (position_of p f.address))
+          c.data_race_of-then-not-free.result c.data_race_of-then-not-free.ensures
           c.requires.ready.inside (λ stop u place. rw (at, read.1, writable, none) refl);
     }
 
-pub op_assign_target-requires-clause-target : goal.op_assign_target-requires-clause-target
-op_assign_target-requires-clause-target g c =
+pub op_assign_target-requires : goal.op_assign_target-requires
+op_assign_target-requires g c =
     let p = c.args.context.program.now in
-    let engine = c.args.context.engine.now in
     let s = c.args.self.now in
-    let f = c.args.frame.now in
     let held = c.in-Some.held.now in
     let t : Target = record { index = c.slot_index-index.result; cell = c.as_cell-cell.result } in
     let there : held_at s.scope t.index ≡ Some held = search rules in
     let is_cell : cell_of held.value ≡ t.cell = search rules in
     let free : is_some (flat s.cells held.value) ≡ true = search rules in
     record {
-      entry = is_within s.scope t.index held there;
-      free = readable_free s held.value t.cell is_cell free;
+      can = record {
+        inside = c.requires.ready.inside;
+        target = record {
+          entry = is_within s.scope t.index held there;
+          free = readable_free s held.value t.cell is_cell free;
+        };
+        operand = c.requires.ready.operands;
+        ahead = c.requires.ready.ahead;
+        first = search rules;
+        second = search rules;
+        variable = search rules;
+      };
     }
 
 pub returns : goal.returns
@@ -115,8 +123,8 @@ returns g c =
       there = there;
       flag = flag;
     } in
-    let same_op : c.assign_op-assign_op.result.now ≡ assign_op_of p c.args.assign_op =
-    c.assign_op-assign_op.ensures ∙ ap (assign_op_of p) c.from.ensures in
+    let same_op : c.assign_op.result.now ≡ assign_op_of p c.args.assign_op =
+    c.assign_op.ensures ∙ ap (assign_op_of p) c.from.ensures in
     record {
       performs = implements_as g.H.Host.law p engine f c.op_assign_target.new.frame s s
           c.op_assign_target.new.self c.args.steps.now c.op_assign_target.new.steps
@@ -135,9 +143,9 @@ returns-then-not-is_readable g c =
     let none : flat s.cells (top s.stacks.operands).value ≡ None = search rules in
     record {
       performs = raises_here g.H.Host.law p c.args.context.engine.now f s
-          c.variable_lent.new.self c.args.steps.now c.variable_lent.new.steps c.args.host.now
-          (fault.ErrorDataRace (race_text (name_of p c.args.name)) (position_of p f.address))
-          c.variable_lent.result c.variable_lent.ensures c.requires.ready.inside
+          c.data_race_of.new.self c.args.steps.now c.data_race_of.new.steps c.args.host.now
+          (Plain (DataRace (race_text (name_of p c.args.name))) (position_of p f.address))
+          c.data_race_of.result c.data_race_of.ensures c.requires.ready.inside
           (λ stop u place. rw (at, none) refl);
     }
 
@@ -154,8 +162,9 @@ returns-then-read_only g c =
     search rules in
     record {
       performs = raises_here g.H.Host.law p c.args.context.engine.now f s
-          c.assignment_to_constant.new.self c.args.steps.now c.assignment_to_constant.new.steps c.args.host.now
-          (fault.ErrorAssignmentToConstant (name_of p c.args.name) (position_of p f.address))
+          c.assignment_to_constant.new.self c.args.steps.now c.assignment_to_constant.new.steps
+          c.args.host.now
+          (Plain (AssignmentToConstant (name_of p c.args.name)) (position_of p f.address))
           c.assignment_to_constant.result c.assignment_to_constant.ensures c.requires.ready.inside
           (λ stop u place. rw (at, read.1, constant) refl);
     }

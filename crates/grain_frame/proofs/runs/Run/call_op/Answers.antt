@@ -1,25 +1,26 @@
-use Rattle.std.proofs.Common.{rules, refl, sym, ap, subst, arith, ◌≡◌, ◌∙◌, ◌-◌, ℕ, [], None, Some, length, Ok}
+use Rattle.std.proofs.Common.{rules, refl, sym, ap, subst, arith, ◌≡◌, ◌∙◌, ◌-◌, ℕ, [], None, Some, length}
 use Rattle.grain_value.specs.Operands.{under, arguments}
-use Rattle.grain_fault.specs.declared.faults.EvalAltResult.TheVariants as fault
-use Rattle.grain_ops.specs.Outcomes.{NotBuiltIn, Gave, ArithmeticFault, TooLarge}
+use Rattle.grain_fault.specs.Problems.{Plain, DataRace}
+use Rattle.grain_ops.specs.Answers.{FailsSo}
+use Rattle.grain_ops.specs.Outcomes.{NotBuiltIn, Gave}
 use Rattle.grain_means.specs.Rules.{flat_all, operated, race_text}
 use Rattle.std.proofs.lemmas.List.{length-take}
-use Rattle.grain_frame.proofs.Arms.{implements_after}
+use Rattle.grain_frame.specs.lemmas.Arms.{implements_after}
 use Rattle.grain_program.specs.View.{name_of, position_of}
 use Rattle.grain_means.specs.Means.{setup}
 use Rattle.grain_means.specs.Simulation.{stopped, world}
 use Rattle.grain_frame.specs.Abstraction.{abstraction, frame_in}
-use Rattle.grain_frame.proofs.Failing.{raises_here}
+use Rattle.grain_frame.specs.lemmas.Failing.{outcome_raises, raises_here}
 use Rattle.grain_frame.proofs.Flattening.{all_there}
-use Rattle.grain_frame.proofs.Handing.{operator_is}
+use Rattle.grain_frame.proofs.Handing.{operator_is, operator_raises, operator_wants}
 use Rattle.grain_frame.proofs.runs.Run.call_op.Goals as goal
 
-pub returns-in-Value : goal.returns-in-Value
-returns-in-Value g c =
+pub returns-in-Done : goal.returns-in-Done
+returns-in-Done g c =
     let read = all_there (flat_all c.args.self.now.cells
     (arguments c.args.count c.args.self.now.stacks.operands)) (search rules) in
     let gives : operated c.args.context.program.now c.args.context.engine.now c.args.token
-    read.0 ≡ Gave c.in-Value.value =
+    read.0 ≡ Gave c.in-Done.value =
     search rules in
     let cut : c.cut.new.self ≡ record c.args.self.now.stacks
     { operands = under c.args.count c.args.self.now.stacks.operands } = search rules in
@@ -37,33 +38,27 @@ returns-in-Value g c =
           (omega (arith, long));
     }
 
-pub returns-in-Arithmetic : goal.returns-in-Arithmetic
-returns-in-Arithmetic g c =
-    let read = all_there (flat_all c.args.self.now.cells
-    (arguments c.args.count c.args.self.now.stacks.operands)) (search rules) in
-    let gives : operated c.args.context.program.now c.args.context.engine.now c.args.token
-    read.0 ≡
-    ArithmeticFault c.in-Arithmetic.text = search rules in
+pub returns-in-Failed : goal.returns-in-Failed
+returns-in-Failed g c =
+    let p = c.args.context.program.now in
+    let engine = c.args.context.engine.now in
+    let s = c.args.self.now in
+    let f = c.args.frame.now in
+    let read = all_there (flat_all s.cells (arguments c.args.count s.stacks.operands)) (search
+    rules)
+    in
+    let o = operated p engine c.args.token read.0 in
+    let fails : FailsSo c.in-Failed.fault o = search rules in
     record {
-      performs = raises_here g.H.Host.law c.args.context.program.now c.args.context.engine.now
-          c.args.frame.now c.args.self.now c.arithmetic.new.self c.args.steps.now
-          c.arithmetic.new.steps c.args.host.now _ (Ok c.arithmetic.result) c.arithmetic.ensures
-          c.requires.ready.inside (λ stop u place. rw (read.1, gives) refl);
-    }
-
-pub returns-in-TooLarge : goal.returns-in-TooLarge
-returns-in-TooLarge g c =
-    let read = all_there (flat_all c.args.self.now.cells
-    (arguments c.args.count c.args.self.now.stacks.operands)) (search rules) in
-    let gives : operated c.args.context.program.now c.args.context.engine.now c.args.token
-    read.0 ≡ TooLarge c.in-TooLarge.what =
-    search rules in
-    record {
-      performs = raises_here g.H.Host.law c.args.context.program.now c.args.context.engine.now
-          c.args.frame.now c.args.self.now c.data_too_large.new.self c.args.steps.now
-          c.data_too_large.new.steps c.args.host.now _ (Ok c.data_too_large.result)
-          c.data_too_large.ensures c.requires.ready.inside
-          (λ stop u place. rw (read.1, gives) refl);
+      performs = outcome_raises g.H.Host.law p engine f s c.operator_failed.new.self
+          c.args.steps.now c.operator_failed.new.steps c.args.host.now o c.operator_failed.result
+          (c.operator_failed.ensures o fails) c.requires.ready.inside
+          (λ stop u place is. operator_raises (stopped (setup g.H.Host.law p engine) stop)
+          c.args.name c.args.count c.args.token c.args.next (frame_in f s place)
+          (world (abstraction s c.args.steps.now c.args.host.now) u) read.0 read.1 is)
+          (λ stop u place halts. operator_wants (stopped (setup g.H.Host.law p engine) stop)
+          c.args.name c.args.count c.args.token c.args.next (frame_in f s place)
+          (world (abstraction s c.args.steps.now c.args.host.now) u) read.0 read.1 halts);
     }
 
 pub returns-in-NotBuiltIn : goal.returns-in-NotBuiltIn
@@ -101,7 +96,7 @@ returns-then-not-are_readable g c =
     search rules in
     record {
       performs = raises_here g.H.Host.law p c.args.context.engine.now f s
-          c.operand_lent.new.self c.args.steps.now c.operand_lent.new.steps c.args.host.now
-          (fault.ErrorDataRace (race_text []) (position_of p f.address)) c.operand_lent.result
-          c.operand_lent.ensures c.requires.ready.inside (λ stop u place. rw none refl);
+          c.data_race.new.self c.args.steps.now c.data_race.new.steps c.args.host.now
+          (Plain (DataRace (race_text [])) (position_of p f.address)) c.data_race.result
+          c.data_race.ensures c.requires.ready.inside (λ stop u place. rw none refl);
     }

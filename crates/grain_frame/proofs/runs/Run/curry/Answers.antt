@@ -5,15 +5,15 @@ use Rattle.std.specs.Prelude.{codes}
 use Rattle.grain_value.specs.Cells.{flat}
 use Rattle.grain_value.specs.Operands.{arguments, under}
 use Rattle.grain_value.specs.Writing.{type_name_of}
-use Rattle.grain_fault.specs.declared.faults.EvalAltResult.TheVariants as fault
+use Rattle.grain_fault.specs.Problems.{Plain, DataRace, MismatchDataType}
 use Rattle.grain_program.specs.View.{position_of}
 use Rattle.grain_means.specs.Rules.{operand_under, race_text, trees_in}
 use Rattle.grain_means.specs.Means.{setup}
 use Rattle.grain_means.specs.Simulation.{stopped, world}
 use Rattle.grain_frame.specs.Abstraction.{abstraction, frame_in}
-use Rattle.grain_frame.proofs.Arms.{implements_after}
-use Rattle.grain_frame.proofs.Failing.{raises_here}
-use Rattle.grain_frame.proofs.Found.{curry_adds, curry_refused}
+use Rattle.grain_frame.specs.lemmas.Arms.{implements_after}
+use Rattle.grain_frame.specs.lemmas.Failing.{raises_here}
+use Rattle.grain_frame.proofs.Currying.{curry_adds, curry_refused}
 use Rattle.grain_frame.proofs.runs.Run.curry.Goals as goal
 
 pub returns-in-Lent : goal.returns-in-Lent
@@ -25,9 +25,9 @@ returns-in-Lent g c =
     rw c.from-count.ensures at c.in-Lent.ensures in
     record {
       performs = λ host. raises_here g.H.Host.law p c.args.context.engine.now f s
-          c.operand_lent.new.self c.args.steps.now c.operand_lent.new.steps host
-          (fault.ErrorDataRace (race_text []) (position_of p f.address)) c.operand_lent.result
-          c.operand_lent.ensures c.requires.ready.inside (λ stop u place. rw none refl);
+          c.data_race.new.self c.args.steps.now c.data_race.new.steps host
+          (Plain (DataRace (race_text [])) (position_of p f.address)) c.data_race.result
+          c.data_race.ensures c.requires.ready.inside (λ stop u place. rw none refl);
     }
 
 pub returns-in-Other : goal.returns-in-Other
@@ -42,10 +42,12 @@ returns-in-Other g c =
     let v = stands.0 in
     let read : flat s.cells (operand_under n ops).value ≡ Some v =
     rw c.from-count.ensures at stands.1 in
-    let x = fault.ErrorMismatchDataType (codes "Fn") (type_name_of v) (position_of p f.address) in
+    let x = Plain (MismatchDataType (codes "Fn") (type_name_of v)) (position_of p f.address) in
     record {
-      performs = λ host. raises_here g.H.Host.law p engine f s c.no_pointer.new.self c.args.steps.now
-          c.no_pointer.new.steps host x c.no_pointer.result (c.no_pointer.ensures v stands.1)
+      performs = λ host. raises_here g.H.Host.law p engine f s c.not_a_pointer.new.self
+          c.args.steps.now
+          c.not_a_pointer.new.steps host x c.not_a_pointer.result (c.not_a_pointer.ensures v
+          stands.1)
           c.requires.ready.inside
           (λ stop u place. curry_refused (stopped (setup g.H.Host.law p engine) stop) n c.args.next
           (frame_in f s place) (world (abstraction s c.args.steps.now host) u) v read stands.2);

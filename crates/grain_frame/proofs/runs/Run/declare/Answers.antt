@@ -1,12 +1,12 @@
 -- The operand is a cell that is lent, or there are as many variables as are allowed.
-use Rattle.std.proofs.Common.{◌≡◌, [], None, Ok, true, length, refl, rules}
+use Rattle.std.proofs.Common.{◌≡◌, [], None, Ok, true, refl, rules}
 use Rattle.std.specs.Prelude.{is_some}
 use Rattle.grain_value.specs.Cells.{flat}
 use Rattle.grain_value.specs.Operands.{top}
-use Rattle.grain_fault.specs.declared.faults.EvalAltResult.TheVariants as fault
+use Rattle.grain_fault.specs.Problems.{Plain, DataRace, TooManyVariables}
 use Rattle.grain_program.specs.View.{position_of}
 use Rattle.grain_means.specs.Rules.{race_text}
-use Rattle.grain_frame.proofs.Failing.{raises_here}
+use Rattle.grain_frame.specs.lemmas.Failing.{raises_here}
 use Rattle.grain_frame.proofs.Flattening.{value_there}
 use Rattle.grain_frame.proofs.runs.Run.declare.Goals as goal
 
@@ -18,9 +18,9 @@ returns-then-not-is_readable g c =
     let none : flat s.cells (top s.stacks.operands).value ≡ None = search rules in
     record {
       implements = λ host. raises_here g.H.Host.law p c.args.context.engine.now f s
-          c.operand_lent.new.self c.args.steps.now c.operand_lent.new.steps host
-          (fault.ErrorDataRace (race_text []) (position_of p f.address)) c.operand_lent.result
-          c.operand_lent.ensures c.requires.ready.inside (λ stop u place. rw none refl);
+          c.data_race.new.self c.args.steps.now c.data_race.new.steps host
+          (Plain (DataRace (race_text [])) (position_of p f.address)) c.data_race.result
+          c.data_race.ensures c.requires.ready.inside (λ stop u place. rw none refl);
     }
 
 pub returns-then-len-context : goal.returns-then-len-context
@@ -32,7 +32,7 @@ returns-then-len-context g c =
     let read = value_there (flat s.cells (top s.stacks.operands).value) readable in
     record {
       implements = λ host. raises_here g.H.Host.law p c.args.context.engine.now f s
-          c.too_many_variables.new.self c.args.steps.now c.too_many_variables.new.steps host
-          (fault.ErrorTooManyVariables (position_of p f.address)) (Ok c.too_many_variables.result)
-          c.too_many_variables.ensures c.requires.ready.inside (λ stop u place. rw read.1 (search rules));
+          c.raise_at.new.self c.args.steps.now c.raise_at.new.steps host
+          (Plain TooManyVariables (position_of p f.address)) (Ok c.raise_at.result)
+          c.raise_at.ensures c.requires.ready.inside (λ stop u place. rw read.1 (search rules));
     }

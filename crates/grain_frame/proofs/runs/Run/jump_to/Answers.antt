@@ -3,7 +3,7 @@ use Rattle.grain_means.specs.Rules.{onward, stepped}
 use Rattle.grain_means.specs.Means.{setup}
 use Rattle.grain_means.specs.Simulation.{stopped, world}
 use Rattle.grain_frame.specs.Abstraction.{abstraction, frame_in, is_out}
-use Rattle.grain_frame.proofs.Charging.{charged_on, charge_failed, charge_wants, jump_costs}
+use Rattle.grain_frame.specs.lemmas.Charging.{charged_on, charge_failed, charge_wants, jump_costs}
 use Rattle.grain_frame.proofs.runs.Run.jump_to.Goals as goal
 
 pub returns-in_err-charge : goal.returns-in_err-charge

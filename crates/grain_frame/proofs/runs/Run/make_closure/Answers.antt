@@ -1,7 +1,7 @@
 -- The pointer that is made is the meaning's.
 use Rattle.std.proofs.Common.{◌≡◌, ◌∙◌, refl, ap}
 use Rattle.grain_program.specs.View.{name_of}
-use Rattle.grain_frame.proofs.Arms.{implements_as}
+use Rattle.grain_frame.specs.lemmas.Arms.{implements_as}
 use Rattle.grain_frame.proofs.runs.Run.make_closure.Goals as goal
 
 pub returns : goal.returns

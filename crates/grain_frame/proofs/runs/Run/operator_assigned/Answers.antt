@@ -9,7 +9,7 @@ use Rattle.grain_means.specs.Simulation.{stopped, world}
 use Rattle.grain_frame.specs.Abstraction.{abstraction, frame_in, is_out}
 use Rattle.grain_frame.specs.Natives.{Describes, Seeks}
 use Rattle.grain_frame.specs.Targets.{content_at, kept_operand}
-use Rattle.grain_frame.proofs.Arms.{implements_as}
+use Rattle.grain_frame.specs.lemmas.Arms.{implements_as}
 use Rattle.grain_frame.proofs.Lending.{native_then, operator_at}
 use Rattle.grain_frame.proofs.Serving.{native_raised, native_wants}
 use Rattle.grain_frame.proofs.runs.Run.operator_assigned.Goals as goal
@@ -20,39 +20,47 @@ returns-in_err-value g c =
     let engine = c.args.context.engine.now in
     let s = c.args.self.now in
     let f = c.args.frame.now in
-    let t = c.args.target in
+    let t = c.args.assignment.now.target in
     let u = read_write (content_at s t) in
-    let v = kept_operand c.args.kept.now s.stacks.operands in
+    let v = kept_operand c.args.assignment.now.kept s.stacks.operands in
     let args : List Held = u ∷ v ∷ [] in
     let one : Describes c.push.new.self (u ∷ []) =
     rw c.content.ensures at (c.in_ok-push.ensures [] c.new-arguments.ensures) in
     let two : Describes c.push-2.new.self args =
     rw (c.operand-value.ensures, c.top.ensures) at (c.in_ok-push-2.ensures (u ∷ []) one) in
-    let seeks : Seeks g.H.Host.law c.args.host.now (name_of p c.args.name) None args
+    let seeks : Seeks g.H.Host.law c.args.host.now (name_of p
+    c.args.assignment.now.operator.op_name) None args
     c.position-position.result c.in_ok-sought.sought =
     rw c.name-name.ensures at (c.in_ok-sought.ensures args two) in
     let m = setup g.H.Host.law p engine in
     let out : is_out c.from_residual-in_err-value.result ≡ true = search rules in
     record {
       implements = λ h slot to.
-          let did = c.in_err-value.ensures.same m (name_of p c.args.name) args (frame_in f s)
-          (λ n place r w. flattened n (read_write r) (name_of n.program c.args.variable)
+          let did = c.in_err-value.ensures.same m (name_of p c.args.assignment.now.operator.op_name)
+          args (frame_in f s)
+          (λ n place r w. flattened n (read_write r) (name_of n.program
+          c.args.assignment.now.variable)
           (frame_in f s place) w (λ q. write_entry n h slot (read_write q)
-          (name_of n.program c.args.variable) c.args.next (frame_in f s place) w))
+          (name_of n.program c.args.assignment.now.variable) c.args.assignment.now.next (frame_in f
+          s place) w))
           (λ n place x w. raised n (frame_in f s place) x w) refl
           (λ place. sym c.position-position.ensures) seeks in
           implements_as g.H.Host.law p engine f f s s c.call_native.new.self c.args.steps.now
           c.call_native.new.steps c.args.host.now c.call_native.new.host refl
           (native_wants g.H.Host.law p engine f s c.call_native.new.self c.args.steps.now
           c.call_native.new.steps c.args.host.now c.call_native.new.host
-          (λ n place r w. flattened n (read_write r) (name_of n.program c.args.variable)
+          (λ n place r w. flattened n (read_write r) (name_of n.program
+          c.args.assignment.now.variable)
           (frame_in f s place) w (λ q. write_entry n h slot (read_write q)
-          (name_of n.program c.args.variable) c.args.next (frame_in f s place) w))
+          (name_of n.program c.args.assignment.now.variable) c.args.assignment.now.next (frame_in f
+          s place) w))
           (λ n place x w. raised n (frame_in f s place) x w)
           s.scope s.cells c.call_native.ensures.run refl c.call_native.ensures.before
-          c.requires.inside c.in_err-value.field-0.0 c.from_residual-in_err-value.result out did)
-          (λ stop w place. operator_at (stopped m stop) (name_of p c.args.name) h u v slot
-          c.args.variable c.args.next (frame_in f s place)
+          c.requires.can.inside c.in_err-value.field-0.0 c.from_residual-in_err-value.result out
+          did)
+          (λ stop w place. operator_at (stopped m stop) (name_of p
+          c.args.assignment.now.operator.op_name) h u v slot
+          c.args.assignment.now.variable c.args.assignment.now.next (frame_in f s place)
           (world (abstraction s c.args.steps.now c.args.host.now) w) to.plain);
     }
 
@@ -62,40 +70,47 @@ returns-in-Fault g c =
     let engine = c.args.context.engine.now in
     let s = c.args.self.now in
     let f = c.args.frame.now in
-    let t = c.args.target in
+    let t = c.args.assignment.now.target in
     let u = read_write (content_at s t) in
-    let v = kept_operand c.args.kept.now s.stacks.operands in
+    let v = kept_operand c.args.assignment.now.kept s.stacks.operands in
     let args : List Held = u ∷ v ∷ [] in
     let one : Describes c.push.new.self (u ∷ []) =
     rw c.content.ensures at (c.in_ok-push.ensures [] c.new-arguments.ensures) in
     let two : Describes c.push-2.new.self args =
     rw (c.operand-value.ensures, c.top.ensures) at (c.in_ok-push-2.ensures (u ∷ []) one) in
-    let seeks : Seeks g.H.Host.law c.args.host.now (name_of p c.args.name) None args
+    let seeks : Seeks g.H.Host.law c.args.host.now (name_of p
+    c.args.assignment.now.operator.op_name) None args
     c.position-position.result c.in_ok-sought.sought =
     rw c.name-name.ensures at (c.in_ok-sought.ensures args two) in
     let m = setup g.H.Host.law p engine in
     rw c.raise.ensures.progress
     (record {
       implements = λ h slot to.
-          let did = c.in_ok-value.ensures.same m (name_of p c.args.name) args (frame_in f s)
-          (λ n place r w. flattened n (read_write r) (name_of n.program c.args.variable)
+          let did = c.in_ok-value.ensures.same m (name_of p c.args.assignment.now.operator.op_name)
+          args (frame_in f s)
+          (λ n place r w. flattened n (read_write r) (name_of n.program
+          c.args.assignment.now.variable)
           (frame_in f s place) w (λ q. write_entry n h slot (read_write q)
-          (name_of n.program c.args.variable) c.args.next (frame_in f s place) w))
+          (name_of n.program c.args.assignment.now.variable) c.args.assignment.now.next (frame_in f
+          s place) w))
           (λ n place x w. raised n (frame_in f s place) x w) refl
           (λ place. sym c.position-position.ensures) seeks in
           implements_as g.H.Host.law p engine f f s s c.raise.new.self c.args.steps.now
           c.raise.new.steps c.args.host.now c.call_native.new.host refl
           (native_raised g.H.Host.law p engine f s c.call_native.new.self c.args.steps.now
           c.call_native.new.steps c.args.host.now c.call_native.new.host
-          (λ n place r w. flattened n (read_write r) (name_of n.program c.args.variable)
+          (λ n place r w. flattened n (read_write r) (name_of n.program
+          c.args.assignment.now.variable)
           (frame_in f s place) w (λ q. write_entry n h slot (read_write q)
-          (name_of n.program c.args.variable) c.args.next (frame_in f s place) w))
+          (name_of n.program c.args.assignment.now.variable) c.args.assignment.now.next (frame_in f
+          s place) w))
           (λ n place x w. raised n (frame_in f s place) x w)
           s.scope s.cells c.call_native.ensures.run refl c.call_native.ensures.before
-          c.requires.inside c.in-Fault.fault c.raise.new.self c.raise.new.steps
+          c.requires.can.inside c.in-Fault.fault c.raise.new.self c.raise.new.steps
           (rw c.in-Fault.is at did) c.raise.ensures.after c.raise.ensures.marked)
-          (λ stop w place. operator_at (stopped m stop) (name_of p c.args.name) h u v slot
-          c.args.variable c.args.next (frame_in f s place)
+          (λ stop w place. operator_at (stopped m stop) (name_of p
+          c.args.assignment.now.operator.op_name) h u v slot
+          c.args.assignment.now.variable c.args.assignment.now.next (frame_in f s place)
           (world (abstraction s c.args.steps.now c.args.host.now) w) to.plain);
     })
 
@@ -105,24 +120,28 @@ returns-in-Value g c =
     let engine = c.args.context.engine.now in
     let s = c.args.self.now in
     let f = c.args.frame.now in
-    let t = c.args.target in
+    let t = c.args.assignment.now.target in
     let u = read_write (content_at s t) in
-    let v = kept_operand c.args.kept.now s.stacks.operands in
+    let v = kept_operand c.args.assignment.now.kept s.stacks.operands in
     let args : List Held = u ∷ v ∷ [] in
     let one : Describes c.push.new.self (u ∷ []) =
     rw c.content.ensures at (c.in_ok-push.ensures [] c.new-arguments.ensures) in
     let two : Describes c.push-2.new.self args =
     rw (c.operand-value.ensures, c.top.ensures) at (c.in_ok-push-2.ensures (u ∷ []) one) in
-    let seeks : Seeks g.H.Host.law c.args.host.now (name_of p c.args.name) None args
+    let seeks : Seeks g.H.Host.law c.args.host.now (name_of p
+    c.args.assignment.now.operator.op_name) None args
     c.position-position.result c.in_ok-sought.sought =
     rw c.name-name.ensures at (c.in_ok-sought.ensures args two) in
     let m = setup g.H.Host.law p engine in
     record {
       implements = λ h slot to.
-          let did = c.in_ok-value.ensures.same m (name_of p c.args.name) args (frame_in f s)
-          (λ n place r w. flattened n (read_write r) (name_of n.program c.args.variable)
+          let did = c.in_ok-value.ensures.same m (name_of p c.args.assignment.now.operator.op_name)
+          args (frame_in f s)
+          (λ n place r w. flattened n (read_write r) (name_of n.program
+          c.args.assignment.now.variable)
           (frame_in f s place) w (λ q. write_entry n h slot (read_write q)
-          (name_of n.program c.args.variable) c.args.next (frame_in f s place) w))
+          (name_of n.program c.args.assignment.now.variable) c.args.assignment.now.next (frame_in f
+          s place) w))
           (λ n place x w. raised n (frame_in f s place) x w) refl
           (λ place. sym c.position-position.ensures) seeks in
           implements_as g.H.Host.law p engine f c.assign_answer.new.frame s s
@@ -130,15 +149,18 @@ returns-in-Value g c =
           c.call_native.new.host refl
           (native_then g.H.Host.law p engine f s c.call_native.new.self c.args.steps.now
           c.call_native.new.steps c.args.host.now c.call_native.new.host s.scope s.cells
-          c.call_native.ensures.run refl c.call_native.ensures.before c.requires.inside
+          c.call_native.ensures.run refl c.call_native.ensures.before c.requires.can.inside
           (λ q n place w. flattened n (read_write c.in-Value.value)
-          (name_of n.program c.args.variable) (frame_in f (record s { stacks = q }) place) w
-          (λ x. write_entry n h slot (read_write x) (name_of n.program c.args.variable) c.args.next
+          (name_of n.program c.args.assignment.now.variable) (frame_in f (record s { stacks = q })
+          place) w
+          (λ x. write_entry n h slot (read_write x) (name_of n.program
+          c.args.assignment.now.variable) c.args.assignment.now.next
           (frame_in f (record s { stacks = q }) place) w))
           c.assign_answer.new.frame c.assign_answer.new.self c.assign_answer.new.steps
           c.call_native.new.host (rw c.in-Value.is at did)
           (c.assign_answer.ensures.implements c.call_native.new.host h slot to))
-          (λ stop w place. operator_at (stopped m stop) (name_of p c.args.name) h u v slot
-          c.args.variable c.args.next (frame_in f s place)
+          (λ stop w place. operator_at (stopped m stop) (name_of p
+          c.args.assignment.now.operator.op_name) h u v slot
+          c.args.assignment.now.variable c.args.assignment.now.next (frame_in f s place)
           (world (abstraction s c.args.steps.now c.args.host.now) w) to.plain);
     }

@@ -2,7 +2,7 @@
 use Rattle.std.proofs.Common.{◌≡◌, ◌+◌, Some, None, refl, sym, rules}
 use Rattle.grain_value.specs.Looking.{cell_of}
 use Rattle.grain_means.specs.Rules.{held_at}
-use Rattle.grain_frame.proofs.Arms.{implements_as}
+use Rattle.grain_frame.specs.lemmas.Arms.{implements_as}
 use Rattle.grain_frame.proofs.runs.Run.share.Goals as goal
 
 pub returns-in-None : goal.returns-in-None

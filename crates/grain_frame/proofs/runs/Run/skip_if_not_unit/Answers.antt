@@ -1,7 +1,7 @@
 use Rattle.std.proofs.Common.{rules, refl, arith, ◌≡◌, true, false}
 use Rattle.grain_value.specs.Operands.{top}
 use Rattle.grain_value.specs.Looking.{is_unit}
-use Rattle.grain_frame.proofs.Arms.{implements_after, to_target, to_next}
+use Rattle.grain_frame.specs.lemmas.Arms.{implements_after, to_target, to_next}
 use Rattle.grain_frame.proofs.runs.Run.skip_if_not_unit.Goals as goal
 
 pub returns-then-is_unit : goal.returns-then-is_unit

@@ -1,7 +1,7 @@
 use Rattle.std.proofs.Common.{◌≡◌, ◌+◌, Some, rules, refl}
 use Rattle.grain_value.specs.Looking.{cell_of}
 use Rattle.grain_means.specs.Rules.{held_at}
-use Rattle.grain_frame.proofs.Arms.{kept_write, implements_as}
+use Rattle.grain_frame.specs.lemmas.Arms.{kept_write, implements_as}
 use Rattle.grain_frame.proofs.runs.Run.store.Goals as goal
 
 pub returns-in-None : goal.returns-in-None

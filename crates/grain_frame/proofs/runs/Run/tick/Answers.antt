@@ -1,7 +1,7 @@
 use Rattle.std.proofs.Common.{rules, refl, inl, ◌≡◌, true, false}
 use Rattle.grain_means.specs.Rules.{onward, stepped}
 use Rattle.grain_frame.specs.Abstraction.{frame_in, is_out}
-use Rattle.grain_frame.proofs.Charging.{charged_on, charge_failed, charge_wants}
+use Rattle.grain_frame.specs.lemmas.Charging.{charged_on, charge_failed, charge_wants}
 use Rattle.grain_frame.proofs.runs.Run.tick.Goals as goal
 
 pub returns-in_err-charge : goal.returns-in_err-charge

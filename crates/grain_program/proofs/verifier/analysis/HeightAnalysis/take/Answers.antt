@@ -24,27 +24,27 @@ arrive_by-requires-clause-within c =
 pub unreachable-requires : goal.unreachable-requires
 unreachable-requires c = c.requires.read (sym c.decode.ensures.exact ∙ c.in_default.is)
 
-pub stepped-requires : goal.stepped-requires
-stepped-requires c =
+pub shape_after-requires : goal.shape_after-requires
+shape_after-requires c =
     numbered c.self.inside.handlers c.self.inside.shapes c.args.address c.in-Some-get.shape
     c.self.invariant (sym c.in-Some-get.ensures)
 
 pub invariant_of-self : goal.invariant_of-self
 invariant_of-self c =
-    numbered_still c.self.inside.handlers c.stepped.new.self c.stepped.ensures.grown
+    numbered_still c.self.inside.handlers c.shape_after.new.self c.shape_after.ensures.grown
     c.self.inside.shapes c.self.invariant
 
 pub invariant_of-self-in-Err : goal.invariant_of-self-in-Err
 invariant_of-self-in-Err c =
-    numbered_still c.self.inside.handlers c.stepped.new.self c.stepped.ensures.grown
+    numbered_still c.self.inside.handlers c.shape_after.new.self c.shape_after.ensures.grown
     c.self.inside.shapes c.self.invariant
 
 pub returns-in-Ok : goal.returns-in-Ok
 returns-in-Ok c =
     taken_on c.args.code.now c.args.max c.args.address c.args.self.now c.self.inside.shapes
-    c.self.inside.waiting c.self.inside.handlers c.stepped.new.self c.self.view_is c.self.invariant
-    c.stepped.ensures.grown (c.in-Some.op, c.in-Some.width)
+    c.self.inside.waiting c.self.inside.handlers c.shape_after.new.self c.self.view_is c.self.invariant
+    c.shape_after.ensures.grown (c.in-Some.op, c.in-Some.width)
     (sym c.decode.ensures.exact ∙ c.in-Some.is) c.in-Some-get.shape (sym c.in-Some-get.ensures)
     c.of-effect.result c.of-effect.ensures (state_of c.arrive_by.new.self)
-    (shape_of c.stepped.new.self c.in-Ok.after) c.arrive_by.result c.in-Ok.ensures.exact
+    (shape_of c.shape_after.new.self c.in-Ok.after) c.arrive_by.result c.in-Ok.ensures.exact
     c.arrive_by.ensures.exact

@@ -1,0 +1,111 @@
+//! One instruction of a frame that calls no function.
+
+ghost use Rattle.grain_program.specs.Indices.{InPools};
+ghost use Rattle.grain_frame.specs.Abstraction.{Runs, Ready, StandsAt, Stepped, CallsNothing, IsNoCall, setup_of, moment};
+
+use crate::activations::Activation;
+use crate::contexts::Context;
+use crate::runs::{Progress, Run};
+use grain_global::Steps;
+use grain_host::Host;
+use grain_program::Op;
+use grain_value::{Dynamic, OutOfMemory};
+use std::sync::ledger::Ledger;
+
+impl<H: Host> Run<H> {
+    /// Does the instruction at which the frame stands, which calls no function.
+    #[inline(never)]
+    pub fn step<L: Ledger>(
+        &mut self,
+        context: Context<'_>,
+        host: &mut H,
+        steps: &mut Steps<L>,
+        frame: &mut Activation,
+    ) -> Result<Progress, OutOfMemory>
+        requires runs { Runs context.program.now frame.old self.old }
+        requires calls_nothing { CallsNothing context.program.now frame.old }
+        ensures stepped { Stepped (setup_of H.law context.entry)
+            (moment frame.old self.old steps.old host.old) result
+            (moment frame.new self.new steps.new host.new) }
+    {
+        let address = frame.address;
+        let depth = self.stacks.height();
+        let (op, width) = context.program.fetch(frame.chunk, address, depth);
+        self.perform(context, host, steps, frame, op, address + width)
+    }
+
+    // Does this instruction, at which the frame stands, and which calls no function.
+    #[inline(always)]
+    fn perform<L: Ledger>(
+        &mut self,
+        context: Context<'_>,
+        host: &mut H,
+        steps: &mut Steps<L>,
+        frame: &mut Activation,
+        op: Op,
+        next: usize,
+    ) -> Result<Progress, OutOfMemory>
+        requires runs { Runs context.program.now frame.old self.old }
+        requires stands { StandsAt context.program.now frame.old self.old op next }
+        requires ready { Ready frame.old self.old op next }
+        requires pools { InPools context.program.now op }
+        requires calls_nothing { IsNoCall op }
+        ensures stepped { Stepped (setup_of H.law context.entry)
+            (moment frame.old self.old steps.old host.old) result
+            (moment frame.new self.new steps.new host.new) }
+    {
+        match op {
+            Op::LoadConst(constant) => self.load_const(context, steps, frame, constant, next),
+            Op::Unit => Ok(self.push_on(steps, frame, Dynamic::Unit, next)),
+            Op::False => Ok(self.push_on(steps, frame, Dynamic::Bool(false), next)),
+            Op::True => Ok(self.push_on(steps, frame, Dynamic::Bool(true), next)),
+            Op::LoadLocal(slot) => self.load_local(context, steps, frame, slot, next),
+            Op::StoreLocal(slot) => self.store(context, steps, frame, slot, false, next),
+            Op::StoreConst(slot) => self.store(context, steps, frame, slot, true, next),
+            Op::StoreShared(slot) => {
+                let read_only = self.stacks.top().read_only;
+                self.store(context, steps, frame, slot, read_only, next)
+            }
+            Op::DeclareLocal(name) => self.declare(context, steps, frame, name, false, next),
+            Op::DeclareConst(name) => self.declare(context, steps, frame, name, true, next),
+            Op::AssignLocal(slot, name) => {
+                self.assign_local(context, steps, frame, slot, name, next)
+            }
+            Op::AssignLocalOp(slot, name, op) => {
+                self.assign_local_op(context, host, steps, frame, slot, name, op, next)
+            }
+            Op::LoadShared(slot) => self.load_shared(context, steps, frame, slot, next),
+            Op::Share(slot) => self.share(context, steps, frame, slot, next),
+            Op::IsShared => Ok(self.is_shared(steps, frame, next)),
+            Op::Pop => Ok(self.pop_on(steps, frame, next)),
+            Op::Rotate(under) => Ok(self.rotate(steps, frame, under, next)),
+            Op::Jump(target) => self.jump_to(context, host, steps, frame, target as usize),
+            Op::JumpIfFalse(target) => {
+                self.jump_if(context, host, steps, frame, false, target, next)
+            }
+            Op::JumpIfTrue(target) => self.jump_if(context, host, steps, frame, true, target, next),
+            Op::SkipIfNotUnit(target) => {
+                self.skip_if_not_unit(context, host, steps, frame, target, next)
+            }
+            Op::Call(_, _) => unreachable!(),
+            Op::CallOp(name, count, token) => {
+                self.call_op(context, host, steps, frame, name, count, token, next)
+            }
+            Op::MakeClosure(name) => self.make_closure(context, steps, frame, name, next),
+            Op::Curry(count) => self.curry(context, steps, frame, count, next),
+            Op::CallFnPtr(_) => unreachable!(),
+            Op::UnwindTo(depth) => Ok(self.unwind_to(context, steps, frame, depth, next)),
+            Op::Tick => self.tick(context, host, steps, frame, next),
+            Op::Checkpoint => Ok(self.checkpoint(steps, frame, next)),
+            Op::Statement(_) => Ok(self.go_on(steps, frame, next)),
+            Op::PushHandler(target) => self.push_handler(steps, frame, target, None, next),
+            Op::PushHandlerVar(target, name) => {
+                let variable = Some(u32::from(name));
+                self.push_handler(steps, frame, target, variable, next)
+            }
+            Op::PopHandler => Ok(self.pop_handler(steps, frame, next)),
+            Op::Throw => self.throw(context, steps, frame, next),
+            Op::Return => Ok(self.return_value(steps, frame, next)),
+        }
+    }
+}

@@ -1,0 +1,2 @@
+-- What contracts cite: the counts of a run, which take no bytes.
+pub mod StepsView

@@ -1,0 +1,328 @@
+-- A call, its body, and what follows it.
+use Rattle.std.proofs.Common.{◌≡◌, ◌<◌, ◌≤◌, ◌+◌, ◌-◌, ◌∙◌, ℕ, zero, suc, List, [], ◌∷◌, ◌++◌, Option, None, Bool, true, false, Result, Ok, Err, length, take, refl, sym, subst, ap, inl, arith, length-append}
+use Rattle.std.proofs.lemmas.List.{length-take}
+use Rattle.std.specs.Prelude.{slice_index_or}
+use Rattle.grain_value.specs.declared.values.Held.{Held}
+use Rattle.grain_value.specs.declared.scopes.Entry.{Entry}
+use Rattle.grain_value.specs.declared.memory.OutOfMemory.{OutOfMemory}
+use Rattle.grain_value.specs.Operands.{under}
+use Rattle.grain_fault.specs.Problems.{NoMemory, problem_of}
+use Rattle.grain_program.specs.declared.code.functions.Function.{Function}
+use Rattle.grain_global.specs.declared.engines.Engine.{Engine}
+use Rattle.grain_stack.specs.Views.{StackFrame, StacksView, innermost, without_frame}
+use Rattle.grain_means.specs.Worlds.{Go, End, Then, Answer, Failed, Setup, Frame, InFrame, Place}
+use Rattle.grain_means.specs.Rules.{leave_by_fault, offered, without, frame_at, enter_function, resume_caller}
+use Rattle.grain_means.specs.Simulation.{LocalState, Computation, Simulates, SimulatesExactly, StopPersists, stopped, world}
+use Rattle.grain_means.specs.lemmas.Stretches.{same, compose, continued, alone}
+use Rattle.grain_global.specs.StepsView.{StepsView}
+use Rattle.grain_frame.specs.Abstraction.{abstraction, frame_in, handlers_in, continuation, KeepsFrame, ContinuesAt}
+use Rattle.grain_vm.specs.Calls.{caller_of, call_continuation, CallEntered, CallRefused, EnterResult, CallReturned}
+use Rattle.grain_vm.proofs.Offering.{memory_leaves}
+use Rattle.grain_frame.specs.declared.activations.Activation.{Activation}
+use Rattle.grain_frame.specs.declared.runs.Run.{Run}
+use Rattle.grain_frame.specs.declared.runs.Progress.{Progress}
+use Rattle.grain_frame.specs.declared.runs.Progress.TheVariants as progress
+
+module _ {H : Type 0} {m : Setup H} (f : Option Place → Frame) (next : ℕ) (g : Function) where
+  -- the body was run, and the caller goes on
+  pub call_ran : {old mid after there new : LocalState H} {inner outer : Option Place → Frame}
+      (scope : List Entry) (level : ℕ) {b : Answer} {one two : Bool} {last : Computation H} →
+      SimulatesExactly m old
+      (λ p place w. enter_function p g (length g.params) (f place) next w) false mid
+      (λ p place w. Then (Go (InFrame (frame_at g.chunk 0 None)) w)
+      (λ a w2. resume_caller p g (without (length g.params) (f place)) next a
+      (record w2 { scope = scope; level = level }))) →
+      ((place : Option Place) → inner place ≡ frame_at g.chunk 0 place) → mid.this ≡ None →
+      Simulates m mid (λ p place w. Go (InFrame (inner place)) w) one after
+      (λ p place w. End b w) →
+      there ≡ record after { scope = scope; level = level } →
+      ((place : Option Place) → outer place ≡ without (length g.params) (f place)) →
+      SimulatesExactly m there (λ p place w. resume_caller p g (outer place) next b w) two new
+      last → StopPersists one after.passed two new.passed →
+      Simulates m old (λ p place w. enter_function p g (length g.params) (f place) next w) two new
+      last
+  call_ran {old} {mid} {after} {there} {new} {inner} {outer} scope level {b = b} {one} {two} {last}
+      begins at none ran is rest resumes persists =
+      let body : Simulates m mid (λ p place w. Go (InFrame (frame_at g.chunk 0 None)) w) one after
+      (λ p place w. End b w) =
+      alone {first = λ p place w. Go (InFrame (frame_at g.chunk 0 place)) w} none (by_frame at ran)
+      in
+      let here : SimulatesExactly m (record after { scope = scope; level = level })
+      (λ p place w. resume_caller p g (outer place) next b w) two new last =
+      subst (λ (q : LocalState H).
+      SimulatesExactly m q (λ p place w. resume_caller p g (outer place) next b w) two new last)
+      is resumes in
+      compose (same begins)
+      (compose (continued
+      (λ p place a w2. resume_caller p g (without (length g.params) (f place)) next a
+      (record w2 { scope = scope; level = level })) body) (same (goes_on here rest)) persists)
+      tt where
+        by_frame : ((place : Option Place) → inner place ≡ frame_at g.chunk 0 place) →
+            Simulates m mid (λ p place w. Go (InFrame (inner place)) w) one after
+            (λ p place w. End b w) →
+            Simulates m mid (λ p place w. Go (InFrame (frame_at g.chunk 0 place)) w) one after
+            (λ p place w. End b w)
+        by_frame at ran =
+            compose {one = false}
+            (same (record {
+              this = refl;
+              order = omega arith;
+              equal = λ stop clear halts u place.
+                  rw (at place) refl;
+            })) ran tt
+
+        -- the caller's scope and level are back
+        goes_on : SimulatesExactly m (record after { scope = scope; level = level })
+            (λ p place w. resume_caller p g (outer place) next b w) two new last →
+            ((place : Option Place) → outer place ≡ without (length g.params) (f place)) →
+            SimulatesExactly m after
+            (λ p place w. resume_caller p g (without (length g.params) (f place)) next b
+            (record w { scope = scope; level = level })) two new last
+        goes_on h rest =
+            record {
+              this = h.this;
+              order = h.order;
+              equal = λ stop clear halts u place.
+                  rw (← rest place) (h.equal stop clear halts u place);
+            }
+
+-- the call has begun
+pub has_begun : {H : Type 0} {m : Setup H} {old new : LocalState H} {start : Computation H}
+    (b : Bool) (s s1 : Run H) (g : Function) (f : Option Place → Frame) (next : ℕ) → b ≡ true →
+    SimulatesExactly m old start false new (call_continuation (Ok b) s s1 g f next) →
+    SimulatesExactly m old start false new (call_continuation (Ok true) s s1 g f next)
+has_begun {m = m} {old} {new} {start} b s s1 g f next e h =
+    subst (λ (q : Bool). SimulatesExactly m old start false new
+    (call_continuation (Ok q) s s1 g f next)) e h
+
+-- a fault left the frame before the call began
+pub not_begun : {H : Type 0} {m : Setup H} {old new : LocalState H} {start : Computation H}
+    (b : Bool) (s s1 : Run H) (g : Function) (f : Option Place → Frame) (next : ℕ) → b ≡ false →
+    SimulatesExactly m old start false new (call_continuation (Ok b) s s1 g f next) →
+    SimulatesExactly m old start false new (call_continuation (Ok false) s s1 g f next)
+not_begun {m = m} {old} {new} {start} b s s1 g f next e h =
+    subst (λ (q : Bool). SimulatesExactly m old start false new
+    (call_continuation (Ok q) s s1 g f next)) e h
+
+-- the fault is raised in the frame as it stands
+pub refused_here : {H : Type 0} {m : Setup H} {old new : LocalState H} {start : Computation H}
+    (f : Activation) (s s1 : Run H) → CallRefused s s1 →
+    SimulatesExactly m old start false new
+    (λ m place w. offered m (frame_in f s place) (problem_of s1.fault) w) →
+    SimulatesExactly m old start false new
+    (continuation (Ok progress.Failed) s1.fault (frame_in f s1))
+refused_here f s s1 kept h = record {
+  this = h.this;
+  order = h.order;
+  equal = λ stop clear halts u place. h.equal stop clear halts u place ∙ rw (kept.1, kept.2) refl;
+}
+
+-- want of memory in a body leaves the caller too, whatever its handlers are
+pub memory_passes : {H : Type 0} {m : Setup H} (f : Activation) (s t : Run H) (g : Function)
+    (next : ℕ) (n : StepsView) (host : H) → abstraction t n host ≡ abstraction s n host →
+    SimulatesExactly m (abstraction s n host)
+    (λ k place w. resume_caller k g (frame_in f s place) next (Failed NoMemory) w) true
+    (abstraction t n host) (λ k place w. leave_by_fault k None (frame_in f t place) NoMemory w)
+memory_passes {H = H} {m = m} f s t g next n host e = record {
+  this = refl;
+  order = omega arith;
+  equal = λ stop clear halts u place.
+      memory_leaves (stopped m stop) (handlers_in s.stacks.handlers) (frame_in f s place)
+      (world (abstraction s n host) u)
+      ∙ ap (λ (q : LocalState H). leave_by_fault (stopped m stop) None (frame_in f s place) NoMemory
+      (world q u)) (sym e);
+}
+
+pub entered_with : {H : Type 0} (engine : Engine) (g : Function) (s s1 : Run H) (b : Bool) →
+    b ≡ true → EnterResult engine g s s1 (Ok b) → CallEntered engine g s s1
+entered_with engine g s s1 true e h = h
+entered_with engine g s s1 false e h = absurd cc
+
+pub kept_with : {H : Type 0} (engine : Engine) (g : Function) (s s1 : Run H) (b : Bool) →
+    b ≡ false → EnterResult engine g s s1 (Ok b) → CallRefused s s1
+kept_with engine g s s1 true e h = absurd cc
+kept_with engine g s s1 false e h = h
+
+-- the scope that was put aside last
+last_saved : (xs : List (List Entry)) (x : List Entry) (n : ℕ) → n ≡ length xs →
+    slice_index_or (xs ++ x ∷ []) n [] ≡ x
+last_saved [] x zero e = refl
+last_saved [] x (suc n) e = absurd (omega (arith, e))
+last_saved (y ∷ xs) x zero e = absurd (omega (arith, e))
+last_saved (y ∷ xs) x (suc n) e = last_saved xs x n (omega (arith, e))
+
+front_saved : (xs : List (List Entry)) (x : List Entry) (n : ℕ) → n ≡ length xs →
+    take n (xs ++ x ∷ []) ≡ xs
+front_saved [] x zero e = refl
+front_saved [] x (suc n) e = absurd (omega (arith, e))
+front_saved (y ∷ xs) x zero e = absurd (omega (arith, e))
+front_saved (y ∷ xs) x (suc n) e =
+    ap (λ (l : List (List Entry)). y ∷ l) (front_saved xs x n (omega (arith, e)))
+
+module _ {H : Type 0} (engine : Engine) (f f' : Activation) (s s1 s2 s' : Run H) (g : Function)
+    (k next : ℕ) (entered : CallEntered engine g s s1) (outer : s2.stacks.outer ≡ s1.stacks.outer)
+    (saved : s2.saved ≡ s1.saved) (level : s2.level ≡ s1.level) where
+  frames : s2.stacks.outer ≡ record (innermost s.stacks)
+      { operands = under (length g.params) s.stacks.operands } ∷ s.stacks.outer
+  frames = outer ∙ entered.caller
+
+  waiting : s2.saved ≡ s.saved ++ s.scope ∷ []
+  waiting = saved ∙ entered.saved
+
+  -- the caller's frame is the innermost again
+  stacks_back : (caller_of s2).stacks ≡
+      record s2.stacks {
+        operands = under (length g.params) s.stacks.operands;
+        room = s.stacks.room;
+        noted = s.stacks.noted;
+        handlers = s.stacks.handlers;
+        outer = s.stacks.outer;
+      }
+  stacks_back = ap (λ (fs : List StackFrame). without_frame fs s2.stacks) frames
+
+  operands_back : (caller_of s2).stacks.operands ≡ under (length g.params) s.stacks.operands
+  operands_back = ap (λ (v : StacksView). v.operands) stacks_back
+
+  handlers_back : (caller_of s2).stacks.handlers ≡ s.stacks.handlers
+  handlers_back = ap (λ (v : StacksView). v.handlers) stacks_back
+
+  one_less : length s2.saved - 1 ≡ length s.saved
+  one_less =
+      omega (
+        arith,
+        ap (λ (l : List (List Entry)). length l) waiting,
+        length-append s.saved (s.scope ∷ []),
+      )
+
+  scope_back : (caller_of s2).scope ≡ s.scope
+  scope_back = ap (λ (l : List (List Entry)). slice_index_or l (length s2.saved - 1) []) waiting ∙
+      last_saved s.saved s.scope (length s2.saved - 1) one_less
+
+  saved_back : (caller_of s2).saved ≡ s.saved
+  saved_back = ap (λ (l : List (List Entry)). take (length s2.saved - 1) l) waiting ∙
+      front_saved s.saved s.scope (length s2.saved - 1) one_less
+
+  level_back : (caller_of s2).level ≡ s.level
+  level_back = omega (arith, level, entered.level)
+
+  -- what the code has once the caller's scope and level are back
+  pub there_is : (n : StepsView) (host : H) → abstraction (caller_of s2) n host ≡
+      record (abstraction s2 n host) { scope = s.scope; level = s.level }
+  there_is n host = rw (scope_back, level_back, ap (λ (v : StacksView). v.trace) stacks_back) refl
+
+  -- the caller's frame is without the arguments
+  pub outer_is : length g.params ≡ k → (place : Option Place) → frame_in f (caller_of s2) place ≡
+      without k (frame_in f s place)
+  outer_is all place = rw (operands_back, handlers_back, all) refl
+
+  kept3 : f.base ≤ length s.scope → s1.count ≤ s2.count → KeepsFrame f s f (caller_of s2)
+  kept3 base later = record {
+    chunk = refl;
+    base = refl;
+    scope = rw scope_back base;
+    room = ap (λ (v : StacksView). v.room) stacks_back;
+    noted = ap (λ (v : StacksView). v.noted) stacks_back;
+    outer = ap (λ (v : StacksView). v.outer) stacks_back;
+    saved = saved_back;
+    level = level_back;
+    later = omega (arith, later, entered.count);
+  }
+
+  over_kept : f.base ≤ length s.scope → s1.count ≤ s2.count → f' ≡ f →
+      s' ≡ record (caller_of s2) { fault = s'.fault } → KeepsFrame f s f' s'
+  over_kept base later ef es =
+      let k3 = kept3 base later in
+      record {
+        chunk = ap (λ (a : Activation). a.chunk) ef;
+        base = ap (λ (a : Activation). a.base) ef;
+        scope = omega (arith, k3.scope, ap (λ (q : Run H). length q.scope) es);
+        room = ap (λ (q : Run H). q.stacks.room) es ∙ k3.room;
+        noted = ap (λ (q : Run H). q.stacks.noted) es ∙ k3.noted;
+        outer = ap (λ (q : Run H). q.stacks.outer) es ∙ k3.outer;
+        saved = ap (λ (q : Run H). q.saved) es ∙ k3.saved;
+        level = ap (λ (q : Run H). q.level) es ∙ k3.level;
+        later = omega (arith, k3.later, ap (λ (q : Run H). q.count) es);
+      }
+
+  -- the caller's frame is kept
+  pub call_kept : (r : Result Progress OutOfMemory) → f.base ≤ length s.scope →
+      s1.count ≤ s2.count → CallReturned f (caller_of s2) f' s' next r → KeepsFrame f s f' s'
+  call_kept (Ok progress.Continues) base later h =
+      let k3 = kept3 base later in
+      record {
+        chunk = ap (λ (a : Activation). a.chunk) h.0;
+        base = ap (λ (a : Activation). a.base) h.0;
+        scope = omega (arith, k3.scope, ap (λ (q : Run H). length q.scope) h.2);
+        room = ap (λ (q : Run H). q.stacks.room) h.2 ∙ k3.room;
+        noted = ap (λ (q : Run H). q.stacks.noted) h.2 ∙ k3.noted;
+        outer = ap (λ (q : Run H). q.stacks.outer) h.2 ∙ k3.outer;
+        saved = ap (λ (q : Run H). q.saved) h.2 ∙ k3.saved;
+        level = ap (λ (q : Run H). q.level) h.2 ∙ k3.level;
+        later = omega (arith, k3.later, ap (λ (q : Run H). q.count) h.2);
+      }
+  call_kept (Ok progress.Returned) base later h = absurd h
+  call_kept (Ok progress.Failed) base later h = over_kept base later h.0 h.1
+  call_kept (Err e) base later h = over_kept base later h.0 h.1
+
+  -- the caller goes on after the call, with one operand in the place of the arguments
+  pub call_lands : (r : Result Progress OutOfMemory) → length g.params ≡ k → s1.count ≤ s2.count →
+      CallReturned f (caller_of s2) f' s' next r →
+      ContinuesAt engine s f s' f' (next ∷ []) k 1 s.stacks.handlers r
+  call_lands (Ok progress.Continues) all later h = (
+    inl (ap (λ (a : Activation). a.address) h.0),
+    omega (
+      arith,
+      h.1,
+      ap (λ (xs : List Held). length xs) operands_back,
+      length-take (length s.stacks.operands - length g.params) s.stacks.operands,
+      all,
+    ),
+    ap (λ (q : Run H). q.stacks.handlers) h.2 ∙ handlers_back,
+    inl (omega (arith, ap (λ (q : Run H). q.count) h.2, later, entered.count), entered.allowed),
+  )
+  call_lands (Ok progress.Returned) all later h = tt
+  call_lands (Ok progress.Failed) all later h = (
+    omega (
+      arith,
+      ap (λ (q : Run H). length q.stacks.operands) h.1,
+      ap (λ (xs : List Held). length xs) operands_back,
+      length-take (length s.stacks.operands - length g.params) s.stacks.operands,
+      all,
+    ),
+    ap (λ (q : Run H). q.stacks.handlers) h.1 ∙ handlers_back,
+  )
+  call_lands (Err e) all later h = tt
+
+  -- the caller waits, with room for what the call gives
+  pub call_entered : 0 < length s2.stacks.outer
+  call_entered = omega (arith, ap (λ (fs : List StackFrame). length fs) frames)
+
+  pub call_waits : 0 < length s2.saved
+  call_waits =
+      omega (
+        arith,
+        ap (λ (l : List (List Entry)). length l) waiting,
+        length-append s.saved (s.scope ∷ []),
+      )
+
+  pub call_level : 0 < s2.level
+  call_level = omega (arith, level, entered.level)
+
+  pub call_room : k ≤ length s.stacks.operands → length s.stacks.operands - k + 1 ≤ s.stacks.room →
+      length g.params ≡ k → (first : StackFrame) (others : List StackFrame) → s2.stacks.outer ≡
+      first ∷ others → length first.operands < first.room
+  call_room enough room all first others e =
+      let both : first ∷ others ≡ record (innermost s.stacks)
+      { operands = under (length g.params) s.stacks.operands } ∷ s.stacks.outer =
+      sym e ∙ frames in
+      let same : first ≡ record (innermost s.stacks)
+      { operands = under (length g.params) s.stacks.operands } = cc in
+      omega (
+        arith,
+        enough,
+        room,
+        all,
+        ap (λ (q : StackFrame). length q.operands) same,
+        ap (λ (q : StackFrame). q.room) same,
+        length-take (length s.stacks.operands - length g.params) s.stacks.operands,
+      )

@@ -1,0 +1,159 @@
+-- One turn of a frame's loop, and how a frame is left.
+use Rattle.std.proofs.Common.{◌≡◌, ◌≤◌, ◌+◌, ℕ, inl, inr, Option, None, [], ◌∷◌, ◌++◌, Bool, true, false, Ok, List, length, ◌∙◌, take, refl, sym, subst, ap, arith}
+use Rattle.grain_fault.specs.declared.faults.EvalAltResult.{EvalAltResult}
+use Rattle.grain_fault.specs.Problems.{Problem}
+use Rattle.grain_program.specs.Decoding.{op_at}
+use Rattle.grain_program.specs.View.{View}
+use Rattle.grain_program.specs.TypedAt.{IsTypedAt}
+use Rattle.grain_program.specs.declared.code.parts.Chunk.{Chunk}
+use Rattle.grain_stack.specs.Views.{StackFrame}
+use Rattle.grain_means.specs.Worlds.{Go, End, Failed, Setup, Frame, InFrame, Place}
+use Rattle.grain_means.specs.Rules.{or_return, start_instruction, leave_by_fault}
+use Rattle.grain_means.specs.Ends.{went}
+use Rattle.grain_means.specs.Simulation.{LocalState, Computation, Simulates, SimulatesExactly, StopPersists}
+use Rattle.grain_means.specs.lemmas.Stretches.{same, compose, before}
+use Rattle.grain_host.specs.Law.{Law}
+use Rattle.grain_global.specs.declared.engines.Engine.{Engine}
+use Rattle.grain_means.specs.Means.{setup}
+use Rattle.grain_frame.specs.Abstraction.{abstraction, tries_in, Above, instruction_here, continuation, KeepsFrame, Progresses, Runs, Stepped, moment}
+use Rattle.grain_vm.specs.Attempts.{Unchanged}
+use Rattle.grain_frame.specs.Abstraction.{begun_one}
+use Rattle.grain_frame.specs.declared.runs.Progress.{Progress}
+use Rattle.grain_frame.specs.declared.runs.Progress.TheVariants as progress
+use Rattle.grain_frame.specs.declared.runs.Run.{Run}
+use Rattle.grain_frame.specs.declared.activations.Activation.{Activation}
+use Rattle.grain_global.specs.StepsView.{StepsView}
+
+-- where nothing changed, what holds of the one state holds of the other
+pub moved_on : {H : Type 0} (P : Run H → Activation → StepsView → Type 0) {s s' : Run H}
+    {f f' : Activation} {n n' : StepsView} → Unchanged f s n f' s' n' → P s f n → P s' f' n'
+moved_on {H = H} P {s} {s'} {f} {f'} {n} {n'} u h =
+    subst (λ (k : StepsView). P s' f' k) (sym u.2)
+    (subst (λ (a : Activation). P s' a n) (sym u.1)
+    (subst (λ (t : Run H). P t f n) (sym u.0) h))
+
+pub moved_back : {H : Type 0} (P : Run H → Activation → StepsView → Type 0) {s s' : Run H}
+    {f f' : Activation} {n n' : StepsView} → Unchanged f s n f' s' n' → P s' f' n' → P s f n
+moved_back {H = H} P {s} {s'} {f} {f'} {n} {n'} u h =
+    subst (λ (k : StepsView). P s f k) u.2
+    (subst (λ (a : Activation). P s a n') u.1 (subst (λ (t : Run H). P t f' n') u.0 h))
+
+module _ {H : Type 0} {m : Setup H} where
+  -- an instruction begins: it is counted, and a mark is passed
+  begins : (now : LocalState H) (f : Option Place → Frame) →
+      Simulates m now (λ n place w. Go (InFrame (f place)) w) false
+      (record now { ran = now.ran + 1; passed = now.passed + 1 }) (instruction_here f)
+  begins now f =
+      before {start = λ n place w.
+      start_instruction n (or_return (op_at n.program.code (f place).address)) (f place)
+      (record w { ran = w.ran + 1 })} {first = λ n place w. Go (InFrame (f place)) w}
+      (λ n place w v a run. went run)
+      (same (record {
+        this = refl;
+        order = omega arith;
+        equal = λ stop clear halts u place.
+            rw (clear now.passed (omega arith) (omega arith)) refl;
+      }))
+
+  -- an instruction begins, and the code does it
+  pub turn : {old : LocalState H} {start : Computation H} (now : LocalState H) {here : LocalState H}
+      {f : Option Place → Frame} {out : Bool} {new : LocalState H} {last : Computation H} →
+      here ≡ record now { ran = now.ran + 1; passed = now.passed + 1 } →
+      Simulates m old start false now (λ n place w. Go (InFrame (f place)) w) →
+      Simulates m here (instruction_here f) out new last → Simulates m old start out new last
+  turn now {f = f} {out} {new} {last} e h s =
+      compose h
+      (compose (begins now f)
+      (subst (λ (q : LocalState H). Simulates m q (instruction_here f) out new last) e s) tt) tt
+
+  -- where it led, by its progress
+  pub flowed : {old : LocalState H} {start : Computation H} {new : LocalState H}
+      (f : Option Place → Frame) (x : EvalAltResult) {one other : Progress} → one ≡ other →
+      Simulates m old start false new (continuation (Ok one) x f) →
+      Simulates m old start false new (continuation (Ok other) x f)
+  flowed {old} {start} {new} f x e h =
+      subst (λ (q : Progress). Simulates m old start false new (continuation (Ok q) x f)) e h
+
+  -- a fault leaves a frame
+  pub left_out : {old : LocalState H} {start : Computation H} {out : Bool} (mid new : LocalState H)
+      (f : Option Place → Frame) (floor at : ℕ) {x : Problem} →
+      ((place : Option Place) → (f place).floor ≡ floor) →
+      ((place : Option Place) → (f place).address ≡ at) →
+      new ≡ record mid {
+        scope = take floor mid.scope;
+        trace =
+            mid.trace ++ record { address = at; slot = None } ∷ [];
+      } →
+      Simulates m old start out mid (λ n place w. leave_by_fault n None (f place) x w) →
+      Simulates m old start out new (λ n place w. End (Failed x) w)
+  left_out {out = out} mid new f floor at {x} low here e h =
+      compose h (same (leaves out)) (carried out) where
+        leaves : (out : Bool) →
+            SimulatesExactly m mid (λ n place w. leave_by_fault n None (f place) x w) out new
+            (λ n place w. End (Failed x) w)
+        leaves out =
+            record {
+              this = ap (λ (k : LocalState H). k.this) e;
+              order =
+                  omega (arith, ap (λ (k : LocalState H). k.passed) e);
+              equal =
+                  λ stop clear halts u place. rw (e, low place, here place) refl;
+            }
+
+        carried : (out : Bool) → StopPersists out mid.passed out new.passed
+        carried false = tt
+        carried true = (refl, ap (λ (k : LocalState H). k.passed) e)
+
+-- the frame runs on
+pub next_runs : {H : Type 0} (p : View) (f f' : Activation) (s s' : Run H) → Runs p f s →
+    KeepsFrame f s f' s' →
+    IsTypedAt p f'.chunk f'.address (length s'.stacks.operands) (tries_in s'.stacks.handlers) →
+    Above f'.base s'.stacks.handlers → Runs p f' s'
+next_runs p f f' s s' runs kept typed above = record {
+  inside = omega (arith, kept.base, kept.scope);
+  typed = typed;
+  above = above;
+  room = ap (λ (c : Chunk). c.max_stack) kept.chunk ∙ (runs.room ∙ sym kept.room);
+  unnoted = kept.noted ∙ runs.unnoted;
+  entered = omega (arith, runs.entered, ap (λ (fs : List StackFrame). length fs) kept.outer);
+}
+
+-- one turn after another
+progresses_on : {H : Type 0} (engine : Engine) (s t u : Run H) (f g h : Activation) →
+    Progresses engine s f t g → Progresses engine t g u h → t.count ≤ u.count →
+    Progresses engine s f u h
+progresses_on engine s t u f g h (inl a) b le = inl (omega (arith, a.0, le), a.1)
+progresses_on engine s t u f g h (inr a) (inl b) le =
+    inl (omega (arith, a.0, b.0), omega (arith, a.0, b.1))
+progresses_on engine s t u f g h (inr a) (inr b) le =
+    inr (omega (arith, a.0, b.0), omega (arith, a.1, b.1))
+
+-- two turns are one
+pub both : {H : Type 0} (law : Law H) (p : View) (engine : Engine) (f g h : Activation)
+    (s t u : Run H) (n k l : StepsView) (host : H) → Stepped (setup law p engine)
+    (moment f s n host)
+    (Ok progress.Continues) (moment g t k host) → Stepped (setup law p engine)
+    (moment g t (begun_one k) host)
+    (Ok progress.Continues) (moment h u l host) → Stepped (setup law p engine)
+    (moment f s n host) (Ok progress.Continues) (moment h u l host)
+both law p engine f g h s t u n k l host one two = record {
+  goes = turn (abstraction t k host) refl one.goes two.goes;
+  kept = record {
+    chunk = two.kept.chunk ∙ one.kept.chunk;
+    base = two.kept.base ∙ one.kept.base;
+    scope = omega (arith, two.kept.scope, one.kept.base);
+    room = two.kept.room ∙ one.kept.room;
+    noted = two.kept.noted ∙ one.kept.noted;
+    outer = two.kept.outer ∙ one.kept.outer;
+    saved = two.kept.saved ∙ one.kept.saved;
+    level = two.kept.level ∙ one.kept.level;
+    later = omega (arith, one.kept.later, two.kept.later);
+  };
+  stays = (
+    two.stays.0,
+    progresses_on engine s t u f g h one.stays.1 two.stays.1 two.kept.later,
+    one.stays.2,
+    two.stays.3,
+  );
+  before = two.before ∙ one.before;
+}

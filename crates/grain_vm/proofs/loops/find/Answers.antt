@@ -1,0 +1,68 @@
+-- What is found is found for the instruction at which the frame stands.
+use Rattle.grain_means.specs.Means.{setup}
+use Rattle.grain_frame.specs.Abstraction.{moment}
+use Rattle.std.proofs.Common.{refl, subst}
+use Rattle.grain_program.specs.declared.code.instruction_set.Op.TheVariants as op
+use Rattle.grain_vm.specs.Attempts.{IsPending}
+use Rattle.grain_vm.specs.Finding.{FindsHere, found_of}
+use Rattle.grain_frame.specs.declared.activations.Activation.{Activation}
+use Rattle.grain_vm.specs.declared.attempts.Pending.{Pending}
+use Rattle.grain_vm.proofs.Found.{done_here, found_here, found_kept}
+use Rattle.grain_frame.specs.lemmas.Arms.{taken_back}
+use Rattle.grain_vm.proofs.loops.find.Goals as goal
+
+pub returns-in-Call : goal.returns-in-Call
+returns-in-Call g c =
+    let p = c.args.context.program.now in
+    let s = c.args.run.now in
+    let f = c.args.frame.now in
+    let at = subst (λ (q : Pending). IsPending p f s q) c.in-Call.is c.requires.pending in
+    record {
+      finds = found_here g.H.Host.law p c.args.context.engine.now f c.find_named.new.frame s
+          c.find_named.new.run c.args.steps.now c.find_named.new.steps
+          (op.Call c.in-Call.name c.in-Call.count) c.in-Call.next c.args.host.now
+          c.find_named.new.host c.find_named.result c.requires.runs at
+          (record { leads = refl; gives = refl; keeps = refl }) c.find_named.ensures.finds;
+    }
+
+pub returns-in-Pointer : goal.returns-in-Pointer
+returns-in-Pointer g c =
+    let p = c.args.context.program.now in
+    let s = c.args.run.now in
+    let f = c.args.frame.now in
+    let at = subst (λ (q : Pending). IsPending p f s q) c.in-Pointer.is c.requires.pending in
+    let did = c.find_pointed-found.ensures.finds in
+    let kept = found_kept g.H.Host.law p c.args.context.engine.now f
+    c.find_pointed-found.new.frame s c.find_pointed-found.new.run c.args.steps.now
+    c.find_pointed-found.new.steps (op.CallFnPtr c.in-Pointer.count) c.in-Pointer.next
+    c.args.host.now c.find_pointed-found.new.host c.find_pointed-found.result did in
+    let same = taken_back f c.find_pointed-found.new.frame kept.0 kept.1 in
+    record {
+      finds =
+          subst (λ (a : Activation). FindsHere (setup g.H.Host.law p c.args.context.engine.now)
+          (moment f s c.args.steps.now c.args.host.now) c.find_pointed-found.result (moment a
+          c.find_pointed-found.new.run c.find_pointed-found.new.steps
+          c.find_pointed-found.new.host)) same
+          (found_here g.H.Host.law p c.args.context.engine.now f c.find_pointed-found.new.frame s
+          c.find_pointed-found.new.run c.args.steps.now c.find_pointed-found.new.steps
+          (op.CallFnPtr c.in-Pointer.count) c.in-Pointer.next c.args.host.now
+          c.find_pointed-found.new.host c.find_pointed-found.result c.requires.runs at
+          (record { leads = refl; gives = refl; keeps = refl }) did);
+    }
+
+pub returns-in-Other : goal.returns-in-Other
+returns-in-Other g c =
+    let p = c.args.context.program.now in
+    let s = c.args.run.now in
+    let f = c.args.frame.now in
+    let did = c.step-progress.ensures.stepped in
+    let same = taken_back f c.step-progress.new.frame did.kept.chunk did.kept.base in
+    rw c.of.ensures (record {
+      finds =
+          subst (λ (a : Activation). FindsHere (setup g.H.Host.law p c.args.context.engine.now)
+          (moment f s c.args.steps.now c.args.host.now) (found_of c.step-progress.result) (moment a
+          c.step-progress.new.self c.step-progress.new.steps c.step-progress.new.host)) same
+          (done_here g.H.Host.law p c.args.context.engine.now f c.step-progress.new.frame s
+          c.step-progress.new.self c.args.steps.now c.step-progress.new.steps c.args.host.now
+          c.step-progress.new.host c.step-progress.result did);
+    })

@@ -1,0 +1,60 @@
+-- What came of an instruction that the loop tried first.
+use Rattle.std.specs.Prelude.{◌≡◌, ℕ, Bool, true, false, Ok}
+use Rattle.grain_program.specs.declared.code.instruction_set.Op.TheVariants as op
+use Rattle.grain_program.specs.View.{View}
+use Rattle.grain_means.specs.Worlds.{Setup}
+use Rattle.grain_global.specs.StepsView.{StepsView}
+use Rattle.grain_frame.specs.declared.activations.Activation.{Activation}
+use Rattle.grain_frame.specs.declared.runs.Run.{Run}
+use Rattle.grain_frame.specs.declared.runs.Progress.TheVariants as progress
+use Rattle.grain_vm.specs.declared.attempts.Attempt.{Attempt}
+use Rattle.grain_vm.specs.declared.attempts.Attempt.TheVariants as attempt
+use Rattle.grain_vm.specs.declared.attempts.Pending.{Pending}
+use Rattle.grain_vm.specs.declared.attempts.Pending.TheVariants as pending
+use Rattle.grain_frame.specs.Abstraction.{moment, Stepped, StandsAt, CallsNothing}
+
+-- where a try did what it tried, and where it did not
+abbrev pub OnTrue : Bool → Type 0 → Type 0
+OnTrue true T = T
+OnTrue false T = Unit {0}
+
+abbrev pub OnFalse : Bool → Type 0 → Type 0
+OnFalse true T = Unit {0}
+OnFalse false T = T
+
+-- a try that did nothing changed nothing
+abbrev pub Unchanged : {H : Type 0} → Activation → Run H → StepsView → Activation → Run H →
+    StepsView → Type 0
+Unchanged f s n f' s' n' = (s' ≡ s) × (f' ≡ f) × (n' ≡ n)
+
+-- the frame stands at a jump to this address
+abbrev pub StandsAtJump : {H : Type 0} → View → Activation → Run H → ℕ → Type 0
+StandsAtJump program f s target = (next : ℕ) × StandsAt program f s (op.Jump target) next
+
+-- what is known of an instruction that is still to be done
+abbrev pub IsPending : {H : Type 0} → View → Activation → Run H → Pending → Type 0
+IsPending program f s (pending.Call name count next) =
+    StandsAt program f s (op.Call name count) next
+IsPending program f s (pending.Pointer count next) =
+    StandsAt program f s (op.CallFnPtr count) next
+IsPending program f s pending.Other = CallsNothing program f
+
+-- What came of an instruction that the loop tried first: it is done, or nothing was done.
+abbrev pub Attempted : {H : Type 0} → Setup H → Activation → Run H → StepsView → Activation →
+    Run H → StepsView → Attempt → Type 0
+Attempted {H = H} m f s n f' s' n' attempt.Done =
+    (host : H) → Stepped m (moment f s n host) (Ok progress.Continues) (moment f' s' n' host)
+Attempted {H = H} m f s n f' s' n' attempt.Returned =
+    (host : H) → Stepped m (moment f s n host) (Ok progress.Returned) (moment f' s' n' host)
+Attempted m f s n f' s' n' (attempt.Jump target) =
+    Unchanged f s n f' s' n' × StandsAtJump m.program f s target
+Attempted m f s n f' s' n' (attempt.Pending p) =
+    Unchanged f s n f' s' n' × IsPending m.program f s p
+
+-- what came of it by whether it was done, and what else
+abbrev pub attempt_or : Bool → Attempt → Attempt
+attempt_or true other = attempt.Done
+attempt_or false other = other
+
+abbrev pub attempt_of : Bool → Attempt
+attempt_of b = attempt_or b (attempt.Pending pending.Other)

@@ -1,0 +1,63 @@
+-- What an instruction that may call a function does before one is called.
+use Rattle.std.specs.Prelude.{ℕ, ◌≡◌, ◌<◌, ◌+◌, ◌-◌, ◌∷◌, [], length, slice_get, false, Some, Result, Ok, Err}
+use Rattle.grain_value.specs.declared.memory.OutOfMemory.{OutOfMemory}
+use Rattle.grain_program.specs.Effects.{takes_of, gives_of, leads_of, handling_of}
+use Rattle.grain_program.specs.declared.code.effects.Handling.TheVariants as handling
+use Rattle.grain_program.specs.declared.code.functions.Function.{Function}
+use Rattle.grain_program.specs.declared.code.instruction_set.Op.{Op}
+use Rattle.grain_means.specs.Rules.{instr, enter_function}
+use Rattle.grain_means.specs.Simulation.{SimulatesExactly}
+use Rattle.grain_means.specs.Worlds.{Setup}
+use Rattle.grain_frame.specs.Abstraction.{Moment, Performs, StandsAt, Stepped, abstraction, frame_in}
+use Rattle.grain_vm.specs.declared.finding.Found.{Found}
+use Rattle.grain_vm.specs.declared.finding.Found.TheVariants as found
+use Rattle.grain_frame.specs.declared.runs.Progress.{Progress}
+
+-- The instruction calls the function of this number, which is there, on the last operands. Nothing
+-- of the call has begun: the run is as it was but for the operands, among which there are now as
+-- many arguments as the function has parameters in the place of what the instruction takes.
+pub record FindsFunction {H : Type 0} (m : Setup H) (a : Moment H) (o : Op)
+    (next number : ℕ) (b : Moment H) : Type 0 where
+  pub exists : number < length m.program.functions
+  pub goes : (g : Function) → slice_get m.program.functions number ≡ Some g →
+      SimulatesExactly m
+      (abstraction a.run a.counts a.host)
+      (λ m place w. instr m o next (frame_in a.frame a.run place) w) false
+      (abstraction b.run b.counts b.host)
+      (λ m place w. enter_function m g (length g.params) (frame_in b.frame b.run place) next w)
+  pub operands : (g : Function) → slice_get m.program.functions number ≡ Some g →
+      length b.run.stacks.operands
+      ≡ length a.run.stacks.operands - takes_of o + length g.params
+  pub frame : b.frame ≡ a.frame
+  pub others : b.run
+      ≡ record a.run { stacks = record a.run.stacks { operands = b.run.stacks.operands } }
+  pub before : b.counts.before ≡ a.counts.before
+
+-- what was done without a function, unless memory is out
+abbrev pub found_of : Result Progress OutOfMemory → Result Found OutOfMemory
+found_of (Ok p) = Ok (found.Done p)
+found_of (Err e) = Err e
+
+-- what the instruction comes to: it is done, or it calls a function
+abbrev pub Finds : {H : Type 0} → Setup H → Moment H → Op → ℕ → Result Found OutOfMemory →
+    Moment H → Type 0
+Finds m a o next (Ok (found.Done p)) b = Performs m a o next (Ok p) b
+Finds m a o next (Ok (found.Function number to)) b =
+    (to ≡ next) × FindsFunction m a o next number b
+Finds m a o next (Err e) b = Performs m a o next (Err e) b
+
+-- an instruction that may call a function: it leads to the next one, gives one value and keeps the
+-- handlers
+pub record IsCall (o : Op) (next : ℕ) : Type 0 where
+  pub leads : leads_of o next ≡ next ∷ []
+  pub gives : gives_of o ≡ 1
+  pub keeps : handling_of o ≡ handling.Keep
+
+-- the same of the instruction at which the frame stands
+abbrev pub FindsHere : {H : Type 0} → Setup H → Moment H → Result Found OutOfMemory → Moment H →
+    Type 0
+FindsHere m a (Ok (found.Done p)) b = Stepped m a (Ok p) b
+FindsHere m a (Ok (found.Function number next)) b =
+    (o : Op) × StandsAt m.program a.frame a.run o next × IsCall o next
+    × FindsFunction m a o next number b
+FindsHere m a (Err e) b = Stepped m a (Err e) b

@@ -1,0 +1,111 @@
+//! The instructions that the loop tries first, and what came of them.
+
+ghost use Rattle.std.specs.Prelude.{◌≡◌};
+ghost use Rattle.grain_frame.specs.Abstraction.{Runs, setup_of};
+ghost use Rattle.grain_vm.specs.Attempts.{Attempted, attempt_of, attempt_or};
+
+use crate::quick::{quick_assign, quick_const, quick_jump, quick_jump_if, quick_local, quick_op};
+use grain_frame::{Activation, Context, Run};
+use grain_global::Steps;
+use grain_host::Host;
+use grain_program::Op;
+use std::sync::ledger::Ledger;
+
+/// What came of an instruction that the loop tried first.
+#[derive(Clone, Copy, Debug, PartialEq, Eq)]
+pub enum Attempt {
+    /// It is done, and the frame goes on.
+    Done,
+    /// It is done, and the frame is over, with a value.
+    Returned,
+    /// Nothing was done. It is a jump to this address, which costs an operation.
+    Jump(u32),
+    /// Nothing was done.
+    Pending(Pending),
+}
+
+/// An instruction that is still to be done.
+#[derive(Clone, Copy, Debug, PartialEq, Eq)]
+pub enum Pending {
+    /// A call of the function with the name of this index and this number of arguments, after which
+    /// the frame goes on at this address.
+    Call(u16, u8, usize),
+    /// A call of the pointer under this number of operands, after which the frame goes on at this
+    /// address.
+    Pointer(u8, usize),
+    /// One that calls nothing.
+    Other,
+}
+
+impl Attempt {
+    // Whether an instruction was done.
+    #[inline(always)]
+    fn of(done: bool) -> Attempt
+        ensures { result ≡ attempt_of done }
+    {
+        Attempt::or(done, Attempt::Pending(Pending::Other))
+    }
+
+    // That an instruction was done, or what else came of it.
+    #[inline(always)]
+    fn or(done: bool, other: Attempt) -> Attempt
+        ensures { result ≡ attempt_or done other }
+    {
+        if done { Attempt::Done } else { other }
+    }
+}
+
+// The instruction at which the frame stands, if it is one that is soon done, and the branch
+// after a comparison. Else all is as it was.
+#[inline(always)]
+pub(crate) fn quick<H: Host, L: Ledger>(
+    run: &mut Run<H>,
+    context: Context<'_>,
+    steps: &mut Steps<L>,
+    frame: &mut Activation,
+) -> Attempt
+    requires runs { Runs context.program.now frame.old run.old }
+    ensures { Attempted (setup_of H.law context.entry) frame.old run.old steps.old frame.new run.new
+        steps.new result }
+{
+    let address = frame.address;
+    let depth = run.stacks.height();
+    match context.program.fetch(frame.chunk, address, depth) {
+        (Op::LoadConst(constant), width) => {
+            Attempt::of(quick_const(run, context, steps, frame, constant, address + width))
+        }
+        (Op::LoadLocal(slot), width) => {
+            Attempt::of(quick_local(run, context, steps, frame, slot, address + width))
+        }
+        (Op::AssignLocalOp(slot, name, op), width) => {
+            let next = address + width;
+            Attempt::of(quick_assign(run, context, steps, frame, slot, name, op, next))
+        }
+        (Op::Jump(target), width) => {
+            let done = quick_jump(run, context, steps, frame, target, address + width);
+            Attempt::or(done, Attempt::Jump(target))
+        }
+        (Op::JumpIfFalse(target), width) => {
+            let next = address + width;
+            Attempt::of(quick_jump_if(run, context, steps, frame, false, target, next))
+        }
+        (Op::JumpIfTrue(target), width) => {
+            let next = address + width;
+            Attempt::of(quick_jump_if(run, context, steps, frame, true, target, next))
+        }
+        (Op::CallOp(name, count, token), width) => {
+            Attempt::of(quick_op(run, context, steps, frame, name, count, token, width))
+        }
+        (Op::Call(name, count), width) => {
+            Attempt::Pending(Pending::Call(name, count, address + width))
+        }
+        (Op::CallFnPtr(count), width) => {
+            Attempt::Pending(Pending::Pointer(count, address + width))
+        }
+        (Op::Return, width) => {
+            run.return_value(steps, frame, address + width);
+            Attempt::Returned
+        }
+        (_, _) => Attempt::Pending(Pending::Other),
+    }
+}

@@ -1,0 +1,282 @@
+//! Instructions that are soon done, tried before all others: they take no memory, raise nothing and
+//! call nothing, so that the loop over them holds what it needs. Each says whether it did its
+//! instruction; where it did not, it changed nothing, and the instruction's own method does it.
+
+ghost use Rattle.std.specs.Prelude.{◌≡◌, ◌<◌, ◌≤◌, ◌+◌, ◌-◌, ◌∷◌, [], length, Ok, Some, cond, nat_lt};
+ghost use Rattle.grain_program.specs.Indices.{InPools};
+ghost use Rattle.grain_program.specs.TypedAt.{IsTypedAt};
+ghost use Rattle.grain_value.specs.Operands.{arguments};
+ghost use Rattle.grain_ops.specs.Agreement.{Agrees, IsGiven};
+ghost use Rattle.grain_means.specs.Rules.{jump_if, operated, flat_all};
+ghost use Rattle.grain_frame.specs.Abstraction.{frame_in, tries_in, Implements, Performs, Ready, Runs, setup_of, moment};
+ghost use Rattle.grain_vm.specs.Attempts.{Unchanged, OnTrue, OnFalse};
+ghost use Rattle.grain_vm.specs.Following.{PerformsOn};
+ghost use Rattle.grain_program.specs.declared.code.instruction_set.Op.TheVariants as op;
+
+use crate::branches::quick_branch;
+use crate::loaded::quick_loaded;
+use grain_frame::{Activation, Context, Progress, Run, agrees, quick_assigned};
+use grain_global::Steps;
+use grain_host::Host;
+use grain_ops::{Quick, quick_operated};
+use grain_value::Dynamic;
+use std::sync::ledger::Ledger;
+
+// `load_const` of an integer, and perhaps the instruction after it.
+#[inline(always)]
+pub(crate) fn quick_const<H: Host, L: Ledger>(
+    run: &mut Run<H>,
+    context: Context<'_>,
+    steps: &mut Steps<L>,
+    frame: &mut Activation,
+    constant: u16,
+    next: usize,
+) -> bool
+    requires ready { Ready frame.old run.old (op.LoadConst constant) next }
+    requires pools { InPools context.program.now (op.LoadConst constant) }
+    requires runs { Runs context.program.now frame.old run.old }
+    requires typed { IsTypedAt context.program.now frame.old.chunk next
+        (length run.old.stacks.operands + 1) (tries_in run.old.stacks.handlers) }
+    ensures performs { OnTrue result ((host : H) →
+        PerformsOn (setup_of H.law context.entry) (moment frame.old run.old steps.old host)
+        (op.LoadConst constant) next (moment frame.new run.new steps.new host)) }
+    ensures undone { OnFalse result
+        (Unchanged frame.old run.old steps.old frame.new run.new steps.new) }
+{
+    match context.program.constant(u32::from(constant)) {
+        Dynamic::Int(integer) => {
+            let integer = *integer;
+            if quick_loaded(run, context, steps, frame, integer, next) {
+                return true;
+            }
+            if !run.stacks.push_int(integer) {
+                return false;
+            }
+            frame.address = next;
+            steps.mark();
+            true
+        }
+        _ => false,
+    }
+}
+
+// `load_local` of an integer, and perhaps the instruction after it.
+#[inline(always)]
+pub(crate) fn quick_local<H: Host, L: Ledger>(
+    run: &mut Run<H>,
+    context: Context<'_>,
+    steps: &mut Steps<L>,
+    frame: &mut Activation,
+    slot: u16,
+    next: usize,
+) -> bool
+    requires ready { Ready frame.old run.old (op.LoadLocal slot) next }
+    requires runs { Runs context.program.now frame.old run.old }
+    requires typed { IsTypedAt context.program.now frame.old.chunk next
+        (length run.old.stacks.operands + 1) (tries_in run.old.stacks.handlers) }
+    ensures performs { OnTrue result ((host : H) →
+        PerformsOn (setup_of H.law context.entry) (moment frame.old run.old steps.old host)
+        (op.LoadLocal slot) next (moment frame.new run.new steps.new host)) }
+    ensures undone { OnFalse result
+        (Unchanged frame.old run.old steps.old frame.new run.new steps.new) }
+{
+    let index = run.slot_index(frame, slot);
+    match run.scope.get(index) {
+        Some(held) => match &held.value {
+            Dynamic::Int(integer) => {
+                let integer = *integer;
+                if quick_loaded(run, context, steps, frame, integer, next) {
+                    return true;
+                }
+                if !run.stacks.push_int(integer) {
+                    return false;
+                }
+                frame.address = next;
+                steps.mark();
+                true
+            }
+            _ => false,
+        },
+        None => false,
+    }
+}
+
+// `assign_local_op` of two integers.
+#[inline(always)]
+#[tactic(auto, using(grain_means::specs::lemmas::Scopes::length_set_held))]
+pub(crate) fn quick_assign<H: Host, L: Ledger>(
+    run: &mut Run<H>,
+    context: Context<'_>,
+    steps: &mut Steps<L>,
+    frame: &mut Activation,
+    slot: u16,
+    name: u16,
+    assign_op: u16,
+    next: usize,
+) -> bool
+    requires ready { Ready frame.old run.old (op.AssignLocalOp slot name assign_op) next }
+    requires pools { InPools context.program.now (op.AssignLocalOp slot name assign_op) }
+    ensures performs { OnTrue result ((host : H) →
+        Performs (setup_of H.law context.entry) (moment frame.old run.old steps.old host)
+        (op.AssignLocalOp slot name assign_op) next (Ok Progress.Continues)
+        (moment frame.new run.new steps.new host)) }
+    ensures undone { OnFalse result
+        (Unchanged frame.old run.old steps.old frame.new run.new steps.new) }
+{
+    let _name = name;
+    let index = run.slot_index(frame, slot);
+    let token = context.program.assign_op(u32::from(assign_op)).op_assign;
+    let Some(held) = run.scope.get(index) else {
+        return false;
+    };
+    if held.read_only {
+        return false;
+    }
+    match quick_assigned(context.engine, token, &held.value, &run.stacks.top().value) {
+        Some(z) => {
+            run.scope.set_int(index, z);
+            run.stacks.drop_top();
+            steps.mark();
+            frame.address = next;
+            steps.mark();
+            true
+        }
+        None => false,
+    }
+}
+
+// `call_op` of two integers, and, where it gives a truth value, the branch after it.
+#[inline(always)]
+pub(crate) fn quick_op<H: Host, L: Ledger>(
+    run: &mut Run<H>,
+    context: Context<'_>,
+    steps: &mut Steps<L>,
+    frame: &mut Activation,
+    name: u16,
+    count: u8,
+    token: u16,
+    width: usize,
+) -> bool
+    requires ready { Ready frame.old run.old (op.CallOp name count token)
+        (frame.old.address + width) }
+    requires pools { InPools context.program.now (op.CallOp name count token) }
+    requires fits { frame.old.address + width ≤ 16777216 }
+    requires runs { Runs context.program.now frame.old run.old }
+    requires typed { IsTypedAt context.program.now frame.old.chunk (frame.old.address + width)
+        (length run.old.stacks.operands - count + 1) (tries_in run.old.stacks.handlers) }
+    ensures performs { OnTrue result ((host : H) →
+        PerformsOn (setup_of H.law context.entry) (moment frame.old run.old steps.old host)
+        (op.CallOp name count token) (frame.old.address + width)
+        (moment frame.new run.new steps.new host)) }
+    ensures undone { OnFalse result
+        (Unchanged frame.old run.old steps.old frame.new run.new steps.new) }
+{
+    let _name = name;
+    match quick_operation(run, context, token, count) {
+        Quick::Int(z) => {
+            run.stacks.answer_int(z);
+            frame.address += width;
+            steps.mark();
+            true
+        }
+        Quick::Bool(truth) => {
+            frame.address += width;
+            steps.mark();
+            if quick_branch(run, context, steps, frame, truth) {
+                return true;
+            }
+            run.stacks.answer_bool(truth);
+            true
+        }
+        Quick::None => false,
+    }
+}
+
+// What an operator makes of the last `count` operands, if operators are fast and these are two
+// integers, and if that is soon seen.
+#[inline(always)]
+fn quick_operation<H: Host>(run: &Run<H>, context: Context<'_>, token: u16, count: u8) -> Quick
+    requires operands { count ≤ length run.now.stacks.operands }
+    requires pool { token < length context.program.now.tokens }
+    ensures agrees { Agrees result (operated context.entry.program.now context.entry.engine.now
+        token (arguments count run.now.stacks.operands)) }
+    ensures readable { IsGiven result → flat_all run.now.cells
+        (arguments count run.now.stacks.operands)
+        ≡ Some (arguments count run.now.stacks.operands) }
+    ensures two { IsGiven result → count ≡ 2 }
+{
+    if count != 2 || !context.engine.fast_operators {
+        return Quick::None;
+    }
+    let token = context.program.token(u32::from(token));
+    quick_operated(token, &run.stacks.peek(1).value, &run.stacks.top().value)
+}
+
+// `jump` to what lies ahead, which costs nothing.
+#[inline(always)]
+pub(crate) fn quick_jump<H: Host, L: Ledger>(
+    run: &mut Run<H>,
+    context: Context<'_>,
+    steps: &mut Steps<L>,
+    frame: &mut Activation,
+    target: u32,
+    next: usize,
+) -> bool
+    requires ready { Ready frame.old run.old (op.Jump target) next }
+    ensures performs { OnTrue result ((host : H) →
+        Performs (setup_of H.law context.entry) (moment frame.old run.old steps.old host)
+        (op.Jump target) next (Ok Progress.Continues) (moment frame.new run.new steps.new host)) }
+    ensures undone { OnFalse result
+        (Unchanged frame.old run.old steps.old frame.new run.new steps.new) }
+{
+    let _next = next;
+    let target = target as usize;
+    if target > frame.address {
+        frame.address = target;
+        steps.mark();
+        true
+    } else {
+        false
+    }
+}
+
+// `jump_if_false` and `jump_if_true` at a truth value, where a jump costs nothing.
+#[inline(always)]
+pub(crate) fn quick_jump_if<H: Host, L: Ledger>(
+    run: &mut Run<H>,
+    context: Context<'_>,
+    steps: &mut Steps<L>,
+    frame: &mut Activation,
+    wanted: bool,
+    target: u32,
+    next: usize,
+) -> bool
+    requires ready { Ready frame.old run.old (op.JumpIfFalse target) next }
+    ensures implements { OnTrue result ((host : H) →
+        Implements (setup_of H.law context.entry) (moment frame.old run.old steps.old host)
+        (λ m place w. jump_if m wanted target next (frame_in frame.old run.old place) w)
+        (cond (nat_lt target next) (target ∷ next ∷ []) (next ∷ target ∷ [])) 1 0
+        run.old.stacks.handlers (Ok Progress.Continues) (moment frame.new run.new steps.new host)) }
+    ensures undone { OnFalse result
+        (Unchanged frame.old run.old steps.old frame.new run.new steps.new) }
+{
+    let target = target as usize;
+    match run.stacks.top().value {
+        Dynamic::Bool(truth) => {
+            if !agrees(wanted, truth) {
+                run.stacks.drop_top();
+                frame.address = next;
+                steps.mark();
+                true
+            } else if target > frame.address {
+                run.stacks.drop_top();
+                frame.address = target;
+                steps.mark();
+                true
+            } else {
+                false
+            }
+        }
+        _ => false,
+    }
+}
