@@ -65,7 +65,7 @@ try_in h = record { target = h.target; variable = h.variable; height = h.operand
 abbrev pub tries_in : List Handler → List TryHandler
 tries_in hs = map try_in hs
 
--- where each of the handlers was pushed, there were as many entries of the scope as this, or more
+-- each of the handlers keeps at least this many entries of the scope
 abbrev pub Above : ℕ → List Handler → Type 0
 Above base hs = AllByRecursion (λ h. base ≤ h.scope) hs
 

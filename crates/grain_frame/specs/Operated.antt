@@ -25,7 +25,8 @@ AssignedEntry assigned.Done o before after i h =
     (after ≡ set_held before i (record { value = v; read_only = h.read_only }))
 AssignedEntry (assigned.Failed x) o before after i h = FailsSo x o × (after ≡ before)
 
--- the outcome is a fault, which is this one at a position
+-- the outcome is a fault, which is this one at a position; of any other outcome `fault_at` says
+-- nothing
 abbrev pub IsFault : Outcome → Type 0
 IsFault (ArithmeticFault text) = Unit {0}
 IsFault (TooLarge what) = Unit {0}

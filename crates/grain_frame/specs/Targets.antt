@@ -18,20 +18,22 @@ use Rattle.grain_frame.specs.declared.runs.Run.{Run}
 use Rattle.grain_frame.specs.declared.assignments.Assignment.{Assignment}
 use Rattle.grain_frame.specs.declared.targets.Target.{Target}
 
--- the entry is there, and the cell, which is not lent
+-- the cell, if there is one, is not lent
 abbrev pub FreeCell : {H : Type 0} → Run H → Option ℕ → Type 0
 FreeCell s None = Unit {0}
 FreeCell s (Some n) = option_map is_busy (slice_get s.cells n) ≡ Some false
 
+-- the entry is there, and its cell is not lent
 pub record CanBeLent {H : Type 0} (s : Run H) (t : Target) : Type 0 where
   pub entry : t.index < length s.scope
   pub free : FreeCell s t.cell
 
--- the entry is there, and the cell, which is lent
+-- the cell, if there is one, is lent
 abbrev pub LentCell : {H : Type 0} → Run H → Option ℕ → Type 0
 LentCell s None = Unit {0}
 LentCell s (Some n) = option_map is_busy (slice_get s.cells n) ≡ Some true
 
+-- the entry is there, and its cell is lent
 pub record IsLentAt {H : Type 0} (s : Run H) (t : Target) : Type 0 where
   pub entry : t.index < length s.scope
   pub lent : LentCell s t.cell

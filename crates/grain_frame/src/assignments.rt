@@ -184,8 +184,9 @@ impl<H: Host> Run<H> {
             (kept_operand assignment.now.kept self.old.stacks.operands).value)
             assignment.now.operator h (content_at self.old assignment.now.target)
             (kept_operand assignment.now.kept self.old.stacks.operands) slot assignment.now.variable
-            assignment.now.next (frame_in frame.old self.old place) w) (assignment.now.next ∷ []) 1
-            0 self.old.stacks.handlers result (moment frame.new self.new steps.new host.new) }
+            assignment.now.next (frame_in frame.old self.old place) w)
+            (assignment.now.next ∷ []) 1 0 self.old.stacks.handlers result
+            (moment frame.new self.new steps.new host.new) }
     {
         let token = assignment.operator.op_assign;
         match self.assign_target(context, token, assignment.target, &assignment.kept) {

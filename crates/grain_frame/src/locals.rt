@@ -159,8 +159,8 @@ impl<H: Host> Run<H> {
         }
     }
 
-    // `store_local`, `store_const` and `store_shared`: the last operand into the entry, or into its
-    // cell, which can be written afterwards or can only be read.
+    // `store_local`, `store_const` and `store_shared`, whose rows take and give the same: the last
+    // operand into the entry, or into its cell, which can be written afterwards or can only be read.
     #[tactic(auto, using(grain_means::specs::lemmas::Scopes::length_set_held))]
     pub(crate) fn store<L: Ledger>(
         &mut self,
@@ -364,6 +364,7 @@ impl<H: Host> Run<H> {
         requires { frame.now.base ≤ length self.now.scope }
         ensures { result ≡ frame.now.base + slot }
     {
+        // The scope is no longer than a `usize` says, so that the sum fits.
         let _length = self.scope.len();
         frame.base + usize::from(slot)
     }

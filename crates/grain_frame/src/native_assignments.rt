@@ -168,8 +168,9 @@ impl<H: Host> Run<H> {
             (λ m place w. native_assigned m assignment.now.operator h
             (content_at self.old assignment.now.target)
             (kept_operand assignment.now.kept self.old.stacks.operands) slot assignment.now.variable
-            assignment.now.next (frame_in frame.old self.old place) w) (assignment.now.next ∷ []) 1
-            0 self.old.stacks.handlers result (moment frame.new self.new steps.new host.new) }
+            assignment.now.next (frame_in frame.old self.old place) w)
+            (assignment.now.next ∷ []) 1 0 self.old.stacks.handlers result
+            (moment frame.new self.new steps.new host.new) }
     {
         let name = context.program.name(assignment.operator.op_assign_name);
         let position = context.program.position(frame.address);
@@ -202,8 +203,8 @@ impl<H: Host> Run<H> {
         fault: EvalAltResult,
     ) -> Result<Progress, OutOfMemory>
         requires can { CanAssign context.program.now frame.old self.old assignment.now }
-        ensures implements { (h : Held) (slot : ℕ) → Assigns frame.old assignment.now.target slot h
-            →
+        ensures implements { (h : Held) (slot : ℕ) →
+            Assigns frame.old assignment.now.target slot h →
             Implements (setup_of H.law context.entry) (moment frame.old self.old steps.old host.old)
             (λ m place w. op_assign_failed m assignment.now.operator h
             (kept_operand assignment.now.kept self.old.stacks.operands) slot assignment.now.variable
@@ -230,14 +231,15 @@ impl<H: Host> Run<H> {
         assignment: &Assignment,
     ) -> Result<Progress, OutOfMemory>
         requires can { CanAssign context.program.now frame.old self.old assignment.now }
-        ensures implements { (h : Held) (slot : ℕ) → Assigns frame.old assignment.now.target slot h
-            →
+        ensures implements { (h : Held) (slot : ℕ) →
+            Assigns frame.old assignment.now.target slot h →
             Implements (setup_of H.law context.entry) (moment frame.old self.old steps.old host.old)
             (λ m place w. operator_assigned m (name_of m.program assignment.now.operator.op_name) h
             (read_write (content_at self.old assignment.now.target))
             (kept_operand assignment.now.kept self.old.stacks.operands) slot assignment.now.variable
-            assignment.now.next (frame_in frame.old self.old place) w) (assignment.now.next ∷ []) 1
-            0 self.old.stacks.handlers result (moment frame.new self.new steps.new host.new) }
+            assignment.now.next (frame_in frame.old self.old place) w)
+            (assignment.now.next ∷ []) 1 0 self.old.stacks.handlers result
+            (moment frame.new self.new steps.new host.new) }
     {
         let mut arguments = Arguments::new(self.alloc);
         arguments.push(self.alloc, self.content(assignment.target), false)?;

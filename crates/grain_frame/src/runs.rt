@@ -16,8 +16,8 @@ use std::sync::ledger::Ledger;
 
 /// What a run has, but for its frame: where it takes memory from, the stacks, the scope of the
 /// running frame and those of the frames that wait for it, the cells, the operations and the level,
-/// and the fault that was raised in a frame, until it is taken up. The host, of type `H`, is lent to those
-/// functions alone that reach it.
+/// and the fault that was raised in a frame, until it is taken up. The host, of type `H`, is lent to
+/// those functions alone that reach it.
 #[derive(Drop)]
 pub struct Run<H> {
     pub alloc: Global,
@@ -60,7 +60,7 @@ impl<H: Host> Run<H> {
         }
     }
 
-    /// A fault is raised in the frame.
+    /// Puts a fault into the run, without a mark.
     #[cold]
     pub fn depart(&mut self, fault: EvalAltResult) -> Progress
         ensures progress { result ≡ Progress.Failed }
@@ -70,7 +70,7 @@ impl<H: Host> Run<H> {
         Progress::Failed
     }
 
-    /// A fault is raised in the frame, behind a mark.
+    /// Raises a fault in the frame: a mark is passed, and the fault lies in the run.
     #[cold]
     pub fn raise<L: Ledger>(&mut self, steps: &mut Steps<L>, fault: EvalAltResult) -> Progress
         ensures progress { result ≡ Progress.Failed }
@@ -81,7 +81,7 @@ impl<H: Host> Run<H> {
         self.depart(fault)
     }
 
-    /// The fault that left a frame.
+    /// Takes the fault that lies in the run. `Memory` is left in its place.
     pub fn take_fault(&mut self) -> EvalAltResult
         ensures value { result ≡ self.old.fault }
         ensures after { self.new ≡ record self.old { fault = fault.Memory } }

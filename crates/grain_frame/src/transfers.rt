@@ -167,6 +167,7 @@ impl<H: Host> Run<H> {
             Performs (setup_of H.law context.entry) (moment frame.old self.old steps.old host)
             op.Throw next result (moment frame.new self.new steps.new host) }
     {
+        // Only the contract names it.
         let _next = next;
         if !self.is_readable() {
             return self.data_race(context, steps, frame.address, "");
@@ -190,6 +191,7 @@ impl<H: Host> Run<H> {
             Performs (setup H.law program engine) (moment frame.now self.old steps.old host)
             op.Return next (Ok result) (moment frame.now self.new steps.new host) }
     {
+        // Only the contract names it.
         let _next = next;
         steps.mark();
         Progress::Returned

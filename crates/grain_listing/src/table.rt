@@ -65,7 +65,7 @@ fn op_named(word: &[char]) -> Option<Op>
 {
     'tags: for tag in 0..=u8::MAX {
         if let Some(op) = Op::of_tag(tag) {
-            if is_word(word, op.descriptor().word) {
+            if is_word(word, op.word()) {
                 return Some(op);
             }
         }

@@ -47,7 +47,7 @@ pub record World (S : Type 0) : Type 0 where
   pub scope : List Entry
   pub cells : List Cell
   pub host : S
-  -- operations and compiled calls so far
+  -- operations so far
   pub count : ℕ
   pub level : ℕ
   pub trace : List Fault

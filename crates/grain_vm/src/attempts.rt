@@ -55,8 +55,8 @@ impl Attempt {
     }
 }
 
-// The instruction at which the frame stands, if it is one that is soon done, and the branch
-// after a comparison. Else all is as it was.
+// Does the instruction at which the frame stands, and perhaps those after it, if it is a common one
+// that takes no memory. Else all is as it was, and it says what is pending.
 #[inline(always)]
 pub(crate) fn quick<H: Host, L: Ledger>(
     run: &mut Run<H>,

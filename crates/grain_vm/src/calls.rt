@@ -164,8 +164,8 @@ fn bind<H: Host>(
     )
 }
 
-// A fault that left the body of a function leaves its caller's frame too: a system exception at
-// the position of the call, and any other with the function that it left.
+// A fault that left the body of a function is raised in its caller's frame: a system exception at the
+// position of the call, and any other with the function that it left.
 #[cold]
 #[inline(never)]
 fn propagate<H: Host, L: Ledger>(

@@ -15,4 +15,5 @@ mod quick;
 mod vms;
 
 pub use grain_global::{Engine, GlobalRuntimeState, Steps};
+pub use machines::Machine;
 pub use vms::Vm;

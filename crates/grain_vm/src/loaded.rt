@@ -81,6 +81,7 @@ fn assign_loaded<H: Host, L: Ledger>(
     ensures undone { OnFalse result
         (Unchanged frame.old run.old steps.old frame.new run.new steps.new) }
 {
+    // Only the contract names it.
     let _name = name;
     let _at = at;
     let index = run.slot_index(frame, slot);
@@ -134,6 +135,7 @@ fn op_loaded<H: Host, L: Ledger>(
     ensures undone { OnFalse result
         (Unchanged frame.old run.old steps.old frame.new run.new steps.new) }
 {
+    // Only the contract names it.
     let _name = name;
     match operation_loaded(run, context, token, count, integer) {
         Quick::Int(z) => {
@@ -248,6 +250,7 @@ fn branch_loaded_begins<H: Host, L: Ledger>(run: &mut Run<H>, steps: &mut Steps<
     ensures run { run.new ≡ without_two (loaded run.old integer) }
     ensures counted { steps.new ≡ begun_one steps.old }
 {
+    // Only the contract names it.
     let _integer = integer;
     run.stacks.drop_top();
     steps.tick();

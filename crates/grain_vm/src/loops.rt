@@ -73,7 +73,8 @@ fn jump<H: Host, L: Ledger>(
     run.jump_to(context, host, steps, frame, target as usize)
 }
 
-// What the instruction at which the frame stands comes to, which is a call or was not soon done.
+// Does the instruction at which the frame stands, which `quick` left, unless it calls a function; then
+// it says which one.
 // The frame is copied for one that was not, so that the loop can hold its own in registers. Of the
 // copy only what an instruction can change is taken back, so that the rest need not be held in
 // them.
@@ -114,7 +115,7 @@ fn find<H: Host, L: Ledger>(
 }
 
 // A function on the last operands, in a frame of its own, after which the frame goes on at an
-// address. It is called in one place, so that the loop around it is built once.
+// address. It is called in one place, so that the loop around it is compiled once.
 #[cycle(run)]
 #[inline(always)]
 fn call<H: Host, L: Ledger>(
@@ -157,7 +158,7 @@ fn call<H: Host, L: Ledger>(
     }
 }
 
-// The instruction at which the frame stands, which is a call or was not soon done.
+// The instruction at which the frame stands, which `quick` left.
 #[cycle(run)]
 #[inline(always)]
 fn proceed<H: Host, L: Ledger>(

@@ -1,5 +1,5 @@
-//! Instructions that are soon done, tried before all others: they take no memory, raise nothing and
-//! call nothing, so that the loop over them holds what it needs. Each says whether it did its
+//! Common instructions, tried before all others: these forms take no memory, raise nothing and call
+//! nothing, so that the loop over them holds what it needs in registers. Each says whether it did its
 //! instruction; where it did not, it changed nothing, and the instruction's own method does it.
 
 ghost use Rattle.std.specs.Prelude.{◌≡◌, ◌<◌, ◌≤◌, ◌+◌, ◌-◌, ◌∷◌, [], length, Ok, Some, cond, nat_lt};
@@ -123,6 +123,7 @@ pub(crate) fn quick_assign<H: Host, L: Ledger>(
     ensures undone { OnFalse result
         (Unchanged frame.old run.old steps.old frame.new run.new steps.new) }
 {
+    // Only the contract names it.
     let _name = name;
     let index = run.slot_index(frame, slot);
     let token = context.program.assign_op(u32::from(assign_op)).op_assign;
@@ -171,6 +172,7 @@ pub(crate) fn quick_op<H: Host, L: Ledger>(
     ensures undone { OnFalse result
         (Unchanged frame.old run.old steps.old frame.new run.new steps.new) }
 {
+    // Only the contract names it.
     let _name = name;
     match quick_operation(run, context, token, count) {
         Quick::Int(z) => {
@@ -229,6 +231,7 @@ pub(crate) fn quick_jump<H: Host, L: Ledger>(
     ensures undone { OnFalse result
         (Unchanged frame.old run.old steps.old frame.new run.new steps.new) }
 {
+    // Only the contract names it.
     let _next = next;
     let target = target as usize;
     if target > frame.address {

@@ -1,5 +1,4 @@
--- An op-assignment that wants memory is the run stopped at its first mark, whatever the operator
--- would have given.
+-- Faults that are raised, and stretches that stop at their first mark because memory is wanted.
 use Rattle.std.proofs.Common.{◌≡◌, ◌+◌, ◌≤◌, ℕ, List, [], ◌∷◌, Option, Some, None, Result, Ok, Err, Bool, true, false, if◌then◌else◌, ◌&&◌, length, refl, ap, arith}
 use Rattle.std.specs.Prelude.{slice_get, slice_set}
 use Rattle.grain_value.specs.Cells.{content, flat, idle}

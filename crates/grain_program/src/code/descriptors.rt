@@ -8,12 +8,10 @@ use crate::code::effects::{Effect, Flow, Handling};
 use crate::code::fields::Fields;
 use bitflags::Flags;
 
-/// What an instruction is: the word of its line in a listing, its bytes, what it does to the operands
-/// on the stack and to the handlers, where it goes, and what it needs.
+/// What an instruction is: its bytes, what it does to the operands on the stack and to the handlers,
+/// where it goes, and what it needs.
 #[derive(Drop)]
 pub struct Descriptor {
-    /// The word that begins its line in a listing.
-    pub word: &'static str,
     /// Its first byte.
     pub tag: u8,
     /// What its other bytes say.
@@ -27,15 +25,7 @@ pub struct Descriptor {
 
 /// An instruction that needs no capability.
 #[inline(always)]
-pub(crate) fn plain(
-    word: &'static str,
-    tag: u8,
-    fields: Fields,
-    takes: u32,
-    gives: u32,
-    flow: Flow,
-) -> Descriptor
-    ensures word { result.word.now ≡ word.now }
+pub(crate) fn plain(tag: u8, fields: Fields, takes: u32, gives: u32, flow: Flow) -> Descriptor
     ensures tag { result.tag ≡ tag }
     ensures fields { result.fields ≡ fields }
     ensures effect { result.effect ≡ record {
@@ -53,7 +43,6 @@ pub(crate) fn plain(
         handling: Handling::Keep,
     };
     Descriptor {
-        word,
         tag,
         fields,
         effect,
@@ -64,7 +53,6 @@ pub(crate) fn plain(
 /// An instruction that needs this capability, and is else as in this row.
 #[inline(always)]
 pub(crate) fn needing(capability: Caps, row: Descriptor) -> Descriptor
-    ensures word { result.word.now ≡ row.word.now }
     ensures tag { result.tag ≡ row.tag }
     ensures fields { result.fields ≡ row.fields }
     ensures effect { result.effect ≡ row.effect }
@@ -75,14 +63,7 @@ pub(crate) fn needing(capability: Caps, row: Descriptor) -> Descriptor
 
 /// An instruction on handlers, which needs no capability, and takes and gives no operand.
 #[inline(always)]
-pub(crate) fn on_handlers(
-    word: &'static str,
-    tag: u8,
-    fields: Fields,
-    flow: Flow,
-    handling: Handling,
-) -> Descriptor
-    ensures word { result.word.now ≡ word.now }
+pub(crate) fn on_handlers(tag: u8, fields: Fields, flow: Flow, handling: Handling) -> Descriptor
     ensures tag { result.tag ≡ tag }
     ensures fields { result.fields ≡ fields }
     ensures effect { result.effect ≡ record {
@@ -100,7 +81,6 @@ pub(crate) fn on_handlers(
         handling,
     };
     Descriptor {
-        word,
         tag,
         fields,
         effect,

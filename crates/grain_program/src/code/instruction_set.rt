@@ -256,10 +256,53 @@ pub(crate) fn tagged(tag: u8, rest: &[u8], op: &mut Op) -> usize
 }
 
 impl Op {
+    /// The word that begins its line in a listing.
+    #[inline]
+    pub fn word(self) -> &'static str
+        ensures { result.now ≡ word_of self }
+    {
+        match self {
+            Op::LoadConst(_) => "load_const",
+            Op::Unit => "unit",
+            Op::False => "false",
+            Op::True => "true",
+            Op::LoadLocal(_) => "load_local",
+            Op::StoreLocal(_) => "store_local",
+            Op::StoreConst(_) => "store_const",
+            Op::StoreShared(_) => "store_shared",
+            Op::DeclareLocal(_) => "declare_local",
+            Op::DeclareConst(_) => "declare_const",
+            Op::AssignLocal(_, _) => "assign_local",
+            Op::AssignLocalOp(_, _, _) => "assign_local_op",
+            Op::LoadShared(_) => "load_shared",
+            Op::Share(_) => "share",
+            Op::IsShared => "is_shared",
+            Op::Pop => "pop",
+            Op::Rotate(_) => "rotate",
+            Op::Jump(_) => "jump",
+            Op::JumpIfFalse(_) => "jump_if_false",
+            Op::JumpIfTrue(_) => "jump_if_true",
+            Op::SkipIfNotUnit(_) => "skip_if_not_unit",
+            Op::Call(_, _) => "call",
+            Op::CallOp(_, _, _) => "call_op",
+            Op::MakeClosure(_) => "make_closure",
+            Op::Curry(_) => "curry",
+            Op::CallFnPtr(_) => "call_fn_ptr",
+            Op::UnwindTo(_) => "unwind_to",
+            Op::Tick => "tick",
+            Op::Checkpoint => "checkpoint",
+            Op::Statement(_) => "statement",
+            Op::PushHandler(_) => "push_handler",
+            Op::PushHandlerVar(_, _) => "push_handler_var",
+            Op::PopHandler => "pop_handler",
+            Op::Throw => "throw",
+            Op::Return => "return",
+        }
+    }
+
     /// The row of the instruction.
     #[inline(always)]
     pub fn descriptor(self) -> Descriptor
-        ensures word { result.word.now ≡ word_of self }
         ensures tag { result.tag ≡ tag_of self }
         ensures fields { result.fields ≡ fields_of self }
         ensures effect { result.effect ≡ effect_of self }
@@ -269,132 +312,132 @@ impl Op {
         match self {
             Op::LoadConst(constant) => {
                 let fields = Fields::one(Field::Constant(constant));
-                plain("load_const", 0x01, fields, 0, 1, Flow::Next)
+                plain(0x01, fields, 0, 1, Flow::Next)
             }
-            Op::Unit => plain("unit", 0x02, Fields::none(), 0, 1, Flow::Next),
-            Op::False => plain("false", 0x03, Fields::none(), 0, 1, Flow::Next),
-            Op::True => plain("true", 0x04, Fields::none(), 0, 1, Flow::Next),
+            Op::Unit => plain(0x02, Fields::none(), 0, 1, Flow::Next),
+            Op::False => plain(0x03, Fields::none(), 0, 1, Flow::Next),
+            Op::True => plain(0x04, Fields::none(), 0, 1, Flow::Next),
             Op::LoadLocal(slot) => {
                 let fields = Fields::one(Field::Slot(slot));
-                plain("load_local", 0x05, fields, 0, 1, Flow::Next)
+                plain(0x05, fields, 0, 1, Flow::Next)
             }
             Op::StoreLocal(slot) => {
                 let fields = Fields::one(Field::Slot(slot));
-                plain("store_local", 0x06, fields, 1, 0, Flow::Next)
+                plain(0x06, fields, 1, 0, Flow::Next)
             }
             Op::StoreConst(slot) => {
                 let fields = Fields::one(Field::Slot(slot));
-                plain("store_const", 0x07, fields, 1, 0, Flow::Next)
+                plain(0x07, fields, 1, 0, Flow::Next)
             }
             Op::StoreShared(slot) => {
                 let fields = Fields::one(Field::Slot(slot));
-                plain("store_shared", 0x08, fields, 1, 0, Flow::Next)
+                plain(0x08, fields, 1, 0, Flow::Next)
             }
             Op::DeclareLocal(name) => {
                 let fields = Fields::one(Field::Name(name));
-                plain("declare_local", 0x0d, fields, 1, 0, Flow::Next)
+                plain(0x0d, fields, 1, 0, Flow::Next)
             }
             Op::DeclareConst(name) => {
                 let fields = Fields::one(Field::Name(name));
-                plain("declare_const", 0x0e, fields, 1, 0, Flow::Next)
+                plain(0x0e, fields, 1, 0, Flow::Next)
             }
             Op::AssignLocal(slot, name) => {
                 let fields = Fields::two(Field::Slot(slot), Field::Name(name));
-                plain("assign_local", 0x10, fields, 1, 0, Flow::Next)
+                plain(0x10, fields, 1, 0, Flow::Next)
             }
             Op::AssignLocalOp(slot, name, assign) => {
                 let assign = Field::Assignment(assign);
                 let fields = Fields::three(Field::Slot(slot), Field::Name(name), assign);
-                plain("assign_local_op", 0x11, fields, 1, 0, Flow::Next)
+                plain(0x11, fields, 1, 0, Flow::Next)
             }
             Op::LoadShared(slot) => {
                 let fields = Fields::one(Field::Slot(slot));
-                plain("load_shared", 0x17, fields, 0, 1, Flow::Next)
+                plain(0x17, fields, 0, 1, Flow::Next)
             }
             Op::Share(slot) => {
                 let fields = Fields::one(Field::Slot(slot));
-                let share = plain("share", 0x18, fields, 0, 0, Flow::Next);
+                let share = plain(0x18, fields, 0, 0, Flow::Next);
                 needing(Caps::CLOSURE, share)
             }
             Op::IsShared => {
-                let is_shared = plain("is_shared", 0x1a, Fields::none(), 1, 1, Flow::Next);
+                let is_shared = plain(0x1a, Fields::none(), 1, 1, Flow::Next);
                 needing(Caps::CLOSURE, is_shared)
             }
-            Op::Pop => plain("pop", 0x1b, Fields::none(), 1, 0, Flow::Next),
+            Op::Pop => plain(0x1b, Fields::none(), 1, 0, Flow::Next),
             Op::Rotate(under) => {
                 let fields = Fields::one(Field::Count(under));
                 let moved = u32::from(under) + 1;
-                plain("rotate", 0x1c, fields, moved, moved, Flow::Next)
+                plain(0x1c, fields, moved, moved, Flow::Next)
             }
             Op::Jump(target) => {
                 let fields = Fields::one(Field::Target(target));
-                plain("jump", 0x1d, fields, 0, 0, Flow::Jump(target))
+                plain(0x1d, fields, 0, 0, Flow::Jump(target))
             }
             Op::JumpIfFalse(target) => {
                 let fields = Fields::one(Field::Target(target));
-                plain("jump_if_false", 0x1e, fields, 1, 0, Flow::Branch(target))
+                plain(0x1e, fields, 1, 0, Flow::Branch(target))
             }
             Op::JumpIfTrue(target) => {
                 let fields = Fields::one(Field::Target(target));
-                plain("jump_if_true", 0x1f, fields, 1, 0, Flow::Branch(target))
+                plain(0x1f, fields, 1, 0, Flow::Branch(target))
             }
             Op::SkipIfNotUnit(target) => {
                 let fields = Fields::one(Field::Target(target));
-                plain("skip_if_not_unit", 0x20, fields, 1, 1, Flow::Branch(target))
+                plain(0x20, fields, 1, 1, Flow::Branch(target))
             }
             Op::Call(name, count) => {
                 let fields = Fields::two(Field::Name(name), Field::Count(count));
-                let call = plain("call", 0x22, fields, u32::from(count), 1, Flow::Next);
+                let call = plain(0x22, fields, u32::from(count), 1, Flow::Next);
                 needing(Caps::FUNCTION, call)
             }
             Op::CallOp(name, count, token) => {
                 let token = Field::Token(token);
                 let fields = Fields::three(Field::Name(name), Field::Count(count), token);
-                plain("call_op", 0x23, fields, u32::from(count), 1, Flow::Next)
+                plain(0x23, fields, u32::from(count), 1, Flow::Next)
             }
             Op::MakeClosure(name) => {
                 let fields = Fields::one(Field::Name(name));
-                let closure = plain("make_closure", 0x27, fields, 0, 1, Flow::Next);
+                let closure = plain(0x27, fields, 0, 1, Flow::Next);
                 needing(Caps::FUNCTION, closure)
             }
             Op::Curry(count) => {
                 let fields = Fields::one(Field::Count(count));
-                let curry = plain("curry", 0x29, fields, u32::from(count) + 1, 1, Flow::Next);
+                let curry = plain(0x29, fields, u32::from(count) + 1, 1, Flow::Next);
                 needing(Caps::FUNCTION, curry)
             }
             Op::CallFnPtr(count) => {
                 let fields = Fields::one(Field::Count(count));
                 let taken = u32::from(count) + 1;
-                let pointer = plain("call_fn_ptr", 0x2a, fields, taken, 1, Flow::Next);
+                let pointer = plain(0x2a, fields, taken, 1, Flow::Next);
                 needing(Caps::FUNCTION, pointer)
             }
             Op::UnwindTo(depth) => {
                 let fields = Fields::one(Field::Number(depth));
-                plain("unwind_to", 0x38, fields, 0, 0, Flow::Next)
+                plain(0x38, fields, 0, 0, Flow::Next)
             }
-            Op::Tick => plain("tick", 0x39, Fields::none(), 0, 0, Flow::Next),
-            Op::Checkpoint => plain("checkpoint", 0x3a, Fields::none(), 0, 0, Flow::Next),
+            Op::Tick => plain(0x39, Fields::none(), 0, 0, Flow::Next),
+            Op::Checkpoint => plain(0x3a, Fields::none(), 0, 0, Flow::Next),
             Op::Statement(depth) => {
                 let fields = Fields::one(Field::Number(depth));
-                plain("statement", 0x3b, fields, 0, 0, Flow::Next)
+                plain(0x3b, fields, 0, 0, Flow::Next)
             }
             Op::PushHandler(target) => {
                 let fields = Fields::one(Field::Target(target));
                 let handling = Handling::Push(target, None);
-                on_handlers("push_handler", 0x3c, fields, Flow::Branch(target), handling)
+                on_handlers(0x3c, fields, Flow::Branch(target), handling)
             }
             Op::PushHandlerVar(target, name) => {
                 let fields = Fields::two(Field::Target(target), Field::Name(name));
                 let branch = Flow::Branch(target);
                 let handling = Handling::Push(target, Some(name));
-                on_handlers("push_handler_var", 0x3d, fields, branch, handling)
+                on_handlers(0x3d, fields, branch, handling)
             }
             Op::PopHandler => {
                 let fields = Fields::none();
-                on_handlers("pop_handler", 0x3e, fields, Flow::Next, Handling::Pop)
+                on_handlers(0x3e, fields, Flow::Next, Handling::Pop)
             }
-            Op::Throw => plain("throw", 0x49, Fields::none(), 1, 0, Flow::End),
-            Op::Return => plain("return", 0x4a, Fields::none(), 0, 0, Flow::End),
+            Op::Throw => plain(0x49, Fields::none(), 1, 0, Flow::End),
+            Op::Return => plain(0x4a, Fields::none(), 0, 0, Flow::End),
         }
     }
 }
