@@ -1,10 +1,10 @@
 //! Instructions on operands alone.
 
-ghost use Rattle.std.specs.Prelude.{◌≡◌, ◌<◌, ◌≤◌, ◌-◌, ◌∷◌, [], List, length, Ok, None, Some, is_some, true};
+ghost use Rattle.std.specs.Prelude.{◌≡◌, ◌<◌, ◌≤◌, ◌∷◌, [], List, length, Ok, Some, is_some};
 ghost use Rattle.grain_program.specs.View.{View};
 ghost use Rattle.grain_value.specs.Operands.{arguments, under};
 ghost use Rattle.grain_global.specs.declared.engines.Engine.{Engine};
-ghost use Rattle.grain_means.specs.Rules.{pushed, operated, native, raised, flat_all, call_function};
+ghost use Rattle.grain_means.specs.Rules.{pushed, operated, flat_all};
 ghost use Rattle.grain_value.specs.declared.values.Held.{Held};
 ghost use Rattle.grain_means.specs.Means.{setup};
 ghost use Rattle.grain_frame.specs.Abstraction.{frame_in, Implements, Performs, Ready, setup_of, moment};
@@ -14,13 +14,13 @@ ghost use Rattle.grain_program.specs.declared.code.instruction_set.Op.TheVariant
 
 use crate::activations::Activation;
 use crate::contexts::Context;
-use crate::native_calls::{Arguments, NativeEnd, are_readable, seek};
+use crate::native_calls::are_readable;
 use crate::operated::operate;
 use crate::runs::{Progress, Run};
 use grain_global::Steps;
 use grain_host::Host;
 use grain_ops::OpAnswer;
-use grain_value::{Array, Dynamic, FnPtr, Held, OutOfMemory, Text};
+use grain_value::{Dynamic, Held, OutOfMemory};
 use std::sync::ledger::Ledger;
 
 impl<H: Host> Run<H> {
@@ -146,115 +146,13 @@ impl<H: Host> Run<H> {
 
     // Whether none of the last `count` operands is a cell that is lent.
     #[inline(always)]
-    fn are_readable(&self, count: usize) -> bool
+    pub(crate) fn are_readable(&self, count: usize) -> bool
         requires { count ≤ length self.now.stacks.operands }
         ensures { result ≡ is_some
             (flat_all self.now.cells (arguments count self.now.stacks.operands)) }
     {
         let operands = self.stacks.frame_operands();
         are_readable(&self.cells, &operands[operands.len() - count..])
-    }
-
-    // The host's native of a name on the last `count` operands, none of which is a lent cell, as they
-    // are read. Its value stands in their place.
-    #[cold]
-    #[inline(never)]
-    pub(crate) fn native_on<L: Ledger>(
-        &mut self,
-        context: Context<'_>,
-        host: &mut H,
-        steps: &mut Steps<L>,
-        frame: &mut Activation,
-        name: &Text,
-        count: usize,
-        next: usize,
-    ) -> Result<Progress, OutOfMemory>
-        requires inside { frame.old.base ≤ length self.old.scope }
-        requires operands { count ≤ length self.old.stacks.operands }
-        requires readable { is_some
-            (flat_all self.old.cells (arguments count self.old.stacks.operands)) ≡ true }
-        requires room { length self.old.stacks.operands - count < self.old.stacks.room }
-        requires ahead { frame.old.address < next }
-        ensures implements { (args : List Held) → flat_all self.old.cells
-            (arguments count self.old.stacks.operands) ≡ Some args →
-            Implements (setup_of H.law context.entry) (moment frame.old self.old steps.old host.old)
-            (λ m place w. native m name.now None args (frame_in frame.old self.old place) w
-            (λ v w1. pushed m (frame_in frame.old self.old place) next
-            (under count self.old.stacks.operands) v w1)
-            (raised m (frame_in frame.old self.old place))) (next ∷ []) count 1
-            self.old.stacks.handlers result (moment frame.new self.new steps.new host.new) }
-    {
-        let operands = self.stacks.frame_operands();
-        let given = &operands[operands.len() - count..];
-        let arguments = Arguments::of(self.alloc, &self.cells, given)?;
-        let position = context.program.position(frame.address);
-        let sought = seek(self.alloc, host, name, arguments, position)?;
-        match self.call_native(host, steps, sought, position)? {
-            NativeEnd::Value(value) => {
-                self.stacks.cut(self.stacks.height() - count);
-                Ok(self.push_on(steps, frame, value, next))
-            }
-            NativeEnd::Fault(fault) => Ok(self.raise(steps, fault)),
-        }
-    }
-
-    /// What follows where no function has the name: the native, or the fault that an operand is a lent
-    /// cell. It is done on a copy of the frame, so that the loop can hold its own in registers.
-    #[inline(always)]
-    pub fn native_by_name_on_copy<L: Ledger>(
-        &mut self,
-        context: Context<'_>,
-        host: &mut H,
-        steps: &mut Steps<L>,
-        frame: &mut Activation,
-        name: &Text,
-        count: usize,
-        next: usize,
-    ) -> Result<Progress, OutOfMemory>
-        requires inside { frame.old.base ≤ length self.old.scope }
-        requires operands { count ≤ length self.old.stacks.operands }
-        requires room { length self.old.stacks.operands - count < self.old.stacks.room }
-        requires ahead { frame.old.address < next }
-        ensures implements { Implements (setup_of H.law context.entry)
-            (moment frame.old self.old steps.old host.old)
-            (λ m place w. call_function m None name.now count (frame_in frame.old self.old place)
-            next w) (next ∷ []) count 1 self.old.stacks.handlers result
-            (moment frame.new self.new steps.new host.new) }
-    {
-        let mut copy = *frame;
-        let progress = self.native_by_name(context, host, steps, &mut copy, name, count, next);
-        frame.address = copy.address;
-        frame.floor = copy.floor;
-        progress
-    }
-
-    /// The same on the frame itself.
-    #[cold]
-    #[inline(never)]
-    pub fn native_by_name<L: Ledger>(
-        &mut self,
-        context: Context<'_>,
-        host: &mut H,
-        steps: &mut Steps<L>,
-        frame: &mut Activation,
-        name: &Text,
-        count: usize,
-        next: usize,
-    ) -> Result<Progress, OutOfMemory>
-        requires inside { frame.old.base ≤ length self.old.scope }
-        requires operands { count ≤ length self.old.stacks.operands }
-        requires room { length self.old.stacks.operands - count < self.old.stacks.room }
-        requires ahead { frame.old.address < next }
-        ensures implements { Implements (setup_of H.law context.entry)
-            (moment frame.old self.old steps.old host.old)
-            (λ m place w. call_function m None name.now count (frame_in frame.old self.old place)
-            next w) (next ∷ []) count 1 self.old.stacks.handlers result
-            (moment frame.new self.new steps.new host.new) }
-    {
-        if !self.are_readable(count) {
-            return self.data_race(context, steps, frame.address, "");
-        }
-        self.native_on(context, host, steps, frame, name, count, next)
     }
 
     // What an operator makes of the last `count` operands, as they are read, if operators are fast.
@@ -298,26 +196,5 @@ impl<H: Host> Run<H> {
         frame.address = next;
         steps.mark();
         Progress::Continues
-    }
-
-    // `make_closure`: a pointer to the functions of a name, with no values.
-    pub(crate) fn make_closure<L: Ledger>(
-        &mut self,
-        context: Context<'_>,
-        steps: &mut Steps<L>,
-        frame: &mut Activation,
-        name: u16,
-        next: usize,
-    ) -> Result<Progress, OutOfMemory>
-        requires ready { Ready frame.old self.old (op.MakeClosure name) next }
-        requires pools { InPools context.program.now (op.MakeClosure name) }
-        ensures performs { (host : H) →
-            Performs (setup_of H.law context.entry) (moment frame.old self.old steps.old host)
-            (op.MakeClosure name) next result (moment frame.new self.new steps.new host) }
-    {
-        let name = context.program.name(u32::from(name)).copy(self.alloc)?;
-        let curry = Array::new(self.alloc);
-        let pointer = Dynamic::Pointer(FnPtr { name, curry });
-        Ok(self.push_on(steps, frame, pointer, next))
     }
 }

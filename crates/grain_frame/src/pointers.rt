@@ -1,10 +1,11 @@
-//! Pointers to functions: values that are added to one, and its call.
+//! Pointers to functions: how one is made, values that are added to one, and what its call finds.
 
 ghost use Rattle.std.specs.Prelude.{◌≡◌, ◌<◌, ◌≤◌, ◌+◌, ◌++◌, length, codes, IfOk, Some};
 ghost use Rattle.grain_value.specs.declared.values.Dynamic.{Dynamic};
 ghost use Rattle.grain_value.specs.Writing.{type_name_of};
 ghost use Rattle.grain_value.specs.Operands.{arguments};
 ghost use Rattle.grain_fault.specs.Problems.{Plain, MismatchDataType};
+ghost use Rattle.grain_program.specs.Indices.{InPools};
 ghost use Rattle.grain_program.specs.View.{position_of};
 ghost use Rattle.grain_value.specs.Cells.{flat};
 ghost use Rattle.grain_value.specs.Looking.{pointer_of};
@@ -18,7 +19,7 @@ use crate::contexts::Context;
 use crate::runs::{Progress, Run};
 use grain_global::Steps;
 use grain_host::Host;
-use grain_value::{Dynamic, FnPtr, Held, OutOfMemory};
+use grain_value::{Array, Dynamic, FnPtr, Held, OutOfMemory};
 use std::alloc::Global;
 use std::sync::ledger::Ledger;
 
@@ -136,5 +137,26 @@ impl<H: Host> Run<H> {
     {
         let operands = self.stacks.frame_operands();
         add_copies(self.alloc, pointer, &operands[operands.len() - count..])
+    }
+
+    // `make_closure`: a pointer to the functions of a name, with no values.
+    pub(crate) fn make_closure<L: Ledger>(
+        &mut self,
+        context: Context<'_>,
+        steps: &mut Steps<L>,
+        frame: &mut Activation,
+        name: u16,
+        next: usize,
+    ) -> Result<Progress, OutOfMemory>
+        requires ready { Ready frame.old self.old (op.MakeClosure name) next }
+        requires pools { InPools context.program.now (op.MakeClosure name) }
+        ensures performs { (host : H) →
+            Performs (setup_of H.law context.entry) (moment frame.old self.old steps.old host)
+            (op.MakeClosure name) next result (moment frame.new self.new steps.new host) }
+    {
+        let name = context.program.name(u32::from(name)).copy(self.alloc)?;
+        let curry = Array::new(self.alloc);
+        let pointer = Dynamic::Pointer(FnPtr { name, curry });
+        Ok(self.push_on(steps, frame, pointer, next))
     }
 }

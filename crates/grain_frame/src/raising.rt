@@ -177,10 +177,7 @@ impl<H: Host> Run<H> {
             (position_of context.entry.program.now address) result self.new steps.new }
     {
         match &fault {
-            EvalAltResult::ErrorArithmetic(_, _) => {
-                Ok(self.raise_at(context, steps, address, fault))
-            }
-            EvalAltResult::ErrorDataTooLarge(_, _) => {
+            EvalAltResult::ErrorArithmetic(_, _) | EvalAltResult::ErrorDataTooLarge(_, _) => {
                 Ok(self.raise_at(context, steps, address, fault))
             }
             _ => Err(OutOfMemory),

@@ -34,7 +34,7 @@ use Rattle.grain_vm.specs.declared.finding.Found.{Found}
 use Rattle.grain_vm.specs.declared.finding.Found.TheVariants as found
 use Rattle.grain_frame.specs.declared.runs.Progress.{Progress}
 use Rattle.grain_frame.specs.declared.runs.Run.{Run}
-use Rattle.grain_frame.specs.lemmas.Arms.{done, lands_on, stood}
+use Rattle.grain_frame.specs.lemmas.Arms.{arm, done, lands_on}
 use Rattle.grain_vm.proofs.Measure.{left}
 
 -- a function that is there has a number among them
@@ -254,13 +254,13 @@ pub found_here : {H : Type 0} (law : Law H) (p : View) (engine : Engine) (f f' :
     Finds (setup law p engine) (moment f s n host) o next r (moment f' s' n' host') →
     FindsHere (setup law p engine) (moment f s n host) r (moment f' s' n' host')
 found_here law p engine f f' s s' n n' o next host host' (Ok (found.Done q)) runs at call did =
-    stood law p engine f s o next call.keeps at runs n f' s' n' host host' did
+    arm refl call.keeps at runs did
 found_here law p engine f f' s s' n n' o next host host' (Ok (found.Function number to)) runs at
     call did =
     subst (λ (k : ℕ). FindsHere (setup law p engine) (moment f s n host) (Ok
     (found.Function number k)) (moment f' s' n' host')) (sym did.0) (o, at, call, did.1)
 found_here law p engine f f' s s' n n' o next host host' (Err e) runs at call did =
-    stood law p engine f s o next call.keeps at runs n f' s' n' host host' did
+    arm refl call.keeps at runs did
 
 -- the frame has its chunk and its base, whatever its instruction came to
 pub found_kept : {H : Type 0} (law : Law H) (p : View) (engine : Engine) (f f' : Activation)

@@ -195,21 +195,6 @@ module _ {H : Type 0} (law : Law H) (p : View) (engine : Engine) (f : Activation
         done law p engine f s o width runs here keeps (there read) n f' s' n' host host'
         (same does.same) does.kept does.lands does.before
 
--- an instruction at which the frame stood, and which keeps the handlers, was done
-pub stood : {H : Type 0} (law : Law H) (p : View) (engine : Engine) (f : Activation)
-    (s : Run H) (o : Op) (next : ℕ) → handling_of o ≡ handling.Keep → StandsAt p f s o next →
-    Runs p f s → (n : StepsView) (f' : Activation) (s' : Run H) (n' : StepsView) (host host' : H)
-    {r : Result Progress OutOfMemory} →
-    Performs (setup law p engine) (moment f s n host) o next r (moment f' s' n' host') →
-    Stepped (setup law p engine) (moment f s n host) r (moment f' s' n' host')
-stood law p engine f s o next keeps at runs n f' s' n' host host' {r} does =
-    let here : Performs (setup law p engine) (moment f s n host) o (f.address + at.width) r
-    (moment f' s' n' host') =
-    subst (λ (k : ℕ). Performs (setup law p engine) (moment f s n host) o k r
-    (moment f' s' n' host')) at.next_is does in
-    done law p engine f s o at.width runs at.seen keeps at.read n f' s' n' host host'
-    (same here.same) here.kept here.lands here.before
-
 -- what was verified of an instruction at which the frame stands
 pub verified : {H : Type 0} {p : View} {f : Activation} {s : Run H} {said o : Op} {next : ℕ}
     (is : said ≡ o) (at : StandsAt p f s said next) →
@@ -218,7 +203,7 @@ verified {p = p} {f} {s} is at =
     subst (λ (q : Op). Verified p f.chunk f.address (length s.stacks.operands)
     (tries_in s.stacks.handlers) q at.width) is at.seen
 
--- an arm of the dispatcher: the instruction at which the frame stood was done
+-- an instruction at which the frame stood was done, and the frame goes on with other handlers
 pub arm_with : {H : Type 0} {law : Law H} {p : View} {engine : Engine} {f f' : Activation}
     {s s' : Run H} {n n' : StepsView} {host host' : H} {said o : Op} {next : ℕ}
     {r : Result Progress OutOfMemory} (is : said ≡ o) (handlers : List Handler) →
@@ -239,6 +224,7 @@ arm_with {H = H} {law} {p} {engine} {f} {f'} {s} {s'} {n} {n'} {host} {host'} {s
     done_with law p engine f s o at.width runs (verified is at) handlers become above f' s' read n
     n' host host' (same here.same) here.kept here.lands here.before
 
+-- the same of one that keeps the handlers
 pub arm : {H : Type 0} {law : Law H} {p : View} {engine : Engine} {f f' : Activation}
     {s s' : Run H} {n n' : StepsView} {host host' : H} {said o : Op} {next : ℕ}
     {r : Result Progress OutOfMemory} → said ≡ o → handling_of o ≡ handling.Keep →
