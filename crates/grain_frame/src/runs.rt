@@ -62,7 +62,7 @@ impl<H: Host> Run<H> {
 
     /// Puts a fault into the run, without a mark.
     #[cold]
-    pub fn depart(&mut self, fault: EvalAltResult) -> Progress
+    pub fn raise_unmarked(&mut self, fault: EvalAltResult) -> Progress
         ensures progress { result ≡ Progress.Failed }
         ensures after { self.new ≡ record self.old { fault = fault } }
     {
@@ -78,7 +78,7 @@ impl<H: Host> Run<H> {
         ensures marked { steps.new ≡ record steps.old { passed = steps.old.passed + 1 } }
     {
         steps.mark();
-        self.depart(fault)
+        self.raise_unmarked(fault)
     }
 
     /// Takes the fault that lies in the run. `Memory` is left in its place.

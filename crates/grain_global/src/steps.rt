@@ -70,7 +70,7 @@ impl<L: Ledger> Steps<L> {
     }
 
     /// An instruction begins.
-    pub fn tick(&mut self)
+    pub fn begin_instruction(&mut self)
         ensures { self.new ≡ record self.old { begun = self.old.begun + 1 } }
     {
         self.book.add(&mut self.begun, 1);

@@ -97,6 +97,6 @@ fn branch_begins<H: Host, L: Ledger>(run: &mut Run<H>, steps: &mut Steps<L>)
 {
     run.stacks.drop_top();
     run.stacks.drop_top();
-    steps.tick();
+    steps.begin_instruction();
     steps.mark();
 }

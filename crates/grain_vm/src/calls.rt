@@ -191,7 +191,7 @@ fn propagate<H: Host, L: Ledger>(
     let mut fault = run.take_fault();
     if !fault.is_catchable() {
         fault.set_position(position);
-        return Ok(run.depart(fault));
+        return Ok(run.raise_unmarked(fault));
     }
     let name = context.program.name(function.name).copy(run.alloc)?;
     let source = source_of(run.alloc, context.program)?;

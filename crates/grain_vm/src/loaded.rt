@@ -253,7 +253,7 @@ fn branch_loaded_begins<H: Host, L: Ledger>(run: &mut Run<H>, steps: &mut Steps<
     // Only the contract names it.
     let _integer = integer;
     run.stacks.drop_top();
-    steps.tick();
+    steps.begin_instruction();
     steps.mark();
 }
 
@@ -289,6 +289,6 @@ fn begin_behind<L: Ledger>(steps: &mut Steps<L>)
     ensures { steps.new ≡ begun_behind steps.old }
 {
     steps.mark();
-    steps.tick();
+    steps.begin_instruction();
     steps.mark();
 }

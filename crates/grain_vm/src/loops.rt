@@ -269,7 +269,7 @@ fn run_from<H: Host, L: Ledger>(
         floor,
     };
     'turn: loop {
-        steps.tick();
+        steps.begin_instruction();
         steps.mark();
         let pending = match quick(run, context, steps, &mut frame) {
             Attempt::Done => continue 'turn,

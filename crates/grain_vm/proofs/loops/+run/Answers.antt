@@ -80,7 +80,7 @@ run_from-turn-preserved-in-Done g t c =
     c.turn.frame.address c.quick.new.frame.address did.stays.1 did.stays.2 in
     record {
       goes = turn (abstraction c.turn.run c.turn.steps c.turn.host)
-          (rw (c.mark.ensures, c.tick.ensures) refl) now.goes did.goes;
+          (rw (c.mark.ensures, c.begin_instruction.ensures) refl) now.goes did.goes;
       runs = next_runs c.args.context.program.now c.turn.frame c.quick.new.frame c.turn.run
           c.quick.new.run now.runs did.kept did.stays.0
           did.stays.3;
@@ -94,14 +94,14 @@ run_from-turn-preserved-in-Done g t c =
       room = did.kept.room ∙ now.room;
       before = did.before ∙
           (ap (λ (k : StepsView). k.before) c.mark.ensures ∙
-          (ap (λ (k : StepsView). k.before) c.tick.ensures ∙ now.before));
+          (ap (λ (k : StepsView). k.before) c.begin_instruction.ensures ∙ now.before));
     }
 
 pub run_from-returns-in-Returned-clause-goes : goal.run_from-returns-in-Returned-clause-goes
 run_from-returns-in-Returned-clause-goes g t c =
     let did = c.in-Returned.ensures c.turn.host in
     turn (abstraction c.turn.run c.turn.steps c.turn.host)
-    (rw (c.mark.ensures, c.tick.ensures) refl) c.turn.invariant.goes did.goes
+    (rw (c.mark.ensures, c.begin_instruction.ensures) refl) c.turn.invariant.goes did.goes
 
 pub run_from-returns-in-Returned-clause-outer : goal.run_from-returns-in-Returned-clause-outer
 run_from-returns-in-Returned-clause-outer g t c =
@@ -129,7 +129,7 @@ run_from-returns-in-Returned-clause-before g t c =
     let did = c.in-Returned.ensures c.turn.host in
     did.before ∙
     (ap (λ (k : StepsView). k.before) c.mark.ensures ∙
-    (ap (λ (k : StepsView). k.before) c.tick.ensures ∙ c.turn.invariant.before))
+    (ap (λ (k : StepsView). k.before) c.begin_instruction.ensures ∙ c.turn.invariant.before))
 
 pub run_from-returns-in-Err : goal.run_from-returns-in-Err
 run_from-returns-in-Err g t c =
@@ -149,7 +149,7 @@ run_from-returns-in-Err g t c =
           c.jump.new.frame.floor c.jump.new.frame.address (λ place. refl) (λ place. refl)
           (rw left refl)
           (turn (abstraction c.turn.run c.turn.steps c.turn.host)
-          (rw (c.mark.ensures, c.tick.ensures) refl) now.goes did.goes);
+          (rw (c.mark.ensures, c.begin_instruction.ensures) refl) now.goes did.goes);
       catches = tt;
       outer = rw left (did.kept.outer ∙ now.outer);
       room = rw left (did.kept.room ∙ now.room);
@@ -158,7 +158,7 @@ run_from-returns-in-Err g t c =
       later = rw left (omega (arith, did.kept.later, now.later));
       before = did.before ∙
           (ap (λ (k : StepsView). k.before) c.mark.ensures ∙
-          (ap (λ (k : StepsView). k.before) c.tick.ensures ∙ now.before));
+          (ap (λ (k : StepsView). k.before) c.begin_instruction.ensures ∙ now.before));
     }
 
 pub run_from-turn-preserved-in-Continues : goal.run_from-turn-preserved-in-Continues
@@ -180,7 +180,7 @@ run_from-turn-preserved-in-Continues g t c =
     record {
       goes = flowed at c.jump.new.run.fault c.in-Continues.is
           (turn (abstraction c.turn.run c.turn.steps c.turn.host)
-          (rw (c.mark.ensures, c.tick.ensures) refl) now.goes did.goes);
+          (rw (c.mark.ensures, c.begin_instruction.ensures) refl) now.goes did.goes);
       runs = next_runs c.args.context.program.now c.turn.frame c.jump.new.frame c.turn.run
           c.jump.new.run now.runs did.kept stays.0
           stays.3;
@@ -194,7 +194,7 @@ run_from-turn-preserved-in-Continues g t c =
       room = did.kept.room ∙ now.room;
       before = did.before ∙
           (ap (λ (k : StepsView). k.before) c.mark.ensures ∙
-          (ap (λ (k : StepsView). k.before) c.tick.ensures ∙ now.before));
+          (ap (λ (k : StepsView). k.before) c.begin_instruction.ensures ∙ now.before));
     }
 
 pub run_from-returns-in-Returned-progress : goal.run_from-returns-in-Returned-progress
@@ -210,7 +210,7 @@ run_from-returns-in-Returned-progress g t c =
     record {
       goes = flowed at c.jump.new.run.fault c.in-Returned-progress.is
           (turn (abstraction c.turn.run c.turn.steps c.turn.host)
-          (rw (c.mark.ensures, c.tick.ensures) refl) now.goes did.goes);
+          (rw (c.mark.ensures, c.begin_instruction.ensures) refl) now.goes did.goes);
       catches = tt;
       outer = did.kept.outer ∙ now.outer;
       room = did.kept.room ∙ now.room;
@@ -219,7 +219,7 @@ run_from-returns-in-Returned-progress g t c =
       later = omega (arith, did.kept.later, now.later);
       before = did.before ∙
           (ap (λ (k : StepsView). k.before) c.mark.ensures ∙
-          (ap (λ (k : StepsView). k.before) c.tick.ensures ∙ now.before));
+          (ap (λ (k : StepsView). k.before) c.begin_instruction.ensures ∙ now.before));
     }
 
 pub run_from-returns-in-Err-proceed : goal.run_from-returns-in-Err-proceed
@@ -241,7 +241,7 @@ run_from-returns-in-Err-proceed g t c =
           c.proceed.new.frame.floor c.proceed.new.frame.address (λ place. refl) (λ place. refl)
           (rw left refl)
           (turn (abstraction c.turn.run c.turn.steps c.turn.host)
-          (rw (c.mark.ensures, c.tick.ensures) refl) now.goes did.goes);
+          (rw (c.mark.ensures, c.begin_instruction.ensures) refl) now.goes did.goes);
       catches = tt;
       outer = rw left (did.kept.outer ∙ now.outer);
       room = rw left (did.kept.room ∙ now.room);
@@ -250,7 +250,7 @@ run_from-returns-in-Err-proceed g t c =
       later = rw left (omega (arith, did.kept.later, now.later));
       before = did.before ∙
           (ap (λ (k : StepsView). k.before) c.mark.ensures ∙
-          (ap (λ (k : StepsView). k.before) c.tick.ensures ∙ now.before));
+          (ap (λ (k : StepsView). k.before) c.begin_instruction.ensures ∙ now.before));
     }
 
 pub run_from-turn-preserved : goal.run_from-turn-preserved
@@ -274,7 +274,7 @@ run_from-turn-preserved g t c =
     record {
       goes = flowed at c.proceed.new.run.fault c.in-Continues-progress.is
           (turn (abstraction c.turn.run c.turn.steps c.turn.host)
-          (rw (c.mark.ensures, c.tick.ensures) refl) now.goes did.goes);
+          (rw (c.mark.ensures, c.begin_instruction.ensures) refl) now.goes did.goes);
       runs = next_runs c.args.context.program.now c.turn.frame c.proceed.new.frame c.turn.run
           c.proceed.new.run now.runs did.kept stays.0
           stays.3;
@@ -288,7 +288,7 @@ run_from-turn-preserved g t c =
       room = did.kept.room ∙ now.room;
       before = did.before ∙
           (ap (λ (k : StepsView). k.before) c.mark.ensures ∙
-          (ap (λ (k : StepsView). k.before) c.tick.ensures ∙ now.before));
+          (ap (λ (k : StepsView). k.before) c.begin_instruction.ensures ∙ now.before));
     }
 
 pub run_from-returns-in-Returned-progress-2 : goal.run_from-returns-in-Returned-progress-2
@@ -305,7 +305,7 @@ run_from-returns-in-Returned-progress-2 g t c =
     record {
       goes = flowed at c.proceed.new.run.fault c.in-Returned-progress-2.is
           (turn (abstraction c.turn.run c.turn.steps c.turn.host)
-          (rw (c.mark.ensures, c.tick.ensures) refl) now.goes did.goes);
+          (rw (c.mark.ensures, c.begin_instruction.ensures) refl) now.goes did.goes);
       catches = tt;
       outer = did.kept.outer ∙ now.outer;
       room = did.kept.room ∙ now.room;
@@ -314,7 +314,7 @@ run_from-returns-in-Returned-progress-2 g t c =
       later = omega (arith, did.kept.later, now.later);
       before = did.before ∙
           (ap (λ (k : StepsView). k.before) c.mark.ensures ∙
-          (ap (λ (k : StepsView). k.before) c.tick.ensures ∙ now.before));
+          (ap (λ (k : StepsView). k.before) c.begin_instruction.ensures ∙ now.before));
     }
 
 pub run_from-returns-in-Failed : goal.run_from-returns-in-Failed
@@ -337,7 +337,7 @@ run_from-returns-in-Failed g t c =
       goes = stopped_at c.args.chunk.now c.args.base c.jump.new.frame c.jump.new.run
           chunk base (flowed at c.jump.new.run.fault c.in-Failed.is (turn (abstraction c.turn.run
           c.turn.steps c.turn.host)
-          (rw (c.mark.ensures, c.tick.ensures) refl) now.goes did.goes));
+          (rw (c.mark.ensures, c.begin_instruction.ensures) refl) now.goes did.goes));
       catches = (
         did.kept.noted ∙ now.runs.unnoted,
         (can.0, can.1, rw (sym chunk) can.2, rw (sym base) can.3),
@@ -349,7 +349,7 @@ run_from-returns-in-Failed g t c =
       later = omega (arith, did.kept.later, now.later);
       before = did.before ∙
           (ap (λ (k : StepsView). k.before) c.mark.ensures ∙
-          (ap (λ (k : StepsView). k.before) c.tick.ensures ∙ now.before));
+          (ap (λ (k : StepsView). k.before) c.begin_instruction.ensures ∙ now.before));
     }
 
 pub run_from-returns-in-Failed-progress : goal.run_from-returns-in-Failed-progress
@@ -373,7 +373,7 @@ run_from-returns-in-Failed-progress g t c =
       goes = stopped_at c.args.chunk.now c.args.base c.proceed.new.frame c.proceed.new.run
           chunk base (flowed at c.proceed.new.run.fault c.in-Failed-progress.is (turn (abstraction
           c.turn.run c.turn.steps c.turn.host)
-          (rw (c.mark.ensures, c.tick.ensures) refl) now.goes did.goes));
+          (rw (c.mark.ensures, c.begin_instruction.ensures) refl) now.goes did.goes));
       catches = (
         did.kept.noted ∙ now.runs.unnoted,
         (can.0, can.1, rw (sym chunk) can.2, rw (sym base) can.3),
@@ -385,7 +385,7 @@ run_from-returns-in-Failed-progress g t c =
       later = omega (arith, did.kept.later, now.later);
       before = did.before ∙
           (ap (λ (k : StepsView). k.before) c.mark.ensures ∙
-          (ap (λ (k : StepsView). k.before) c.tick.ensures ∙ now.before));
+          (ap (λ (k : StepsView). k.before) c.begin_instruction.ensures ∙ now.before));
     }
 
 pub run_frame-returns-in-Err-clause-goes : goal.run_frame-returns-in-Err-clause-goes
