@@ -1,8 +1,9 @@
-//! Values: texts, arrays, maps, scopes, cells, modules and fragments.
+//! Values: texts, arrays, maps, places inside values, scopes, cells, modules and fragments.
 
 mod fragments;
 mod modules;
 mod nested;
+mod paths;
 mod scopes;
 mod sizes;
 mod stores;

@@ -7,6 +7,7 @@ pub mod Cells
 pub mod Table
 pub mod Classes
 pub mod Exits
+pub mod Absences
 pub mod Positions
 pub mod Texts
 pub mod Chains

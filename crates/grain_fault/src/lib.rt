@@ -1,6 +1,7 @@
 //! Faults: what ends a run without a value, where it was raised, and how it is printed.
 #![tactic(auto)]
 
+mod absences;
 mod catch_values;
 mod chains;
 mod classes;

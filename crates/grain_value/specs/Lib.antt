@@ -1,6 +1,6 @@
--- What the contracts of this crate cite. Read `Tree`, `View`, `Quoting`,
--- `Writing` and `Scopes` first, and for fragments `FragmentTree` and `FragmentView`. `Lending`
--- says what a scope is after a loan, and `Extensions` serves one private function.
+-- What the contracts of this crate cite. Read `Tree`, `View`, `Quoting`, `Writing` and `Scopes`
+-- first, and for places inside a value `Paths`, `Locating` and `Parts`. `Lending` says what a scope
+-- is after a loan, and `Extensions` serves one private function.
 pub mod Tree
 pub mod View
 pub mod Maps
@@ -11,13 +11,13 @@ pub mod Writing
 pub mod Tokens
 pub mod Scopes
 pub mod Cells
-pub mod Modules
 pub mod Sizes
 pub mod Spare
 pub mod Lending
 pub mod Extensions
 pub mod Operands
-pub mod FragmentTree
-pub mod FragmentView
+pub mod Paths
+pub mod Locating
+pub mod Parts
 -- lemmas, which no contract names
 pub mod laws

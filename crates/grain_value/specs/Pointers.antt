@@ -1,8 +1,8 @@
 -- The names to which a pointer may lead.
 use Rattle.std.specs.Prelude.{◌≡◌, ℕ, Bool, true, false, List, [], ◌∷◌, Result, Ok, Err, ◌&&◌, ◌||◌, ◌==◌, nat_le, if◌then◌else◌}
 use Rattle.grain_value.specs.declared.values.FnPtr.{FnPtr}
-use Rattle.grain_value.specs.declared.values.pointers.ValueFault.{ValueFault}
-use Rattle.grain_value.specs.declared.values.pointers.ValueFault.TheVariants as fault
+use Rattle.grain_value.specs.declared.values.value_faults.ValueFault.{ValueFault}
+use Rattle.grain_value.specs.declared.values.value_faults.ValueFault.TheVariants as fault
 
 -- an ASCII letter
 abbrev pub is_letter : ℕ → Bool
@@ -28,5 +28,9 @@ is_pointer_name name = begins_with_letter name && all_word_bytes name
 abbrev pub Named : List ℕ → Result FnPtr ValueFault → Type 0
 Named name (Ok p) = (is_pointer_name name ≡ true) × (p ≡ record { name = name; curry = [] })
 Named name (Err fault.BadName) = is_pointer_name name ≡ false
+Named name (Err (fault.Bounds n i)) = ⊥
+Named name (Err fault.NoKey) = ⊥
+Named name (Err fault.NotIndexable) = ⊥
+Named name (Err fault.WrongType) = ⊥
 Named name (Err fault.Busy) = ⊥
 Named name (Err fault.Memory) = is_pointer_name name ≡ true

@@ -1,6 +1,6 @@
 //! Byte strings.
 
-ghost use Rattle.std.specs.Prelude.{◌≡◌, ◌==◌, ◌<◌, ◌^◌, ◌++◌, ◌∷◌, [], length, is_ok, IfOk, if◌then◌else◌, slice_get};
+ghost use Rattle.std.specs.Prelude.{◌≡◌, ◌==◌, ◌<◌, ◌^◌, ◌++◌, ◌∷◌, [], length, is_ok, IfOk, if◌then◌else◌, slice_get, slice_set};
 
 use crate::memory::OutOfMemory;
 use std::alloc::Global;
@@ -72,6 +72,15 @@ impl Blob {
         ensures { result.now ≡ self.now }
     {
         &self.bytes
+    }
+
+    /// Puts a byte in the place of the one at the index. Past the end nothing changes.
+    pub fn set(&mut self, index: usize, byte: u8)
+        ensures { self.new ≡ slice_set self.old index byte }
+    {
+        if let Some(place) = self.bytes.get_mut(index) {
+            *place = byte;
+        }
     }
 
     /// Puts a byte at the end. After want of memory the bytes are as they were.

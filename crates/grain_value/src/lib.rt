@@ -1,13 +1,11 @@
-//! The values of the script machine: texts, lists, held values, scopes, the store of cells,
-//! modules, sizes and limits; and the fragments of a program that are interpreted.
+//! The values of the script machine: texts, lists, held values, places inside values, scopes, the
+//! store of cells, sizes and limits.
 #![tactic(auto)]
 
 mod appending;
 mod blobs;
-mod fragments;
 mod lists;
 mod memory;
-mod modules;
 mod names;
 mod natives;
 mod pooled;
@@ -19,12 +17,8 @@ mod tokens;
 mod values;
 
 pub use blobs::Blob;
-pub use fragments::{Fragment, FragmentItem, Items};
 pub use lists::List;
 pub use memory::OutOfMemory;
-pub use modules::{
-    Module, ModuleEntry, ModuleFunction, ModuleIterator, ModuleTable, ModuleVariable, SharedModule,
-};
 pub use names::Name;
 pub use natives::{Kinds, Native};
 pub use pooled::Pools;
@@ -33,6 +27,6 @@ pub use stores::{Cell, Store};
 pub use texts::Text;
 pub use tokens::Token;
 pub use values::{
-    Array, Dynamic, FnPtr, Held, Limits, MOST_LEVELS, Map, ValueFault, calc_array_sizes,
-    calc_data_sizes, calc_map_sizes,
+    Array, Dynamic, FnPtr, Held, Limits, MOST_LEVELS, Map, Path, PathStep, Spot, ValueFault,
+    calc_array_sizes, calc_data_sizes, calc_map_sizes,
 };

@@ -3,7 +3,7 @@
 ghost use Rattle.std.specs.Prelude.{◌≡◌, ◌==◌, ◌<◌, ◌++◌, ◌∷◌, [], true, false, length, Some, IfOk, IfErr, if◌then◌else◌, is_ok, option_map, slice_get, slice_set};
 ghost use Rattle.std.specs.Option.{option_copied};
 ghost use Rattle.grain_value.specs.Cells.{idle, lent, is_busy, is_read_only, content, held_value, content_flag};
-ghost use Rattle.grain_value.specs.declared.values.pointers.ValueFault.TheVariants as fault;
+ghost use Rattle.grain_value.specs.declared.values.value_faults.ValueFault.TheVariants as fault;
 
 use crate::memory::OutOfMemory;
 use crate::values::{Dynamic, Held, ValueFault};

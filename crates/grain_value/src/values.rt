@@ -4,20 +4,26 @@ ghost use Rattle.std.specs.Prelude.{◌≡◌, false};
 
 mod arrays;
 mod copies;
+mod locating;
 mod looking;
 mod maps;
+mod parts;
+mod paths;
 mod pointers;
 mod sizes;
 mod types;
+mod value_faults;
 mod writing;
 
 use crate::blobs::Blob;
 use crate::texts::Text;
-pub use pointers::ValueFault;
+pub use locating::Spot;
+pub use paths::{Path, PathStep};
 pub use sizes::{calc_array_sizes, calc_data_sizes, calc_map_sizes};
 use std::alloc::Global;
 use std::collections::BTreeMap;
 use std::marker::Model;
+pub use value_faults::ValueFault;
 
 /// A script value.
 #[cycle(values)]
@@ -121,9 +127,10 @@ impl Model for Map {
 }
 
 /// How many arrays, maps and pointers may stand inside one another, and how many blocks of a
-/// fragment. What would nest deeper is not made: the call answers that there is no memory. So what
-/// goes through a value or a fragment, as a copy does, goes no deeper than this on the process's own
-/// stack.
+/// fragment, in what is made or copied: the call answers that there is no memory for what would nest
+/// deeper. A path to a place has no more steps than this either, so a value may nest twice as deep
+/// once something was put at a place inside it. So what goes through a value, as a drop does, goes
+/// no deeper than that on the process's own stack.
 pub const MOST_LEVELS: usize = 1024;
 
 /// A value in an operand or a scope entry. One that is read-only may not be assigned to.

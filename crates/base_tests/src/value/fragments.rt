@@ -1,6 +1,7 @@
 //! Fragments that are made, copied and looked at.
 
-use grain_value::{Fragment, FragmentItem, Items, MOST_LEVELS, OutOfMemory};
+use grain_module::{Fragment, FragmentItem, Items};
+use grain_value::{MOST_LEVELS, OutOfMemory};
 use std::alloc::Global;
 use std::process::Abort;
 

@@ -1,9 +1,8 @@
 //! What stands in modules.
 
 use crate::made::text_of;
-use grain_value::{
-    Dynamic, Kinds, Module, ModuleEntry, ModuleTable, Native, OutOfMemory, SharedModule,
-};
+use grain_module::{Module, ModuleEntry, ModuleTable, SharedModule};
+use grain_value::{Dynamic, Kinds, Native, OutOfMemory};
 use std::alloc::Global;
 use std::process::Abort;
 

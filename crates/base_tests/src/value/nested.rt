@@ -1,7 +1,9 @@
 //! How deep values nest.
 
 use crate::made::quoted;
-use grain_value::{Array, Dynamic, MOST_LEVELS, Map, OutOfMemory, Text};
+use grain_value::{
+    Array, Dynamic, MOST_LEVELS, Map, OutOfMemory, Path, PathStep, Store, Text, calc_data_sizes,
+};
 use std::alloc::Global;
 
 /// A value within `levels` arrays.
@@ -35,4 +37,28 @@ fn copies_nest_as_deep(rt: HostRuntime) {
     let copy = deepest.copy(rt.alloc()).expect(&rt, "memory");
     let text = quoted(&rt, rt.alloc(), &copy);
     assert!(rt; text.len() == 2 * 1024 + 2);
+}
+
+/// The path to the first element of the first element, and so on.
+fn first_of_first(alloc: Global, steps: usize) -> Result<Path, OutOfMemory> {
+    let mut path = Path::new(alloc);
+    for _ in 0..steps {
+        path.push(PathStep::Index(0))?;
+    }
+    Ok(path)
+}
+
+#[test]
+fn what_is_put_inside_nests_twice_as_deep_and_is_not_copied(rt: HostRuntime) {
+    let alloc = rt.alloc();
+    let mut value = nested(alloc, MOST_LEVELS).expect(&rt, "memory");
+    let path = first_of_first(alloc, MOST_LEVELS).expect(&rt, "memory");
+    let inner = nested(alloc, MOST_LEVELS).expect(&rt, "memory");
+    drop(value.put_at(&path, inner));
+    let text = quoted(&rt, alloc, &value);
+    assert!(rt; text.len() == 4 * MOST_LEVELS + 2);
+    let sizes = calc_data_sizes(&value, &Store::new(alloc));
+    assert!(rt; sizes.0 == 2 * MOST_LEVELS);
+    assert!(rt; value.copy(alloc).is_err());
+    drop(value);
 }

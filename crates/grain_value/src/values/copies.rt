@@ -2,13 +2,13 @@
 
 ghost use Rattle.std.specs.Prelude.{◌≡◌, IfOk};
 
-use super::{Array, Dynamic, FnPtr, Map};
+use super::{Array, Dynamic, FnPtr, MOST_LEVELS, Map};
 use crate::memory::OutOfMemory;
 use std::alloc::Global;
 use std::collections::BTreeMap;
 
 impl Dynamic {
-    /// An equal value.
+    /// An equal value. Where the value nests deeper than `MOST_LEVELS`, there is no memory for it.
     #[cycle(copy)]
     pub fn copy(&self, alloc: Global) -> Result<Dynamic, OutOfMemory>
         ensures { IfOk result (λ value. value ≡ self.now) }
@@ -59,6 +59,9 @@ impl Array {
     pub fn copy(&self, alloc: Global) -> Result<Array, OutOfMemory>
         ensures { IfOk result (λ array. array ≡ self.now) }
     {
+        if self.levels > MOST_LEVELS {
+            return Err(OutOfMemory);
+        }
         let mut values = Vec::with_capacity(alloc, self.values.len())?;
         for value in &self.values {
             let value = value.copy(alloc)?;
@@ -75,6 +78,9 @@ impl Map {
     pub fn copy(&self, alloc: Global) -> Result<Map, OutOfMemory>
         ensures { IfOk result (λ map. map ≡ self.now) }
     {
+        if self.levels > MOST_LEVELS {
+            return Err(OutOfMemory);
+        }
         let mut pairs = BTreeMap::new(alloc);
         for (key, value) in self.pairs.iter() {
             let name = key.clone()?;

@@ -4,31 +4,10 @@ ghost use Rattle.std.specs.Prelude.{◌≡◌, ◌++◌, ◌∷◌, [], is_ok, i
 ghost use Rattle.grain_value.specs.View.{tree};
 ghost use Rattle.grain_value.specs.Pointers.{is_pointer_name, begins_with_letter, all_word_bytes, Named};
 
-use super::{Array, Dynamic, FnPtr};
+use super::{Array, Dynamic, FnPtr, ValueFault};
 use crate::memory::OutOfMemory;
 use crate::texts::Text;
 use std::alloc::Global;
-
-/// Why a call on a value gave nothing.
-#[derive(Clone, Copy, Debug, PartialEq, Eq)]
-pub enum ValueFault {
-    /// The content of the cell is lent.
-    Busy,
-    /// The text is no name of a function to which a pointer may lead.
-    BadName,
-    /// There was no memory.
-    Memory,
-}
-
-impl From<OutOfMemory> for ValueFault {
-    ghost use Rattle.grain_value.specs.declared.values.pointers.ValueFault.TheVariants as fault;
-
-    ghost from_gives = { λ _ e. e ≡ fault.Memory };
-
-    fn from(_: OutOfMemory) -> ValueFault {
-        ValueFault::Memory
-    }
-}
 
 impl FnPtr {
     /// A pointer to the functions of this name, with no values. `BadName` unless the name has ASCII

@@ -1,6 +1,0 @@
-use Rattle.std.proofs.Common.{◌≡◌, take}
-use Rattle.grain_value.specs.FragmentView.{item_trees}
-use Rattle.grain_value.proofs.fragments.+copy.Given as goal
-
-abbrev pub invariant-Items::copy-loop-item : goal.invariant-Items::copy-loop-item
-invariant-Items::copy-loop-item l = item_trees l.items.items ≡ item_trees (take l.item-index l.item-items)

@@ -1,8 +1,0 @@
--- The first that fits is among those that are left.
-use Rattle.std.proofs.Common.{◌≡◌, drop}
-use Rattle.grain_value.specs.Modules.{global_function_of}
-use Rattle.grain_value.proofs.modules.Module.get_global_fn.Given as goal
-
-abbrev pub invariant-loop-function : goal.invariant-loop-function
-invariant-loop-function l =
-    global_function_of l.name l.kinds (drop l.function-index l.function-items) ≡ global_function_of l.name l.kinds l.self.functions

@@ -1,8 +1,0 @@
--- The first that fits is among those that are left.
-use Rattle.std.proofs.Common.{◌≡◌, drop}
-use Rattle.grain_value.specs.Modules.{variable_named}
-use Rattle.grain_value.proofs.modules.Module.get_var.Given as goal
-
-abbrev pub invariant-loop-variable : goal.invariant-loop-variable
-invariant-loop-variable l =
-    variable_named l.name (drop l.variable-index l.variable-items) ≡ variable_named l.name l.self.variables
