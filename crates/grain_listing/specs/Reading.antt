@@ -89,6 +89,7 @@ set_up said assign_ops code =
         names = Statements.names said;
         tokens = Statements.tokens said;
         assign_ops = assign_ops;
+        chains = [];
         positions = positions said;
         source = Statements.source said;
       };

@@ -95,6 +95,7 @@ impl Assembler {
                 self.functions.push(Function {
                     name,
                     params,
+                    this_type: None,
                     chunk,
                 })?;
                 Ok(())

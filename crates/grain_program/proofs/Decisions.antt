@@ -1,6 +1,6 @@
 -- Tests that tell whether a fact holds.
 use Rattle.std.proofs.Common.{◌≡◌, ℕ, zero, suc, ◌<◌, ◌≤◌, ◌⊎◌, ◌&&◌, ◌||◌, ◌==◌, Bool, true, false, List, [], ◌∷◌, length, get_or, Option, Some, None, refl, sym, subst, inl, inr, arith}
-use Rattle.std.specs.Prelude.{nat_lt, nat_le, slice_get}
+use Rattle.std.specs.Prelude.{nat_lt, nat_le, slice_get, IfSome}
 use Rattle.std.proofs.lemmas.Bool.{ltb-true, ltb-false, leb-true, leb-false, eqb-true, eqb-false}
 use Rattle.std.specs.List.{AllByRecursion}
 use Rattle.std.specs.Int.RustNames.{bit_and}
@@ -16,7 +16,7 @@ use Rattle.grain_program.specs.declared.code.effects.Flow.TheVariants as flow
 use Rattle.grain_program.specs.View.{View, no_op}
 use Rattle.grain_program.specs.Fields.{every}
 use Rattle.grain_program.specs.InstructionSet.{fields_of}
-use Rattle.grain_program.specs.Indices.{HasAssignOp, InPool, InPools, record_named, in_pool, in_pools, IsNamed, all_below, is_named}
+use Rattle.grain_program.specs.Indices.{HasAssignOp, InPool, InPools, record_named, in_pool, in_pools, IsNamed, all_below, below_if, is_named}
 use Rattle.grain_program.specs.Capabilities.{needs, Permits, permits}
 use Rattle.grain_program.specs.Rules.{StaysIn, address_of, rule_of, Precedes, precedes}
 use Rattle.grain_program.specs.Owners.{stays_in}
@@ -34,7 +34,7 @@ pub lt_decides : (a b : ℕ) → Decides (nat_lt a b) (a < b)
 lt_decides a b = decides (a < b) (nat_lt a b) (λ e. ltb-true a b e) (λ e lt. let le =
     ltb-false a b e in omega arith)
 
-both_decide : (P Q : Type 0) (a b : Bool) → Decides a P → Decides b Q → Decides (a && b) (P × Q)
+pub both_decide : (P Q : Type 0) (a b : Bool) → Decides a P → Decides b Q → Decides (a && b) (P × Q)
 both_decide P Q true true p q = (p, q)
 both_decide P Q true false p q = λ h. q h.1
 both_decide P Q false b p q = λ h. p h.0
@@ -44,7 +44,7 @@ either_decide P Q true b p q = inl p
 either_decide P Q false true p q = inr q
 either_decide P Q false false p q = λ h. elim h [ inl x ↦ p x | inr y ↦ q y ]
 
-le_decides : (a b : ℕ) → Decides (nat_le a b) (a ≤ b)
+pub le_decides : (a b : ℕ) → Decides (nat_le a b) (a ≤ b)
 le_decides a b = decides (a ≤ b) (nat_le a b) (λ e. leb-true a b e) (λ e le. let lt =
     leb-false a b e in omega arith)
 
@@ -150,16 +150,30 @@ all_decide end (x ∷ ns) =
       more true h = one h
       more false h = λ all. h (all 0 x refl, λ k n e. all (suc k) n e)
 
+-- the number, if there is one, is below the end
+abbrev BelowIf : ℕ → Option ℕ → Type 0
+BelowIf end o = IfSome o (λ n. n < end)
+
+below_if_decides : (end : ℕ) (o : Option ℕ) → Decides (below_if end o) (BelowIf end o)
+below_if_decides end None = tt
+below_if_decides end (Some n) = lt_decides n end
+
 -- the test of a function's names decides whether they are in the pool
 pub named_decide : (p : View) (f : Function) → Decides (is_named p f) (IsNamed p f)
 named_decide p f =
-    at (is_named p f) (both_decide (f.name < length p.names) (AllBelow (length p.names) f.params)
-    (nat_lt f.name (length p.names)) (all_below (length p.names) f.params) (lt_decides f.name
-    (length p.names)) (all_decide (length p.names) f.params)) where
-      at : (b : Bool) → Decides b ((f.name < length p.names) × AllBelow (length p.names) f.params)
+    at (is_named p f) (both_decide (f.name < names) (BelowIf names f.this_type × AllBelow names
+    f.params) (nat_lt f.name names) (below_if names f.this_type && all_below names f.params)
+    (lt_decides f.name names) (both_decide (BelowIf names f.this_type) (AllBelow names f.params)
+    (below_if names f.this_type) (all_below names f.params) (below_if_decides names f.this_type)
+    (all_decide names f.params))) where
+      names : ℕ
+      names = length p.names
+
+      at : (b : Bool)
+          → Decides b ((f.name < names) × (BelowIf names f.this_type × AllBelow names f.params))
           → Decides b (IsNamed p f)
-      at true h = record { name = h.0; params = h.1 }
-      at false h = λ n. h (n.name, n.params)
+      at true h = record { name = h.0; this_type = h.1.0; params = h.1.1 }
+      at false h = λ n. h (n.name, (n.this_type, n.params))
 
 -- the test of the end decides whether the flow stays in the chunk
 pub stays_decide : (c : Chunk) (next : ℕ) (w : Flow)

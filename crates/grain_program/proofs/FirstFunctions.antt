@@ -5,7 +5,7 @@ use Rattle.std.proofs.lemmas.Bool.{cases_lt, eq-eqb}
 use Rattle.std.proofs.lemmas.List.{get_or_past}
 use Rattle.grain_program.specs.declared.code.functions.Function.{Function}
 use Rattle.grain_program.specs.declared.lookups.First.{First}
-use Rattle.grain_program.specs.Lookups.{is_called, first_named, AreFirst}
+use Rattle.grain_program.specs.Lookups.{is_named_so, is_called, first_named, AreFirst}
 
 abbrev this : Function → ℕ → First
 this f number = record { number = number; count = length f.params }
@@ -15,8 +15,8 @@ first_called : (name from : ℕ) (fs : List Function) (g : First) → first_name
     → position_from (is_called name g.count) from fs ≡ Some g.number
 first_called name from [] g e = absurd cc
 first_called name from (f ∷ fs) g e =
-    at (f.name == name) refl e (λ k. first_called name (from + 1) fs g k) where
-      at : (b : Bool) → (f.name == name) ≡ b
+    at (is_named_so name f) refl e (λ k. first_called name (from + 1) fs g k) where
+      at : (b : Bool) → is_named_so name f ≡ b
           → cond b (Some (this f from)) (first_named name (from + 1) fs) ≡ Some g
           → (first_named name (from + 1) fs ≡ Some g
           → position_from (is_called name g.count) (from + 1) fs ≡ Some g.number)

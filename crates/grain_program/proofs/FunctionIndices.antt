@@ -1,5 +1,5 @@
 -- The first functions by name and number of parameters, from the last function to the first.
-use Rattle.std.proofs.Common.{◌≡◌, ℕ, zero, suc, ◌+◌, ◌<◌, ◌==◌, ◌&&◌, Bool, cond, List, [], ◌∷◌, length, drop, Some, refl, sym, ap, ◌∙◌, add-one, arith}
+use Rattle.std.proofs.Common.{◌≡◌, ℕ, zero, suc, ◌+◌, ◌<◌, ◌==◌, ◌&&◌, Bool, true, false, cond, List, [], ◌∷◌, length, drop, Some, refl, sym, ap, ◌∙◌, add-one, arith}
 use Rattle.std.specs.Prelude.{slice_get}
 use Rattle.std.specs.List.{position_from}
 use Rattle.std.specs.Ordering.{nat_cmp, is_eq, ordering_then, MatchOrdering}
@@ -9,7 +9,7 @@ use Rattle.std.specs.BTreeMap.{BTreeMap, get, Updates}
 use Rattle.std.proofs.lemmas.Bool.{eq-eqb, ne_eqb}
 use Rattle.std.proofs.lemmas.Cmp.{ranked}
 use Rattle.grain_program.specs.declared.code.functions.Function.{Function}
-use Rattle.grain_program.specs.Lookups.{is_called, signature_cmp}
+use Rattle.grain_program.specs.Lookups.{is_untyped, is_called, signature_cmp}
 
 -- the map has the first ones of the functions from the number on
 abbrev pub IndexFrom : List Function → ℕ → BTreeMap (ℕ × ℕ) ℕ → Type 0
@@ -37,11 +37,45 @@ drop_at [] i f e = absurd cc
 drop_at (g ∷ fs) zero f e = let same : g ≡ f = cc in ap (λ (x : Function). x ∷ fs) same
 drop_at (g ∷ fs) (suc i) f e = drop_at fs i f e
 
--- one function more
+and_true : (b : Bool) → (b && true) ≡ b
+and_true true = refl
+and_true false = refl
+
+and_false : (b : Bool) → (b && false) ≡ false
+and_false true = refl
+and_false false = refl
+
+-- a function that is no method of one type is called by its name and its number of parameters, and any
+-- other is not called
+untyped_called : (f : Function) (name count : ℕ) → is_untyped f ≡ true
+    → is_called name count f ≡ ((f.name == name) && (length f.params == count))
+untyped_called f name count u =
+    ap (λ (b : Bool). ((f.name == name) && b) && (length f.params == count)) u
+    ∙ ap (λ (b : Bool). b && (length f.params == count)) (and_true (f.name == name))
+
+typed_called : (f : Function) (name count : ℕ) → is_untyped f ≡ false
+    → is_called name count f ≡ false
+typed_called f name count u =
+    ap (λ (b : Bool). ((f.name == name) && b) && (length f.params == count)) u
+    ∙ ap (λ (b : Bool). b && (length f.params == count)) (and_false (f.name == name))
+
+-- one function more, which is a method of one type
+pub index_same : (fs : List Function) (i : ℕ) (f : Function) (before : BTreeMap (ℕ × ℕ) ℕ)
+    → slice_get fs i ≡ Some f → is_untyped f ≡ false → IndexFrom fs (suc i) before
+    → IndexFrom fs i before
+index_same fs i f before e typed all name count =
+    all name count
+    ∙ ap (λ k. position_from (is_called name count) k (drop (suc i) fs)) (sym (add-one i))
+    ∙ ap (λ (b : Bool). cond b (Some i) (position_from (is_called name count) (i + 1)
+    (drop (suc i) fs))) (sym (typed_called f name count typed))
+    ∙ ap (position_from (is_called name count) i) (sym (drop_at fs i f e))
+
+-- one function more, which is no method of one type
 pub index_more : (fs : List Function) (i : ℕ) (f : Function) (n : ℕ) (before now : BTreeMap (ℕ × ℕ)
-    ℕ) → slice_get fs i ≡ Some f → n ≡ length f.params → IndexFrom fs (suc i) before
+    ℕ) → slice_get fs i ≡ Some f → n ≡ length f.params → is_untyped f ≡ true
+    → IndexFrom fs (suc i) before
     → Updates signature_cmp before now (f.name, n) (Some i) → IndexFrom fs i now
-index_more fs i f n before now e long all u name count =
+index_more fs i f n before now e long untyped all u name count =
     u.0 (name, count)
     ∙ ap (λ (b : Bool). cond b (Some i) (get signature_cmp before (name, count))) (same_place f.name
     n name count)
@@ -49,4 +83,6 @@ index_more fs i f n before now e long all u name count =
     ∙ ap (λ k. position_from (is_called name count) k (drop (suc i) fs)) (sym (add-one i)))
     ∙ ap (λ k. cond ((f.name == name) && (k == count)) (Some i) (position_from (is_called name
     count) (i + 1) (drop (suc i) fs))) long
+    ∙ ap (λ (b : Bool). cond b (Some i) (position_from (is_called name count) (i + 1)
+    (drop (suc i) fs))) (sym (untyped_called f name count untyped))
     ∙ ap (position_from (is_called name count) i) (sym (drop_at fs i f e))

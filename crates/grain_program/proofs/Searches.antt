@@ -5,7 +5,7 @@ use Rattle.grain_program.specs.declared.verifier.owners.Owner.{Owner}
 use Rattle.grain_program.specs.declared.verifier.refusals.Refusal.{Refusal}
 use Rattle.grain_program.specs.View.{View}
 use Rattle.grain_program.specs.Layout.{chunks_in, layout_fault}
-use Rattle.grain_program.specs.Rules.{Splits, RefusedBeforeHeights, earlier}
+use Rattle.grain_program.specs.Rules.{Splits, RefusedBeforeChains, earlier}
 use Rattle.grain_program.specs.Owners.{Owned, rule_at, IsFirstFound, first_empty, first_misnamed}
 use Rattle.grain_program.proofs.Breaches.{ByOp, ByName, ByEmptyChunk, FirstOf, earlier_first, is_first, neither}
 use Rattle.grain_program.proofs.Tiles.{is_tiled, none_empty, first_of_empty, first_name, all_named}
@@ -36,7 +36,7 @@ module _ (p : View) (chunks : List Chunk) (whole : chunks ≡ chunks_in p) (laid
     together = is ∙ ap (λ x. earlier ops x) (by ∙ ap (λ x. earlier x empty_one) e
         ∙ ap (λ x. earlier (first_misnamed p p.functions) x) h)
 
-    pub refused : (r : Refusal) → first ≡ Some r → RefusedBeforeHeights p chunks r
+    pub refused : (r : Refusal) → first ≡ Some r → RefusedBeforeChains p chunks r
     refused r k =
         inr (
           laid,

@@ -1,6 +1,6 @@
 -- The indices of an instruction, of the pool records that it uses and of a function name entries of
 -- their pools.
-use Rattle.std.specs.Prelude.{ℕ, ◌≡◌, ◌<◌, ◌&&◌, nat_lt, Bool, true, false, List, [], ◌∷◌, length, slice_get, Option, Some, None}
+use Rattle.std.specs.Prelude.{ℕ, ◌≡◌, ◌<◌, ◌&&◌, nat_lt, Bool, true, false, List, [], ◌∷◌, length, slice_get, Option, Some, None, IfSome}
 use Rattle.std.specs.List.{AllByRecursion}
 use Rattle.grain_program.specs.declared.code.parts.AssignOp.{AssignOp}
 use Rattle.grain_program.specs.declared.code.functions.Function.{Function}
@@ -52,9 +52,11 @@ in_pool p (field.Number n) = true
 abbrev pub in_pools : View → Op → Bool
 in_pools p o = every (in_pool p) (fields_of o)
 
--- the function's name and its parameters' names are entries of the pool
+-- the function's name, its parameters' names and the name of its type, if it has one, are entries of
+-- the pool
 pub record IsNamed (p : View) (f : Function) : Type 0 where
   pub name : f.name < length p.names
+  pub this_type : IfSome f.this_type (λ n. n < length p.names)
   pub params : (k n : ℕ) → slice_get f.params k ≡ Some n → n < length p.names
 
 -- each number of the list is below the first one
@@ -62,6 +64,13 @@ abbrev pub all_below : ℕ → List ℕ → Bool
 all_below end [] = true
 all_below end (n ∷ ns) = nat_lt n end && all_below end ns
 
+-- the number, if there is one, is below the first one
+abbrev pub below_if : ℕ → Option ℕ → Bool
+below_if end None = true
+below_if end (Some n) = nat_lt n end
+
 -- the test of a function's names
 abbrev pub is_named : View → Function → Bool
-is_named p f = nat_lt f.name (length p.names) && all_below (length p.names) f.params
+is_named p f =
+    nat_lt f.name (length p.names)
+    && (below_if (length p.names) f.this_type && all_below (length p.names) f.params)

@@ -19,6 +19,7 @@ use Rattle.grain_program.specs.Indices.{InPools, IsNamed}
 use Rattle.grain_program.specs.Capabilities.{Permits}
 use Rattle.grain_program.specs.Layout.{layout_fault}
 use Rattle.grain_program.specs.Starts.{Start}
+use Rattle.grain_program.specs.Chains.{IsFirstBadChain}
 
 -- an operand that is an address names an instruction of the same chunk
 abbrev pub Lands : View → Chunk → Field → Type 0
@@ -124,9 +125,10 @@ Breach p chunks (refusal.TooDeep a) = ⊥
 Breach p chunks (refusal.Underflow a) = ⊥
 Breach p chunks (refusal.HandlerDisagrees a) = ⊥
 Breach p chunks (refusal.UnderTry a) = ⊥
+Breach p chunks (refusal.BadChain i) = ⊥
 Breach p chunks refusal.Memory = ⊥
 
--- the address of a refusal
+-- the address of a refusal, or the index of its chain
 abbrev pub address_of : Refusal → ℕ
 address_of (refusal.Undecodable a) = a
 address_of (refusal.PoolIndex a) = a
@@ -137,6 +139,7 @@ address_of (refusal.TooDeep a) = a
 address_of (refusal.Underflow a) = a
 address_of (refusal.HandlerDisagrees a) = a
 address_of (refusal.UnderTry a) = a
+address_of (refusal.BadChain i) = i
 address_of (refusal.Capability a) = a
 address_of refusal.Memory = 0
 
@@ -151,6 +154,7 @@ rule_of (refusal.TooDeep a) = 6
 rule_of (refusal.Underflow a) = 7
 rule_of (refusal.HandlerDisagrees a) = 8
 rule_of (refusal.UnderTry a) = 9
+rule_of (refusal.BadChain i) = 10
 rule_of (refusal.Capability a) = 12
 rule_of refusal.Memory = 13
 
@@ -171,13 +175,17 @@ earlier None other = other
 earlier (Some r) None = Some r
 earlier (Some r) (Some s) = if precedes r s then Some r else Some s
 
--- the breach that precedes every other
+-- the breach of a rule of single instructions, chunks or functions' names that precedes every other
 pub record IsFirst (p : View) (chunks : List Chunk) (r : Refusal) : Type 0 where
   pub breach : Breach p chunks r
   pub first : (s : Refusal) → Breach p chunks s → Precedes r s
 
--- what is refused before heights are looked at: the layout, and else the first breach
-abbrev pub RefusedBeforeHeights : View → List Chunk → Refusal → Type 0
-RefusedBeforeHeights p chunks r =
+-- what is refused before chains are looked at: the layout, and else the first breach
+abbrev pub RefusedBeforeChains : View → List Chunk → Refusal → Type 0
+RefusedBeforeChains p chunks r =
     ((a : ℕ) × (layout_fault (length p.code) chunks ≡ Some a) × (r ≡ refusal.Undecodable a))
     ⊎ ((layout_fault (length p.code) chunks ≡ None) × IsFirst p chunks r)
+
+-- what is refused for the first chain that breaks a rule of chains
+abbrev pub RefusedForChain : View → Refusal → Type 0
+RefusedForChain p r = (i : ℕ) × IsFirstBadChain p i × (r ≡ refusal.BadChain i)

@@ -15,7 +15,8 @@ use Rattle.grain_program.specs.Decoding.{op_at}
 use Rattle.grain_program.specs.Effects.{effect_of, leads}
 use Rattle.grain_program.specs.Layout.{chunks_in, layout_fault}
 use Rattle.grain_program.specs.Starts.{Start}
-use Rattle.grain_program.specs.Rules.{Splits, RefusedBeforeHeights}
+use Rattle.grain_program.specs.Rules.{Splits, IsSplit, RefusedBeforeChains, RefusedForChain}
+use Rattle.grain_program.specs.Chains.{AreGoodChains}
 use Rattle.grain_program.specs.Shapes.{Shape, bare, height_after, after, lacks_handler, is_under, shape_after, clash, shape_at}
 
 -- the number is in the list
@@ -50,6 +51,7 @@ HasTyping code chunks = (typing : ℕ → Option Shape) × Typing code chunks ty
 pub record Valid (p : View) (chunks : List Chunk) : Type 0 where
   pub layout : layout_fault (length p.code) chunks ≡ None
   pub splits : Splits p chunks
+  pub chains : AreGoodChains p
   pub typing : ℕ → Option Shape
   pub typed : Typing p.code chunks typing
 
@@ -142,12 +144,13 @@ analysis code chunks = analyse_from code chunks (nothing_seen (length code))
 abbrev pub StopsWith : List ℕ → List Chunk → Refusal → Type 0
 StopsWith code chunks r = analysis code chunks ≡ Err r
 
--- what is refused: by the layout and the rules of single instructions, or else where the search for
--- a typing stops
+-- what is refused, phase by phase: by the layout and the rules of single instructions; or else, where
+-- none of these is broken, for a chain; or else where the search for a typing stops
 abbrev pub Refused : View → List Chunk → Refusal → Type 0
 Refused p chunks r =
-    RefusedBeforeHeights p chunks r
-    ⊎ ((layout_fault (length p.code) chunks ≡ None) × Splits p chunks × StopsWith p.code chunks r)
+    RefusedBeforeChains p chunks r
+    ⊎ ((IsSplit p chunks × RefusedForChain p r)
+    ⊎ (IsSplit p chunks × AreGoodChains p × StopsWith p.code chunks r))
 
 -- the first rule that the program's chunks break
 abbrev pub IsRefusal : View → Refusal → Type 0

@@ -11,6 +11,9 @@ use Rattle.grain_program.specs.Bits.{bits_of}
 use Rattle.grain_program.specs.declared.code.parts.Chunk.{Chunk}
 use Rattle.grain_program.specs.declared.code.functions.Function.{Function}
 use Rattle.grain_program.specs.declared.code.parts.AssignOp.{AssignOp}
+use Rattle.grain_program.specs.declared.code.chains.Chain.{Chain}
+use Rattle.grain_program.specs.declared.code.chains.Root.TheVariants as root
+use Rattle.grain_program.specs.declared.code.chains.Tail.TheVariants as tail
 use Rattle.grain_program.specs.declared.code.parts.PositionEntry.{PositionEntry}
 use Rattle.grain_program.specs.declared.code.parts.Parts.{Parts}
 
@@ -24,6 +27,7 @@ pub record View : Type 0 where
   pub names : List (List ℕ)
   pub tokens : List Token
   pub assign_ops : List AssignOp
+  pub chains : List Chain
   pub positions : List PositionEntry
   pub source : Option (List ℕ)
 
@@ -37,6 +41,7 @@ view_of p = record {
   names = p.names;
   tokens = p.tokens;
   assign_ops = p.assign_ops;
+  chains = p.chains;
   positions = p.positions;
   source = p.source;
 }
@@ -56,6 +61,12 @@ no_op = record { op_assign = token.Other; op_assign_name = 0; op = token.Other; 
 
 abbrev pub assign_op_of : View → ℕ → AssignOp
 assign_op_of v i = slice_index_or v.assign_ops i no_op
+
+abbrev pub no_chain : Chain
+no_chain = record { root = root.Temporary; steps = []; tail = tail.Read; operands = 0 }
+
+abbrev pub chain_of : View → ℕ → Chain
+chain_of v i = slice_index_or v.chains i no_chain
 
 -- the position that is recorded for the address, or none
 abbrev pub position_in : List PositionEntry → ℕ → Position

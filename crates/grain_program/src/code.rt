@@ -2,6 +2,7 @@
 
 pub mod bytes;
 pub mod caps;
+pub mod chains;
 pub mod descriptors;
 pub mod effects;
 pub mod fields;

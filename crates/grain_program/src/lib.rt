@@ -4,10 +4,12 @@
 mod code;
 mod lookups;
 mod programs;
+mod slots;
 mod verifier;
 
 pub use code::bytes::{assemble, assembled_reads_back, decode};
 pub use code::caps::Caps;
+pub use code::chains::{Chain, Chains, Root, Step, StepFlags, Steplist, Tail};
 pub use code::descriptors::Descriptor;
 pub use code::effects::{Effect, Flow, Handling};
 pub use code::fields::{Field, Fields};

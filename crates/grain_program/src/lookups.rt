@@ -2,7 +2,7 @@
 
 ghost use Rattle.std.specs.Prelude.{◌≡◌, IfOk, length, slice_index_or};
 ghost use Rattle.std.specs.List.{position_from};
-ghost use Rattle.grain_program.specs.Lookups.{has_text, IsIndex, AreFirst};
+ghost use Rattle.grain_program.specs.Lookups.{has_text, is_type, is_method, IsIndex, AreFirst};
 
 use crate::code::functions::Function;
 use crate::code::pools::Names;
@@ -10,17 +10,18 @@ use grain_value::OutOfMemory;
 use std::alloc::Global;
 use std::collections::BTreeMap;
 
-/// The first function of a name: its number, and how many parameters it has.
+/// The first function of a name that is no method of one type: its number, and how many parameters it
+/// has.
 #[derive(Clone, Copy, Debug, PartialEq, Eq)]
 pub struct First {
     pub number: usize,
     pub count: usize,
 }
 
-/// The first function of each name, by the name's index.
+/// The first function of each name that is no method of one type, by the name's index.
 pub type FirstFunctions = Vec<Option<First>>;
 
-/// The first function of each of the first `names` names.
+/// The first function of each of the first `names` names that is no method of one type.
 pub fn first_functions(
     alloc: Global,
     functions: &[Function],
@@ -34,7 +35,7 @@ pub fn first_functions(
         let function = &functions[number];
         let name = function.name as usize;
         let count = function.params.len();
-        if name < firsts.len() {
+        if name < firsts.len() && function.this_type.is_none() {
             firsts[name] = Some(First { number, count });
         }
     }
@@ -52,32 +53,39 @@ pub fn first_of(firsts: &[Option<First>], name: u32) -> Option<First>
     }
 }
 
-/// The number of the first function of each name, by its index, with each number of parameters.
+/// The number of the first function of each name, by its index, with each number of parameters, that is
+/// no method of one type.
 pub type FunctionIndex = BTreeMap<(u32, usize), usize>;
 
-/// The first of these functions, by name and number of parameters.
+/// The first of these functions that are no methods of one type, by name and number of parameters.
 pub fn index_functions(alloc: Global, functions: &[Function]) -> Result<FunctionIndex, OutOfMemory>
     ensures { IfOk result (λ function_index. IsIndex functions.now function_index) }
 {
     let mut function_index = BTreeMap::new(alloc);
     for number in (0..functions.len()).rev() {
         let function = &functions[number];
-        function_index.insert((function.name, function.params.len()), number)?;
+        if function.this_type.is_none() {
+            function_index.insert((function.name, function.params.len()), number)?;
+        }
     }
     Ok(function_index)
 }
 
-/// Whether the function has a name of this text, and this number of parameters.
+/// Whether the function has a name of this text, and this number of parameters, and is no method of one
+/// type.
 fn has_text(names: &Names, text: &str, count: usize, function: &Function) -> bool
     ensures { result ≡ has_text names.now text.now count function.now }
 {
     match names.get(function.name as usize) {
-        Some(name) => name.as_str() == text && function.params.len() == count,
+        Some(name) => {
+            name.as_str() == text && function.this_type.is_none() && function.params.len() == count
+        }
         None => false,
     }
 }
 
-/// The number of the first function that has a name of this text, with this number of parameters.
+/// The number of the first function that has a name of this text, with this number of parameters, and
+/// is no method of one type.
 pub fn first_by_text(
     names: &Names,
     functions: &[Function],
@@ -88,6 +96,55 @@ pub fn first_by_text(
 {
     for (number, function) in functions.iter().enumerate() {
         if has_text(names, text, count, function) {
+            return Some(number);
+        }
+    }
+    None
+}
+
+/// Whether this is the index of the name of a type, and the name is this text.
+fn is_type(names: &Names, type_name: &str, index: Option<u32>) -> bool
+    ensures { result ≡ is_type names.now type_name.now index }
+{
+    match index {
+        Some(index) => match names.get(index as usize) {
+            Some(name) => name.as_str() == type_name,
+            None => false,
+        },
+        None => false,
+    }
+}
+
+/// Whether the function has this name, by its index, and this number of parameters, and is a method of
+/// this type alone.
+fn is_method(
+    names: &Names,
+    name_index: u32,
+    count: usize,
+    type_name: &str,
+    function: &Function,
+) -> bool
+    ensures { result ≡ is_method names.now name_index count type_name.now function.now }
+{
+    function.name == name_index
+        && is_type(names, type_name, function.this_type)
+        && function.params.len() == count
+}
+
+/// The number of the first function of this name, by its index, with this number of parameters, that
+/// is a method of this type alone.
+pub fn first_method(
+    names: &Names,
+    functions: &[Function],
+    name_index: u32,
+    count: usize,
+    type_name: &str,
+) -> Option<usize>
+    ensures { result ≡ position_from (is_method names.now name_index count type_name.now) 0
+        functions.now }
+{
+    for (number, function) in functions.iter().enumerate() {
+        if is_method(names, name_index, count, type_name, function) {
             return Some(number);
         }
     }

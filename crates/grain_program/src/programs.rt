@@ -1,24 +1,28 @@
 //! Programs: parts that break no rule.
 
 ghost use Rattle.std.specs.Prelude.{◌≡◌, ◌<◌, ◌^◌, ◌⊎◌, ℕ, List, [], length, slice_get, IfOk, IfErr, IfSome, Some, option_map};
-ghost use Rattle.grain_program.specs.View.{View, view_of, position_in, const_of, name_of, token_of, assign_op_of, position_of};
+ghost use Rattle.grain_program.specs.View.{View, view_of, position_in, const_of, name_of, token_of, assign_op_of, chain_of, position_of};
 ghost use Rattle.grain_program.specs.Decoding.{op_at};
 ghost use Rattle.grain_program.specs.Typing.{IsProgram, IsRefusal};
 ghost use Rattle.grain_program.specs.Indices.{IsNamed};
 ghost use Rattle.grain_program.specs.Shapes.{TryHandler};
 ghost use Rattle.grain_program.specs.TypedAt.{IsTypedAt, Provides, Verified};
-ghost use Rattle.grain_program.specs.Lookups.{function_of, Called, function_by_text, CalledByText, name_at};
+ghost use Rattle.grain_program.specs.Lookups.{function_of, Called, function_by_text, CalledByText, method_of, MethodCalled, name_at};
 ghost use Rattle.grain_program.specs.Recorded.{Ascends, HasOrder};
+ghost use Rattle.grain_program.specs.Chains.{slot_of};
 ghost use Rattle.grain_program.specs.declared.verifier.refusals.Refusal.TheVariants.{Memory};
 
 use crate::code::bytes::read_there;
+use crate::code::chains::{Chain, Chains};
 use crate::code::functions::{Function, Functions};
 use crate::code::instruction_set::Op;
 use crate::code::parts::{AssignOp, Chunk, Parts, PositionEntry};
 use crate::code::pools::Names;
 use crate::lookups::{
-    FirstFunctions, FunctionIndex, first_by_text, first_functions, first_of, index_functions,
+    FirstFunctions, FunctionIndex, first_by_text, first_functions, first_method, first_of,
+    index_functions,
 };
+use crate::slots::{first_slots, slot_among};
 use crate::verifier::check::check;
 use crate::verifier::refusals::Refusal;
 use grain_fault::Position;
@@ -33,6 +37,8 @@ pub struct Program {
     parts: Parts,
     firsts: FirstFunctions,
     function_index: FunctionIndex,
+    // the first slot of each chain
+    slots: Vec<u32>,
 }
 
 impl Model for Program {
@@ -40,6 +46,8 @@ impl Model for Program {
     ghost use Rattle.grain_program.specs.Typing.{IsProgram};
     ghost use Rattle.grain_program.specs.Recorded.{HasOrder};
     ghost use Rattle.grain_program.specs.Lookups.{IsIndex, AreFirst};
+    ghost use Rattle.grain_program.specs.Chains.{first_slots};
+    ghost use Rattle.std.specs.Prelude.{◌≡◌};
     ghost use Rattle.std.specs.Coded.{codes};
     ghost use Rattle.grain_value.specs.laws.TreeCode.{coded_tree};
 
@@ -51,7 +59,8 @@ impl Model for Program {
 
     ghost invariant = { λ p. IsProgram (view_of p.parts) × HasOrder (view_of p.parts)
         × IsIndex p.parts.functions p.function_index
-        × AreFirst p.parts.functions p.firsts.items };
+        × AreFirst p.parts.functions p.firsts.items
+        × (p.slots.items ≡ first_slots 0 p.parts.chains) };
 }
 
 /// The program that the parts are, or the first rule that they break. Their positions have to be in
@@ -77,10 +86,14 @@ pub fn verify(alloc: Global, parts: Parts) -> Result<Program, Refusal>
     let Ok(function_index) = index_functions(alloc, functions) else {
         return Err(Refusal::Memory);
     };
+    let Ok(slots) = first_slots(alloc, parts.chains.as_slice()) else {
+        return Err(Refusal::Memory);
+    };
     Ok(Program {
         parts,
         firsts,
         function_index,
+        slots,
     })
 }
 
@@ -166,7 +179,8 @@ impl Program {
         function
     }
 
-    /// The number of the first function of this name, by its index, with this number of parameters.
+    /// The number of the first function of this name, by its index, with this number of parameters,
+    /// that is no method of one type.
     #[inline(always)]
     pub fn function(&self, name_index: u32, argc: usize) -> Option<usize>
         ensures exact { result ≡ function_of self.now name_index argc }
@@ -189,7 +203,8 @@ impl Program {
         self.function_index.get(&(name_index, argc)).copied()
     }
 
-    /// The number of the first function whose name is this text, with this number of parameters.
+    /// The number of the first function whose name is this text, with this number of parameters, that
+    /// is no method of one type.
     pub fn function_named(&self, name: &str, argc: usize) -> Option<usize>
         ensures exact { result ≡ function_by_text self.now name.now argc }
         ensures called { IfSome result (CalledByText self.now name.now argc) }
@@ -202,7 +217,23 @@ impl Program {
         )
     }
 
-    /// The index of the name of that function.
+    /// The number of the function of this name, by its index, with this number of parameters that a
+    /// value of this type has as a method: the first that is a method of that type alone, or else the
+    /// first that is one of every type. It looks at each function that comes before the one of that
+    /// type alone, or at all of them if there is none.
+    pub fn method(&self, name_index: u32, argc: usize, type_name: &str) -> Option<usize>
+        ensures exact { result ≡ method_of self.now name_index argc type_name.now }
+        ensures called { IfSome result (MethodCalled self.now name_index argc) }
+    {
+        let functions = self.parts.functions.as_slice();
+        match first_method(&self.parts.names, functions, name_index, argc, type_name) {
+            Some(number) => Some(number),
+            None => self.function(name_index, argc),
+        }
+    }
+
+    /// The index of the name of the first function whose name is this text, with this number of
+    /// parameters, that is no method of one type.
     pub fn function_name_index(&self, name: &str, argc: usize) -> Option<u32>
         ensures { result ≡ name_at self.now (function_by_text self.now name.now argc) }
     {
@@ -253,6 +284,31 @@ impl Program {
         ensures { result.now ≡ assign_op_of self.now index }
     {
         self.parts.assign_ops.at(index as usize)
+    }
+
+    /// The chains.
+    pub fn chains(&self) -> &Chains
+        ensures { result.now ≡ self.now.chains }
+    {
+        &self.parts.chains
+    }
+
+    /// The chain at the index.
+    pub fn chain(&self, index: u32) -> &Chain
+        requires { index < length self.now.chains }
+        ensures { result.now ≡ chain_of self.now index }
+    {
+        self.parts.chains.at(index as usize)
+    }
+
+    /// The first slot of the step of this number, of the chain at the index: by it a trace names the
+    /// step. Slots are numbered over all chains, one for each position that a root or a step has.
+    pub fn step_slot(&self, index: u32, number: usize) -> u32
+        requires { index < length self.now.chains }
+        ensures { result ≡ slot_of self.now index number }
+    {
+        let chains = self.parts.chains.as_slice();
+        slot_among(&self.slots, chains, index as usize, number)
     }
 
     /// The instruction at which a frame of the chunk stands with depth operands and some handlers,

@@ -1,6 +1,7 @@
 //! The verifier: whether parts break no rule, or the first rule that they break.
 
 pub mod analysis;
+pub mod chain_rules;
 pub mod check;
 pub mod handlers;
 pub mod heights;

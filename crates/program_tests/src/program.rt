@@ -7,7 +7,7 @@ ghost use Rattle.grain_listing.specs.SetUpView.{IsReady};
 
 use grain_listing::{Setup, read};
 use grain_program::{
-    AssignOps, Caps, Chunk, Function, Functions, Indices, Names, Parts, Positions, Program,
+    AssignOps, Caps, Chains, Chunk, Function, Functions, Indices, Names, Parts, Positions, Program,
     Refusal, Tokens, verify,
 };
 use grain_value::{Array, Blob, Name, OutOfMemory, Text};
@@ -38,6 +38,7 @@ fn parts_of(
     functions.push(Function {
         name: 0,
         params: Indices::new(alloc),
+        this_type: None,
         chunk: function,
     })?;
     Ok(Parts {
@@ -49,6 +50,7 @@ fn parts_of(
         names,
         tokens: Tokens::new(alloc),
         assign_ops: AssignOps::new(alloc),
+        chains: Chains::new(alloc),
         positions: Positions::new(alloc),
         source: None,
     })

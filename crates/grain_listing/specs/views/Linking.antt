@@ -40,6 +40,7 @@ set_up v assign_ops code =
         names = v.names;
         tokens = v.tokens;
         assign_ops = assign_ops;
+        chains = [];
         positions = v.positions;
         source = v.source;
       };

@@ -1,6 +1,7 @@
 //! What may become a program.
 
 use crate::code::caps::Caps;
+use crate::code::chains::Chains;
 use crate::code::functions::Functions;
 use crate::code::pools::{AssignOps, Names, Positions, Tokens};
 use grain_fault::Position;
@@ -59,6 +60,8 @@ pub struct Parts {
     pub tokens: Tokens,
     /// The op-assignments, by index.
     pub assign_ops: AssignOps,
+    /// The chains, by index.
+    pub chains: Chains,
     /// The positions of the instructions, by ascending address.
     pub positions: Positions,
     /// The name of the script that the code was made from, if it has one.

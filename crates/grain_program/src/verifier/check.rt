@@ -1,4 +1,4 @@
-//! The check of parts: the rules of instructions first, and then those of heights.
+//! The check of parts: the rules of instructions first, then those of chains, and then those of heights.
 
 ghost use Rattle.std.specs.Prelude.{◌≡◌, ◌⊎◌, IfOk, IfErr};
 ghost use Rattle.grain_program.specs.View.{View, view_of};
@@ -8,6 +8,7 @@ ghost use Rattle.grain_program.specs.declared.verifier.refusals.Refusal.{Refusal
 ghost use Rattle.grain_program.specs.declared.verifier.refusals.Refusal.TheVariants.{Memory};
 
 use crate::code::parts::{Chunk, Parts};
+use crate::verifier::chain_rules::bad_chain;
 use crate::verifier::heights::check_heights;
 use crate::verifier::refusals::Refusal;
 use crate::verifier::rules::check_instructions;
@@ -35,7 +36,10 @@ fn check_chunks(alloc: Global, parts: &Parts, chunks: &[Chunk]) -> Result<(), Re
     ensures first { IfErr result (λ r. (r ≡ Memory) ⊎ Refused (view_of parts.now) chunks.now r) }
 {
     match check_instructions(alloc, parts, chunks) {
-        Ok(()) => check_heights(alloc, parts, chunks),
+        Ok(()) => match bad_chain(parts.chains.as_slice()) {
+            Some(refusal) => Err(refusal),
+            None => check_heights(alloc, parts, chunks),
+        },
         Err(refusal) => Err(refusal),
     }
 }

@@ -8,7 +8,8 @@ ghost use Rattle.grain_program.specs.Rules.{address_of, rule_of, precedes, earli
 use grain_value::OutOfMemory;
 use std::alloc::{AllocError, AllocFailed};
 
-/// Why parts are no program: the first rule that fails, and the address where it fails.
+/// Why parts are no program: the first rule that fails, and the address where it fails, or the index of
+/// the chain that breaks a rule of chains.
 #[derive(Clone, Copy, Debug, PartialEq, Eq)]
 pub enum Refusal {
     /// No instruction begins there, an instruction passes its chunk's end, or the chunks do not
@@ -34,6 +35,10 @@ pub enum Refusal {
     HandlerDisagrees(usize),
     /// The instruction there takes operands that were there where the innermost handler was pushed.
     UnderTry(usize),
+    /// The chain of this index has no step, or assigns to a temporary value, or one of its steps uses
+    /// an operand that it does not have, or it and the chains before it have more than 2^32 - 1 slots
+    /// together.
+    BadChain(usize),
     /// The instruction there needs a capability that the program does not have.
     Capability(usize),
     /// There was no memory for the verification.
@@ -41,7 +46,7 @@ pub enum Refusal {
 }
 
 impl Refusal {
-    /// The address where the rule fails, or 0 for want of memory.
+    /// The address where the rule fails, or the index of the chain, or 0 for want of memory.
     pub fn address(self) -> usize
         ensures { result ≡ address_of self }
     {
@@ -55,6 +60,7 @@ impl Refusal {
             Refusal::Underflow(address) => address,
             Refusal::HandlerDisagrees(address) => address,
             Refusal::UnderTry(address) => address,
+            Refusal::BadChain(index) => index,
             Refusal::Capability(address) => address,
             Refusal::Memory => 0,
         }
@@ -74,6 +80,7 @@ impl Refusal {
             Refusal::Underflow(_) => "Underflow",
             Refusal::HandlerDisagrees(_) => "HandlerDisagrees",
             Refusal::UnderTry(_) => "UnderTry",
+            Refusal::BadChain(_) => "BadChain",
             Refusal::Capability(_) => "Capability",
             Refusal::Memory => "Memory",
         }
@@ -93,6 +100,7 @@ impl Refusal {
             Refusal::Underflow(_) => 7,
             Refusal::HandlerDisagrees(_) => 8,
             Refusal::UnderTry(_) => 9,
+            Refusal::BadChain(_) => 10,
             Refusal::Capability(_) => 12,
             Refusal::Memory => 13,
         }

@@ -6,10 +6,10 @@
 ghost use Rattle.std.specs.Prelude.{◌≡◌, ◌==◌, ◌⊎◌, ◌≤◌, ℕ, List, length, slice_get, IfOk, IfErr, Some, None};
 ghost use Rattle.grain_program.specs.View.{view_of};
 ghost use Rattle.grain_program.specs.Fields.{every};
-ghost use Rattle.grain_program.specs.Indices.{in_pool, record_named, all_below, is_named};
+ghost use Rattle.grain_program.specs.Indices.{in_pool, record_named, all_below, below_if, is_named};
 ghost use Rattle.grain_program.specs.Decoding.{op_at};
 ghost use Rattle.grain_program.specs.Layout.{chunks_in, layout_fault};
-ghost use Rattle.grain_program.specs.Rules.{IsSplit, RefusedBeforeHeights};
+ghost use Rattle.grain_program.specs.Rules.{IsSplit, RefusedBeforeChains};
 ghost use Rattle.grain_program.specs.Owners.{owner_at, lands, stays_in, rule_in, rule_at, IsFirstFound, first_empty, first_misnamed};
 ghost use Rattle.grain_program.specs.declared.verifier.refusals.Refusal.TheVariants.{Memory};
 
@@ -191,12 +191,25 @@ fn all_below(end: usize, indices: &[u32]) -> bool
     true
 }
 
-/// Whether the function's name and its parameters' names are entries of the pool.
+/// Whether the index, if there is one, is below the end.
+fn below_if(end: usize, index: Option<u32>) -> bool
+    ensures { result ≡ below_if end index }
+{
+    match index {
+        Some(index) => (index as usize) < end,
+        None => true,
+    }
+}
+
+/// Whether the function's name, its parameters' names and the name of its type are entries of the
+/// pool.
 fn is_named(parts: &Parts, function: &Function) -> bool
     ensures { result ≡ is_named (view_of parts.now) function.now }
 {
     let names = parts.names.len();
-    (function.name as usize) < names && all_below(names, function.params.as_slice())
+    (function.name as usize) < names
+        && below_if(names, function.this_type)
+        && all_below(names, function.params.as_slice())
 }
 
 /// The refusal of the first function that has a name that is no entry of the pool.
@@ -229,7 +242,7 @@ fn check_rules(alloc: Global, parts: &Parts, chunks: &[Chunk]) -> Result<(), Ref
     requires whole { chunks.now ≡ chunks_in (view_of parts.now) }
     requires laid { layout_fault (length parts.now.code) chunks.now ≡ None }
     ensures ok { IfOk result (λ _. IsSplit (view_of parts.now) chunks.now) }
-    ensures err { IfErr result (λ r. (r ≡ Memory) ⊎ RefusedBeforeHeights (view_of parts.now)
+    ensures err { IfErr result (λ r. (r ≡ Memory) ⊎ RefusedBeforeChains (view_of parts.now)
         chunks.now r) }
 {
     let Ok(owners) = owners_of(alloc, &parts.code, chunks) else {
@@ -246,7 +259,7 @@ fn check_rules(alloc: Global, parts: &Parts, chunks: &[Chunk]) -> Result<(), Ref
 pub fn check_instructions(alloc: Global, parts: &Parts, chunks: &[Chunk]) -> Result<(), Refusal>
     requires { chunks.now ≡ chunks_in (view_of parts.now) }
     ensures ok { IfOk result (λ _. IsSplit (view_of parts.now) chunks.now) }
-    ensures err { IfErr result (λ r. (r ≡ Memory) ⊎ RefusedBeforeHeights (view_of parts.now)
+    ensures err { IfErr result (λ r. (r ≡ Memory) ⊎ RefusedBeforeChains (view_of parts.now)
         chunks.now r) }
 {
     match misplaced(parts.code.len(), chunks) {

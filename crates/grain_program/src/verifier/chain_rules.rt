@@ -1,0 +1,105 @@
+//! The rules of chains: each has a step, none assigns to a temporary value, each step uses an operand
+//! that its chain has, and there are slots for all steps.
+
+ghost use Rattle.std.specs.Prelude.{◌≡◌, ◌<◌, ◌≤◌, ◌+◌, ◌^◌, length, Some, None, nat_le, if◌then◌else◌};
+ghost use Rattle.grain_program.specs.Chains.{root_slots, steps_slots, chain_slots, most_slots, assigns, is_temporary, has_operands, all_have_operands, is_good_chain, first_bad_chain};
+
+use crate::code::chains::{Chain, Root, Step, Tail};
+use crate::verifier::refusals::Refusal;
+
+/// How many slots all chains of a program may have together.
+const MOST_SLOTS: u64 = 4_294_967_295;
+
+/// Whether the chain assigns a value.
+fn assigns(tail: Tail) -> bool
+    ensures { result ≡ assigns tail }
+{
+    match tail {
+        Tail::Read => false,
+        Tail::Assign { .. } => true,
+    }
+}
+
+/// Whether the chain begins at a value that nothing holds.
+fn is_temporary(root: Root) -> bool
+    ensures { result ≡ is_temporary root }
+{
+    match root {
+        Root::Local { .. } => false,
+        Root::Temporary => true,
+    }
+}
+
+/// Whether the step uses one of this number of operands, if it uses any.
+fn has_operands(operands: u32, step: Step) -> bool
+    ensures { result ≡ has_operands operands step }
+{
+    match step {
+        Step::Index { operand, .. } => operand < operands,
+        Step::Property { .. } => true,
+    }
+}
+
+/// Whether each step uses one of this number of operands, if it uses any.
+fn all_have_operands(operands: u32, steps: &[Step]) -> bool
+    ensures { result ≡ all_have_operands operands steps.now }
+{
+    for step in steps {
+        if !has_operands(operands, *step) {
+            return false;
+        }
+    }
+    true
+}
+
+/// How many slots there are together with those of the steps, or more than `MOST_SLOTS` where there
+/// are more.
+fn slots_with(before: u64, steps: &[Step]) -> u64
+    requires { before < 2 ^ 33 }
+    ensures exact { result ≤ most_slots → result ≡ before + steps_slots steps.now }
+    ensures over { most_slots < result → most_slots < before + steps_slots steps.now }
+    ensures small { result < 2 ^ 33 }
+{
+    let mut slots = before;
+    for step in steps {
+        if slots > MOST_SLOTS {
+            return slots;
+        }
+        slots += u64::from(step.slots());
+    }
+    slots
+}
+
+/// How many slots there are with those of the chain, if the chain obeys the rules of chains.
+fn slots_of_good(before: u64, chain: &Chain) -> Option<u64>
+    requires { before ≤ most_slots }
+    ensures exact { result ≡ (if is_good_chain before chain.now
+        then Some (before + chain_slots chain.now) else None) }
+{
+    if chain.steps.is_empty() || assigns(chain.tail) && is_temporary(chain.root) {
+        return None;
+    }
+    if !all_have_operands(chain.operands, chain.steps.as_slice()) {
+        return None;
+    }
+    let begun = before + u64::from(chain.root.slots());
+    let slots = slots_with(begun, chain.steps.as_slice());
+    if slots > MOST_SLOTS {
+        return None;
+    }
+    Some(slots)
+}
+
+/// The refusal of the first chain that breaks a rule of chains.
+pub fn bad_chain(chains: &[Chain]) -> Option<Refusal>
+    ensures { result ≡ first_bad_chain 0 0 chains.now }
+{
+    let mut slots = 0;
+    for (index, chain) in chains.iter().enumerate() {
+        match slots_of_good(slots, chain) {
+            Some(after) => slots = after,
+            None => return Some(Refusal::BadChain(index)),
+        }
+    }
+    None
+}
