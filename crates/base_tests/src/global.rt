@@ -23,6 +23,7 @@ fn check_state(rt: &impl Abort, state: &GlobalRuntimeState) {
 fn an_engine_begins_with_nothing_run(rt: HostRuntime) {
     let engine = Engine::new(rt.alloc(), LIMITS);
     assert!(rt; engine.fast_operators);
+    assert!(rt; !engine.strict_properties);
     assert!(rt; engine.limits.operations == 7);
     let state = engine
         .new_global_runtime_state(rt.alloc())

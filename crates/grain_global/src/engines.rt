@@ -1,6 +1,6 @@
 //! What stays the same in a run: limits and flags.
 
-ghost use Rattle.std.specs.Prelude.{◌≡◌, ◌<◌, true, IfOk};
+ghost use Rattle.std.specs.Prelude.{◌≡◌, ◌<◌, true, false, IfOk};
 
 use crate::states::GlobalRuntimeState;
 use grain_value::{Limits, OutOfMemory};
@@ -13,20 +13,24 @@ pub struct Engine {
     pub limits: Limits,
     /// Whether an operator goes to its built-in before any other function.
     pub fast_operators: bool,
+    /// Whether a chain that reads a key that a map does not have fails. Without it such a key has unit.
+    pub strict_properties: bool,
 }
 
 impl Engine {
-    /// An engine with these limits, under which operators are fast. At least one operation is
-    /// allowed.
+    /// An engine with these limits, under which operators are fast, and properties are not strict. At
+    /// least one operation is allowed.
     pub fn new(alloc: Global, limits: Limits) -> Engine
         requires { 0 < limits.operations }
         ensures limits { result.limits ≡ limits }
-        ensures flags { result.fast_operators ≡ true }
+        ensures operators { result.fast_operators ≡ true }
+        ensures properties { result.strict_properties ≡ false }
     {
         let _alloc = alloc;
         Engine {
             limits,
             fast_operators: true,
+            strict_properties: false,
         }
     }
 

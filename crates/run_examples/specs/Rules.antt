@@ -1,5 +1,5 @@
 -- Which rule a listing says, and how the run of one ends.
-use Rattle.std.specs.Prelude.{◌≡◌, ℕ, min, Bool, List, [], Result, Ok, Err, ⊤}
+use Rattle.std.specs.Prelude.{◌≡◌, ℕ, min, Bool, false, List, [], Result, Ok, Err, ⊤}
 use Rattle.grain_value.specs.declared.values.Dynamic.{Dynamic}
 use Rattle.grain_value.specs.declared.values.Limits.{Limits}
 use Rattle.grain_value.specs.declared.scopes.Entry.{Entry}
@@ -51,7 +51,11 @@ IsReason said OutOfMemory = ⊤
 
 -- limits, and whether operators are fast
 abbrev pub engine_of : Limits → Bool → Engine
-engine_of limits fast_operators = record { limits = limits; fast_operators = fast_operators }
+engine_of limits fast_operators = record {
+  limits = limits;
+  fast_operators = fast_operators;
+  strict_properties = false;
+}
 
 -- The scope, without cells, with a host. Nothing was run before.
 abbrev pub start : {S : Type 0} → List Entry → S → Begin S
