@@ -32,15 +32,12 @@ use Rattle.grain_program.specs.Decoding.{op_at}
 use Rattle.grain_global.specs.declared.engines.Engine.{Engine}
 use Rattle.grain_ops.specs.Outcomes.{Outcome, NotBuiltIn, Gave, ArithmeticFault, TooLarge}
 use Rattle.grain_ops.specs.Operators.{operation, assignment}
+pub use Rattle.grain_means.specs.Worlds.{is_stop}
 use Rattle.grain_means.specs.Worlds.{Answer, Came, Failed, Place, Handler, Frame, World, Todo, InFrame, InCatch, Act, Go, End, Then, Setup}
 use Rattle.grain_fault.specs.CatchValues.{caught_value}
 use Rattle.grain_host.specs.Signatures.{not_found, says_missing}
 use Rattle.grain_host.specs.Law.{Law, Reply, Verdict, GoOn, Stop, native_of}
 use Rattle.grain_host.specs.Law as reply
-
-abbrev pub is_stop : Option ℕ → ℕ → Bool
-is_stop None p = false
-is_stop (Some k) p = nat_eq k p
 
 -- whether a truth value is the one that is wanted
 abbrev pub agrees : Bool → Bool → Bool

@@ -1,7 +1,7 @@
 -- How code is joined to the meaning: a stretch of code simulates a part of a run. An end that the
 -- run has from behind the part is then an end that it has from before it, and the same of a run
 -- that is stopped at a later mark.
-use Rattle.std.specs.Prelude.{◌≡◌, ◌<◌, ◌≤◌, ℕ, List, [], Option, Some, None, Bool, true, false, slice_get, slice_set}
+use Rattle.std.specs.Prelude.{◌≡◌, ◌<◌, ◌≤◌, ℕ, List, [], Option, Some, None, Bool, true, false}
 use Rattle.grain_value.specs.declared.values.Held.{Held}
 use Rattle.grain_value.specs.declared.scopes.Entry.{Entry}
 use Rattle.grain_value.specs.declared.stores.Cell.{Cell}
@@ -9,6 +9,7 @@ use Rattle.grain_fault.specs.declared.traces.Fault.{Fault}
 use Rattle.grain_means.specs.Worlds.{Act, Answer, World, Setup, Place}
 use Rattle.grain_means.specs.Rules.{is_stop}
 use Rattle.grain_means.specs.Ends.{Ends}
+use Rattle.grain_means.specs.Places.{find, put}
 
 -- the parts of a world that the code has: `this` by value
 pub record LocalState (S : Type 0) : Type 0 where
@@ -49,17 +50,13 @@ abbrev pub Binds : List Held → Option Place → Option Held → Type 0
 Binds roots None None = Unit {0}
 Binds roots None (Some t) = ⊥
 Binds roots (Some p) None = ⊥
-Binds roots (Some p) (Some t) = slice_get roots p.root ≡ Some t
-
--- a value, put in its place
-abbrev pub put : List Held → Option Place → Held → List Held
-put roots None t = roots
-put roots (Some p) t = slice_set roots p.root t
+Binds roots (Some p) (Some t) = find roots p ≡ Some t
 
 -- the code's `this`, put where it belongs
 abbrev pub puts : List Held → Option Place → Option Held → List Held
-puts roots place None = roots
-puts roots place (Some t) = put roots place t
+puts roots None this = roots
+puts roots (Some p) None = roots
+puts roots (Some p) (Some t) = put roots p t.value
 
 abbrev pub after : Environment → Option Place → Option Held → Environment
 after u place this = record u { roots = puts u.roots place this }

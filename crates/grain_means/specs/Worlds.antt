@@ -1,9 +1,10 @@
 -- What a run stands on: worlds, frames, and what is still to be done.
-use Rattle.std.specs.Prelude.{ℕ, List, Option}
+use Rattle.std.specs.Prelude.{ℕ, Bool, false, nat_eq, List, Option, Some, None}
 use Rattle.grain_value.specs.declared.values.Dynamic.{Dynamic}
 use Rattle.grain_value.specs.declared.values.Held.{Held}
 use Rattle.grain_value.specs.declared.scopes.Entry.{Entry}
 use Rattle.grain_value.specs.declared.stores.Cell.{Cell}
+use Rattle.grain_value.specs.declared.values.paths.PathStep.{PathStep}
 use Rattle.grain_fault.specs.declared.traces.Fault.{Fault}
 use Rattle.grain_fault.specs.Problems.{Problem}
 use Rattle.grain_program.specs.View.{View}
@@ -15,9 +16,10 @@ pub data Answer : Type 0 where
   Came : Dynamic → Answer
   Failed : Problem → Answer
 
--- where a value stands: a root
+-- where a value stands: the number of a root, and the way from it
 pub record Place : Type 0 where
   pub root : ℕ
+  pub path : List PathStep
 
 -- A handler of a frame: where the frame goes on after a catch, the index of the name of its
 -- variable, if it has one, how many operands and how many entries of the scope there were where it
@@ -71,6 +73,11 @@ pub data Act (S : Type 0) : Type 0 where
   Go : Todo → World S → Act S
   End : Answer → World S → Act S
   Then : Act S → (Answer → World S → Act S) → Act S
+
+-- whether memory is out at the mark before which this many were passed
+abbrev pub is_stop : Option ℕ → ℕ → Bool
+is_stop None passed = false
+is_stop (Some k) passed = nat_eq k passed
 
 -- what stays the same in a run on a host whose states are S
 pub record Setup (S : Type 0) : Type 0 where

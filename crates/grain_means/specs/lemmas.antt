@@ -1,4 +1,5 @@
 -- Lemmas that the crates above cite. Nothing here is part of a contract's words.
+pub mod PlaceLaws
 pub mod Roots
 pub mod Stretches
 pub mod Scopes
