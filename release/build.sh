@@ -30,6 +30,7 @@ build_programs() {
         build_from_nothing || status=1
     fi
     trap - INT TERM HUP
+    if [ -n "$copy" ]; then rm -rf "$copy"; fi
     if [ "$status" -eq 0 ]; then
         say "proved and built after $(time_taken)"
     else
@@ -70,7 +71,6 @@ build_from_nothing() {
             take "$copy/crates/$program/out/$program" "$program" || result=1
         fi
     done
-    rm -rf "$copy"
     return "$result"
 }
 
