@@ -12,7 +12,7 @@ use Rattle.grain_program.specs.Typing.{Valid, analysis, StopsWith, Refused}
 use Rattle.grain_program.proofs.Tiles.{is_tiled}
 use Rattle.grain_program.proofs.Breaches.{ByOp, ByName, ByEmptyChunk, kind_of}
 use Rattle.grain_program.proofs.Meaning.{none_by_op}
-use Rattle.grain_program.proofs.Worklists.{never_stops}
+use Rattle.grain_program.proofs.AllChunks.{never_stops}
 
 -- the refusal of the rule at the address
 refusal_of : ℕ → ℕ → Refusal
