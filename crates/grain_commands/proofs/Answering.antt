@@ -8,13 +8,13 @@ use Rattle.grain_program.specs.declared.verifier.refusals.Refusal.TheVariants as
 use Rattle.std.proofs.lemmas.Bool.{cases_lt}
 use Rattle.grain_commands.specs.Streams.{IsSpent}
 use Rattle.grain_literals.specs.declared.reasons.Reason.TheVariants.{TooLong}
-use Rattle.grain_listing.specs.Reading.{SetUp, reads, bad_line, most_bytes}
+use Rattle.grain_listing.specs.Reading.{ListingView, reads, bad_line, most_bytes}
 use Rattle.grain_commands.specs.Replies.{Replies, no_listing, refused, reported, bad_line_text, refusal_text}
 use Rattle.grain_commands.specs.Runs.{Reported, engine_of, start}
 use Rattle.grain_listing.specs.declared.reasons.BadLine.{BadLine}
 use Rattle.grain_commands.specs.declared.replies.Reply.{Reply}
 
-pub answers_reason : (said : Result SetUp BadLine) (e : BadLine) (r : Result Reply OutOfMemory) →
+pub answers_reason : (said : Result ListingView BadLine) (e : BadLine) (r : Result Reply OutOfMemory) →
     IfOk r (λ x. x.status ≡ 3) → IfOk r (λ x. x.text ≡ bad_line_text e) → Err e ≡ said →
     IfOk r (λ x. Replies said x.status x.text)
 answers_reason said e (Err m) status text is = tt
@@ -26,7 +26,7 @@ is_refusal : (p : View) (r : Refusal) → r ≢ refusals.Memory → (r ≡ refus
 is_refusal p r other (inl e) = absurd (other e)
 is_refusal p r other (inr h) = h
 
-pub answers_refusal : (s : SetUp) (e : Refusal) (r : Result Reply OutOfMemory) →
+pub answers_refusal : (s : ListingView) (e : Refusal) (r : Result Reply OutOfMemory) →
     IfOk r (λ x. x.status ≡ 4) → IfOk r (λ x. x.text ≡ refusal_text e) →
     IfOk r (λ x. e ≢ refusals.Memory) →
     (IsProgram s.parts → e ≡ refusals.Memory) → (e ≡ refusals.Memory) ⊎ IsRefusal s.parts e →
@@ -35,7 +35,7 @@ answers_refusal s e (Err m) status text other complete first = tt
 answers_refusal s e (Ok x) status text other complete first =
     rw (status, text) (refused refl (λ p. other (complete p)) (is_refusal s.parts e other first))
 
-pub answers_end : (s : SetUp) (r : Result Reply OutOfMemory) → IsProgram s.parts →
+pub answers_end : (s : ListingView) (r : Result Reply OutOfMemory) → IsProgram s.parts →
     IfOk r (λ x. Reported s.parts (engine_of s.limits s.fast_operators) (start s.scope s.host)
     x.status x.text) →
     IfOk r (λ x. Replies (Ok s) x.status x.text)

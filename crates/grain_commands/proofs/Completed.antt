@@ -8,7 +8,7 @@ use Rattle.grain_program.specs.declared.verifier.refusals.Refusal.{Refusal}
 use Rattle.grain_global.specs.declared.engines.Engine.{Engine}
 use Rattle.grain_means.specs.Worlds.{Answer, Came, Failed}
 use Rattle.grain_means.specs.Means.{Begin, Finish, Means}
-use Rattle.grain_listing.specs.Reading.{SetUp, reads}
+use Rattle.grain_listing.specs.Reading.{ListingView, reads}
 use Rattle.grain_commands.specs.Replies.{Counts, Replies, no_listing, refused, reported, Answers, no_command, replied, Ended, wrote, source_failed, sink_failed, no_memory, is_run, usage_text, bad_line_text, refusal_text}
 use Rattle.grain_commands.specs.Reports.{report_value, report_fault}
 use Rattle.grain_commands.specs.Runs.{Reported, engine_of, start, status_of, answer_report, report}
@@ -26,11 +26,11 @@ MeansOne =
 abbrev pub RefusedOnce : Type 0
 RefusedOnce = (p : View) (r s : Refusal) → IsRefusal p r → IsRefusal p s → r ≡ s
 
-same_set_up : (said : Result SetUp BadLine) (s t : SetUp) → said ≡ Ok s → said ≡ Ok t → t ≡ s
+same_set_up : (said : Result ListingView BadLine) (s t : ListingView) → said ≡ Ok s → said ≡ Ok t → t ≡ s
 same_set_up said s t one other = cc
 
 -- the end that is reported is the end that the program means
-same_report : MeansOne → (s : SetUp) (end : Finish TableHost) (n status : ℕ) (text : List ℕ) →
+same_report : MeansOne → (s : ListingView) (end : Finish TableHost) (n status : ℕ) (text : List ℕ) →
     Means table_law s.parts (engine_of s.limits s.fast_operators) (start s.scope s.host) end n →
     Reported s.parts (engine_of s.limits s.fast_operators) (start s.scope s.host) status text →
     (status ≡ status_of end.answer) × (text ≡ report end)
@@ -42,7 +42,7 @@ same_report law s end n status text means told =
           ap report (sym one.0),
     )
 
-same_end : MeansOne → (said : Result SetUp BadLine) (s : SetUp) (end : Finish TableHost)
+same_end : MeansOne → (said : Result ListingView BadLine) (s : ListingView) (end : Finish TableHost)
     (n status : ℕ)
     (text : List ℕ) → said ≡ Ok s → IsProgram s.parts →
     Means table_law s.parts (engine_of s.limits s.fast_operators) (start s.scope s.host) end n →
@@ -50,14 +50,14 @@ same_end : MeansOne → (said : Result SetUp BadLine) (s : SetUp) (end : Finish 
     (status ≡ status_of end.answer) × (text ≡ report end)
 same_end law said s end n status text is valid means (no_listing e) = absurd cc
 same_end law said s end n status text is valid means (refused {s = t} e invalid first) =
-    absurd (invalid (subst (λ (x : SetUp). IsProgram x.parts) (same_set_up said t s e is) valid))
+    absurd (invalid (subst (λ (x : ListingView). IsProgram x.parts) (same_set_up said t s e is) valid))
 same_end law said s end n status text is valid means (reported {s = t} e v h) =
     same_report law s end n status text means
-    (subst (λ (x : SetUp). Reported x.parts (engine_of x.limits x.fast_operators)
+    (subst (λ (x : ListingView). Reported x.parts (engine_of x.limits x.fast_operators)
     (start x.scope x.host) status text)
     (same_set_up said s t is e) h)
 
-same_reason : (said : Result SetUp BadLine) (bad : BadLine) (status : ℕ) (text : List ℕ) →
+same_reason : (said : Result ListingView BadLine) (bad : BadLine) (status : ℕ) (text : List ℕ) →
     said ≡ Err bad → Replies said status text → (status ≡ 3) × (text ≡ bad_line_text bad)
 same_reason said bad status text is (no_listing {bad = r} e) =
     let one : r ≡ bad = cc in
@@ -65,16 +65,16 @@ same_reason said bad status text is (no_listing {bad = r} e) =
 same_reason said bad status text is (refused e invalid first) = absurd cc
 same_reason said bad status text is (reported e v h) = absurd cc
 
-same_refusal : RefusedOnce → (said : Result SetUp BadLine) (s : SetUp) (r : Refusal) (status : ℕ)
+same_refusal : RefusedOnce → (said : Result ListingView BadLine) (s : ListingView) (r : Refusal) (status : ℕ)
     (text : List ℕ) → said ≡ Ok s → (IsProgram s.parts → ⊥) → IsRefusal s.parts r →
     Replies said status text → (status ≡ 4) × (text ≡ refusal_text r)
 same_refusal law said s r status text is invalid first (no_listing e) = absurd cc
 same_refusal law said s r status text is invalid first (refused {s = t} {r = q} e other h) =
-    let same : IsRefusal s.parts q = subst (λ (x : SetUp). IsRefusal x.parts q)
+    let same : IsRefusal s.parts q = subst (λ (x : ListingView). IsRefusal x.parts q)
     (same_set_up said s t is e) h in
     (refl, ap refusal_text (law s.parts q r same first))
 same_refusal law said s r status text is invalid first (reported {s = t} e v h) =
-    absurd (invalid (subst (λ (x : SetUp). IsProgram x.parts) (same_set_up said s t is e) v))
+    absurd (invalid (subst (λ (x : ListingView). IsProgram x.parts) (same_set_up said s t is e) v))
 
 -- each answer has this status and this text
 abbrev OnlyAnswer : List (List ℕ) → Option (List ℕ) → ℕ → List ℕ → Type 0
@@ -98,7 +98,7 @@ given words input before now counts status due wanted only source sink (sink_fai
 given words input before now counts status due wanted only source sink (no_memory w) = inr (refl, w)
 
 -- the told bytes say what was said
-said_of : (input : Option (List ℕ)) (bytes : List ℕ) (said wanted : Result SetUp BadLine) →
+said_of : (input : Option (List ℕ)) (bytes : List ℕ) (said wanted : Result ListingView BadLine) →
     input ≡ Some bytes → reads bytes ≡ wanted → IfSome input (λ b. reads b ≡ said) →
     said ≡ wanted
 said_of input bytes said wanted told is h = sym
@@ -106,9 +106,9 @@ said_of input bytes said wanted told is h = sym
 
 -- an answer to `run` is a reply to what the bytes say
 only_reply : (words : List (List ℕ)) (input : Option (List ℕ)) (bytes : List ℕ)
-    (wanted : Result SetUp BadLine) (due : ℕ) (text : List ℕ) → is_run words ≡ true →
+    (wanted : Result ListingView BadLine) (due : ℕ) (text : List ℕ) → is_run words ≡ true →
     input ≡ Some bytes →
-    reads bytes ≡ wanted → ((said : Result SetUp BadLine) (n : ℕ) (t : List ℕ) → said ≡ wanted →
+    reads bytes ≡ wanted → ((said : Result ListingView BadLine) (n : ℕ) (t : List ℕ) → said ≡ wanted →
     Replies said n t → (n ≡ due) × (t ≡ text)) → OnlyAnswer words input due text
 only_reply words input bytes wanted due text command told is only status t (no_command none) =
     absurd cc

@@ -6,7 +6,7 @@ use Rattle.grain_host.specs.declared.tables.TableHost.{TableHost}
 use Rattle.grain_program.specs.declared.verifier.refusals.Refusal.{Refusal}
 use Rattle.grain_means.specs.Worlds.{Answer, Came, Failed}
 use Rattle.grain_means.specs.Means.{Finish}
-use Rattle.grain_listing.specs.Reading.{SetUp, reads}
+use Rattle.grain_listing.specs.Reading.{ListingView, reads}
 use Rattle.grain_commands.specs.Replies.{Counts, Replies, no_listing, refused, reported, Answers, no_command, replied, Ended, wrote, source_failed, sink_failed, no_memory, is_run, usage_text, bad_line_text, refusal_text}
 use Rattle.grain_commands.specs.Reports.{report_value, report_fault}
 use Rattle.grain_commands.specs.Runs.{status_of, answer_report}
@@ -101,7 +101,7 @@ says_as words input status due text wanted number written says =
     subst (λ (n : ℕ). Says words input n text) (sym number)
     (subst (λ (t : List ℕ). Says words input due t) (sym written) says)
 
-reply_says : (words : List (List ℕ)) (input : Option (List ℕ)) (said : Result SetUp BadLine)
+reply_says : (words : List (List ℕ)) (input : Option (List ℕ)) (said : Result ListingView BadLine)
     (status : ℕ) (text : List ℕ) → is_run words ≡ true →
     IfSome input (λ bytes. reads bytes ≡ said) →
     Replies said status text → Says words input status text

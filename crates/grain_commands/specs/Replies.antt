@@ -6,7 +6,7 @@ use Rattle.grain_program.specs.Rules.{address_of}
 use Rattle.grain_program.specs.Typing.{IsProgram, IsRefusal}
 use Rattle.grain_program.specs.declared.verifier.refusals.Refusal.{Refusal}
 use Rattle.grain_literals.specs.Reasons.{reason_text}
-use Rattle.grain_listing.specs.Reading.{SetUp, reads}
+use Rattle.grain_listing.specs.Reading.{ListingView, reads}
 use Rattle.grain_commands.specs.Puts.{PutWhole, PutPart}
 use Rattle.grain_commands.specs.Reports.{line_end}
 use Rattle.grain_commands.specs.Runs.{Reported, engine_of, start}
@@ -32,14 +32,14 @@ refusal_text r =
     codes "refused at " ++ decimal (address_of r) ++ codes ": " ++ refusal_name r ++ line_end
 
 -- what is answered to what the bytes read to
-pub data Replies (said : Result SetUp BadLine) : ℕ → List ℕ → Type 0 where
+pub data Replies (said : Result ListingView BadLine) : ℕ → List ℕ → Type 0 where
   -- it is no listing
   no_listing : {bad : BadLine} → said ≡ Err bad → Replies said 3 (bad_line_text bad)
   -- its parts are no program
-  refused : {s : SetUp} {r : Refusal} → said ≡ Ok s → (IsProgram s.parts → ⊥) →
+  refused : {s : ListingView} {r : Refusal} → said ≡ Ok s → (IsProgram s.parts → ⊥) →
       IsRefusal s.parts r → Replies said 4 (refusal_text r)
   -- its program is run
-  reported : {s : SetUp} {status : ℕ} {text : List ℕ} → said ≡ Ok s → IsProgram s.parts →
+  reported : {s : ListingView} {status : ℕ} {text : List ℕ} → said ≡ Ok s → IsProgram s.parts →
       Reported s.parts (engine_of s.limits s.fast_operators) (start s.scope s.host) status text →
       Replies said status text
 
@@ -48,7 +48,7 @@ pub data Answers (words : List (List ℕ)) (input : Option (List ℕ)) : ℕ →
   -- the words are no command
   no_command : is_run words ≡ false → Answers words input 2 usage_text
   -- the words are `run`, and the source was read to its end
-  replied : {said : Result SetUp BadLine} {status : ℕ} {text : List ℕ} → is_run words ≡ true →
+  replied : {said : Result ListingView BadLine} {status : ℕ} {text : List ℕ} → is_run words ≡ true →
       IfSome input (λ bytes. reads bytes ≡ said) → Replies said status text →
       Answers words input status text
 

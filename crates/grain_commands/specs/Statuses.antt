@@ -9,7 +9,7 @@ use Rattle.grain_program.specs.Typing.{IsProgram, IsRefusal}
 use Rattle.grain_program.specs.declared.verifier.refusals.Refusal.{Refusal}
 use Rattle.grain_means.specs.Worlds.{Came, Failed}
 use Rattle.grain_means.specs.Means.{Finish, Means}
-use Rattle.grain_listing.specs.Reading.{SetUp, reads}
+use Rattle.grain_listing.specs.Reading.{ListingView, reads}
 use Rattle.grain_commands.specs.Replies.{Counts, is_run, usage_text, bad_line_text, refusal_text}
 use Rattle.grain_commands.specs.Reports.{report_value, report_fault}
 use Rattle.grain_commands.specs.Runs.{engine_of, start}
@@ -19,7 +19,7 @@ use Rattle.grain_listing.specs.declared.reasons.BadLine.{BadLine}
 -- the bytes are a listing whose parts are a program, and with the listing's limits, flag, scope and
 -- host the program means this end
 pub record RunEnds (bytes : List ℕ) (end : Finish TableHost) : Type 0 where
-  pub set_up : SetUp
+  pub set_up : ListingView
   pub said : reads bytes ≡ Ok set_up
   pub valid : IsProgram set_up.parts
   pub instructions : ℕ
@@ -28,7 +28,7 @@ pub record RunEnds (bytes : List ℕ) (end : Finish TableHost) : Type 0 where
 
 -- the bytes are a listing whose parts are no program: this is the first rule that they break
 pub record IsRefused (bytes : List ℕ) (refusal : Refusal) : Type 0 where
-  pub set_up : SetUp
+  pub set_up : ListingView
   pub said : reads bytes ≡ Ok set_up
   pub invalid : IsProgram set_up.parts → ⊥
   pub first : IsRefusal set_up.parts refusal

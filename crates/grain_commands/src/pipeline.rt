@@ -3,13 +3,13 @@
 
 ghost use Rattle.std.specs.Prelude.{◌<◌, Ok, IfOk};
 ghost use Rattle.grain_listing.specs.Reading.{reads};
-ghost use Rattle.grain_listing.specs.SetUpView.{set_up_of, IsReady};
+ghost use Rattle.grain_listing.specs.ListingViews.{set_up_of, IsReady};
 ghost use Rattle.grain_commands.specs.Replies.{Replies};
 ghost use Rattle.grain_commands.specs.Runs.{Reported, engine_of, start};
 
 use crate::replies::{Reply, fault_reply, no_listing, refused, value_reply};
 use grain_host::TableHost;
-use grain_listing::{Setup, read};
+use grain_listing::{Listing, read};
 use grain_program::{Program, verify};
 use grain_value::{Limits, OutOfMemory, Scope, Store};
 use grain_vm::{Engine, Steps, Vm};
@@ -46,13 +46,13 @@ fn run_program<L: Ledger>(
 /// Verifies what a listing says and runs it.
 fn run_set_up<L: Ledger>(
     alloc: Global,
-    setup: Setup,
+    setup: Listing,
     steps: &mut Steps<L>,
 ) -> Result<Reply, OutOfMemory>
     requires { IsReady setup }
     ensures { IfOk result (λ r. Replies (Ok (set_up_of setup)) r.status r.text) }
 {
-    let Setup {
+    let Listing {
         parts,
         limits,
         fast_operators,

@@ -64,43 +64,6 @@ operator_wants m n count token next f w args is halts =
     rw is (push_stops m (operated m.program m.engine token args) (name_of m.program n) args next
     (under count f.operands) f w halts)
 
--- memory is out before the host is called
-pub native_short : {H : Type 0} (law : Law H) (p : View) (engine : Engine) (f : Activation)
-    (s : Run H) (n : StepsView) (host : H) {ts : List ℕ} {takes gives : ℕ} {hs : List Handler}
-    (name : List ℕ) (lend : Option Receiver) (args : List Held)
-    (go : Setup H → Option Place → Dynamic → World H → Act H)
-    (fails : Setup H → Option Place → Problem → World H → Act H)
-    (r : Result Progress OutOfMemory) → is_out r ≡ true → f.base ≤ length s.scope →
-    ((m : Setup H) (place : Option Place) (w : World H) → is_stop m.stop w.passed ≡ true →
-    StopsAtMark m (frame_in f s place) w (fails m place)) →
-    Implements (setup law p engine) (moment f s n host)
-    (λ m place w. native m name lend args (frame_in f s place) w (go m place) (fails m place))
-    ts takes gives hs r (moment f s n host)
-native_short law p engine f s n host name lend args go fails (Ok y) er inside stops = absurd cc
-native_short law p engine f s n host name lend args go fails (Err y) er inside stops = record {
-  same = record {
-    this = refl;
-    order = omega arith;
-    equal = λ stop clear halts u place. let m = stopped (setup law p engine) stop in
-        let w = world (abstraction s n host) u in
-        native_stops m name lend args (frame_in f s place) w (go m place) (fails m place) halts
-        (stops m place w halts);
-  };
-  kept = record {
-    chunk = refl;
-    base = refl;
-    scope = inside;
-    room = refl;
-    noted = refl;
-    outer = refl;
-    saved = refl;
-    level = refl;
-    later = omega arith;
-  };
-  lands = tt;
-  before = refl;
-}
-
 module _ {H : Type 0} (law : Law H) (p : View) (engine : Engine) (f : Activation) (s t : Run H)
     (n k : StepsView) (host mid : H) {rule : Computation H} (run : t ≡ s)
     (before : k.before ≡ n.before) (inside : f.base ≤ length s.scope) where

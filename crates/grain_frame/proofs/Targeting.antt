@@ -134,18 +134,6 @@ lent_again {H = H} s after t u h can is =
             (set_is_there s.cells n false (idle h) free);
       }
 
--- a target that can be lent can be while the cells and the scope are the same
-pub still_lent : {H : Type 0} (s r : Run H) (t : Target) → r.scope ≡ s.scope →
-    r.cells ≡ s.cells → CanBeLent s t → CanBeLent r t
-still_lent s r t scope cells can = record {
-  entry = omega (arith, can.entry, ap (λ (es : List Entry). length es) scope);
-  free = at t.cell can.free;
-} where
-  at : (c : Option ℕ) → FreeCell s c → FreeCell r c
-  at None free = tt
-  at (Some n) free =
-      ap (λ (cs : List Cell). option_map is_busy (slice_get cs n)) cells ∙ free
-
 -- an index within a scope has an entry
 pub entry_at : (es : List Entry) (i : ℕ) → i < length es → (h : Held) × (held_at es i ≡ Some h)
 entry_at [] i within = absurd (omega (arith, within))
@@ -211,15 +199,6 @@ content_same s t h within = at t.cell where
       let there = entry_at s.scope t.index within in
       by_entry (held_at s.scope t.index) there.0 there.1
   at (Some n) = refl
-
--- a cell that is not lent is written
-free_written : {S : Type 0} (m : Setup S) (o : Option Cell) (n : ℕ) (h : Held) (name : List ℕ)
-    (f : Frame) (w : World S) (go : World S → Act S) → option_map is_busy o ≡ Some false →
-    cell_written m o n h name f w go
-    ≡ marked m f w (λ w1. go (record w1 { cells = slice_set w1.cells n (idle h) }))
-free_written m None n h name f w go free = absurd cc
-free_written m (Some c) n h name f w go free =
-    let idles : c.busy ≡ false = cc in rw idles refl
 
 -- so is a target
 pub target_written : {H : Type 0} (m : Setup H) (s : Run H) (t : Target) (h : Held)

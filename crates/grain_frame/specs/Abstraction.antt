@@ -9,6 +9,7 @@ use Rattle.grain_fault.specs.declared.faults.EvalAltResult.{EvalAltResult}
 use Rattle.grain_program.specs.declared.code.instruction_set.Op.{Op}
 use Rattle.grain_program.specs.declared.code.instruction_set.Op.TheVariants as op
 use Rattle.grain_program.specs.Effects.{takes_of, gives_of, leads_of}
+use Rattle.grain_program.specs.Layout.{most_code}
 use Rattle.grain_program.specs.Shapes.{TryHandler}
 use Rattle.grain_program.specs.TypedAt.{IsTypedAt, IsCovered, Verified}
 use Rattle.grain_program.specs.Decoding.{op_at}
@@ -209,7 +210,7 @@ abbrev pub StaysTyped : {H : Type 0} → View → Engine → Run H → Activatio
     Result Progress OutOfMemory → Type 0
 StaysTyped p engine s f s' f' (Ok progress.Continues) =
     IsTypedAt p f'.chunk f'.address (length s'.stacks.operands) (tries_in s'.stacks.handlers)
-    × Progresses engine s f s' f' × (f.address < 16777216) × Above f'.base s'.stacks.handlers
+    × Progresses engine s f s' f' × (f.address < most_code) × Above f'.base s'.stacks.handlers
 StaysTyped p engine s f s' f' (Ok progress.Returned) = Unit {0}
 StaysTyped p engine s f s' f' (Ok progress.Failed) = CanCatch p f' s'
 StaysTyped p engine s f s' f' (Err e) = Unit {0}

@@ -5,7 +5,7 @@ use Rattle.grain_literals.specs.Steps.{and_then}
 use Rattle.grain_literals.specs.declared.reasons.Reason.{Reason}
 use Rattle.grain_listing.specs.Statements.{Statement, address, bad_line}
 use Rattle.grain_listing.specs.LineMeanings.{says, at_line, statements}
-use Rattle.grain_listing.specs.Reading.{SetUp, set_up_of, meaning}
+use Rattle.grain_listing.specs.Reading.{ListingView, set_up_of, meaning}
 use Rattle.grain_listing.specs.views.Assembling.{AssemblerView, HasRoom, empty, take_line}
 use Rattle.grain_listing.specs.views.Linking.{ending}
 use Rattle.grain_listing.specs.views.Ordered.{IsOrdered}
@@ -16,7 +16,7 @@ use Rattle.grain_listing.proofs.Simulates.{given, next, simulates}
 use Rattle.grain_listing.proofs.Linked.{ended, ordered}
 
 abbrev pub Read : Type 0
-Read = Result SetUp BadLine
+Read = Result ListingView BadLine
 
 -- n lines of the text were read, and the assembler has what they have said
 pub record LinesRead (text rest : List ℕ) (n : ℕ) (v : AssemblerView) : Type 0 where

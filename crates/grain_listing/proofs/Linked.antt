@@ -11,7 +11,7 @@ use Rattle.grain_literals.specs.Steps.{and_then, present}
 use Rattle.grain_literals.specs.declared.reasons.Reason.TheVariants.{UnknownLabel}
 use Rattle.grain_listing.specs.Statements.{Piece, Byte, Goto, Statement, code_line, section, tokens, assigns, pieces, width, address, labels, label_address, positions, code_of, bad_line}
 use Rattle.grain_listing.specs.Reading
-use Rattle.grain_listing.specs.Reading.{SetUp, assign_ops_of, complete, set_up_of}
+use Rattle.grain_listing.specs.Reading.{ListingView, assign_ops_of, complete, set_up_of}
 use Rattle.grain_listing.specs.views.Linking.{write_on, write_at, fill, ending}
 use Rattle.grain_listing.specs.views.Ordered.{IsOrdered}
 use Rattle.grain_listing.specs.declared.reasons.BadLine.{BadLine}

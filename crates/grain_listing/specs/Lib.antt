@@ -12,5 +12,5 @@ pub mod InstructionLines
 pub mod Statements
 pub mod LineMeanings
 pub mod Reading
-pub mod SetUpView
+pub mod ListingViews
 pub mod views

@@ -26,7 +26,7 @@ use Rattle.grain_listing.specs.declared.reasons.BadLine.{BadLine}
 
 -- what a listing says: what may become a program, the limits of its run, whether operators are fast
 -- in it, the host with which it begins, and the scope in which it begins
-pub record SetUp : Type 0 where
+pub record ListingView : Type 0 where
   pub parts : View
   pub limits : Limits
   pub fast_operators : Bool
@@ -77,7 +77,7 @@ abbrev pub caps_of : Option ℕ → ℕ
 caps_of caps = or_number 31 caps
 
 -- what the lines say, with these op-assignments and this code
-abbrev pub set_up : List Statement → List AssignOp → List ℕ → SetUp
+abbrev pub set_up : List Statement → List AssignOp → List ℕ → ListingView
 set_up said assign_ops code =
     record {
       parts = record {
@@ -111,14 +111,14 @@ complete n sections.Block more = refused n UnfinishedChunk
 complete n sections.After more = more
 
 -- what n lines say together
-abbrev pub set_up_of : ℕ → List Statement → Result SetUp BadLine
+abbrev pub set_up_of : ℕ → List Statement → Result ListingView BadLine
 set_up_of n said =
     and_then (assign_ops_of (Statements.tokens said) (assigns said)) (λ assign_ops.
     complete n (section said)
     (and_then (code_of (labels said) (pieces said)) (λ code. Ok (set_up said assign_ops code))))
 
 -- what the lines say
-abbrev pub meaning : List (List ℕ) → Result SetUp BadLine
+abbrev pub meaning : List (List ℕ) → Result ListingView BadLine
 meaning lines = and_then (statements 0 [] lines) (λ said. set_up_of (length lines) said)
 
 -- a listing has at most this many bytes
@@ -130,7 +130,7 @@ abbrev pub broken_line : List ℕ → ℕ
 broken_line bytes = count_by (λ b. b == 10) (take (utf8_valid_len bytes) bytes) + 1
 
 -- what the bytes say as a listing, or why they are none
-abbrev pub reads : List ℕ → Result SetUp BadLine
+abbrev pub reads : List ℕ → Result ListingView BadLine
 reads bytes =
     if nat_lt most_bytes (length bytes) then refused 0 TooLong
     else (if is_utf8 bytes then meaning (lines_of (chars bytes))

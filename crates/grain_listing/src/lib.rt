@@ -13,16 +13,16 @@ mod laws;
 mod limits;
 mod line_rules;
 mod linking;
+mod listings;
 mod pool_lines;
 mod reading;
 mod reasons;
 mod settings;
-mod setups;
 mod table;
 
 pub use grain_literals::Reason;
 pub use laws::{instructions_are_read, stops_are_read};
+pub use listings::Listing;
 pub use reading::{MOST_BYTES, read};
 pub use reasons::BadLine;
-pub use setups::Setup;
 pub use table::instructions_are_in_the_table;

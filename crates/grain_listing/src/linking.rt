@@ -3,7 +3,7 @@
 ghost use Rattle.std.specs.Prelude.{◌≡◌, ◌+◌, IfOk, ◌<◌, slice_set, length};
 ghost use Rattle.grain_listing.specs.Reading.{assign_op_of, assign_ops_of, token_at, limits_of, caps_of, last_line};
 ghost use Rattle.grain_listing.specs.views.Limits.{AreAllowed, limits_view};
-ghost use Rattle.grain_listing.specs.SetUpView.{outcome, IsReady};
+ghost use Rattle.grain_listing.specs.ListingViews.{outcome, IsReady};
 ghost use Rattle.grain_listing.specs.views.AssemblerView.{assembler_view};
 ghost use Rattle.grain_listing.specs.views.Linking.{ending, finish, filled, fill, write_at, left};
 ghost use Rattle.grain_listing.specs.views.Ordered.{IsOrdered};
@@ -12,9 +12,9 @@ use crate::assembler::{Assembler, Fixup};
 use crate::flags::is_on;
 use crate::headers::AssignLine;
 use crate::limits::LimitLine;
+use crate::listings::Listing;
 use crate::reasons::BadLine;
 use crate::settings::number_of;
-use crate::setups::Setup;
 use crate::table::Section;
 use bitflags::Flags;
 use grain_literals::Reason;
@@ -128,7 +128,7 @@ fn caps_of(bits: Option<u8>) -> Caps
 }
 
 /// What the assembler says, whose last block is over.
-fn set_up(alloc: Global, assembler: Assembler, assign_ops: AssignOps) -> Result<Setup, BadLine>
+fn set_up(alloc: Global, assembler: Assembler, assign_ops: AssignOps) -> Result<Listing, BadLine>
     requires { IsOrdered (assembler_view assembler) }
     ensures setup { outcome result ≡ filled (assembler_view assembler) assign_ops }
     ensures ready { IfOk result IsReady }
@@ -168,7 +168,7 @@ fn set_up(alloc: Global, assembler: Assembler, assign_ops: AssignOps) -> Result<
         positions,
         source,
     };
-    Ok(Setup {
+    Ok(Listing {
         parts,
         limits: limits_of(limits.as_slice()),
         fast_operators: is_on("operators", flags.as_slice()),
@@ -189,7 +189,7 @@ fn finish(
     n: usize,
     assembler: Assembler,
     assign_ops: AssignOps,
-) -> Result<Setup, BadLine>
+) -> Result<Listing, BadLine>
     requires { IsOrdered (assembler_view assembler) }
     ensures setup { outcome result ≡
         finish n assembler.section (assembler_view assembler) assign_ops }
@@ -217,7 +217,7 @@ pub fn ending(
     alloc: Global,
     n: usize,
     assembler: Assembler,
-) -> Result<Result<Setup, BadLine>, OutOfMemory>
+) -> Result<Result<Listing, BadLine>, OutOfMemory>
     requires { IsOrdered (assembler_view assembler) }
     ensures setup { IfOk result (λ r. outcome r ≡ ending n (assembler_view assembler)) }
     ensures ready { IfOk result (λ r. IfOk r IsReady) }

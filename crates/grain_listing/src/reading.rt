@@ -2,13 +2,13 @@
 
 ghost use Rattle.std.specs.Prelude.{◌≡◌, ◌≤◌, ◌+◌, ◌==◌, IfOk, length, count_by, take};
 ghost use Rattle.grain_words.specs.Lines.{lines_of};
-ghost use Rattle.grain_listing.specs.Reading.{reads, meaning};
-ghost use Rattle.grain_listing.specs.SetUpView.{outcome, IsReady};
+ghost use Rattle.grain_listing.specs.Reading.{reads, meaning, most_bytes};
+ghost use Rattle.grain_listing.specs.ListingViews.{outcome, IsReady};
 
 use crate::assembler::Assembler;
 use crate::linking::ending;
+use crate::listings::Listing;
 use crate::reasons::BadLine;
-use crate::setups::Setup;
 use grain_literals::Reason;
 use grain_value::OutOfMemory;
 use grain_words::next_line;
@@ -17,8 +17,8 @@ use std::alloc::Global;
 /// How many bytes a listing may have.
 pub const MOST_BYTES: usize = 16_777_216;
 
-fn read_lines(alloc: Global, text: &[char]) -> Result<Result<Setup, BadLine>, OutOfMemory>
-    requires { length text.now ≤ 16777216 }
+fn read_lines(alloc: Global, text: &[char]) -> Result<Result<Listing, BadLine>, OutOfMemory>
+    requires { length text.now ≤ most_bytes }
     ensures setup { IfOk result (λ r. outcome r ≡ meaning (lines_of text.now)) }
     ensures ready { IfOk result (λ r. IfOk r IsReady) }
 {
@@ -47,7 +47,7 @@ fn broken_line(bytes: &[u8], valid: usize) -> usize
 }
 
 /// What the bytes say as a listing, or which line makes them none and why.
-pub fn read(alloc: Global, bytes: &[u8]) -> Result<Result<Setup, BadLine>, OutOfMemory>
+pub fn read(alloc: Global, bytes: &[u8]) -> Result<Result<Listing, BadLine>, OutOfMemory>
     ensures setup { IfOk result (λ r. outcome r ≡ reads bytes.now) }
     ensures ready { IfOk result (λ r. IfOk r IsReady) }
 {

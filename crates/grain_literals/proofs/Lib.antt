@@ -8,6 +8,8 @@ pub mod LiteralsRead
 pub mod Shorter
 pub mod Rooms
 pub mod MapsListed
+pub mod Yielded
+pub mod TextsListed
 pub mod ReadListed
 pub mod LiteralsListed
 pub mod NoCells

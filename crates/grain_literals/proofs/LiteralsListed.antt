@@ -18,7 +18,9 @@ use Rattle.grain_literals.specs.Values.{Found, made, value}
 use Rattle.grain_literals.specs.declared.reasons.Reason.{Reason}
 use Rattle.grain_literals.specs.declared.reasons.Reason.TheVariants.{BadValue, BadOperand}
 use Rattle.grain_literals.specs.laws.Scalars.{rest_of, all_scalars, trimmed, AfterWord, after_next}
-use Rattle.grain_literals.proofs.ReadListed.{Yields, Left, in_cond, quoted_gives, value_gives}
+use Rattle.grain_literals.proofs.ReadListed.{value_gives}
+use Rattle.grain_literals.proofs.TextsListed.{quoted_gives}
+use Rattle.grain_literals.proofs.Yielded.{Yields, Left, in_cond}
 
 -- what was answered satisfies P, if the step was not refused
 abbrev Answers : {A : Type 0} → (A → Type 0) → Result A Reason → Type 0

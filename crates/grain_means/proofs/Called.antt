@@ -15,7 +15,8 @@ use Rattle.grain_means.specs.Causes.{Caused}
 use Rattle.grain_means.specs.CatchBlocks.{Catches}
 use Rattle.grain_means.proofs.Kept.{keeps_all}
 use Rattle.grain_means.proofs.Standing.{Fitting, Covered, fits_main, fits_stand}
-use Rattle.grain_means.proofs.Footing.{Footing, Onto, Tally, by_test, true-false, caused, cut_of}
+use Rattle.grain_means.proofs.Footing.{Footing, Onto, Tally, by_test, true-false}
+use Rattle.grain_means.proofs.Carrying.{caused, cut_of}
 use Rattle.grain_means.proofs.Catching.{even_caught, catches_rightly}
 use Rattle.grain_means.proofs.Tally.{even_next}
 
@@ -25,7 +26,18 @@ module _ {S : Type 0} (m : Setup S) where
       Comes m t w root → Tally m root turn r k (Go t w) →
       Tally m root (Go t w) (w.ran + cost t) k (next m t w)
   even_step root turn r k (InFrame f) w comes h =
-      even_next m root k f w comes h.1 h.2 h.4.0 h.3 h.4.1
+      even_next {m = m} (record {
+        root = root;
+        footing = k;
+        frame = f;
+        now = w;
+        comes = comes;
+        tokens = h.1;
+        level = h.2;
+        trace = h.4.0;
+        keeps = h.3;
+        sits = h.4.1;
+      })
   even_step root turn r k (InCatch f h x) w comes s =
       even_caught m f h x w root (Go (InCatch f h x) w) k comes (w.ran + 0) (omega arith) s.1 s.2
       s.3 s.4

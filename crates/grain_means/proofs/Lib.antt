@@ -3,6 +3,7 @@ pub mod Kept
 pub mod Lengths
 pub mod Standing
 pub mod Footing
+pub mod Carrying
 pub mod Catching
 pub mod Tally
 pub mod Called

@@ -14,7 +14,7 @@ use Rattle.grain_global.specs.declared.engines.Engine.{Engine}
 use Rattle.grain_means.specs.Worlds.{Act, Answer, Came, Failed, Setup, Frame, InFrame, World}
 use Rattle.grain_means.specs.Rules.{main}
 use Rattle.grain_means.specs.Comes.{Comes}
-use Rattle.grain_means.specs.Means.{Begin, Finish, Runs, first_world}
+use Rattle.grain_means.specs.Means.{Begin, Finish, MainEnds, first_world}
 
 abbrev pub name_in : Entry → List ℕ
 name_in e = e.name
@@ -61,7 +61,7 @@ abbrev pub IsCut : {S : Type 0} → Law S → View → Engine → Begin S → Pr
 IsCut {S = S} law program engine b x e =
     (stop : Option ℕ) × ((stop ≡ None) ⊎ (x ≡ NoMemory)) ×
     (let m : Setup S = record { law = law; program = program; engine = engine; stop = stop } in
-    ((ran : ℕ) × Runs m b e ran) ×
+    ((ran : ℕ) × MainEnds m b e ran) ×
     (Cut m (main m (first_world b)) b.global.level (length b.scope) x e.scope e.trace ⊎
     ((x ≡ NoMemory) × (e.trace ≡ []))))
 

@@ -67,21 +67,21 @@ last_world e ran passed = record {
 }
 
 -- main's run ends so, and begins this number of instructions
-abbrev pub Runs : {S : Type 0} → Setup S → Begin S → Finish S → ℕ → Type 0
-Runs m b e ran =
+abbrev pub MainEnds : {S : Type 0} → Setup S → Begin S → Finish S → ℕ → Type 0
+MainEnds m b e ran =
     (passed : ℕ) ×
     ((run : Ends m (main m (first_world b)) e.answer (last_world e ran passed)) ×
     (run_length run ≡ ran))
 
 -- the program's run under the engine ends so
 abbrev pub Means : {S : Type 0} → Law S → View → Engine → Begin S → Finish S → ℕ → Type 0
-Means law program engine b e ran = Runs (setup law program engine) b e ran
+Means law program engine b e ran = MainEnds (setup law program engine) b e ran
 
 -- the run at whose mark k memory is out ends so
 abbrev pub Stopped : {S : Type 0} → ℕ → Law S → View → Engine → Begin S → Finish S → ℕ →
     Type 0
 Stopped {S = S} k law program engine b e ran =
-    let m : Setup S = setup law program engine in Runs (record m { stop = Some k }) b e ran
+    let m : Setup S = setup law program engine in MainEnds (record m { stop = Some k }) b e ran
 
 -- What a call answered: with a value or a fault the end that the program means, and where memory is
 -- out the end of the run that is stopped at some mark.

@@ -17,7 +17,8 @@ use Rattle.grain_program.specs.Typing.{In, HasTyping, AnalysisState, ◌>>=◌, 
 use Rattle.grain_program.proofs.Tiles.{is_tiled}
 use Rattle.grain_program.proofs.Cells.{free}
 use Rattle.grain_program.proofs.Grows.{Spread, arrive_spread, Moved, moved}
-use Rattle.grain_program.proofs.Worklists.{free_within, take_none, inside, closed, has_typing}
+use Rattle.grain_program.proofs.Worklists.{free_within, take_none, inside, closed}
+use Rattle.grain_program.proofs.AllChunks.{has_typing}
 
 -- a fact of each number in a list
 all_in : (P : ℕ → Type 0) (bs : List ℕ) → ((b : ℕ) → In b bs → P b) → AllByRecursion P bs

@@ -11,7 +11,7 @@ use Rattle.grain_program.specs.Typing.{HasTyping, Valid, analysis, StopsWith, Re
 use Rattle.grain_program.proofs.Tiles.{is_tiled}
 use Rattle.grain_program.proofs.Breaches.{ByOp, ByName, ByEmptyChunk, kind_of}
 use Rattle.grain_program.proofs.Meaning.{none_by_op}
-use Rattle.grain_program.proofs.Worklists.{never_stops}
+use Rattle.grain_program.proofs.AllChunks.{never_stops}
 use Rattle.grain_program.specs.Chains.{AreGoodChains, first_bad_chain}
 use Rattle.grain_program.proofs.GoodChains.{all_are_good, refused_for_chain, one_chain}
 

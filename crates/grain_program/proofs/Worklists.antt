@@ -1,8 +1,6 @@
--- The search for a typing: where it ends it has found one, and if there is one it does not stop.
-use Rattle.std.proofs.Common.{◌≡◌, ℕ, zero, suc, ◌+◌, ◌<◌, ◌≤◌, ◌⊎◌, List, [], ◌∷◌, length, replicate, Option, Some, None, Result, Ok, Err, refl, sym, ap, subst, ◌∙◌, inl, inr, arith}
+-- The search for a typing in one chunk: an address that waits is taken, until none waits.
+use Rattle.std.proofs.Common.{◌≡◌, ℕ, zero, suc, ◌+◌, ◌<◌, ◌≤◌, ◌⊎◌, List, [], ◌∷◌, length, Option, Some, None, Result, Ok, refl, sym, ap, subst, ◌∙◌, inl, inr, arith}
 use Rattle.std.specs.Prelude.{slice_get}
-use Rattle.std.proofs.lemmas.Bool.{cases_lt}
-use Rattle.std.proofs.lemmas.List.{get_or-replicate, length-replicate, get_or_past}
 use Rattle.grain_program.specs.declared.code.instruction_set.Op.{Op}
 use Rattle.grain_program.specs.declared.code.parts.Chunk.{Chunk}
 use Rattle.grain_program.specs.declared.verifier.refusals.Refusal.{Refusal}
@@ -14,23 +12,13 @@ use Rattle.grain_program.specs.Starts.{Start}
 use Rattle.grain_program.specs.laws.Starts.{start_first, start_next, start_within}
 use Rattle.grain_program.specs.Rules.{Splits, InstructionStart}
 use Rattle.grain_program.specs.Shapes.{Shape, bare, shape_at}
-use Rattle.grain_program.specs.Typing.{In, Agrees, Typing, HasTyping, AnalysisState, ◌>>=◌, arrive, take_at, take_lowest, nothing_seen, take_all, analyse_chunk, analyse_from, analysis}
+use Rattle.grain_program.specs.Typing.{In, Agrees, Typing, AnalysisState, ◌>>=◌, arrive, take_at, take_lowest, take_all, analyse_chunk}
 use Rattle.grain_program.specs.laws.TypedAt.{leads_to_start}
 use Rattle.grain_program.proofs.Tiles.{is_tiled}
 use Rattle.grain_program.proofs.Meaning.{same_chunk}
 use Rattle.grain_program.proofs.Cells.{free}
-use Rattle.grain_program.proofs.Grows.{then_ok, Stays, Spread, arrive_spread, Moved, moved, SoundBut, Done, spread_sound, Below, arrive_fits, take_fits}
-
-none_seen : (n a : ℕ) (s : Shape) → shape_at (replicate n None) a ≡ Some s → ⊥
-none_seen n a s e = at (cases_lt a n) where
-  at : (a < n) ⊎ (n ≤ a) → ⊥
-  at (inl lt) = let none : None ≡ Some s = sym (get_or-replicate n a None None lt) ∙ e in cc
-  at (inr le) = let none : None ≡ Some s =
-      sym (get_or_past (replicate n None) a None (omega (
-        arith,
-        length-replicate {A =
-            Option Shape} n None,
-      ))) ∙ e in cc
+use Rattle.grain_program.proofs.Grows.{Stays, Spread, arrive_spread, Moved, moved, SoundBut, Done, spread_sound, Below, arrive_fits, take_fits}
+use Rattle.grain_program.proofs.ShapeSteps.{then_ok}
 
 -- an address without a shape is free, so there are no more of them than addresses
 pub free_within : (xs : List (Option Shape)) → free xs ≤ length xs
@@ -71,11 +59,11 @@ module _ (p : View) (chunks : List Chunk) (laid : layout_fault (length p.code) c
   pub inside : (i : ℕ) (c : Chunk) → slice_get chunks i ≡ Some c → c.end ≤ length p.code
   inside i c g = (tiles.inside i c g).1
 
-  abbrev None_out : ℕ → Type 0
+  abbrev pub None_out : ℕ → Type 0
   None_out a = ⊥
 
   -- each known address waits or is done
-  abbrev Sound : AnalysisState → Type 0
+  abbrev pub Sound : AnalysisState → Type 0
   Sound f = SoundBut p.code chunks None_out f
 
   -- ---- one chunk
@@ -237,10 +225,10 @@ module _ (p : View) (chunks : List Chunk) (laid : layout_fault (length p.code) c
             read.1 (below a known.0 known.1)) below
 
     -- a loop that is long enough, and is not refused, ends where none waits
-    record AllTaken (f f' : AnalysisState) : Type 0 where
-      sound : Sound f'
-      over : f'.waiting ≡ []
-      stays : Stays f f'
+    pub record AllTaken (f f' : AnalysisState) : Type 0 where
+      pub sound : Sound f'
+      pub over : f'.waiting ≡ []
+      pub stays : Stays f f'
 
     take_all_ok : (n : ℕ) (f f' : AnalysisState) → Here f → free f.shapes + length f.waiting ≤ n
         → take_all p.code c.max_stack n f ≡ Ok f' → AllTaken f f'
@@ -317,12 +305,12 @@ module _ (p : View) (chunks : List Chunk) (laid : layout_fault (length p.code) c
           mine a (inr j) = at a j
 
     -- the chunk is done, and its entry is known
-    record Analysed (f f' : AnalysisState) : Type 0 where
-      taken : AllTaken f f'
-      entry : shape_at f'.shapes c.entry ≡ Some bare
+    pub record Analysed (f f' : AnalysisState) : Type 0 where
+      pub taken : AllTaken f f'
+      pub entry : shape_at f'.shapes c.entry ≡ Some bare
 
-    chunk_ok : (f f' : AnalysisState) → Sound f → f.waiting ≡ [] → analyse_chunk p.code c f ≡ Ok f'
-        → Analysed f f'
+    pub chunk_ok : (f f' : AnalysisState) → Sound f → f.waiting ≡ [] → analyse_chunk p.code c f ≡ Ok
+        f' → Analysed f f'
     unfolding analyse_chunk
     chunk_ok f f' sound e ok =
         let t =
@@ -348,7 +336,7 @@ module _ (p : View) (chunks : List Chunk) (laid : layout_fault (length p.code) c
           entry = v.stays c.entry bare (h.1.there c.entry (inl refl));
         }
 
-    chunk_fits : (typing : ℕ → Option Shape) → Typing p.code chunks typing → (f : AnalysisState)
+    pub chunk_fits : (typing : ℕ → Option Shape) → Typing p.code chunks typing → (f : AnalysisState)
         → Sound f → f.waiting ≡ [] → Below typing f
         → (f' : AnalysisState) × (analyse_chunk p.code c f ≡ Ok f') × Below typing f'
     unfolding analyse_chunk
@@ -361,102 +349,4 @@ module _ (p : View) (chunks : List Chunk) (laid : layout_fault (length p.code) c
               (length p.code) g) b.1 ∙ v.1,
           v.2,
         )
-
-  -- ---- all chunks
-
-  -- these are some of the chunks
-  abbrev Among : List Chunk → Type 0
-  Among cs =
-      (j : ℕ) (c : Chunk) → slice_get cs j ≡ Some c → (i : ℕ) × (slice_get chunks i ≡ Some c)
-
-  -- the chunks are done, and their entries are known
-  record Over (cs : List Chunk) (f f' : AnalysisState) : Type 0 where
-    sound : Sound f'
-    over : f'.waiting ≡ []
-    stays : Stays f f'
-    entries : (j : ℕ) (c : Chunk) → slice_get cs j ≡ Some c → shape_at f'.shapes c.entry ≡ Some bare
-
-  from_ok : (cs : List Chunk) (f f' : AnalysisState) → Among cs → Sound f → f.waiting ≡ []
-      → analyse_from p.code cs f ≡ Ok f' → Over cs f f'
-  from_ok [] f f' among sound e ok =
-      let same : f ≡ f' = cc in
-      subst (Over [] f) same (record {
-        sound = sound;
-        over = e;
-        stays = λ a s k. k;
-        entries =
-            λ j c k. absurd cc;
-      })
-  from_ok (c ∷ cs) f f' among sound e ok =
-      let t = then_ok (analyse_chunk p.code c f) (λ g. analyse_from p.code cs g) f' ok in
-      let i = among 0 c refl in
-      let s = chunk_ok i.0 c i.1 f t.0 sound e t.1 in
-      let more = from_ok cs t.0 f' (λ j d k. among (suc j) d k) s.taken.sound s.taken.over t.2 in
-      record {
-        sound = more.sound;
-        over = more.over;
-        stays = λ a x k. more.stays a x (s.taken.stays a x k);
-        entries = λ j d k. entry (more.stays c.entry bare s.entry) more.entries j d k;
-      } where
-        entry : shape_at f'.shapes c.entry ≡ Some bare → ((j : ℕ) (d : Chunk)
-            → slice_get cs j ≡ Some d → shape_at f'.shapes d.entry ≡ Some bare)
-            → (j : ℕ) (d : Chunk) → slice_get (c ∷ cs) j ≡ Some d
-            → shape_at f'.shapes d.entry ≡ Some bare
-        entry first later zero d k = let same : c ≡ d =
-            cc in subst (λ (x : Chunk). shape_at f'.shapes x.entry ≡ Some bare) same first
-        entry first later (suc j) d k = later j d k
-
-  from_fits : (typing : ℕ → Option Shape) → Typing p.code chunks typing
-      → (cs : List Chunk) (f : AnalysisState) → Among cs → Sound f → f.waiting ≡ [] →
-      Below typing f
-      → (f' : AnalysisState) × (analyse_from p.code cs f ≡ Ok f')
-  from_fits typing y [] f among sound e below = (f, refl)
-  from_fits typing y (c ∷ cs) f among sound e below =
-      let i = among 0 c refl in
-      let t = chunk_fits i.0 c i.1 typing y f sound e below in
-      let s = chunk_ok i.0 c i.1 f t.0 sound e t.1 in
-      let more =
-      from_fits typing y cs t.0 (λ j d k. among (suc j) d k) s.taken.sound s.taken.over t.2 in (
-        more.0,
-        ap (λ (x : Result AnalysisState Refusal). x >>= λ g. analyse_from p.code cs g) t.1
-            ∙ more.1,
-      )
-
-  nothing_sound : Sound (nothing_seen (length p.code))
-  nothing_sound = record {
-    long = length-replicate {A = Option Shape} (length p.code) None;
-    starts = λ a s k. absurd (none_seen (length p.code) a s k);
-    known = λ a i. absurd i;
-    done = λ a s k. absurd (none_seen (length p.code) a s k);
-  }
-
-  -- a search that is not refused has found a typing
-  pub has_typing : (f : AnalysisState) → analysis p.code chunks ≡ Ok f → HasTyping p.code chunks
-  has_typing f ok = (
-    shape_at f.shapes,
-    record {
-      entries = o.entries;
-      steps = λ i c a r s g st is k. at i c a r s
-          g st is (o.sound.done a s k);
-    },
-  ) where
-    o : Over chunks (nothing_seen (length p.code)) f
-    o = from_ok chunks (nothing_seen (length p.code)) f (λ j c k. (j, k)) nothing_sound refl ok
-
-    at : (i : ℕ) (c : Chunk) (a : ℕ) (r : Op × ℕ) (s : Shape) → slice_get chunks i ≡ Some c
-        → Start p.code c a → op_at p.code a ≡ Some r → In a f.waiting
-        ⊎ (None_out a ⊎ Done p.code chunks f a s)
-        → Agrees (shape_at f.shapes) c.max_stack a r.1 (effect_of r.0) s
-    at i c a r s g st is (inl j) = absurd (subst (In a) o.over j)
-    at i c a r s g st is (inr (inl out)) = absurd out
-    at i c a r s g st is (inr (inr d)) = d i c r g st is
-
-  -- where there is a typing, the search is not refused
-  pub never_stops : (typing : ℕ → Option Shape) → Typing p.code chunks typing → (r : Refusal)
-      → analysis p.code chunks ≡ Err r → ⊥
-  never_stops typing y r e =
-      let q =
-      from_fits typing y chunks (nothing_seen (length p.code)) (λ j c k. (j, k)) nothing_sound
-      refl (λ a s k. absurd (none_seen (length p.code) a s k)) in
-      let bad : Ok q.0 ≡ Err r = sym q.1 ∙ e in
-      cc
+    -- ---- all chunks

@@ -16,13 +16,17 @@ gap_from len at (c ∷ cs) =
     if (c.entry == at) && nat_le at c.end && nat_le c.end len then gap_from len c.end cs
     else Some c.entry
 
--- where the layout fails: a code of more than 16777216 bytes fails there
+-- the longest code, in bytes
+abbrev pub most_code : ℕ
+most_code = 16777216
+
+-- where the layout fails: a longer code fails at that address
 unfoldable pub layout_fault : ℕ → List Chunk → Option ℕ
-layout_fault len chunks = if nat_lt 16777216 len then Some 16777216 else gap_from len 0 chunks
+layout_fault len chunks = if nat_lt most_code len then Some most_code else gap_from len 0 chunks
 
 -- what a layout without a fault is
 pub record Tiled (len : ℕ) (chunks : List Chunk) : Type 0 where
-  pub small : len ≤ 16777216
+  pub small : len ≤ most_code
   pub inside : (i : ℕ) (c : Chunk) → slice_get chunks i ≡ Some c → (c.entry ≤ c.end) ×
       (c.end ≤ len)
   pub apart : (i j : ℕ) (c d : Chunk) → i < j → slice_get chunks i ≡ Some c

@@ -6,7 +6,7 @@ use Rattle.grain_program.specs.declared.code.parts.Chunk.{Chunk}
 use Rattle.grain_program.specs.View.{View}
 use Rattle.grain_program.specs.Effects.{takes_of, gives_of, leads_of, handling_of}
 use Rattle.grain_program.specs.Indices.{InPools}
-use Rattle.grain_program.specs.Layout.{chunks_in}
+use Rattle.grain_program.specs.Layout.{chunks_in, most_code}
 use Rattle.grain_program.specs.Shapes.{Shape, TryHandler, handled, lacks_handler}
 use Rattle.grain_program.specs.Starts.{Start}
 use Rattle.grain_program.specs.Typing.{In, Typing}
@@ -54,7 +54,7 @@ pub record Provides (p : View) (c : Chunk) (at depth : ℕ) (op : Op) (width : �
   pub enough : takes_of op ≤ depth
   pub room : depth - takes_of op + gives_of op ≤ c.max_stack
   pub pools : InPools p op
-  pub inside : at + width ≤ 16777216
+  pub inside : at + width ≤ most_code
   pub wide : 1 ≤ width
 
 -- what validity says of the instruction at which a frame stands

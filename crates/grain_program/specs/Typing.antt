@@ -13,7 +13,7 @@ use Rattle.grain_program.specs.declared.verifier.refusals.Refusal.TheVariants as
 use Rattle.grain_program.specs.View.{View}
 use Rattle.grain_program.specs.Decoding.{op_at}
 use Rattle.grain_program.specs.Effects.{effect_of, leads}
-use Rattle.grain_program.specs.Layout.{chunks_in, layout_fault}
+use Rattle.grain_program.specs.Layout.{chunks_in, layout_fault, most_code}
 use Rattle.grain_program.specs.Starts.{Start}
 use Rattle.grain_program.specs.Rules.{Splits, IsSplit, RefusedBeforeChains, RefusedForChain}
 use Rattle.grain_program.specs.Chains.{AreGoodChains}
@@ -167,7 +167,7 @@ Gives f (Err e) found = (e ≡ refusal.Memory) ⊎ (found ≡ Err e)
 -- what the code needs where it takes an address: an instruction and a known shape are there, and
 -- the table has a place there and wherever the instruction leads
 pub record Ready (code : List ℕ) (shapes : List (Option Shape)) (a : ℕ) : Type 0 where
-  pub small : length code ≤ 16777216
+  pub small : length code ≤ most_code
   pub room : length shapes ≡ length code
   pub within : a < length code
   pub read : op_at code a ≡ None → ⊥
@@ -178,7 +178,7 @@ pub record Ready (code : List ℕ) (shapes : List (Option Shape)) (a : ℕ) : Ty
 -- what the code needs where it walks a chunk: none waits yet, the table has a place for each
 -- address, and the chunk's instructions are read and lead to instructions of the chunk
 pub record IsAnalysable (code : List ℕ) (c : Chunk) (f : AnalysisState) : Type 0 where
-  pub small : length code ≤ 16777216
+  pub small : length code ≤ most_code
   pub room : length f.shapes ≡ length code
   pub none : f.waiting ≡ []
   pub full : c.entry < c.end

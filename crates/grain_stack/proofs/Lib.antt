@@ -1,4 +1,6 @@
 pub mod Lists
+pub mod Rotated
+pub mod Bound
 pub mod Nesting
 pub mod Handling
 pub mod Spreading

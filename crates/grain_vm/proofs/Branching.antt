@@ -43,14 +43,6 @@ take_within (suc n) (suc m) [] le = refl
 take_within (suc n) (suc m) (x ∷ xs) le =
     ap (λ (l : List Held). x ∷ l) (take_within n m xs (omega (arith, le)))
 
--- the last operand goes, and then the one before it
-pub below_below : (xs : List Held) → 2 ≤ length xs → below (below xs) ≡ under 2 xs
-below_below xs two =
-    let long : length (below xs) ≡ length xs - 1 =
-    length-take-le (length xs - 1) xs (omega arith) in
-    let less : length (below xs) - 1 ≡ length xs - 2 = omega (arith, long) in
-    rw less (take_within (length xs - 2) (length xs - 1) xs (omega arith))
-
 module _ {H : Type 0} (law : Law H) (p : View) (engine : Engine) (f : Activation) (s : Run H)
     (truth : Bool) where
   -- how many operands there are once the truth value is there
@@ -94,17 +86,6 @@ module _ {H : Type 0} (law : Law H) (p : View) (engine : Engine) (f : Activation
     level = refl;
     later = le;
   }
-
-  -- the frame would run on behind the comparison
-  pub answered_runs : (next count : ℕ) → Runs p f s → count ≡ 2 → 2 ≤ length s.stacks.operands →
-      IsTypedAt p f.chunk next (length s.stacks.operands - count + 1)
-      (tries_in s.stacks.handlers) → Runs p (moved f next) (judged s truth)
-  answered_runs next count runs is two typed =
-      let long : length s.stacks.operands - count + 1 ≡ length (judged s truth).stacks.operands =
-      omega (arith, is, two, length_answered two) in
-      next_runs p f (moved f next) s (judged s truth) runs (answered_kept next runs.inside)
-      (subst (λ (k : ℕ). IsTypedAt p f.chunk next k (tries_in s.stacks.handlers)) long typed)
-      runs.above
 
   -- the comparison does what its rule says
   pub answers : (name count token next : ℕ) (n : StepsView) (host : H) →

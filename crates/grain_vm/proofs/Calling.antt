@@ -114,7 +114,7 @@ pub refused_here : {H : Type 0} {m : Setup H} {old new : LocalState H} {start : 
 refused_here f s s1 kept h = record {
   this = h.this;
   order = h.order;
-  equal = λ stop clear halts u place. h.equal stop clear halts u place ∙ rw (kept.1, kept.2) refl;
+  equal = λ stop clear halts u place. h.equal stop clear halts u place ∙ rw (kept.operands, kept.handlers) refl;
 }
 
 -- want of memory in a body leaves the caller too, whatever its handlers are
@@ -150,14 +150,6 @@ last_saved [] x zero e = refl
 last_saved [] x (suc n) e = absurd (omega (arith, e))
 last_saved (y ∷ xs) x zero e = absurd (omega (arith, e))
 last_saved (y ∷ xs) x (suc n) e = last_saved xs x n (omega (arith, e))
-
-front_saved : (xs : List (List Entry)) (x : List Entry) (n : ℕ) → n ≡ length xs →
-    take n (xs ++ x ∷ []) ≡ xs
-front_saved [] x zero e = refl
-front_saved [] x (suc n) e = absurd (omega (arith, e))
-front_saved (y ∷ xs) x zero e = absurd (omega (arith, e))
-front_saved (y ∷ xs) x (suc n) e =
-    ap (λ (l : List (List Entry)). y ∷ l) (front_saved xs x n (omega (arith, e)))
 
 module _ {H : Type 0} (engine : Engine) (f f' : Activation) (s s1 s2 s' : Run H) (g : Function)
     (k next : ℕ) (entered : CallEntered engine g s s1) (outer : s2.stacks.outer ≡ s1.stacks.outer)
@@ -198,10 +190,6 @@ module _ {H : Type 0} (engine : Engine) (f f' : Activation) (s s1 s2 s' : Run H)
   scope_back = ap (λ (l : List (List Entry)). slice_index_or l (length s2.saved - 1) []) waiting ∙
       last_saved s.saved s.scope (length s2.saved - 1) one_less
 
-  saved_back : (caller_of s2).saved ≡ s.saved
-  saved_back = ap (λ (l : List (List Entry)). take (length s2.saved - 1) l) waiting ∙
-      front_saved s.saved s.scope (length s2.saved - 1) one_less
-
   level_back : (caller_of s2).level ≡ s.level
   level_back = omega (arith, level, entered.level)
 
@@ -214,115 +202,3 @@ module _ {H : Type 0} (engine : Engine) (f f' : Activation) (s s1 s2 s' : Run H)
   pub outer_is : length g.params ≡ k → (place : Option Place) → frame_in f (caller_of s2) place ≡
       without k (frame_in f s place)
   outer_is all place = rw (operands_back, handlers_back, all) refl
-
-  kept3 : f.base ≤ length s.scope → s1.count ≤ s2.count → KeepsFrame f s f (caller_of s2)
-  kept3 base later = record {
-    chunk = refl;
-    base = refl;
-    scope = rw scope_back base;
-    room = ap (λ (v : StacksView). v.room) stacks_back;
-    noted = ap (λ (v : StacksView). v.noted) stacks_back;
-    outer = ap (λ (v : StacksView). v.outer) stacks_back;
-    saved = saved_back;
-    level = level_back;
-    later = omega (arith, later, entered.count);
-  }
-
-  over_kept : f.base ≤ length s.scope → s1.count ≤ s2.count → f' ≡ f →
-      s' ≡ record (caller_of s2) { fault = s'.fault } → KeepsFrame f s f' s'
-  over_kept base later ef es =
-      let k3 = kept3 base later in
-      record {
-        chunk = ap (λ (a : Activation). a.chunk) ef;
-        base = ap (λ (a : Activation). a.base) ef;
-        scope = omega (arith, k3.scope, ap (λ (q : Run H). length q.scope) es);
-        room = ap (λ (q : Run H). q.stacks.room) es ∙ k3.room;
-        noted = ap (λ (q : Run H). q.stacks.noted) es ∙ k3.noted;
-        outer = ap (λ (q : Run H). q.stacks.outer) es ∙ k3.outer;
-        saved = ap (λ (q : Run H). q.saved) es ∙ k3.saved;
-        level = ap (λ (q : Run H). q.level) es ∙ k3.level;
-        later = omega (arith, k3.later, ap (λ (q : Run H). q.count) es);
-      }
-
-  -- the caller's frame is kept
-  pub call_kept : (r : Result Progress OutOfMemory) → f.base ≤ length s.scope →
-      s1.count ≤ s2.count → CallReturned f (caller_of s2) f' s' next r → KeepsFrame f s f' s'
-  call_kept (Ok progress.Continues) base later h =
-      let k3 = kept3 base later in
-      record {
-        chunk = ap (λ (a : Activation). a.chunk) h.0;
-        base = ap (λ (a : Activation). a.base) h.0;
-        scope = omega (arith, k3.scope, ap (λ (q : Run H). length q.scope) h.2);
-        room = ap (λ (q : Run H). q.stacks.room) h.2 ∙ k3.room;
-        noted = ap (λ (q : Run H). q.stacks.noted) h.2 ∙ k3.noted;
-        outer = ap (λ (q : Run H). q.stacks.outer) h.2 ∙ k3.outer;
-        saved = ap (λ (q : Run H). q.saved) h.2 ∙ k3.saved;
-        level = ap (λ (q : Run H). q.level) h.2 ∙ k3.level;
-        later = omega (arith, k3.later, ap (λ (q : Run H). q.count) h.2);
-      }
-  call_kept (Ok progress.Returned) base later h = absurd h
-  call_kept (Ok progress.Failed) base later h = over_kept base later h.0 h.1
-  call_kept (Err e) base later h = over_kept base later h.0 h.1
-
-  -- the caller goes on after the call, with one operand in the place of the arguments
-  pub call_lands : (r : Result Progress OutOfMemory) → length g.params ≡ k → s1.count ≤ s2.count →
-      CallReturned f (caller_of s2) f' s' next r →
-      ContinuesAt engine s f s' f' (next ∷ []) k 1 s.stacks.handlers r
-  call_lands (Ok progress.Continues) all later h = (
-    inl (ap (λ (a : Activation). a.address) h.0),
-    omega (
-      arith,
-      h.1,
-      ap (λ (xs : List Held). length xs) operands_back,
-      length-take (length s.stacks.operands - length g.params) s.stacks.operands,
-      all,
-    ),
-    ap (λ (q : Run H). q.stacks.handlers) h.2 ∙ handlers_back,
-    inl (omega (arith, ap (λ (q : Run H). q.count) h.2, later, entered.count), entered.allowed),
-  )
-  call_lands (Ok progress.Returned) all later h = tt
-  call_lands (Ok progress.Failed) all later h = (
-    omega (
-      arith,
-      ap (λ (q : Run H). length q.stacks.operands) h.1,
-      ap (λ (xs : List Held). length xs) operands_back,
-      length-take (length s.stacks.operands - length g.params) s.stacks.operands,
-      all,
-    ),
-    ap (λ (q : Run H). q.stacks.handlers) h.1 ∙ handlers_back,
-  )
-  call_lands (Err e) all later h = tt
-
-  -- the caller waits, with room for what the call gives
-  pub call_entered : 0 < length s2.stacks.outer
-  call_entered = omega (arith, ap (λ (fs : List StackFrame). length fs) frames)
-
-  pub call_waits : 0 < length s2.saved
-  call_waits =
-      omega (
-        arith,
-        ap (λ (l : List (List Entry)). length l) waiting,
-        length-append s.saved (s.scope ∷ []),
-      )
-
-  pub call_level : 0 < s2.level
-  call_level = omega (arith, level, entered.level)
-
-  pub call_room : k ≤ length s.stacks.operands → length s.stacks.operands - k + 1 ≤ s.stacks.room →
-      length g.params ≡ k → (first : StackFrame) (others : List StackFrame) → s2.stacks.outer ≡
-      first ∷ others → length first.operands < first.room
-  call_room enough room all first others e =
-      let both : first ∷ others ≡ record (innermost s.stacks)
-      { operands = under (length g.params) s.stacks.operands } ∷ s.stacks.outer =
-      sym e ∙ frames in
-      let same : first ≡ record (innermost s.stacks)
-      { operands = under (length g.params) s.stacks.operands } = cc in
-      omega (
-        arith,
-        enough,
-        room,
-        all,
-        ap (λ (q : StackFrame). length q.operands) same,
-        ap (λ (q : StackFrame). q.room) same,
-        length-take (length s.stacks.operands - length g.params) s.stacks.operands,
-      )

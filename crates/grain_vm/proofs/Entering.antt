@@ -16,7 +16,7 @@ use Rattle.grain_frame.specs.Abstraction.{abstraction, frame_in, is_out, ChargeR
 use Rattle.grain_vm.specs.Calls.{call_continuation}
 use Rattle.grain_frame.specs.declared.activations.Activation.{Activation}
 use Rattle.grain_frame.specs.declared.runs.Run.{Run}
-use Rattle.grain_frame.specs.lemmas.Charging.{Charges}
+use Rattle.grain_frame.specs.lemmas.Charging.{SimulatesCharge}
 
 module _ {H : Type 0} (law : Law H) (p : View) (engine : Engine) (f : Activation)
     (s t s' : Run H) (n k n' : StepsView) (host mid : H) (g : Function) where
@@ -37,7 +37,7 @@ module _ {H : Type 0} (law : Law H) (p : View) (engine : Engine) (f : Activation
   same_call many next (Err e) h = h
 
   -- the operation is taken, and the frame is entered or not
-  pub begun : (b : Bool) → b ≡ true → Charges law p engine f.address s n host (Ok b) t k mid →
+  pub begun : (b : Bool) → b ≡ true → SimulatesCharge law p engine f.address s n host (Ok b) t k mid →
       ChargeResult engine s t (Ok b) → (r : Result Bool OutOfMemory) (next : ℕ) →
       SimulatesExactly (setup law p engine) (abstraction t k mid)
       (λ m place w. function_entered m g count (frame_in f t place) next w) (is_out r)
@@ -56,7 +56,7 @@ module _ {H : Type 0} (law : Law H) (p : View) (engine : Engine) (f : Activation
 
   -- a fault is raised in the caller's frame before its operation was taken, or then
   pub call_refused : (b : Bool) → b ≡ false →
-      Charges law p engine f.address s n host (Ok b) t k mid → (next : ℕ) →
+      SimulatesCharge law p engine f.address s n host (Ok b) t k mid → (next : ℕ) →
       SimulatesExactly (setup law p engine) (abstraction s n host)
       (λ m place w. enter_function m g count (frame_in f s place) next w) false
       (abstraction t k mid) (call_continuation (Ok false) s t g (frame_in f s) next)
@@ -72,7 +72,7 @@ module _ {H : Type 0} (law : Law H) (p : View) (engine : Engine) (f : Activation
       }
 
   -- memory is out
-  pub call_wants : (e : OutOfMemory) → Charges law p engine f.address s n host (Err e) t k mid →
+  pub call_wants : (e : OutOfMemory) → SimulatesCharge law p engine f.address s n host (Err e) t k mid →
       (next : ℕ) → SimulatesExactly (setup law p engine) (abstraction s n host)
       (λ m place w. enter_function m g count (frame_in f s place) next w) true
       (abstraction t k mid) (call_continuation (Err e) s t g (frame_in f s) next)

@@ -19,7 +19,7 @@ use Rattle.grain_means.specs.Length.{run_length}
 use Rattle.grain_means.specs.Simulation.{LocalState, Simulates, NoStopWithin, StopsHere, world, no_environment}
 use Rattle.grain_means.specs.Leavings.{names, Keeps, Cuts, Leaves, IsCut}
 use Rattle.grain_means.specs.Causes.{Caused, HasCause}
-use Rattle.grain_means.specs.Means.{Begin, Finish, setup, Runs, Evaluates}
+use Rattle.grain_means.specs.Means.{Begin, Finish, setup, MainEnds, Evaluates}
 use Rattle.grain_means.specs.lemmas.Stretches.{whole, clear_before, halts_there, never_clear}
 use Rattle.grain_frame.specs.Abstraction.{is_out}
 use Rattle.grain_vm.specs.Calls.{finished_with, answer_of}
@@ -121,7 +121,7 @@ module _ {H : Type 0} (counted : Counted H) (law : Law H) (p : View) (e : Engine
 
   runs : (back : Result (Result Dynamic EvalAltResult) OutOfMemory) → Whole back →
       (stop : Option ℕ) → NoStopWithin stop 0 passed → StopsHere (is_out back) stop passed →
-      Runs (stopped_at stop) b (ending (answer_of back)) ran
+      MainEnds (stopped_at stop) b (ending (answer_of back)) ran
   runs back h stop clear halts =
       let run = at_stop back h stop clear halts in
       (passed, (run, omega (arith, (counts stop (answer_of back) run).0)))

@@ -57,37 +57,6 @@ is_numbered p o number g e is = ap (function_numbered p) (sym e) ∙ is
 pub none_numbered : (p : View) (o : Option ℕ) → None ≡ o → function_numbered p o ≡ None
 none_numbered p o e = ap (function_numbered p) (sym e)
 
--- the function of a name was found
-pub named_found : {H : Type 0} (law : Law H) (p : View) (engine : Engine) (f : Activation)
-    (s : Run H) (n : StepsView) (name count name' count' next number : ℕ) (host : H) → name' ≡ name
-    →
-    count' ≡ count → Some number ≡ function_of p name' count' → Called p name' count' number →
-    count ≤ length s.stacks.operands →
-    FindsFunction (setup law p engine) (moment f s n host) (op.Call name count) next number
-    (moment f s n host)
-named_found law p engine f s n name count name' count' next number host en ec e called enough =
-    record {
-      exists = within p.functions number called.function called.is;
-      goes = λ g is. record {
-        this = refl;
-        order = omega arith;
-        equal = λ stop clear halts u place. rw (is_found g is, sym (all g is)) refl;
-      };
-      operands = λ g is. omega (arith, all g is, enough);
-      frame = refl;
-      others = refl;
-      before = refl;
-    } where
-      is_found : (g : Function) → slice_get p.functions number ≡ Some g →
-          function_found p name count ≡ Some g
-      is_found g is = is_numbered p (function_of p name count) number g (rw (en, ec) at e) is
-
-      all : (g : Function) → slice_get p.functions number ≡ Some g → length g.params ≡ count
-      all g is =
-          ap (λ (k : Function). length k.params)
-          (one_there p.functions number g called.function is called.is)
-          ∙ (called.count_is ∙ ec)
-
 -- values that are given as operands
 curried_is : (ds : List Dynamic) → map read_write ds ≡ map (λ t. read_write (value_of t)) (trees ds)
 curried_is [] = refl
@@ -285,49 +254,6 @@ pub is_function : {H : Type 0} (law : Law H) (p : View) (engine : Engine) (f f' 
 is_function law p engine f f' s s' n n' x number next host host' is finds =
     subst (λ (x : Found). FindsHere (setup law p engine) (moment f s n host) (Ok x)
     (moment f' s' n' host')) is finds
-
--- what there is where it is called
-module _ {H : Type 0} (law : Law H) (p : View) (engine : Engine) (f f1 : Activation)
-    (s s1 : Run H) (n n1 : StepsView) (number next : ℕ) (host host1 : H) (runs : Runs p f s)
-    (here : FindsHere (setup law p engine) (moment f s n host) (Ok (found.Function number next))
-    (moment f1 s1 n1 host1))
-  where
-    pub fits_function : number < length p.functions
-    fits_function = here.3.exists
-
-    pub fits_scope : f1.base ≤ length s1.scope
-    fits_scope = omega (
-      arith,
-      runs.inside,
-      ap (λ (a : Activation). a.base) here.3.frame,
-      ap (λ (q : Run H). length q.scope) here.3.others,
-    )
-
-    pub fits_operands : (g : Function) → slice_get p.functions number ≡ Some g →
-        length g.params ≤ length s1.stacks.operands
-    fits_operands g is = omega (arith, here.3.operands g is)
-
-    pub fits_room : (g : Function) → slice_get p.functions number ≡ Some g →
-        length s1.stacks.operands - length g.params + 1 ≤ s1.stacks.room
-    fits_room g is = omega (
-      arith,
-      here.3.operands g is,
-      here.1.seen.provides.room,
-      here.2.gives,
-      runs.room,
-      ap (λ (q : Run H). q.stacks.room) here.3.others,
-    )
-
-    -- nothing was done so far
-    pub fits_measure : 4 * left engine s1.count f1.address
-        < 4 * left engine s.count f.address + 1
-    fits_measure =
-        rw (
-          ap (λ (q : Run H). q.count) here.3.others,
-          ap (λ (a : Activation). a.address)
-              here.3.frame,
-        )
-        (omega arith)
 
 -- a function that was found was called, and the instruction is done
 pub found_stepped : {H : Type 0} (law : Law H) (p : View) (engine : Engine) (f f1 f2 : Activation)

@@ -11,3 +11,4 @@ mod Entering
 mod Found
 mod Offering
 mod CatchSteps
+mod CaughtFrames

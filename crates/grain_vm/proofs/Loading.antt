@@ -63,16 +63,6 @@ module _ {H : Type 0} (law : Law H) (p : View) (engine : Engine) (f : Activation
     later = omega arith;
   }
 
-  -- the frame would run on behind the load
-  pub loaded_runs : (next : ℕ) → Runs p f s →
-      IsTypedAt p f.chunk next (length s.stacks.operands + 1) (tries_in s.stacks.handlers) →
-      Runs p (moved f next) (loaded s z)
-  loaded_runs next runs typed =
-      next_runs p f (moved f next) s (loaded s z) runs (loaded_kept next runs.inside)
-      (subst (λ (k : ℕ). IsTypedAt p f.chunk next k (tries_in s.stacks.handlers))
-      (sym length_loaded) typed)
-      runs.above
-
   -- the load of a constant does what its rule says
   pub loads_const : (constant next : ℕ) (n : StepsView) (host : H) →
       Ready f s (op.LoadConst constant) next → const_of p constant ≡ dynamic.Int z →

@@ -33,19 +33,6 @@ pub left_one : {S : Type 0} (m : Setup S) (h : Handler) (hs : List Handler) (f :
     ≡ offered_to m (handlers_in hs) f (thrown_anew (problem_of y) x) w
 left_one m h hs f x y w e = rw e refl
 
--- an armed one catches what may be caught
-pub armed_one : {S : Type 0} (m : Setup S) (h : Handler) (hs : List Handler) (f : Frame)
-    (x : EvalAltResult) (w : World S) → h.caught ≡ None → catchable (problem_of x) ≡ true →
-    offered_to m (handlers_in (h ∷ hs)) f (problem_of x) w ≡ found m (Some h) hs f x w
-armed_one m h hs f x w e may = rw (e, may) refl
-
--- and no other
-pub armed_passes : {S : Type 0} (m : Setup S) (hs : List Handler) (f : Frame)
-    (x : EvalAltResult) (w : World S) → IsArmed hs → catchable (problem_of x) ≡ false →
-    offered_to m (handlers_in hs) f (problem_of x) w ≡ found m None hs f x w
-armed_passes m [] f x w e may = refl
-armed_passes m (h ∷ hs) f x w e may = rw (e, may) refl
-
 -- handlers stand for themselves, and for those around the innermost
 pub stands_for_itself : (hs : List Handler) → StandsFor hs hs
 stands_for_itself hs = record { covered = λ p c depth h. h; above = λ base a. a }

@@ -24,14 +24,6 @@ use Rattle.grain_frame.specs.declared.runs.Run.{Run}
 use Rattle.grain_frame.specs.declared.activations.Activation.{Activation}
 use Rattle.grain_global.specs.StepsView.{StepsView}
 
--- where nothing changed, what holds of the one state holds of the other
-pub moved_on : {H : Type 0} (P : Run H → Activation → StepsView → Type 0) {s s' : Run H}
-    {f f' : Activation} {n n' : StepsView} → Unchanged f s n f' s' n' → P s f n → P s' f' n'
-moved_on {H = H} P {s} {s'} {f} {f'} {n} {n'} u h =
-    subst (λ (k : StepsView). P s' f' k) (sym u.2)
-    (subst (λ (a : Activation). P s' a n) (sym u.1)
-    (subst (λ (t : Run H). P t f n) (sym u.0) h))
-
 pub moved_back : {H : Type 0} (P : Run H → Activation → StepsView → Type 0) {s s' : Run H}
     {f f' : Activation} {n n' : StepsView} → Unchanged f s n f' s' n' → P s' f' n' → P s f n
 moved_back {H = H} P {s} {s'} {f} {f'} {n} {n'} u h =
@@ -117,16 +109,6 @@ next_runs p f f' s s' runs kept typed above = record {
   unnoted = kept.noted ∙ runs.unnoted;
   entered = omega (arith, runs.entered, ap (λ (fs : List StackFrame). length fs) kept.outer);
 }
-
--- one turn after another
-progresses_on : {H : Type 0} (engine : Engine) (s t u : Run H) (f g h : Activation) →
-    Progresses engine s f t g → Progresses engine t g u h → t.count ≤ u.count →
-    Progresses engine s f u h
-progresses_on engine s t u f g h (inl a) b le = inl (omega (arith, a.0, le), a.1)
-progresses_on engine s t u f g h (inr a) (inl b) le =
-    inl (omega (arith, a.0, b.0), omega (arith, a.0, b.1))
-progresses_on engine s t u f g h (inr a) (inr b) le =
-    inr (omega (arith, a.0, b.0), omega (arith, a.1, b.1))
 
 -- two turns are one
 pub both : {H : Type 0} (law : Law H) (p : View) (engine : Engine) (f g h : Activation)

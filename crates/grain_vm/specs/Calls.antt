@@ -42,15 +42,6 @@ abbrev pub finished_with : {H : Type 0} → Result (Result Dynamic EvalAltResult
     Computation H
 finished_with r m place w = End (answer_of r) w
 
--- nothing of a call has begun: the scopes, the level and the frames around are as they were
-pub record CallNotEntered {H : Type 0} (s s' : Run H) : Type 0 where
-  pub scope : s'.scope ≡ s.scope
-  pub saved : s'.saved ≡ s.saved
-  pub level : s'.level ≡ s.level
-  pub room : s'.stacks.room ≡ s.stacks.room
-  pub noted : s'.stacks.noted ≡ s.stacks.noted
-  pub outer : s'.stacks.outer ≡ s.stacks.outer
-
 -- A call has begun: its operation is taken, its frame is entered, around which the caller's stands
 -- without the arguments, the caller's scope is put aside, and the level is one higher.
 pub record CallEntered {H : Type 0} (engine : Engine) (g : Function) (s s' : Run H) : Type 0 where
@@ -66,10 +57,17 @@ pub record CallEntered {H : Type 0} (engine : Engine) (g : Function) (s s' : Run
   pub count : s'.count ≡ s.count + 1
   pub allowed : s.count < engine.limits.operations
 
--- a fault is raised before the call has begun, or memory is out: all operands and handlers are there
-abbrev pub CallRefused : {H : Type 0} → Run H → Run H → Type 0
-CallRefused s s' = CallNotEntered s s' × (s'.stacks.operands ≡ s.stacks.operands)
-    × (s'.stacks.handlers ≡ s.stacks.handlers)
+-- a fault is raised before the call has begun, or memory is out: the scopes, the level and the frames
+-- around are as they were, and all operands and handlers are there
+pub record CallRefused {H : Type 0} (s s' : Run H) : Type 0 where
+  pub scope : s'.scope ≡ s.scope
+  pub saved : s'.saved ≡ s.saved
+  pub level : s'.level ≡ s.level
+  pub room : s'.stacks.room ≡ s.stacks.room
+  pub noted : s'.stacks.noted ≡ s.stacks.noted
+  pub outer : s'.stacks.outer ≡ s.stacks.outer
+  pub operands : s'.stacks.operands ≡ s.stacks.operands
+  pub handlers : s'.stacks.handlers ≡ s.stacks.handlers
 
 -- the frame of a function whose operation is taken is entered, or the run is as it was but for a
 -- fault

@@ -28,11 +28,11 @@ pub enum Attempt {
 #[derive(Clone, Copy, Debug, PartialEq, Eq)]
 pub enum Pending {
     /// A call of the function with the name of this index and this number of arguments, after which
-    /// the frame goes on at this address.
-    Call(u16, u8, usize),
-    /// A call of the pointer under this number of operands, after which the frame goes on at this
-    /// address.
-    Pointer(u8, usize),
+    /// the frame goes on at the address `next`.
+    Call { name: u16, count: u8, next: usize },
+    /// A call of the pointer under this number of operands, after which the frame goes on at the
+    /// address `next`.
+    Pointer { count: u8, next: usize },
     /// One that calls nothing.
     Other,
 }
@@ -97,10 +97,17 @@ pub(crate) fn quick<H: Host, L: Ledger>(
             Attempt::of(quick_op(run, context, steps, frame, name, count, token, width))
         }
         (Op::Call(name, count), width) => {
-            Attempt::Pending(Pending::Call(name, count, address + width))
+            Attempt::Pending(Pending::Call {
+                name,
+                count,
+                next: address + width,
+            })
         }
         (Op::CallFnPtr(count), width) => {
-            Attempt::Pending(Pending::Pointer(count, address + width))
+            Attempt::Pending(Pending::Pointer {
+                count,
+                next: address + width,
+            })
         }
         (Op::Return, width) => {
             run.return_value(steps, frame, address + width);

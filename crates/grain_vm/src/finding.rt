@@ -17,9 +17,9 @@ use std::sync::ledger::Ledger;
 pub enum Found {
     /// It is done, without a function.
     Done(Progress),
-    /// It calls the function of this number on the last operands, and the frame then goes on at this
-    /// address.
-    Function(usize, usize),
+    /// It calls the function of this number on the last operands, and the frame then goes on at the
+    /// address `next`.
+    Function { number: usize, next: usize },
 }
 
 impl Found {
@@ -53,7 +53,7 @@ pub(crate) fn find_named<H: Host, L: Ledger>(
 {
     let count = usize::from(count);
     match context.program.function(u32::from(name), count) {
-        Some(number) => Ok(Found::Function(number, next)),
+        Some(number) => Ok(Found::Function { number, next }),
         None => {
             let name = context.program.name(u32::from(name));
             Found::of(run.native_by_name_on_copy(context, host, steps, frame, name, count, next))
@@ -88,7 +88,7 @@ pub(crate) fn find_pointed<H: Host, L: Ledger>(
             let total = curry.len() + count;
             run.stacks.spread(run.alloc, count, curry.into_vec())?;
             match context.program.function_named(name.as_str(), total) {
-                Some(number) => Ok(Found::Function(number, next)),
+                Some(number) => Ok(Found::Function { number, next }),
                 None => Found::of(run.native_by_name(
                     context, host, steps, frame, &name, total, next,
                 )),

@@ -3,6 +3,7 @@
 
 ghost use Rattle.std.specs.Prelude.{◌≡◌, ◌<◌, ◌≤◌, ◌+◌, ◌-◌, ◌∷◌, [], length, Ok, Some, cond, nat_lt};
 ghost use Rattle.grain_program.specs.Indices.{InPools};
+ghost use Rattle.grain_program.specs.Layout.{most_code};
 ghost use Rattle.grain_program.specs.TypedAt.{IsTypedAt};
 ghost use Rattle.grain_value.specs.Operands.{arguments};
 ghost use Rattle.grain_ops.specs.Agreement.{Agrees, IsGiven};
@@ -123,7 +124,7 @@ fn op_loaded<H: Host, L: Ledger>(
     requires ready { Ready (moved frame.old at) (loaded run.old integer)
         (op.CallOp name count token) (at + width) }
     requires pools { InPools context.program.now (op.CallOp name count token) }
-    requires fits { at + width ≤ 16777216 }
+    requires fits { at + width ≤ most_code }
     requires runs { Runs context.program.now (moved frame.old at) (loaded run.old integer) }
     requires typed { IsTypedAt context.program.now frame.old.chunk (at + width)
         (length (loaded run.old integer).stacks.operands - count + 1)

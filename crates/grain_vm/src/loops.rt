@@ -30,7 +30,7 @@ pub enum Stop {
     /// To its end, with a value, which is its last operand, or unit if it has none.
     Value,
     /// A fault was raised, which lies in the run, at this address. The frame then has this floor.
-    Fault(usize, usize),
+    Fault { address: usize, floor: usize },
 }
 
 // Leaves a frame by a fault: the scope is cut, and the trace notes where the frame stopped.
@@ -73,13 +73,13 @@ fn jump<H: Host, L: Ledger>(
     run.jump_to(context, host, steps, frame, target as usize)
 }
 
-// Does the instruction at which the frame stands, which `quick` left, unless it calls a function; then
-// it says which one.
+// Does the instruction at which the frame stands, which `quick` left, unless it calls a function;
+// then it says which one.
 // The frame is copied for one that was not, so that the loop can hold its own in registers. Of the
 // copy only what an instruction can change is taken back, so that the rest need not be held in
 // them.
 #[inline(always)]
-fn find<H: Host, L: Ledger>(
+fn do_or_find<H: Host, L: Ledger>(
     run: &mut Run<H>,
     context: Context<'_>,
     host: &mut H,
@@ -94,10 +94,10 @@ fn find<H: Host, L: Ledger>(
         (moment frame.new run.new steps.new host.new) }
 {
     match pending {
-        Pending::Call(name, count, next) => {
+        Pending::Call { name, count, next } => {
             find_named(run, context, host, steps, frame, name, count, next)
         }
-        Pending::Pointer(count, next) => {
+        Pending::Pointer { count, next } => {
             let mut copy = *frame;
             let found = find_pointed(run, context, host, steps, &mut copy, count, next);
             frame.address = copy.address;
@@ -175,11 +175,11 @@ fn proceed<H: Host, L: Ledger>(
         (moment frame.old run.old steps.old host.old) result
         (moment frame.new run.new steps.new host.new) }
 {
-    match find(run, context, host, steps, frame, pending) {
+    match do_or_find(run, context, host, steps, frame, pending) {
         Err(e) => Err(e),
         Ok(found) => match found {
             Found::Done(progress) => Ok(progress),
-            Found::Function(number, next) => {
+            Found::Function { number, next } => {
                 let function = context.program.function_at(number);
                 call(run, context, host, steps, frame, function, next)
             }
@@ -218,7 +218,10 @@ pub(crate) fn run_frame<H: Host, L: Ledger>(
             Err(e) => return Err(e),
             Ok(stop) => match stop {
                 Stop::Value => return Ok(FrameEnd::Value),
-                Stop::Fault(at, low) => match catch(run, context, host, steps, at, low) {
+                Stop::Fault {
+                    address: at,
+                    floor: low,
+                } => match catch(run, context, host, steps, at, low) {
                     Err(e) => return Err(e),
                     Ok(caught) => match caught {
                         Some(target) => {
@@ -284,7 +287,10 @@ fn run_from<H: Host, L: Ledger>(
                         Progress::Continues => continue 'turn,
                         Progress::Returned => return Ok(Stop::Value),
                         Progress::Failed => {
-                            return Ok(Stop::Fault(frame.address, frame.floor));
+                            return Ok(Stop::Fault {
+                                address: frame.address,
+                                floor: frame.floor,
+                            });
                         }
                     },
                 }
@@ -299,7 +305,10 @@ fn run_from<H: Host, L: Ledger>(
             Ok(progress) => match progress {
                 Progress::Continues => {}
                 Progress::Returned => return Ok(Stop::Value),
-                Progress::Failed => return Ok(Stop::Fault(frame.address, frame.floor)),
+                Progress::Failed => return Ok(Stop::Fault {
+                    address: frame.address,
+                    floor: frame.floor,
+                }),
             },
         }
     }

@@ -4,6 +4,7 @@
 
 ghost use Rattle.std.specs.Prelude.{◌≡◌, ◌<◌, ◌≤◌, ◌+◌, ◌-◌, ◌∷◌, [], length, Ok, Some, cond, nat_lt};
 ghost use Rattle.grain_program.specs.Indices.{InPools};
+ghost use Rattle.grain_program.specs.Layout.{most_code};
 ghost use Rattle.grain_program.specs.TypedAt.{IsTypedAt};
 ghost use Rattle.grain_value.specs.Operands.{arguments};
 ghost use Rattle.grain_ops.specs.Agreement.{Agrees, IsGiven};
@@ -161,7 +162,7 @@ pub(crate) fn quick_op<H: Host, L: Ledger>(
     requires ready { Ready frame.old run.old (op.CallOp name count token)
         (frame.old.address + width) }
     requires pools { InPools context.program.now (op.CallOp name count token) }
-    requires fits { frame.old.address + width ≤ 16777216 }
+    requires fits { frame.old.address + width ≤ most_code }
     requires runs { Runs context.program.now frame.old run.old }
     requires typed { IsTypedAt context.program.now frame.old.chunk (frame.old.address + width)
         (length run.old.stacks.operands - count + 1) (tries_in run.old.stacks.handlers) }

@@ -2,7 +2,7 @@
 
 use bitflags::Flags;
 use grain_host::{Host, ProgressAnswer};
-use grain_listing::{MOST_BYTES, Setup, read};
+use grain_listing::{Listing, MOST_BYTES, read};
 use grain_value::{Dynamic, Limits, OutOfMemory};
 use std::alloc::Global;
 use std::process::Abort;
@@ -26,7 +26,7 @@ fn check_refused(
 }
 
 /// What is read of a listing that is accepted.
-fn read_whole(rt: &impl Abort, alloc: Global, listing: &str) -> Result<Setup, OutOfMemory> {
+fn read_whole(rt: &impl Abort, alloc: Global, listing: &str) -> Result<Listing, OutOfMemory> {
     match read(alloc, listing.as_bytes())? {
         Ok(setup) => Ok(setup),
         Err(_) => {
@@ -281,7 +281,7 @@ fn entries_positions_and_stops(rt: HostRuntime) -> Result<(), OutOfMemory> {
         "grain 1\nscope \"x\" 5\nlimit levels 0\nscope const \"const\" true\nstop 2 \"s\"\n\
         limit variables 18446744073709551615\nstop 3 8\nstop 3 9\nmain 65535\n\
         load_const 7 @1:0\nbyte 27 @65535:65535\nbyte 2\nreturn @2:5\nend\n";
-    let Setup {
+    let Listing {
         parts,
         limits,
         mut host,

@@ -3,9 +3,9 @@
 ghost use Rattle.std.specs.Prelude.{IfOk};
 ghost use Rattle.grain_program.specs.View.{view_of};
 ghost use Rattle.grain_program.specs.Recorded.{HasOrder};
-ghost use Rattle.grain_listing.specs.SetUpView.{IsReady};
+ghost use Rattle.grain_listing.specs.ListingViews.{IsReady};
 
-use grain_listing::{Setup, read};
+use grain_listing::{Listing, read};
 use grain_program::{
     AssignOps, Caps, Chains, Chunk, Function, Functions, Indices, Names, Parts, Positions, Program,
     Refusal, Tokens, verify,
@@ -84,10 +84,10 @@ fn misplaced_chunks(rt: HostRuntime) {
 }
 
 /// The program of what a listing says.
-fn verified(alloc: Global, setup: Setup) -> Option<Program>
+fn verified(alloc: Global, setup: Listing) -> Option<Program>
     requires { IsReady setup }
 {
-    let Setup { parts, .. } = setup;
+    let Listing { parts, .. } = setup;
     verify(alloc, parts).ok()
 }
 

@@ -1,11 +1,11 @@
 //! The machine: what a run leaves besides its report.
 
 ghost use Rattle.std.specs.Prelude.{◌≡◌, ◌<◌};
-ghost use Rattle.grain_listing.specs.SetUpView.{IsReady};
+ghost use Rattle.grain_listing.specs.ListingViews.{IsReady};
 
 use grain_fault::{Fault, RhaiResult};
 use grain_global::{Engine, GlobalRuntimeState, Steps};
-use grain_listing::{Setup, read};
+use grain_listing::{Listing, read};
 use grain_program::verify;
 use grain_value::{Dynamic, OutOfMemory, Scope, Store};
 use grain_vm::Vm;
@@ -28,14 +28,14 @@ struct Ended {
 fn end_of<L: Ledger>(
     alloc: Global,
     blank: Blank,
-    setup: Setup,
+    setup: Listing,
 ) -> Result<Option<Ended>, OutOfMemory>
     requires ready { IsReady setup }
     requires name { blank.name ≡ L.name }
     requires parts { blank.parts ≡ L.parts }
     requires enough { 5 < blank.parts }
 {
-    let Setup {
+    let Listing {
         parts,
         limits,
         mut host,

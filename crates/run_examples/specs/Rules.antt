@@ -13,7 +13,7 @@ use Rattle.grain_means.specs.Means.{Begin, Evaluates}
 use Rattle.grain_vm.specs.Machines.{begin, finish}
 use Rattle.grain_global.specs.declared.states.GlobalRuntimeState.{GlobalRuntimeState}
 use Rattle.grain_value.specs.declared.stores.Cell.{Cell}
-use Rattle.grain_listing.specs.Reading.{SetUp}
+use Rattle.grain_listing.specs.Reading.{ListingView}
 use Rattle.grain_listing.specs.declared.reasons.BadLine.{BadLine}
 use Rattle.run_examples.specs.declared.rules.Rule.{Rule}
 use Rattle.run_examples.specs.declared.rules.RuleError.{RuleError}
@@ -33,8 +33,8 @@ capped limits = record {
 
 -- what the bytes read to is this rule: a valid program, with its limits, its flag, its host and its
 -- scope
-pub record IsRule (said : Result SetUp BadLine) (rule : Rule) : Type 0 where
-  pub set_up : SetUp
+pub record IsRule (said : Result ListingView BadLine) (rule : Rule) : Type 0 where
+  pub set_up : ListingView
   pub read : said ≡ Ok set_up
   pub parts : rule.program ≡ set_up.parts
   pub valid : IsProgram set_up.parts
@@ -44,9 +44,9 @@ pub record IsRule (said : Result SetUp BadLine) (rule : Rule) : Type 0 where
   pub begun : rule.scope ≡ set_up.scope
 
 -- why what the bytes read to is no rule; want of memory has no reason
-abbrev pub IsReason : Result SetUp BadLine → RuleError → Type 0
+abbrev pub IsReason : Result ListingView BadLine → RuleError → Type 0
 IsReason said (NoListing bad) = said ≡ Err bad
-IsReason said (Refused refusal) = (s : SetUp) × (said ≡ Ok s) × IsRefusal s.parts refusal
+IsReason said (Refused refusal) = (s : ListingView) × (said ≡ Ok s) × IsRefusal s.parts refusal
 IsReason said OutOfMemory = ⊤
 
 -- limits, and whether operators are fast

@@ -2,12 +2,12 @@
 
 ghost use Rattle.std.specs.Prelude.{◌≡◌, ◌<◌, Ok, IfOk, IfErr};
 ghost use Rattle.grain_listing.specs.Reading.{reads};
-ghost use Rattle.grain_listing.specs.SetUpView.{set_up_of, IsReady};
+ghost use Rattle.grain_listing.specs.ListingViews.{set_up_of, IsReady};
 ghost use Rattle.run_examples.specs.Rules.{capped, engine_of, start, IsRule, IsReason, Ran};
 
 use grain_fault::{Fault, RhaiResult};
 use grain_host::{Host, TableHost};
-use grain_listing::{BadLine, Setup, read};
+use grain_listing::{BadLine, Listing, read};
 use grain_program::{Program, Refusal, verify};
 use grain_value::{Limits, OutOfMemory, Scope, Store};
 use grain_vm::{Engine, Steps, Vm};
@@ -95,13 +95,13 @@ fn capped(limits: Limits) -> Limits
 }
 
 /// Verifies what a listing says.
-fn verified(alloc: Global, setup: Setup) -> Result<Rule, RuleError>
+fn verified(alloc: Global, setup: Listing) -> Result<Rule, RuleError>
     requires { IsReady setup }
     ensures rule { IfOk result (IsRule (Ok (set_up_of setup))) }
     ensures reason { IfErr result (IsReason (Ok (set_up_of setup))) }
     ensures allowed { IfOk result (λ rule. 0 < rule.limits.operations) }
 {
-    let Setup {
+    let Listing {
         parts,
         limits,
         fast_operators,

@@ -25,8 +25,8 @@ use Rattle.grain_frame.specs.declared.runs.Run.{Run}
 module _ {H : Type 0} (law : Law H) (p : View) (engine : Engine) (address : ℕ) (s : Run H)
     (n : StepsView) (host : H) where
   -- what the code says of an operation that it asked for
-  abbrev pub Charges : Result Bool OutOfMemory → Run H → StepsView → H → Type 0
-  Charges r s' n' host' =
+  abbrev pub SimulatesCharge : Result Bool OutOfMemory → Run H → StepsView → H → Type 0
+  SimulatesCharge r s' n' host' =
       (f : Option Place → Frame) (go : Setup H → Option Place → World H → Act H)
       (fails : Setup H → Option Place → Problem → World H → Act H) →
       SimulatesExactly (setup law p engine) (abstraction s n host)
@@ -54,7 +54,7 @@ module _ {H : Type 0} (law : Law H) (p : View) (engine : Engine) (f : Activation
 
   -- the operation is taken, and the frame goes on at an address
   pub charged_on : {rule : Computation H} {ts : List ℕ} (t : ℕ) (b : Bool) → b ≡ true →
-      Charges law p engine f.address s n host (Ok b) s' n' host' → ChargeResult engine s s' (Ok b) →
+      SimulatesCharge law p engine f.address s n host (Ok b) s' n' host' → ChargeResult engine s s' (Ok b) →
       n'.before ≡ n.before → f.base ≤ length s.scope → In t ts →
       ((stop : Option ℕ) (u : Environment) (place : Option Place) →
       rule (stopped (setup law p engine) stop) place (world (abstraction s n host) u)
@@ -123,7 +123,7 @@ module _ {H : Type 0} (law : Law H) (p : View) (engine : Engine) (f : Activation
       (world (abstraction s n host) u) (go (stopped (setup law p engine) stop) place)) where
     -- a fault is raised
     pub charge_failed : {ts : List ℕ} {takes gives : ℕ} {hs : List Handler} (b : Bool) → b ≡ false →
-        Charges law p engine f.address s n host (Ok b) s' n' host' →
+        SimulatesCharge law p engine f.address s n host (Ok b) s' n' host' →
         ChargeResult engine s s' (Ok b) →
         Implements (setup law p engine) (moment f s n host) rule ts takes gives hs (Ok
         progress.Failed) (moment f s' n' host')
@@ -147,7 +147,7 @@ module _ {H : Type 0} (law : Law H) (p : View) (engine : Engine) (f : Activation
 
     -- memory is out
     pub charge_wants : {ts : List ℕ} {takes gives : ℕ} {hs : List Handler} (e : OutOfMemory)
-        (r : Result Progress OutOfMemory) → is_out r ≡ true → Charges law p engine f.address s n host (Err e) s' n' host' →
+        (r : Result Progress OutOfMemory) → is_out r ≡ true → SimulatesCharge law p engine f.address s n host (Err e) s' n' host' →
         ChargeResult engine s s' (Err e) →
         Implements (setup law p engine) (moment f s n host) rule ts takes gives hs r
         (moment f s' n' host')

@@ -6,7 +6,7 @@ use Rattle.grain_words.specs.Labels.{Addresses, address_of}
 use Rattle.grain_literals.specs.Steps.{and_then, present}
 use Rattle.grain_literals.specs.declared.reasons.Reason.TheVariants.{UnknownLabel}
 use Rattle.grain_listing.specs.Flags.{is_on}
-use Rattle.grain_listing.specs.Reading.{SetUp, bad_line, limits_of, caps_of, assign_ops_of, complete}
+use Rattle.grain_listing.specs.Reading.{ListingView, bad_line, limits_of, caps_of, assign_ops_of, complete}
 use Rattle.grain_listing.specs.views.Assembling.{AssemblerView}
 use Rattle.grain_listing.specs.declared.assembler.Fixup.{Fixup}
 use Rattle.grain_listing.specs.declared.table.Section.{Section}
@@ -28,7 +28,7 @@ fill labels (f ∷ fs) code = and_then
     (λ a. fill labels fs (write_at f.at (to_le_bytes w32 a) code))
 
 -- what the assembler has, with these op-assignments and this code
-abbrev pub set_up : AssemblerView → List AssignOp → List ℕ → SetUp
+abbrev pub set_up : AssemblerView → List AssignOp → List ℕ → ListingView
 set_up v assign_ops code =
     record {
       parts = record {
@@ -50,15 +50,15 @@ set_up v assign_ops code =
       scope = v.scope;
     }
 
-abbrev pub filled : AssemblerView → List AssignOp → Result SetUp BadLine
+abbrev pub filled : AssemblerView → List AssignOp → Result ListingView BadLine
 filled v assign_ops = and_then (fill v.labels v.fixups v.code)
     (λ code. Ok (set_up v assign_ops code))
 
 -- after the last line, the nth
-abbrev pub finish : ℕ → Section → AssemblerView → List AssignOp → Result SetUp BadLine
+abbrev pub finish : ℕ → Section → AssemblerView → List AssignOp → Result ListingView BadLine
 finish n section v assign_ops = complete n section (filled v assign_ops)
 
-abbrev pub ending : ℕ → AssemblerView → Result SetUp BadLine
+abbrev pub ending : ℕ → AssemblerView → Result ListingView BadLine
 ending n v = and_then (assign_ops_of v.tokens v.assigns)
     (λ assign_ops. finish n v.section v assign_ops)
 

@@ -8,7 +8,7 @@ ghost use Rattle.grain_program.specs.View.{view_of};
 ghost use Rattle.grain_program.specs.Fields.{every};
 ghost use Rattle.grain_program.specs.Indices.{in_pool, record_named, all_below, below_if, is_named};
 ghost use Rattle.grain_program.specs.Decoding.{op_at};
-ghost use Rattle.grain_program.specs.Layout.{chunks_in, layout_fault};
+ghost use Rattle.grain_program.specs.Layout.{chunks_in, layout_fault, most_code};
 ghost use Rattle.grain_program.specs.Rules.{IsSplit, RefusedBeforeChains};
 ghost use Rattle.grain_program.specs.Owners.{owner_at, lands, stays_in, rule_in, rule_at, IsFirstFound, first_empty, first_misnamed};
 ghost use Rattle.grain_program.specs.declared.verifier.refusals.Refusal.TheVariants.{Memory};
@@ -125,7 +125,7 @@ fn stays(end: usize, next: usize, flow: Flow) -> bool
 
 /// The first rule that the instruction at the address breaks, in a chunk of this end.
 fn instruction_rule(parts: &Parts, owners: &[Owner], end: usize, address: usize) -> Option<Refusal>
-    requires { length parts.now.code ≤ 16777216 }
+    requires { length parts.now.code ≤ most_code }
     ensures { result ≡ rule_in (view_of parts.now) owners.now end address (op_at parts.now.code
         address) }
 {
@@ -152,7 +152,7 @@ fn instruction_rule(parts: &Parts, owners: &[Owner], end: usize, address: usize)
 
 /// The first rule that an instruction at the address breaks.
 fn address_rule(parts: &Parts, owners: &[Owner], address: usize) -> Option<Refusal>
-    requires { length parts.now.code ≤ 16777216 }
+    requires { length parts.now.code ≤ most_code }
     ensures { result ≡ rule_at (view_of parts.now) owners.now address }
 {
     let end = match owners.get(address) {
@@ -168,7 +168,7 @@ fn address_rule(parts: &Parts, owners: &[Owner], address: usize) -> Option<Refus
 
 /// The first rule that an instruction breaks, at the lowest address.
 fn first_rule(parts: &Parts, owners: &[Owner]) -> Option<Refusal>
-    requires { length parts.now.code ≤ 16777216 }
+    requires { length parts.now.code ≤ most_code }
     ensures { IsFirstFound (rule_at (view_of parts.now) owners.now) (length owners.now) result }
 {
     for address in 0..owners.len() {

@@ -1,6 +1,6 @@
 use Rattle.std.proofs.Common.{◌≡◌, rules}
 use Rattle.grain_program.specs.View.{view_of}
-use Rattle.grain_listing.specs.SetUpView.{set_up_of}
+use Rattle.grain_listing.specs.ListingViews.{set_up_of}
 use Rattle.grain_commands.proofs.Answering.{answers_refusal, answers_end}
 use Rattle.grain_commands.proofs.pipeline.run_set_up.Goals as goal
 

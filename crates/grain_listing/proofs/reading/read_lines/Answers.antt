@@ -1,6 +1,6 @@
 use Rattle.std.proofs.Common.{rules, ◌≡◌, ◌+◌, length, Result, IfOk, subst}
-use Rattle.grain_listing.specs.Reading.{SetUp}
-use Rattle.grain_listing.specs.SetUpView.{outcome}
+use Rattle.grain_listing.specs.Reading.{ListingView}
+use Rattle.grain_listing.specs.ListingViews.{outcome}
 use Rattle.grain_listing.specs.views.AssemblerView.{assembler_view}
 use Rattle.grain_listing.specs.views.Assembling.{AssemblerView, take_line}
 use Rattle.grain_listing.specs.declared.reasons.BadLine.{BadLine}
@@ -35,7 +35,7 @@ ending-requires c = in_order c.args.text.now c.lines.rest.now c.lines.n
 pub returns-clause-setup : goal.returns-clause-setup
 returns-clause-setup c =
     let none : length c.lines.rest.now ≡ 0 = search rules in
-    subst (λ (z : Result SetUp BadLine). IfOk c.ending.result (λ r. outcome r ≡ z))
+    subst (λ (z : Result ListingView BadLine). IfOk c.ending.result (λ r. outcome r ≡ z))
     (all_read c.args.text.now c.lines.rest.now c.lines.n
     (assembler_view c.lines.assembler) none c.lines.invariant) c.ending.ensures.setup
 

@@ -1,6 +1,6 @@
 use Rattle.std.proofs.Common.{rules}
 use Rattle.grain_means.specs.Means.{setup}
-use Rattle.grain_vm.proofs.CatchSteps.{can_catch, kept_at, typed_at, goes_on_at, leaves_at, leaves_out}
+use Rattle.grain_vm.proofs.CaughtFrames.{can_catch, kept_at, typed_at, goes_on_at, leaves_at, leaves_out}
 use Rattle.grain_vm.proofs.catching.catch.Goals as goal
 
 pub catch_by-requires-clause-operands : goal.catch_by-requires-clause-operands

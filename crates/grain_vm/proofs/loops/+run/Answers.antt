@@ -11,7 +11,7 @@ use Rattle.grain_vm.proofs.Measure.{falls, taken}
 use Rattle.grain_vm.proofs.Turns.{moved_back, turn, flowed, left_out, next_runs}
 use Rattle.grain_vm.specs.Catching.{activation_at, StopsSo, Caught, CaughtAt}
 use Rattle.grain_vm.specs.declared.loops.Stop.{Stop}
-use Rattle.grain_vm.proofs.CatchSteps.{caught_runs, offered_so, stopped_at, stopped_so}
+use Rattle.grain_vm.proofs.CaughtFrames.{caught_runs, offered_so, stopped_at, stopped_so}
 use Rattle.grain_means.specs.lemmas.Stretches.{compose, same}
 use Rattle.grain_vm.proofs.loops.+run.Goals as goal
 
@@ -53,14 +53,14 @@ pub proceed-returns-in-Function : goal.proceed-returns-in-Function
 proceed-returns-in-Function g t c =
     let p = c.args.context.program.now in
     let here = is_function g.H.Host.law p c.args.context.engine.now c.args.frame.now
-    c.find.new.frame c.args.run.now c.find.new.run c.args.steps.now c.find.new.steps
-    c.in-Ok.found c.in-Function.number c.in-Function.next c.args.host.now c.find.new.host
+    c.do_or_find.new.frame c.args.run.now c.do_or_find.new.run c.args.steps.now c.do_or_find.new.steps
+    c.in-Ok.found c.in-Function.number c.in-Function.next c.args.host.now c.do_or_find.new.host
     c.in-Function.is c.in-Ok.ensures.finds in
     record {
       stepped = found_stepped g.H.Host.law p c.args.context.engine.now c.args.frame.now
-          c.find.new.frame c.call.new.frame c.args.run.now c.find.new.run c.call.new.run
-          c.args.steps.now c.find.new.steps c.call.new.steps c.in-Function.number
-          c.in-Function.next c.args.host.now c.find.new.host c.call.new.host
+          c.do_or_find.new.frame c.call.new.frame c.args.run.now c.do_or_find.new.run c.call.new.run
+          c.args.steps.now c.do_or_find.new.steps c.call.new.steps c.in-Function.number
+          c.in-Function.next c.args.host.now c.do_or_find.new.host c.call.new.host
           c.function_at-function.result.now c.requires.runs here
           c.function_at-function.ensures.value c.call.ensures.goes c.call.ensures.kept
           c.call.ensures.lands c.call.ensures.before;

@@ -8,7 +8,8 @@ use Rattle.grain_value.specs.declared.scopes.Entry.{Entry}
 use Rattle.grain_value.specs.Scopes.{new_entry}
 use Rattle.grain_value.specs.Operands.{read_write, bound_entries}
 use Rattle.grain_stack.specs.Filled.{Filled, operand_at}
-use Rattle.grain_stack.proofs.Lists.{kept_front, set_length, bound_more}
+use Rattle.grain_stack.proofs.Lists.{set_length}
+use Rattle.grain_stack.proofs.Bound.{kept_front, bound_more}
 use Rattle.grain_stack.proofs.Regaining.{all_regained, one_moved}
 use Rattle.grain_stack.proofs.slots.Slots.bind_arguments.Goals as goal
 

@@ -2,7 +2,8 @@ use Rattle.std.proofs.Common.{◌≡◌, ◌<◌, ◌+◌, ◌-◌, ◌∙◌, l
 use Rattle.std.proofs.lemmas.List.{with_items_is}
 use Rattle.grain_value.specs.Operands.{rotated}
 use Rattle.grain_stack.specs.Filled.{Filled, filled}
-use Rattle.grain_stack.proofs.Lists.{rotated_filled, below_height}
+use Rattle.grain_stack.proofs.Lists.{below_height}
+use Rattle.grain_stack.proofs.Rotated.{rotated_filled}
 use borrow.Rule.Slice.PartMut.{put_mid}
 use Rattle.grain_stack.proofs.slots.Slots.rotate.Goals as goal
 

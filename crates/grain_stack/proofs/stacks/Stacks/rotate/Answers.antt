@@ -1,6 +1,6 @@
 use Rattle.std.proofs.Common.{◌≡◌, ◌<◌, ◌+◌, length, drop, ap, refl, arith, length-drop}
 use Rattle.grain_stack.specs.Views.{StacksView}
-use Rattle.grain_stack.proofs.Lists.{rotated_own, rotated_rest}
+use Rattle.grain_stack.proofs.Rotated.{rotated_own, rotated_rest}
 use Rattle.grain_stack.proofs.stacks.Stacks.rotate.Goals as goal
 
 pub returns : goal.returns

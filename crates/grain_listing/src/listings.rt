@@ -6,7 +6,7 @@ use grain_value::{Limits, Scope};
 
 /// What a listing says.
 #[derive(Drop)]
-pub struct Setup {
+pub struct Listing {
     /// What may become a program.
     pub parts: Parts,
     /// How much its run may take.

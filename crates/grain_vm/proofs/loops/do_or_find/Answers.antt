@@ -9,7 +9,7 @@ use Rattle.grain_frame.specs.declared.activations.Activation.{Activation}
 use Rattle.grain_vm.specs.declared.attempts.Pending.{Pending}
 use Rattle.grain_vm.proofs.Found.{done_here, found_here, found_kept}
 use Rattle.grain_frame.specs.lemmas.Arms.{taken_back}
-use Rattle.grain_vm.proofs.loops.find.Goals as goal
+use Rattle.grain_vm.proofs.loops.do_or_find.Goals as goal
 
 pub returns-in-Call : goal.returns-in-Call
 returns-in-Call g c =

@@ -1,0 +1,138 @@
+-- Causes as they are carried from one act to another, of which the first is a part.
+use Rattle.std.proofs.Common.{◌≡◌, ◌≤◌, ◌⊎◌, ℕ, List, length, true, false, ◌∙◌, inl, inr}
+use Rattle.grain_value.specs.declared.scopes.Entry.{Entry}
+use Rattle.grain_fault.specs.Classes.{catchable}
+use Rattle.grain_fault.specs.Positions.{at_position}
+use Rattle.grain_fault.specs.declared.places.Position.{Position}
+use Rattle.grain_fault.specs.declared.traces.Fault.{Fault}
+use Rattle.grain_fault.specs.Problems.{Problem, NoMemory}
+use Rattle.grain_means.specs.Worlds.{Act, Answer, Came, Failed, World, Setup, InFrame, InCatch}
+use Rattle.grain_means.specs.Rules.{is_stop, position}
+use Rattle.grain_means.specs.Comes.{ProgramPoint, CatchPoint, ComesToCatch, Meets}
+use Rattle.grain_means.specs.Leavings.{AtCheckpoint, Cut}
+use Rattle.grain_means.specs.Causes.{HasPosition, LeftCall, Tells, ThrownAnew, RaisedByCatch, Cause, Caused}
+use Rattle.grain_means.proofs.Moving.{placed_twice, caught_anywhere}
+use Rattle.grain_means.proofs.Footing.{Onto, moved_why, moved_catch}
+
+module _ {S : Type 0} (m : Setup S) where
+  module _ (first root : Act S) (onto : Onto m first root) where
+    -- what the first act meets, and why it ends so, as the second has it
+    pub meets : (s : ProgramPoint S) → Meets m s first → Meets m s root
+    meets s h = record {
+      comes = onto (InFrame s.frame) s.world h.comes;
+      width = h.width;
+      stands = h.stands;
+    }
+
+    catches : (c : CatchPoint S) → ComesToCatch m c first → ComesToCatch m c root
+    catches c comes = onto (InCatch c.frame c.handler c.fault) c.world comes
+
+    left_call : {level : ℕ} {Runs : Act S → Type 0} {p : Position} →
+        LeftCall m first level Runs p → LeftCall m root level Runs p
+    left_call l = record {
+      call = l.call;
+      met = meets l.call l.met;
+      own = l.own;
+      function = l.function;
+      enters = l.enters;
+      position = l.position;
+    }
+
+    anew : {level : ℕ} {x : Problem} → ThrownAnew m first level x → ThrownAnew m root level x
+    anew a = record {
+      caught = a.caught;
+      comes = catches a.caught a.comes;
+      own = a.own;
+      position = a.position;
+      throw = record {
+        point = a.throw.point;
+        met = meets a.throw.point a.throw.met;
+        own = a.throw.own;
+        how = a.throw.how;
+      };
+      inside = a.inside;
+      around = a.around;
+      block = a.block;
+      left = a.left;
+      is = a.is;
+    }
+
+    told : (level : ℕ) (at : ProgramPoint S) (x : Problem) → Tells m first level at x →
+        Tells m root level at x
+    told level at x (inl own) = inl own
+    told level at x (inr (inl l)) = inr (inl (l.0, (l.1.0, left_call l.1.1, l.1.2)))
+    told level at x (inr (inr a)) = inr (inr (a.0, anew a.1))
+
+    caught_told : (level : ℕ) (x : Problem) → RaisedByCatch m first level x →
+        RaisedByCatch m root level x
+    caught_told level x c = record {
+      point = c.point;
+      comes = catches c.point c.comes;
+      why = c.why;
+      tells = here_or_left c.tells;
+    } where
+      here_or_left : {A : Type 0} →
+          A ⊎ ((p : Position) × LeftCall m first level (ComesToCatch m c.point) p
+          × HasPosition p x) →
+          A ⊎ ((p : Position) × LeftCall m root level (ComesToCatch m c.point) p
+          × HasPosition p x)
+      here_or_left (inl own) = inl own
+      here_or_left (inr l) = inr (l.0, left_call l.1, l.2)
+
+    pub caused : (level : ℕ) (a : Answer) (w v : World S) →
+        (is_stop m.stop w.passed ≡ true → is_stop m.stop v.passed ≡ true) →
+        Caused m first level a w → Caused m root level a v
+    caused level (Came u) w v stops c = tt
+    caused level (Failed x) w v stops (inl s) = inl (s.0, stops s.1)
+    caused level (Failed x) w v stops (inr (inl c)) =
+        inr (inl (record {
+          point = c.point;
+          met = meets c.point c.met;
+          why = c.why;
+          tells = told level c.point x c.tells;
+        }))
+    caused level (Failed x) w v stops (inr (inr c)) = inr (inr (caught_told level x c))
+
+    -- a fault that no script may catch goes on at a call
+    pub cause_at : (p : Position) (inside level : ℕ) (x : Problem) → catchable x ≡ false →
+        ((Runs : Act S → Type 0) → Runs first → LeftCall m root level Runs p) →
+        Cause m first inside x → Cause m root level (at_position p x)
+    cause_at p inside level x passes call (inl c) = inl (record {
+      point = c.point;
+      met = meets c.point c.met;
+      why = moved_why m p x c.point c.why;
+      tells = inr (inl (
+        caught_anywhere p x ∙ passes,
+        (p, call (Meets m c.point) c.met, placed_twice p p x),
+      ));
+    })
+    cause_at p inside level x passes call (inr c) = inr (record {
+      point = c.point;
+      comes = catches c.point c.comes;
+      why = moved_catch m p x c.point c.why;
+      tells = inr (p, call (ComesToCatch m c.point) c.comes, placed_twice p p x);
+    })
+
+    -- and how a fault cut the scope, also where memory is out afterwards
+    pub cut_of : (level base : ℕ) (x y : Problem) → (x ≡ NoMemory → y ≡ NoMemory) →
+        (scope : List Entry) (trace : List Fault) →
+        Cut m first level base x scope trace → Cut m root level base y scope trace
+    cut_of level base x y out scope trace c = record {
+      frame = c.frame;
+      world = c.world;
+      comes = onto (InFrame c.frame) c.world c.comes;
+      own = c.own;
+      based = c.based;
+      inner = c.inner;
+      slot = c.slot;
+      last = c.last;
+      short = shortened c.short;
+    } where
+      shortened : (length scope ≤ c.frame.floor)
+          ⊎ ((x ≡ NoMemory) × AtCheckpoint m.program c.frame
+          × (length scope ≤ length c.world.scope)) →
+          (length scope ≤ c.frame.floor)
+          ⊎ ((y ≡ NoMemory) × AtCheckpoint m.program c.frame
+          × (length scope ≤ length c.world.scope))
+      shortened (inl own) = inl own
+      shortened (inr at) = inr (out at.0, at.1, at.2)

@@ -1,0 +1,166 @@
+-- Calls of functions and of pointers keep to the store.
+use Rattle.std.proofs.Common.{◌≡◌, ◌≤◌, ◌+◌, ℕ, List, [], ◌++◌, Option, Some, None, if◌then◌else◌, nat_lt, nat_le, length, refl, arith}
+use Rattle.std.specs.Prelude.{codes}
+use Rattle.grain_value.specs.Looking.{pointer_of}
+use Rattle.grain_value.specs.Operands.{arguments, under}
+use Rattle.grain_value.specs.Writing.{type_name_of}
+use Rattle.grain_value.specs.declared.values.Dynamic.{Dynamic}
+use Rattle.grain_value.specs.declared.values.Dynamic.TheVariants as dynamic
+use Rattle.grain_value.specs.declared.values.FnPtr.{FnPtr}
+use Rattle.grain_fault.specs.Problems.{Plain, MismatchDataType, StackOverflow, TooManyVariables}
+use Rattle.grain_program.specs.declared.code.functions.Function.{Function}
+use Rattle.grain_means.specs.Contained.{AnswerNames, Contained, EntryNames, HeldNames, Names}
+use Rattle.grain_means.specs.Rules as rules
+use Rattle.grain_means.specs.Rules.{curried_in, bound, function_by_name, frame_at, given, operand_under, spread, trees_in, without}
+use Rattle.grain_means.specs.Worlds.{Act, Go, Then, Answer, Frame, InFrame, Setup, World}
+use Rattle.grain_means.proofs.Footing.{by_test}
+use Rattle.grain_means.proofs.Naming.{all_joined, all_wider, arguments_name, bound_names, curried_names, entry_wider, more_names, top_names, trees_name, under_names}
+use Rattle.grain_means.proofs.Containing.Parts.{Operands, FrameNames, pointer_names}
+use Rattle.grain_means.proofs.Containing.Frames.{Grounds, At, lower, charged, reads_all, resumes}
+use Rattle.grain_means.proofs.Containing.Steps.{frame_wider, Stays, Here, raising, pushing, reading, marking, giving}
+
+module _ {S : Type 0} {m : Setup S} (on : Grounds m) where
+  open on use {clean, least}
+
+  module _ (n : ℕ) (low : least ≤ n) (f : Frame) (names : FrameNames clean n f) where
+    -- a function is called
+    enters : (g : Function) (count next : ℕ) (w : World S) → Here on n low f names w →
+        Stays on n low f names (rules.function_entered m g count f next w)
+    enters g count next w at =
+        by_test (Stays on n low f names) (nat_le m.engine.limits.levels w.level)
+        (rules.raised m f (Plain StackOverflow (rules.position m f)) w)
+        (if nat_lt m.engine.limits.variables (length g.params)
+        then rules.raised m f (Plain TooManyVariables (rules.position m f)) w
+        else rules.marked m f w body)
+        (λ deep. raising on n low f names (Plain StackOverflow (rules.position m f)) w at
+        (omega arith, λ s. refl)) (λ room. by_test (Stays on n low f names)
+        (nat_lt m.engine.limits.variables (length g.params))
+        (rules.raised m f (Plain TooManyVariables (rules.position m f)) w)
+        (rules.marked m f w body)
+        (λ many. raising on n low f names (Plain TooManyVariables (rules.position m f)) w at
+        (omega arith, λ s. refl)) (λ few. marking on n low f names w body at (
+          n,
+          omega arith,
+          (n, omega arith, inside, (tt, tt)),
+          resumed,
+        ))) where
+          body : World S → Act S
+          body w1 =
+              Then (Go (InFrame (frame_at g.chunk 0 None)) (record w1 {
+                scope = bound m.program g.params (arguments count f.operands);
+                level = w1.level + 1;
+              })) (λ a w2. rules.resume_caller m g (without count f) next a
+              (record w2 { scope = w.scope; level = w.level }))
+
+          inside : Contained m.law clean n (bound m.program g.params (arguments count f.operands))
+              w.cells w.host
+          inside = record {
+            size = at.size;
+            entries = bound_names clean n m.program.names g.params (arguments count f.operands)
+                (arguments_name clean n count f.operands names.0);
+            contents = at.contents;
+            reaches = at.reaches;
+            hands = at.hands;
+          }
+
+          wide : (k : ℕ) → n ≤ k → FrameNames clean k (without count f)
+          wide k le =
+              frame_wider on n k (without count f) le (
+                under_names clean n count f.operands names.0,
+                names.1,
+              )
+
+          restored : (k : ℕ) → n ≤ k → (v : World S) → At on k v →
+              Contained m.law clean k w.scope v.cells v.host
+          restored k le v there = record {
+            size = there.size;
+            entries = all_wider (EntryNames clean n) (EntryNames clean k) (entry_wider clean n k le)
+                w.scope at.entries;
+            contents = there.contents;
+            reaches = there.reaches;
+            hands = there.hands;
+          }
+
+          resumed : (a : Answer) (v : World S) (k : ℕ) → n ≤ k →
+              At on k v → AnswerNames clean k a →
+              Stays on n low f names (rules.resume_caller m g (without count f) next a
+              (record v { scope = w.scope; level = w.level }))
+          resumed a v k le there named =
+              lower on n k
+              (rules.resume_caller m g (without count f) next a
+              (record v { scope = w.scope; level = w.level })) le
+              (resumes on k (omega (arith, low, le)) (without count f)
+              (wide k le) g next a (record v { scope = w.scope; level = w.level })
+              (restored k le v there) named)
+
+    pub calls_function : (o : Option Function) (name : List ℕ) (count next : ℕ) (w : World S) →
+        Here on n low f names w → Stays on n low f names (rules.call_function m o name count f next
+        w)
+    calls_function None name count next w at =
+        reads_all on n low f names (arguments count f.operands) w at
+        (arguments_name clean n count f.operands names.0)
+        (λ args. rules.native m name None args f w
+        (λ v w1. rules.pushed m f next (under count f.operands) v w1) (rules.raised m f))
+        (λ args given. giving on n low f names
+        (λ v w1. rules.pushed m f next (under count f.operands) v w1)
+        (λ v w1 there named. pushing on n low f names next (under count f.operands) v w1 there
+        (under_names clean n count f.operands names.0) named)
+        name args w at given)
+    calls_function (Some g) name count next w at =
+        charged on n low f names (rules.function_entered m g count f next)
+        (λ v there. enters g count next v there) w at
+
+    -- pointers
+    under_it : (count : ℕ) → HeldNames clean n (operand_under count f.operands)
+    under_it count =
+        top_names clean n (under count f.operands) (under_names clean n count f.operands names.0)
+
+    no_pointer : (v : Dynamic) (w : World S) → Here on n low f names w → Stays on n low f names
+        (rules.not_a_pointer m v f w)
+    no_pointer v w at =
+        raising on n low f names (Plain (MismatchDataType (codes "Fn") (type_name_of v))
+        (rules.position m f)) w at (omega arith, λ s. refl)
+
+    pub curries : (count next : ℕ) (w : World S) → Here on n low f names w → Stays on n low f names
+        (rules.curry m count next f w)
+    curries count next w at =
+        reading on n low f names (operand_under count f.operands) [] w at (under_it count)
+        (λ v. rules.curried m (pointer_of v) v count next f w)
+        (λ v read plain. by_pointer v read (pointer_of v) refl) where
+          by_pointer : (v : Dynamic) → Names clean n v → (o : Option FnPtr) → pointer_of v ≡ o →
+              Stays on n low f names (rules.curried m o v count next f w)
+          by_pointer v read None is = no_pointer v w at
+          by_pointer v read (Some q) is =
+              pushing on n low f names next (under (count + 1) f.operands)
+              (dynamic.Pointer (record q {
+                curry = q.curry ++ trees_in (arguments count f.operands);
+              })) w at (under_names clean n (count + 1) f.operands names.0)
+              (more_names clean n q.curry (trees_in (arguments count f.operands))
+              (pointer_names clean n v q read is)
+              (trees_name clean n (arguments count f.operands)
+              (arguments_name clean n count f.operands names.0)))
+
+  module _ (n : ℕ) (low : least ≤ n) (f : Frame) (names : FrameNames clean n f) where
+    pub calls_pointer : (count next : ℕ) (w : World S) → Here on n low f names w →
+        Stays on n low f names (rules.call_pointer m count next f w)
+    calls_pointer count next w at =
+        reading on n low f names (operand_under count f.operands) [] w at
+        (under_it n low f names count)
+        (λ v. rules.pointer_called m (pointer_of v) v count next f w)
+        (λ v read plain. by_pointer v read (pointer_of v) refl) where
+          by_pointer : (v : Dynamic) → Names clean n v → (o : Option FnPtr) → pointer_of v ≡ o →
+              Stays on n low f names (rules.pointer_called m o v count next f w)
+          by_pointer v read None is = no_pointer n low f names v w at
+          by_pointer v read (Some q) is =
+              calls_function n low (spread q count f) (given, names.1)
+              (function_by_name m.program q.name (length q.curry + count)) q.name
+              (length q.curry + count) next w at where
+                given : Operands clean n (under (count + 1) f.operands ++ curried_in q
+                    ++ arguments count f.operands)
+                given =
+                    all_joined (HeldNames clean n) (under (count + 1) f.operands ++ curried_in q)
+                    (arguments count f.operands)
+                    (all_joined (HeldNames clean n) (under (count + 1) f.operands) (curried_in q)
+                    (under_names clean n (count + 1) f.operands names.0)
+                    (curried_names clean n q (pointer_names clean n v q read is)))
+                    (arguments_name clean n count f.operands names.0)

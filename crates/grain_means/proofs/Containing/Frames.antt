@@ -1,0 +1,313 @@
+-- The walk at a store: marks, faults, charges, and what a frame reads and writes.
+use Rattle.std.proofs.Common.{◌≡◌, ◌≤◌, ◌+◌, ◌∙◌, ℕ, List, [], ◌∷◌, ◌++◌, Option, Some, None, Bool, true, false, if◌then◌else◌, nat_lt, nat_le, length, take, refl, sym, subst, arith}
+use Rattle.std.proofs.lemmas.List.{length-set}
+use Rattle.std.specs.List.{AllByRecursion}
+use Rattle.std.specs.Prelude.{slice_get, slice_set}
+use Rattle.grain_value.specs.Cells.{flat, idle}
+use Rattle.grain_value.specs.Looking.{cell_of}
+use Rattle.grain_value.specs.Operands.{read_write}
+use Rattle.grain_value.specs.Scopes.{set_held}
+use Rattle.grain_value.specs.declared.scopes.Entry.{Entry}
+use Rattle.grain_value.specs.declared.stores.Cell.{Cell}
+use Rattle.grain_value.specs.declared.values.Dynamic.{Dynamic}
+use Rattle.grain_value.specs.declared.values.Held.{Held}
+use Rattle.grain_fault.specs.Classes.{catchable}
+use Rattle.grain_fault.specs.Positions.{at_position, position_of_problem}
+use Rattle.grain_fault.specs.Problems.{Problem, Plain, InFunctionCall, NoMemory, Malformed, Terminated, TooManyOperations, DataRace}
+use Rattle.grain_fault.specs.declared.faults.MalformedKind.TheVariants as kind
+use Rattle.grain_fault.specs.declared.places.Position.{Position}
+use Rattle.grain_program.specs.View.{name_of, source_text}
+use Rattle.grain_program.specs.declared.code.functions.Function.{Function}
+use Rattle.grain_host.specs.Law.{GoOn, IsLawful, Stop, Verdict, written}
+use Rattle.grain_means.specs.Contained.{AnswerNames, CellNames, ConstantsName, Contained, EntryNames, HeldNames, Names, ProblemNames}
+use Rattle.grain_means.specs.Rules as rules
+use Rattle.grain_means.specs.Rules.{bound, flat_all, held_at, is_stop, race_text, stepped, thrown_anew, throws_unit}
+use Rattle.grain_means.specs.Worlds.{Act, Go, End, Then, Answer, Came, Failed, Frame, Handler, InCatch, InFrame, Setup, Todo, World}
+use Rattle.grain_means.proofs.Caught.{placed_names, sole_names}
+use Rattle.grain_means.proofs.Footing.{by_arming, by_test}
+use Rattle.grain_means.proofs.Naming.{all_set, all_take, flat_all_names, flat_names, held_at_names, pushed_names, set_names}
+use Rattle.grain_means.proofs.Containing.Parts.{CaughtNames, HandlerNames, Operands, Arguments, FrameNames, MayStand, VerdictNames}
+
+-- what the walk stands on: a lawful host, and constants that name no cell from `least` on, and are
+-- clean where `clean` says so
+pub record Grounds {S : Type 0} (m : Setup S) : Type 0 where
+  pub lawful : IsLawful m.law
+  pub clean : Bool
+  pub least : ℕ
+  pub constants : ConstantsName clean least m.program
+
+module _ {S : Type 0} {m : Setup S} (on : Grounds m) where
+  open on use {lawful, clean, least}
+
+  abbrev pub At : ℕ → World S → Type 0
+  At n w = Contained m.law clean n w.scope w.cells w.host
+
+  abbrev pub Seated : ℕ → Todo → Type 0
+  Seated n (InFrame f) = FrameNames clean n f
+  Seated n (InCatch f h x) = FrameNames clean n f × ProblemNames clean n x × (catchable x ≡ true)
+
+  -- what is left of a run, which has k cells at least
+  abbrev pub Within : ℕ → Act S → Type 0
+  Within k (Go t w) = (n : ℕ) × (k ≤ n) × At n w × Seated n t
+  Within k (End a w) = (n : ℕ) × (k ≤ n) × At n w × AnswerNames clean n a
+  Within k (Then first rest) =
+      (j : ℕ) × (k ≤ j) × Within j first × ((a : Answer) (w : World S) (n : ℕ) → j ≤ n → At n w →
+      AnswerNames clean n a → Within k (rest a w))
+
+  pub lower : (k j : ℕ) (act : Act S) → k ≤ j → Within j act → Within k act
+  lower k j (Go t w) le h = (h.0, omega (arith, le, h.1), h.2, h.3)
+  lower k j (End a w) le h = (h.0, omega (arith, le, h.1), h.2, h.3)
+  lower k j (Then first rest) le h = (
+    h.0,
+    omega (arith, le, h.1),
+    h.2,
+    λ a w n more at names. lower k j (rest a w) le
+        (h.3 a w n more at names),
+  )
+
+  -- the rules at a store of n cells
+  module _ (n : ℕ) (low : least ≤ n) where
+    abbrev pub Keeps : Act S → Type 0
+    Keeps act = Within n act
+
+    -- the scope is cut
+    pub cut : (k : ℕ) (w : World S) → At n w → (scope : List Entry) → scope ≡ take k w.scope →
+        Contained m.law clean n scope w.cells w.host
+    cut k w at scope is = record {
+      size = at.size;
+      entries = subst (AllByRecursion (EntryNames clean n)) (sym is)
+          (all_take (EntryNames clean n) k w.scope at.entries);
+      contents = at.contents;
+      reaches = at.reaches;
+      hands = at.hands;
+    }
+
+    pub ends : (a : Answer) (w : World S) → At n w → AnswerNames clean n a → Keeps (End a w)
+    ends a w at names = (n, omega arith, at, names)
+
+    pub goes : (t : Todo) (w : World S) → At n w → Seated n t → Keeps (Go t w)
+    goes t w at seated = (n, omega arith, at, seated)
+
+    pub leaves : (slot : Option ℕ) (f : Frame) (x : Problem) (w : World S) → At n w →
+        ProblemNames clean n x → Keeps (rules.leave_by_fault m slot f x w)
+    leaves slot f x w at names =
+        (n, omega arith, cut f.floor w at (take f.floor w.scope) refl, names)
+
+    pub marks : (f : Frame) (w : World S) (go : World S → Act S) → At n w →
+        Keeps (go (record w { passed = w.passed + 1 })) → Keeps (rules.marked m f w go)
+    marks f w go at h =
+        by_test Keeps (is_stop m.stop w.passed) (rules.leave_by_fault m None f NoMemory w)
+        (go (record w { passed = w.passed + 1 }))
+        (λ stop. leaves None f NoMemory w at (omega arith, λ s. refl)) (λ clear. h)
+
+    anew : (y x : Problem) → ProblemNames clean n y → ProblemNames clean n x →
+        ProblemNames clean n (thrown_anew y x)
+    anew y x p q = at (throws_unit x) where
+      at : (b : Bool) →
+          ProblemNames clean n (if b then at_position (position_of_problem x) y else x)
+      at true = placed_names clean n (position_of_problem x) y p
+      at false = q
+
+    offers : (hs : List Handler) (f : Frame) (x : Problem) (w : World S) → At n w →
+        Operands clean n f.operands → AllByRecursion (HandlerNames clean n) hs → ProblemNames clean
+        n x → Keeps (rules.offered_to m hs f x w)
+    offers [] f x w at ops names bound = leaves None f x w at bound
+    offers (h ∷ hs) f x w at ops names bound =
+        by_arming m Keeps h.caught
+        (if catchable x then Go (InCatch (record f { handlers = hs }) h x) w
+        else rules.leave_by_fault m None f x w)
+        (λ y. rules.offered_to m hs f (thrown_anew y x) w)
+        (λ none. by_test Keeps (catchable x) (Go (InCatch (record f { handlers = hs }) h x) w)
+        (rules.leave_by_fault m None f x w)
+        (λ may. goes (InCatch (record f { handlers = hs }) h x) w at
+        ((ops, names.1), bound, may))
+        (λ may. leaves None f x w at bound))
+        (λ y is. offers hs f (thrown_anew y x) w at ops names.1
+        (anew y x (subst (CaughtNames clean n) is names.0) bound))
+
+    module _ (f : Frame) (names : FrameNames clean n f) where
+      offered : (x : Problem) (w : World S) → At n w → ProblemNames clean n x →
+          Keeps (rules.offered m f x w)
+      offered x w at bound = offers f.handlers f x w at names.0 names.1 bound
+
+      pub raises : (x : Problem) (w : World S) → At n w → ProblemNames clean n x →
+          Keeps (rules.raised m f x w)
+      raises x w at bound =
+          marks f w (rules.offered m f x) at
+          (offered x (record w { passed = w.passed + 1 }) at bound)
+
+      races : (name : List ℕ) (w : World S) → At n w → Keeps (rules.data_race m name f w)
+      races name w at =
+          raises (Plain (DataRace (race_text name)) (rules.position m f)) w at (
+            omega arith,
+            λ s. refl,
+          )
+
+      pub onward : (g : Frame) (w : World S) → At n w → FrameNames clean n g →
+          Keeps (rules.onward m f g w)
+      onward g w at new =
+          marks (record g { address = f.address }) w (Go (InFrame g)) at
+          (goes (InFrame g) (record w { passed = w.passed + 1 }) at new)
+
+      -- an operation is taken, of which the host hears
+      module _ (p : Position) (fails : Problem → World S → Act S) (go : World S → Act S)
+          (failing : (x : Problem) (w : World S) → At n w → ProblemNames clean n x →
+          Keeps (fails x w)) (going : (w : World S) → At n w → Keeps (go w)) where
+        judges : (v : Verdict) (w : World S) → At n w → VerdictNames clean n v →
+            Keeps (rules.on_verdict m v p f fails w go)
+        judges GoOn w at bound = going w at
+        judges (Stop v) w at bound =
+            marks f w (fails (Plain (Terminated v) p)) at
+            (failing (Plain (Terminated v) p) (record w { passed = w.passed + 1 }) at
+            (sole_names clean n v bound))
+
+        hears : (w : World S) → At n w → Keeps (rules.progressed m p f fails w go)
+        hears w at =
+            let later : World S = record w {
+              passed = w.passed + 1 + 1;
+              host = m.law.progress_after w.host w.count;
+            } in
+            let heard : At n later = record {
+              size = at.size;
+              entries = at.entries;
+              contents = at.contents;
+              reaches = omega (arith, lawful.hears_within w.host w.count, at.reaches);
+              hands = λ s. lawful.hears_clean w.host w.count (at.hands s);
+            } in
+            marks f w (λ w1. rules.marked m f
+            (record w1 { host = m.law.progress_after w1.host w1.count }) (λ w2.
+            rules.on_verdict m (m.law.progress_reply w1.host w1.count) p f fails w2 go)) at
+            (marks f (record w {
+              passed = w.passed + 1;
+              host = m.law.progress_after w.host w.count;
+            }) (λ w2. rules.on_verdict m (m.law.progress_reply w.host w.count) p f fails w2 go)
+            heard
+            (judges (m.law.progress_reply w.host w.count) later heard (
+              omega (arith, lawful.stops_within w.host w.count, at.reaches),
+              λ s. lawful.stops_clean w.host w.count (at.hands s),
+            )))
+
+        pub charges : (w : World S) → At n w → Keeps (rules.charged_or m p f fails w go)
+        charges w at =
+            by_test Keeps (nat_lt w.count m.engine.limits.operations)
+            (rules.marked m f w
+            (λ w1. rules.progressed m p f fails (record w1 { count = w1.count + 1 }) go))
+            (rules.marked m f w (fails (Plain TooManyOperations p)))
+            (λ few. marks f w
+            (λ w1. rules.progressed m p f fails (record w1 { count = w1.count + 1 }) go) at
+            (hears (record w { passed = w.passed + 1; count = w.count + 1 }) at))
+            (λ many. marks f w (fails (Plain TooManyOperations p)) at
+            (failing (Plain TooManyOperations p) (record w { passed = w.passed + 1 }) at
+            (omega arith, λ s. refl)))
+
+      pub charged : (go : World S → Act S) → ((w : World S) → At n w → Keeps (go w)) →
+          (w : World S) → At n w → Keeps (rules.charged m f w go)
+      charged go going w at =
+          charges (rules.position m f) (rules.offered m f) go offered going w at
+
+      -- what is held is read
+      pub reads : (h : Held) (name : List ℕ) (w : World S) → At n w → HeldNames clean n h →
+          (go : Dynamic → Act S) →
+          ((v : Dynamic) → Names clean n v → cell_of v ≡ None → Keeps (go v)) →
+          Keeps (rules.flattened m h name f w go)
+      reads h name w at held go going = by_content (flat w.cells h.value) refl where
+        by_content : (o : Option Dynamic) → flat w.cells h.value ≡ o →
+            Keeps (rules.flat_or_race m o name f w go)
+        by_content None is = races name w at
+        by_content (Some v) is =
+            let read = flat_names clean n w.cells h.value v at.contents held is in
+            going v read.0 read.1
+
+      pub reads_all : (hs : List Held) (w : World S) → At n w → Operands clean n hs →
+          (go : List Held → Act S) → ((args : List Held) → Arguments clean n args → Keeps (go args))
+          → Keeps (rules.flattened_all m hs f w go)
+      reads_all hs w at held go going = by_content (flat_all w.cells hs) refl where
+        by_content : (o : Option (List Held)) → flat_all w.cells hs ≡ o →
+            Keeps (rules.all_or_race m o f w go)
+        by_content None is = races [] w at
+        by_content (Some args) is =
+            going args (flat_all_names clean n w.cells hs args at.contents held is)
+
+      -- an entry is looked up
+      pub looks : (slot : ℕ) (w : World S) → At n w → (go : Held → Act S) →
+          ((h : Held) → held_at w.scope (f.base + slot) ≡ Some h → HeldNames clean n h →
+          Keeps (go h)) → Keeps (rules.at_slot m f slot w go)
+      looks slot w at go going = by_entry (held_at w.scope (f.base + slot)) refl where
+        by_entry : (o : Option Held) → held_at w.scope (f.base + slot) ≡ o →
+            Keeps (rules.at_entry m o f (f.base + slot) w go)
+        by_entry None is =
+            raises (Plain (Malformed (kind.SlotPastScope (f.base + slot) (length w.scope)))
+            (rules.position m f)) w at (omega arith, λ s. refl)
+        by_entry (Some h) is =
+            going h is (held_at_names clean n w.scope (f.base + slot) h at.entries is)
+
+      -- a cell, or an entry, is written
+      writes_cell : (o : Option Cell) (i : ℕ) (h : Held) (name : List ℕ) (w : World S) → At n w →
+          HeldNames clean n h → cell_of h.value ≡ None → (go : World S → Act S) →
+          ((w : World S) → At n w → Keeps (go w)) →
+          Keeps (rules.cell_written m o i h name f w go)
+      writes_cell None i h name w at held plain go going = races name w at
+      writes_cell (Some c) i h name w at held plain go going =
+          by_test Keeps c.busy (rules.data_race m name f w)
+          (rules.marked m f w (λ w1. go (record w1 { cells = slice_set w1.cells i (idle h) })))
+          (λ busy. races name w at)
+          (λ free. marks f w (λ w1. go (record w1 { cells = slice_set w1.cells i (idle h) })) at
+          (going (record w { passed = w.passed + 1; cells = slice_set w.cells i (idle h) })
+          (record {
+            size = length-set w.cells i (idle h) ∙ at.size;
+            entries = at.entries;
+            contents = all_set (CellNames clean n) w.cells i (idle h) at.contents
+                (record { idle = refl; flat = plain; names = held });
+            reaches = at.reaches;
+            hands = at.hands;
+          })))
+
+      pub writes : (c : Option ℕ) (i : ℕ) (h : Held) (name : List ℕ) (w : World S) → At n w →
+          HeldNames clean n h → MayStand c h.value → (go : World S → Act S) →
+          ((w : World S) → At n w → Keeps (go w)) → Keeps (rules.written m c i h name f w go)
+      writes None i h name w at held plain go going =
+          marks f w (λ w1. go (record w1 { scope = set_held w1.scope i h })) at
+          (going (record w { passed = w.passed + 1; scope = set_held w.scope i h }) (record {
+            size = at.size;
+            entries = set_names clean n w.scope i h at.entries held;
+            contents = at.contents;
+            reaches = at.reaches;
+            hands = at.hands;
+          }))
+      writes (Some j) i h name w at held plain go going =
+          writes_cell (slice_get w.cells j) j h name w at held plain go going
+
+      pub pushes : (next : ℕ) (ops : List Held) (v : Dynamic) (w : World S) → At n w →
+          Operands clean n ops → Names clean n v → Keeps (rules.pushed m f next ops v w)
+      pushes next ops v w at held value =
+          onward (stepped f next (ops ++ read_write v ∷ [])) w at
+          (pushed_names clean n ops (read_write v) held value, names.1)
+
+    -- a jump
+    pub jumps : (f g : Frame) → FrameNames clean n f → FrameNames clean n g → (w : World S) →
+        At n w → Keeps (rules.jumped m f g w)
+    jumps f g names new w at =
+        by_test Keeps (nat_le g.address f.address)
+        (rules.charged m (record g { address = f.address }) w (rules.onward m f g))
+        (rules.onward m f g w)
+        (λ back. charged (record g { address = f.address }) new (rules.onward m f g)
+        (λ v there. onward f names g v there new) w at)
+        (λ ahead. onward f names g w at new)
+
+    module _ (f : Frame) (names : FrameNames clean n f) where
+      -- a fault that left the body of a function
+      propagates : (g : Function) (x : Problem) (w : World S) → At n w → ProblemNames clean n x →
+          Keeps (rules.propagate m g f x w)
+      propagates g x w at bound =
+          let wrapped = InFunctionCall (name_of m.program g.name) (source_text m.program) x
+          (rules.position m f) in
+          by_test Keeps (catchable x) (rules.raised m f wrapped w)
+          (rules.offered m f (at_position (rules.position m f) x) w)
+          (λ may. raises f names wrapped w at bound)
+          (λ not. offered f names (at_position (rules.position m f) x) w at
+          (placed_names clean n (rules.position m f) x bound))
+
+      pub resumes : (g : Function) (next : ℕ) (a : Answer) (w : World S) → At n w →
+          AnswerNames clean n a → Keeps (rules.resume_caller m g f next a w)
+      resumes g next (Came v) w at named = pushes f names next f.operands v w at names.0 named
+      resumes g next (Failed x) w at named = propagates g x w at named

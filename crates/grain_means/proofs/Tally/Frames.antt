@@ -1,0 +1,217 @@
+-- The walk at a frame: marks, faults that leave it or are offered to its handlers, and writes.
+use Rattle.std.proofs.Common.{◌≡◌, ◌≤◌, ◌⊎◌, ℕ, ◌+◌, ◌-◌, List, [], ◌∷◌, ◌++◌, Option, None, true, refl, sym, subst, ◌∙◌, inl, inr, arith, length, take, if◌then◌else◌, append_assoc}
+use Rattle.grain_value.specs.declared.values.Dynamic.{Dynamic}
+use Rattle.grain_value.specs.declared.values.Held.{Held}
+use Rattle.grain_value.specs.declared.scopes.Entry.{Entry}
+use Rattle.grain_value.specs.Operands.{below, read_write}
+use Rattle.grain_fault.specs.Classes.{catchable}
+use Rattle.grain_fault.specs.Problems.{Problem, NoMemory}
+use Rattle.grain_program.specs.declared.code.instruction_set.Op.{Op}
+use Rattle.grain_program.specs.Effects.{takes_of}
+use Rattle.grain_program.specs.Typing.{IsProgram}
+use Rattle.grain_means.specs.Worlds.{Act, Go, Failed, World, Setup, Frame, Handler, InFrame, InCatch}
+use Rattle.grain_means.specs.Rules.{throws_unit, offered_to, thrown_anew, outer_handlers, is_stop, leave_by_fault, marked, onward, next}
+use Rattle.grain_means.specs.Comes.{ProgramPoint, Comes, try_of, tries}
+use Rattle.grain_means.specs.Leavings.{Keeps, AtCheckpoint, Cut}
+use Rattle.grain_means.specs.Causes.{HaveCaughtUnit, Cause, Caused}
+use Rattle.grain_means.proofs.Kept.{keeps_cut}
+use Rattle.grain_means.proofs.Lengths.{cut_short, length_under, length_pushed}
+use Rattle.grain_means.proofs.Standing.{Covered, covered_outside}
+use Rattle.grain_means.proofs.Footing.{Footing, HasCaught, Guarded, Sits, Tally, by_test, by_arming, cause_in, UnitThrown, Offers, left_so_far, offers_anew}
+
+-- where the walk is: the run of a root, on a footing, at an instruction of a frame
+pub record Walk {S : Type 0} (m : Setup S) : Type 0 where
+  pub root : Act S
+  pub footing : Footing
+  pub frame : Frame
+  pub now : World S
+  pub comes : Comes m (InFrame frame) now root
+  pub tokens : now.tokens ≡ footing.tokens
+  pub level : now.level ≡ footing.level
+  pub trace : now.trace ≡ []
+  pub keeps : Keeps footing.base footing.names now.scope
+  pub sits : Sits m root footing frame
+
+module _ {S : Type 0} {m : Setup S} (walk : Walk m) where
+  open walk use {root, footing as k, frame as f, now, comes, tokens, level, trace, keeps, sits}
+
+  abbrev pub Even : ℕ → Act S → Type 0
+  Even r act = Tally m root (Go (InFrame f) now) r k act
+
+  -- the world stands on the footing
+  abbrev pub Steady : ℕ → World S → Type 0
+  Steady r w =
+      (w.ran ≡ r) × (w.tokens ≡ k.tokens) × (w.level ≡ k.level) × Keeps k.base k.names w.scope
+
+  -- the world in which the instruction begins
+  abbrev pub start : World S
+  start = record now { ran = now.ran + 1; passed = now.passed + 1 }
+
+  pub steady : Steady (now.ran + 1) start
+  steady = (refl, tokens, level, keeps)
+
+  -- the floor to which a fault cuts the scope: the frame's, or the scope's length at a checkpoint
+  -- that is done
+  abbrev pub Floor : ℕ → Type 0
+  Floor n = (n ≡ f.floor) ⊎ (AtCheckpoint m.program f × (n ≡ length now.scope))
+
+  -- the floor to which this fault cuts it: that of a checkpoint only where memory is out
+  abbrev FloorFor : Problem → ℕ → Type 0
+  FloorFor x n =
+      (n ≡ f.floor) ⊎ ((x ≡ NoMemory) × AtCheckpoint m.program f × (n ≡ length now.scope))
+
+  out_of_memory : (n : ℕ) → Floor n → FloorFor NoMemory n
+  out_of_memory n (inl e) = inl e
+  out_of_memory n (inr c) = inr (refl, c.0, c.1)
+
+  short : (x : Problem) (n : ℕ) (scope : List Entry) → FloorFor x n → length scope ≤ n →
+      (length scope ≤ f.floor)
+      ⊎ ((x ≡ NoMemory) × AtCheckpoint m.program f × (length scope ≤ length now.scope))
+  short x n scope (inl e) le = inl (omega (arith, e, le))
+  short x n scope (inr (out, c, e)) le = inr (out, c, omega (arith, e, le))
+
+  -- a fault leaves the frame, at its own floor or at that of a checkpoint that is done
+  even_left_at : (g : Frame) (r : ℕ) (x : Problem) (w : World S) → g.address ≡ f.address →
+      FloorFor x g.floor → k.base ≤ g.floor → Steady r w → Caused m root k.level (Failed x) w →
+      Even r (leave_by_fault m None g x w)
+  even_left_at g r x w same floor low s cause =
+      let cut : Cut m root k.level k.base x (take g.floor w.scope)
+      (w.trace ++ record { address = g.address; slot = None } ∷ []) = record {
+        frame = f;
+        world = now;
+        comes = comes;
+        own = level;
+        based = sits.0;
+        inner = w.trace;
+        slot = None;
+        last = rw same refl;
+        short = short x g.floor (take g.floor w.scope) floor (cut_short g.floor w.scope);
+      } in
+      (s.0, s.1, s.2, keeps_cut k.base g.floor k.names w.scope low s.3, inl cut, cause)
+
+  even_left : (r : ℕ) (x : Problem) (w : World S) → Steady r w →
+      Caused m root k.level (Failed x) w → Even r (leave_by_fault m None f x w)
+  even_left r x w s cause = even_left_at f r x w refl (inl refl) sits.1 s cause
+
+  even_marked_at : (g : Frame) (r : ℕ) (w : World S) → g.address ≡ f.address → Floor g.floor →
+      k.base ≤ g.floor → Steady r w → (go : World S → Act S) →
+      Even r (go (record w { passed = w.passed + 1 })) → Even r (marked m g w go)
+  even_marked_at g r w same floor low s go h =
+      by_test (Even r) (is_stop m.stop w.passed) (leave_by_fault m None g NoMemory w)
+      (go (record w { passed = w.passed + 1 }))
+      (λ stop. even_left_at g r NoMemory w same (out_of_memory g.floor floor) low s
+      (inl (refl, stop))) (λ _. h)
+
+  pub even_marked : (r : ℕ) (w : World S) → Steady r w → (go : World S → Act S) →
+      Even r (go (record w { passed = w.passed + 1 })) → Even r (marked m f w go)
+  even_marked r w s go h = even_marked_at f r w refl (inl refl) sits.1 s go h
+
+  -- the frame with other operands
+  abbrev pub holding : List Held → Frame
+  holding operands = record f { operands = operands }
+
+  -- the frame at another address with one more handler, and without its innermost one
+  abbrev pub guarding : ℕ → Option ℕ → ℕ → Frame
+  guarding target variable next = record f {
+    address = next;
+    handlers = record {
+      target = target;
+      variable = variable;
+      operands = length f.operands;
+      scope = length now.scope;
+      caught = None;
+    } ∷ f.handlers;
+  }
+
+  abbrev pub unguarded : ℕ → Frame
+  unguarded next = record f { address = next; handlers = outer_handlers f.handlers }
+
+  -- a fault is offered to handlers of the frame, and what they need of its operands is there; where
+  -- it throws unit, those inside of them have caught throws of unit
+  pub even_offered : (inside hs : List Handler) → f.handlers ≡ inside ++ hs →
+      Guarded m root k hs → (operands : List Held) →
+      (IsProgram m.program → Covered m.program operands (tries hs)) → (r : ℕ) (x : Problem)
+      (w : World S) → (throws_unit x ≡ true → HaveCaughtUnit inside) → Steady r w →
+      Offers m root k.level f.handlers x w →
+      Even r (offered_to m hs (holding operands) x w)
+  even_offered inside [] split g operands covered r x w left s offers =
+      even_left r x w s offers.0
+  even_offered inside (h ∷ hs) split g operands covered r x w left s offers =
+      let around : Frame = record (holding operands) { handlers = hs } in
+      by_arming m (Even r) h.caught
+      (if catchable x then Go (InCatch around h x) w
+      else leave_by_fault m None (holding operands) x w)
+      (λ y. offered_to m hs (holding operands) (thrown_anew y x) w)
+      (λ none. by_test (Even r) (catchable x) (Go (InCatch around h x) w)
+      (leave_by_fault m None (holding operands) x w)
+      (λ may. (
+        s.0,
+        s.1,
+        s.2,
+        s.3,
+        record {
+          from = f;
+          world = now;
+          comes = comes;
+          own = level;
+          from_base = sits.0;
+          address = refl;
+          floor = refl;
+          base = sits.0;
+          low = sits.1;
+          scope = g.0;
+          around = g.2;
+          armed = none;
+          may = may;
+          cause = cause_in m root k.level x w may offers.0;
+          covered = covered;
+        },
+      ))
+      (λ _. even_left r x w s offers.0))
+      (λ y e. even_offered (inside ++ h ∷ []) hs (split ∙ sym (append_assoc inside (h ∷ []) hs))
+      g.2 operands
+      (λ valid. covered_outside m.program operands (try_of h) (tries hs) (covered valid)) r
+      (thrown_anew y x) w (left_so_far m inside h x y left e) s
+      (offers_anew m root k.level f.handlers inside hs h y
+      (subst (HasCaught m root k.level h) e g.1) split x w left offers))
+
+  pub even_onward : (r : ℕ) (g : Frame) (w : World S) → Steady r w → w.trace ≡ [] →
+      Floor g.floor → Sits m root k g → Even r (onward m f g w)
+  even_onward r g w s t floor u =
+      even_marked_at (record g { address = f.address }) r w refl floor u.1 s (Go (InFrame g))
+      (s.0, s.1, s.2, s.3, (t, u))
+
+  -- a write of the scope, and on
+  pub even_written : (g : Frame) (write : List Entry → List Entry) →
+      Keeps k.base k.names (write now.scope) → g.floor ≡ f.floor → Sits m root k g →
+      Even (now.ran + 1)
+      (marked m f start (λ w1. onward m f g (record w1 { scope = write w1.scope })))
+  even_written g write there floor u =
+      even_marked (now.ran + 1) start steady
+      (λ w1. onward m f g (record w1 { scope = write w1.scope }))
+      (even_onward (now.ran + 1) g
+      (record start { passed = start.passed + 1; scope = write start.scope })
+      (refl, tokens, level, there) trace (inl floor) u)
+
+  -- one operand less, and one more
+  pub one_less : length (below f.operands) ≡ length f.operands - 1 + 0
+  one_less = omega (arith, length_under 1 f.operands)
+
+  pub one_more : (v : Dynamic) → length (f.operands ++ read_write v ∷ []) ≡ length f.operands - 0 +
+      1
+  one_more v = omega (arith, length_pushed f.operands v)
+
+  -- where the run stands, at an instruction
+  abbrev pub point : Op → ProgramPoint S
+  point o = record { instruction = o; frame = f; world = now }
+
+  -- why a fault is raised here, and that it is thrown here if it is a throw of unit
+  abbrev pub Reason : Problem → Type 0
+  Reason x = Cause m root k.level x × UnitThrown m root k.level f.handlers x
+
+  -- there are no fewer operands than an instruction leaves of those that were there
+  abbrev pub Enough : Op → List Held → Type 0
+  Enough o operands = length f.operands - takes_of o ≤ length operands
+
+  pub all_there : (o : Op) → Enough o f.operands
+  all_there o = omega arith

@@ -1,0 +1,213 @@
+-- What an instruction does and finds where it raises a fault: which instructions call, charge an
+-- operation, use an entry, read, operate and throw.
+use Rattle.std.specs.Prelude.{◌≡◌, ◌⊎◌, ◌<◌, ◌≤◌, ◌+◌, ℕ, List, [], ◌∷◌, Option, Some, None, Bool, true, false, length, codes}
+use Rattle.grain_value.specs.declared.values.Dynamic.{Dynamic}
+use Rattle.grain_value.specs.declared.values.Held.{Held}
+use Rattle.grain_value.specs.declared.values.FnPtr.{FnPtr}
+use Rattle.grain_value.specs.Cells.{flat}
+use Rattle.grain_value.specs.Looking.{truth_of, is_unit, cell_of, pointer_of}
+use Rattle.grain_value.specs.Operands.{top, arguments}
+use Rattle.grain_value.specs.Writing.{type_name_of}
+use Rattle.grain_program.specs.declared.code.instruction_set.Op.{Op}
+use Rattle.grain_program.specs.declared.code.instruction_set.Op.TheVariants as op
+use Rattle.grain_program.specs.declared.code.functions.Function.{Function}
+use Rattle.grain_program.specs.View.{View, name_of, assign_op_of}
+use Rattle.grain_ops.specs.Outcomes.{Outcome, NotBuiltIn}
+use Rattle.grain_means.specs.Worlds.{World, Setup, Frame}
+use Rattle.grain_host.specs.Law.{GoOn}
+use Rattle.grain_means.specs.Rules.{name_at, flat_all, spread, operand_under, is_read_only, function_by_name, held_at, function_found, operated, op_assigned}
+
+-- the truth value that is read, if it is one
+abbrev pub truth_read : Option Dynamic → Option Bool
+truth_read None = None
+truth_read (Some v) = truth_of v
+
+-- the truth value that the last operand is, as it is read
+abbrev pub truth_on_top : {S : Type 0} → Frame → World S → Option Bool
+truth_on_top f w = truth_read (flat w.cells (top f.operands).value)
+
+-- the operand under the last n is this pointer, as it is read
+abbrev pub Points : {S : Type 0} → FnPtr → ℕ → Frame → World S → Type 0
+Points p n f w = (v : Dynamic) × (flat w.cells (operand_under n f.operands).value ≡ Some v)
+    × (pointer_of v ≡ Some p)
+
+-- a call of this function on these arguments
+abbrev pub CallsOn : {S : Type 0} → View → Function → List Held → Op → Frame → World S → Type 0
+CallsOn program g args (op.Call n k) f w =
+    (function_found program n k ≡ Some g) × (args ≡ arguments k f.operands)
+CallsOn program g args (op.CallFnPtr n) f w = (p : FnPtr) × Points p n f w
+    × (function_by_name program p.name (length p.curry + n) ≡ Some g)
+    × (args ≡ arguments (length p.curry + n) (spread p n f).operands)
+CallsOn program g args o f w = ⊥
+
+-- a call of a function that exists
+abbrev pub Calls : {S : Type 0} → View → Op → Frame → World S → Type 0
+Calls program o f w = (g : Function) × (args : List Held) × CallsOn program g args o f w
+
+-- it costs an operation: a transfer that is taken to a target that does not lie ahead, a call of a
+-- function that exists, or a tick
+abbrev pub Charges : {S : Type 0} → View → Op → Frame → World S → Type 0
+Charges program (op.Jump t) f w = t ≤ f.address
+Charges program (op.JumpIfFalse t) f w = (t ≤ f.address) × (truth_on_top f w ≡ Some false)
+Charges program (op.JumpIfTrue t) f w = (t ≤ f.address) × (truth_on_top f w ≡ Some true)
+Charges program (op.SkipIfNotUnit t) f w =
+    (t ≤ f.address) × (is_unit (top f.operands).value ≡ false)
+Charges program (op.Call n k) f w = Calls program (op.Call n k) f w
+Charges program (op.CallFnPtr n) f w = Calls program (op.CallFnPtr n) f w
+Charges program op.Tick f w = Unit {0}
+Charges program o f w = ⊥
+
+-- an operation is taken: one is left, and the host, which hears of it, lets the run go on
+abbrev pub IsCharged : {S : Type 0} → Setup S → World S → Type 0
+IsCharged m w = (w.count < m.engine.limits.operations)
+    × (m.law.progress_reply w.host (w.count + 1) ≡ GoOn)
+
+-- this function is called, its operation is taken, a level is left for it, and its parameters pass
+-- the limit of variables
+abbrev pub HasTooMany : {S : Type 0} → Setup S → Op → Frame → World S → Type 0
+HasTooMany m o f w = (g : Function) × (args : List Held) × CallsOn m.program g args o f w
+    × IsCharged m w × (w.level < m.engine.limits.levels)
+    × (m.engine.limits.variables < length g.params)
+
+-- the last operand can be read: it is no cell whose content is lent, or that is not there
+abbrev pub ReadsTop : {S : Type 0} → Frame → World S → Type 0
+ReadsTop f w = (v : Dynamic) × (flat w.cells (top f.operands).value ≡ Some v)
+
+-- a declaration of an operand that can be read finds the scope full, or a function that is called has
+-- too many parameters
+abbrev pub Overfills : {S : Type 0} → Setup S → Op → Frame → World S → Type 0
+Overfills m (op.DeclareLocal n) f w =
+    ReadsTop f w × (m.engine.limits.variables ≤ length w.scope)
+Overfills m (op.DeclareConst n) f w =
+    ReadsTop f w × (m.engine.limits.variables ≤ length w.scope)
+Overfills m (op.Call n k) f w = HasTooMany m (op.Call n k) f w
+Overfills m (op.CallFnPtr n) f w = HasTooMany m (op.CallFnPtr n) f w
+Overfills m o f w = ⊥
+
+-- it reads or writes the entry at this index, by its slot
+abbrev pub UsesEntry : ℕ → Op → Frame → Type 0
+UsesEntry i (op.LoadLocal s) f = i ≡ f.base + s
+UsesEntry i (op.StoreLocal s) f = i ≡ f.base + s
+UsesEntry i (op.StoreConst s) f = i ≡ f.base + s
+UsesEntry i (op.StoreShared s) f = i ≡ f.base + s
+UsesEntry i (op.LoadShared s) f = i ≡ f.base + s
+UsesEntry i (op.Share s) f = i ≡ f.base + s
+UsesEntry i (op.AssignLocal s n) f = i ≡ f.base + s
+UsesEntry i (op.AssignLocalOp s n a) f = i ≡ f.base + s
+UsesEntry i o f = ⊥
+
+-- it cuts the scope to n entries
+abbrev pub Unwinds : ℕ → Op → Frame → Type 0
+Unwinds t (op.UnwindTo d) f = t ≡ f.base + d
+Unwinds t o f = ⊥
+
+-- it asks for a truth value
+abbrev pub Tests : Op → Type 0
+Tests (op.JumpIfFalse t) = Unit {0}
+Tests (op.JumpIfTrue t) = Unit {0}
+Tests o = ⊥
+
+-- it asks for a pointer, under the last n operands
+abbrev pub AsksPointer : ℕ → Op → Type 0
+AsksPointer n (op.Curry k) = n ≡ k
+AsksPointer n (op.CallFnPtr k) = n ≡ k
+AsksPointer n o = ⊥
+
+-- it throws the last operand
+abbrev pub Throws : Op → Type 0
+Throws op.Throw = Unit {0}
+Throws o = ⊥
+
+-- the entry at this index holds this, which can only be read if the flag says so
+abbrev pub Holds : {S : Type 0} → World S → ℕ → Bool → Held → Type 0
+Holds w i read_only h = (held_at w.scope i ≡ Some h) × (is_read_only w h ≡ read_only)
+
+-- it assigns an operand that can be read to an entry that can only be read, and tells this name
+abbrev pub AssignsConstant : {S : Type 0} → View → List ℕ → Op → Frame → World S → Type 0
+AssignsConstant program s (op.AssignLocal slot n) f w =
+    (s ≡ name_of program n) × ReadsTop f w × ((h : Held) × Holds w (f.base + slot) true h)
+AssignsConstant program s (op.AssignLocalOp slot n a) f w =
+    (s ≡ name_of program n) × ReadsTop f w × ((h : Held) × Holds w (f.base + slot) true h)
+AssignsConstant program s o f w = ⊥
+
+-- a call looks for a function of this name with these arguments, and there is none
+abbrev pub Misses : {S : Type 0} → View → List ℕ → List Held → Op → Frame → World S → Type 0
+Misses program name args (op.Call n k) f w = (name ≡ name_of program n) ×
+    (flat_all w.cells (arguments k f.operands) ≡ Some args) × (function_found program n k ≡ None)
+Misses program name args (op.CallFnPtr n) f w = (p : FnPtr) × Points p n f w × (name ≡ p.name) ×
+    (flat_all w.cells (arguments (length p.curry + n) (spread p n f).operands) ≡ Some args) ×
+    (function_by_name program p.name (length p.curry + n) ≡ None)
+Misses program name args o f w = ⊥
+
+-- an operator or an op-assignment of this name asks the built-in of these operands, which says this
+abbrev pub Operates : {S : Type 0} → Setup S → Outcome → List ℕ → List Held → Op → Frame →
+    World S → Type 0
+Operates m said name args (op.CallOp n k t) f w = (name ≡ name_of m.program n) ×
+    (flat_all w.cells (arguments k f.operands) ≡ Some args) ×
+    (operated m.program m.engine t args ≡ said)
+Operates m said name args (op.AssignLocalOp slot n a) f w =
+    (name ≡ name_of m.program (assign_op_of m.program a).op_name) ×
+    ((h : Held) × (u : Dynamic) × (v : Dynamic) × Holds w (f.base + slot) false h ×
+    (flat w.cells h.value ≡ Some u) × (flat w.cells (top f.operands).value ≡ Some v) ×
+    (args ≡ record h { value = u } ∷ record (top f.operands) { value = v } ∷ []) ×
+    (op_assigned m.engine (assign_op_of m.program a) u v ≡ said))
+Operates m said name args o f w = ⊥
+
+-- an operator asks the built-in of these operands, which says that it is none
+abbrev pub HasNoBuiltIn : {S : Type 0} → Setup S → List ℕ → List Held → Op → Frame → World S →
+    Type 0
+HasNoBuiltIn m name args (op.CallOp n k t) f w = (name ≡ name_of m.program n) ×
+    (flat_all w.cells (arguments k f.operands) ≡ Some args) ×
+    (operated m.program m.engine t args ≡ NotBuiltIn)
+HasNoBuiltIn m name args o f w = ⊥
+
+-- it asks for a value of the type of the first name, and reads one of the type of the second
+abbrev pub Mistypes : {S : Type 0} → List ℕ → List ℕ → Op → Frame → World S → Type 0
+Mistypes r a o f w =
+    ((v : Dynamic) × (flat w.cells (top f.operands).value ≡ Some v) × (r ≡ codes "bool") ×
+    (a ≡ type_name_of v) × (truth_of v ≡ None) × Tests o)
+    ⊎ ((n : ℕ) × (v : Dynamic) × (flat w.cells (operand_under n f.operands).value ≡ Some v) ×
+    (r ≡ codes "Fn") × (a ≡ type_name_of v) × (pointer_of v ≡ None) × AsksPointer n o)
+
+-- what is held is a cell whose content is lent, or that is not there
+abbrev pub IsLent : {S : Type 0} → World S → Held → Type 0
+IsLent w h = flat w.cells h.value ≡ None
+
+-- of an assignment to an entry that is there: the value that it assigns is a lent cell, or the entry,
+-- which can be written, is one
+abbrev pub AssignsLent : {S : Type 0} → ℕ → Frame → World S → Type 0
+AssignsLent i f w = (h : Held) × (held_at w.scope i ≡ Some h) ×
+    (IsLent w (top f.operands) ⊎ ((is_read_only w h ≡ false) × IsLent w h))
+
+-- of a store into an entry that is a cell: the value that it stores, or the entry, is a lent one; into
+-- any other entry the value goes as it is
+abbrev pub StoresLent : {S : Type 0} → ℕ → Frame → World S → Type 0
+StoresLent i f w = (h : Held) × (n : ℕ) × (held_at w.scope i ≡ Some h) ×
+    (cell_of h.value ≡ Some n) × (IsLent w (top f.operands) ⊎ IsLent w h)
+
+-- it reads or writes a cell whose content is lent, at the variable of this name
+abbrev pub ReadsLent : {S : Type 0} → View → List ℕ → Op → Frame → World S → Type 0
+ReadsLent program name (op.LoadLocal s) f w = (name ≡ name_at w.scope (f.base + s)) ×
+    ((h : Held) × (held_at w.scope (f.base + s) ≡ Some h) × IsLent w h)
+ReadsLent program name (op.StoreLocal s) f w = (name ≡ []) × StoresLent (f.base + s) f w
+ReadsLent program name (op.StoreConst s) f w = (name ≡ []) × StoresLent (f.base + s) f w
+ReadsLent program name (op.StoreShared s) f w = (name ≡ []) × StoresLent (f.base + s) f w
+ReadsLent program name (op.DeclareLocal n) f w = (name ≡ []) × IsLent w (top f.operands)
+ReadsLent program name (op.DeclareConst n) f w = (name ≡ []) × IsLent w (top f.operands)
+ReadsLent program name (op.AssignLocal s n) f w =
+    (name ≡ name_of program n) × AssignsLent (f.base + s) f w
+ReadsLent program name (op.AssignLocalOp s n a) f w =
+    (name ≡ name_of program n) × AssignsLent (f.base + s) f w
+ReadsLent program name (op.JumpIfFalse t) f w = (name ≡ []) × IsLent w (top f.operands)
+ReadsLent program name (op.JumpIfTrue t) f w = (name ≡ []) × IsLent w (top f.operands)
+ReadsLent program name (op.Call n k) f w = (name ≡ []) × (function_found program n k ≡ None) ×
+    (flat_all w.cells (arguments k f.operands) ≡ None)
+ReadsLent program name (op.CallOp n k t) f w =
+    (name ≡ []) × (flat_all w.cells (arguments k f.operands) ≡ None)
+ReadsLent program name (op.Curry n) f w = (name ≡ []) × IsLent w (operand_under n f.operands)
+ReadsLent program name (op.CallFnPtr n) f w = (name ≡ []) ×
+    (IsLent w (operand_under n f.operands) ⊎ ((p : FnPtr) × Points p n f w ×
+    (function_by_name program p.name (length p.curry + n) ≡ None) ×
+    (flat_all w.cells (arguments (length p.curry + n) (spread p n f).operands) ≡ None)))
+ReadsLent program name op.Throw f w = (name ≡ []) × IsLent w (top f.operands)
+ReadsLent program name o f w = ⊥

@@ -1,0 +1,176 @@
+-- What an instruction asks the host for, and what it is answered.
+use Rattle.std.specs.Prelude.{◌≡◌, ◌⊎◌, ◌&&◌, ◌+◌, ℕ, List, [], ◌∷◌, Option, Some, None, true, false}
+use Rattle.grain_value.specs.declared.values.Dynamic.{Dynamic}
+use Rattle.grain_value.specs.declared.values.Held.{Held}
+use Rattle.grain_value.specs.declared.scopes.Entry.{Entry}
+use Rattle.grain_value.specs.declared.stores.Cell.{Cell}
+use Rattle.grain_value.specs.Cells.{flat}
+use Rattle.grain_value.specs.Looking.{cell_of}
+use Rattle.grain_value.specs.Operands.{top, values_in}
+use Rattle.grain_fault.specs.Positions.{at_position, at_position_if_none}
+use Rattle.grain_fault.specs.declared.places.Position.{Position}
+use Rattle.grain_fault.specs.Problems.{FaultKind, Problem, Plain}
+use Rattle.grain_program.specs.declared.code.instruction_set.Op.{Op}
+use Rattle.grain_program.specs.declared.code.instruction_set.Op.TheVariants as op
+use Rattle.grain_program.specs.declared.code.parts.AssignOp.{AssignOp}
+use Rattle.grain_program.specs.View.{name_of, assign_op_of}
+use Rattle.grain_ops.specs.Outcomes.{NotBuiltIn}
+use Rattle.grain_means.specs.Worlds.{Failed, World, Setup, Frame}
+use Rattle.grain_host.specs.Signatures.{missing_kind, not_found, says_missing}
+use Rattle.grain_host.specs.Law.{Reply, native_of}
+use Rattle.grain_host.specs.Law as reply
+use Rattle.grain_value.specs.declared.natives.Native.{Native}
+use Rattle.grain_means.specs.Rules.{Receiver, lent_held, given, given_back, cells_given_back, content_now, kinds_in, trees_in, first_is_read_only, position, op_assigned}
+use Rattle.grain_means.specs.Comes.{ProgramPoint}
+use Rattle.grain_means.specs.Causes.Instructions.{Holds, Misses, HasNoBuiltIn}
+
+-- an op-assignment of this value to the entry at this index, which holds this and can be written,
+-- asks the built-in on what they are as they are read, and it says that it is none
+pub record AssignsByHost {S : Type 0} (m : Setup S) (a : AssignOp) (i : ℕ) (h : Held)
+    (u : Dynamic) (v : Held) (o : Op) (f : Frame) (w : World S) : Type 0 where
+  pub slot : ℕ
+  pub name : ℕ
+  pub assigns : ℕ
+  pub is : o ≡ op.AssignLocalOp slot name assigns
+  pub operator : a ≡ assign_op_of m.program assigns
+  pub index : i ≡ f.base + slot
+  pub holds : Holds w i false h
+  pub content : flat w.cells h.value ≡ Some u
+  pub value : flat w.cells (top f.operands).value ≡ Some v.value
+  pub flag : v.read_only ≡ (top f.operands).read_only
+  pub none : op_assigned m.engine a u v.value ≡ NotBuiltIn
+
+-- what an instruction asks the host for: a native of this name, on what is lent and on these
+-- arguments, where the host stands so
+pub record Question (S : Type 0) : Type 0 where
+  pub host : S
+  -- the cells of the store then
+  pub cells : List Cell
+  pub name : List ℕ
+  pub lent : Option Receiver
+  pub args : List Held
+
+abbrev pub all_args : {S : Type 0} → Question S → List Held
+all_args q = given q.lent q.args
+
+-- the native that is asked for, if it is there
+abbrev pub native_asked : {S : Type 0} → Setup S → Question S → Option Native
+native_asked m q = native_of m.law q.host q.name (kinds_in (all_args q))
+
+-- the host's answer where the native of this key is asked for
+abbrev pub reply_to : {S : Type 0} → Setup S → Question S → ℕ → Reply
+reply_to m q key = m.law.call_reply q.host key (lent_held q.lent) (trees_in q.args)
+
+-- the native of this key is called: it does not write its first argument, or that can be written
+abbrev pub IsCalled : {S : Type 0} → Question S → Native → Type 0
+IsCalled q n = n.writes && first_is_read_only (all_args q) ≡ false
+
+-- the question ended with this fault in a frame: there is no native, or the host answered it to the
+-- call; and this is then the host, and this the scope and the cells
+abbrev pub EndsWith : {S : Type 0} → Setup S → Frame → World S → Question S → Problem → S →
+    List Entry → List Cell → Type 0
+EndsWith m f w q x host left cells =
+    ((native_asked m q ≡ None) ×
+    (x ≡ not_found q.name (values_in (all_args q)) (position m f)) × (host ≡ q.host) ×
+    (left ≡ w.scope) × (cells ≡ w.cells))
+    ⊎ ((n : Native) × (native_asked m q ≡ Some n) × IsCalled q n ×
+    ((y : Problem) × (reply_to m q n.key ≡ reply.Failed y) ×
+    (x ≡ at_position_if_none (position m f) y) ×
+    (host ≡ m.law.call_after q.host n.key (lent_held q.lent) (trees_in q.args)) ×
+    (left ≡ given_back m.law q.host n.key (trees_in q.args) q.lent w.scope) ×
+    (cells ≡ cells_given_back m.law q.host n.key (trees_in q.args) q.lent w.cells)))
+
+-- an op-assignment asks for the host's op-assignment, to which the entry is lent, or what its cell
+-- holds
+abbrev pub asks_first : {S : Type 0} → Setup S → AssignOp → ℕ → Held → Dynamic → Held → World S →
+    Question S
+asks_first m a i h u v w = record {
+  host = w.host;
+  cells = w.cells;
+  name = name_of m.program a.op_assign_name;
+  lent = Some (record { index = i; cell = cell_of h.value; held = record h { value = u } });
+  args = v ∷ [];
+}
+
+-- The question is the second of an op-assignment that no built-in does: it asks for the operator, on
+-- what the entry then holds, where the first ended with the fault that no function of its name is
+-- found.
+abbrev pub AsksAgain : {S : Type 0} → Setup S → AssignOp → ℕ → Held → Dynamic → Held →
+    Question S → ProgramPoint S → Type 0
+AsksAgain {S = S} m a i h u v q at =
+    (x : Problem) × (host : S) × (left : List Entry) × (cells : List Cell) ×
+    EndsWith m at.frame at.world (asks_first m a i h u v at.world) x host left cells ×
+    (says_missing (name_of m.program a.op_assign_name) x ≡ true) ×
+    (q ≡ record {
+      host = host;
+      cells = cells;
+      name = name_of m.program a.op_name;
+      lent = None;
+      args = record h { value = content_now (cell_of h.value) i h left cells } ∷ v ∷ [];
+    })
+
+-- the question is the second of an op-assignment that no built-in does
+abbrev pub AsksSecond : {S : Type 0} → Setup S → Question S → ProgramPoint S → Type 0
+AsksSecond {S = S} m q at =
+    (a : AssignOp) × (i : ℕ) × (h : Held) × (u : Dynamic) × (v : Held) ×
+    AssignsByHost m a i h u v at.instruction at.frame at.world × AsksAgain m a i h u v q at
+
+-- the question is one of an op-assignment that no built-in does, the first or the second
+abbrev pub AsksToAssign : {S : Type 0} → Setup S → Question S → ProgramPoint S → Type 0
+AsksToAssign {S = S} m q at =
+    (a : AssignOp) × (i : ℕ) × (h : Held) × (u : Dynamic) × (v : Held) ×
+    AssignsByHost m a i h u v at.instruction at.frame at.world ×
+    ((q ≡ asks_first m a i h u v at.world) ⊎ AsksAgain m a i h u v q at)
+
+-- it asks the host for a native on copies of its operands: no function is found for a call, or no
+-- built-in for an operator
+abbrev pub AsksOnCopies : {S : Type 0} → Setup S → Question S → ProgramPoint S → Type 0
+AsksOnCopies m q at =
+    (q.host ≡ at.world.host) × (q.cells ≡ at.world.cells) × (q.lent ≡ None) ×
+    (Misses m.program q.name q.args at.instruction at.frame at.world
+    ⊎ HasNoBuiltIn m q.name q.args at.instruction at.frame at.world)
+
+-- it asks the host for a native: on copies of its operands, or for an op-assignment
+abbrev pub AsksNative : {S : Type 0} → Setup S → Question S → ProgramPoint S → Type 0
+AsksNative m q at = AsksOnCopies m q at ⊎ AsksToAssign m q at
+
+-- It asks this question, and asks no other after this fault: the first of an op-assignment is the
+-- last unless the fault says that no function of its name is found.
+abbrev pub AsksLast : {S : Type 0} → Setup S → Problem → Question S → ProgramPoint S → Type 0
+AsksLast {S = S} m x q at = AsksOnCopies m q at ⊎
+    ((a : AssignOp) × (i : ℕ) × (h : Held) × (u : Dynamic) × (v : Held) ×
+    AssignsByHost m a i h u v at.instruction at.frame at.world ×
+    (((q ≡ asks_first m a i h u v at.world)
+    × (says_missing (name_of m.program a.op_assign_name) x ≡ false))
+    ⊎ AsksAgain m a i h u v q at))
+
+-- it asks for a native that is not there, a fault of this kind says so, and after that fault it asks
+-- for no other
+abbrev pub FindsNone : {S : Type 0} → Setup S → FaultKind → ProgramPoint S → Type 0
+FindsNone {S = S} m k at = (q : Question S)
+    × (missing_kind q.name (values_in (all_args q)) ≡ k)
+    × AsksLast m (Plain k (position m at.frame)) q at × (native_asked m q ≡ None)
+
+-- it asks for this native, which is there
+pub record FindsNative {S : Type 0} (m : Setup S) (name : List ℕ) (n : Native)
+    (at : ProgramPoint S) : Type 0 where
+  pub question : Question S
+  pub named : name ≡ question.name
+  pub asks : AsksNative m question at
+  pub found : native_asked m question ≡ Some n
+
+-- the native of this name writes its first argument, which can only be read
+abbrev pub WritesConstant : {S : Type 0} → Setup S → List ℕ → ProgramPoint S → Type 0
+WritesConstant m name at = (n : Native) × (c : FindsNative m name n at)
+    × (n.writes ≡ true) × (first_is_read_only (all_args c.question) ≡ true)
+
+-- the host answers this fault to the call of a native, and after the fault, which has the
+-- instruction's position if it has none, no other native is asked for
+abbrev pub HostAnswers : {S : Type 0} → Setup S → Problem → ProgramPoint S → Type 0
+HostAnswers m y at = (name : List ℕ) × (n : Native) × (c : FindsNative m name n at)
+    × IsCalled c.question n × (reply_to m c.question n.key ≡ reply.Failed y)
+    × AsksLast m (at_position_if_none (position m at.frame) y) c.question at
+
+-- the host answered the fault, whatever its position
+abbrev pub FromHost : {S : Type 0} → Setup S → Problem → ProgramPoint S → Type 0
+FromHost m x at = (y : Problem) × (p : Position) × HostAnswers m y at × (x ≡ at_position p y)

@@ -1,0 +1,114 @@
+-- Marks, faults that are raised and offered to handlers, and operations that are charged.
+use Rattle.std.specs.Prelude.{ℕ, ◌+◌, List, [], ◌∷◌, ◌++◌, Option, Some, None, Bool, false, if◌then◌else◌, nat_lt, nat_eq, take, codes}
+use Rattle.grain_value.specs.Looking.{is_unit}
+use Rattle.grain_fault.specs.declared.places.Position.{Position}
+use Rattle.grain_fault.specs.Classes.{catchable}
+use Rattle.grain_fault.specs.Positions.{at_position, position_of_problem}
+use Rattle.grain_fault.specs.Problems.{FaultKind, Problem, Plain, InModule, SystemError, InFunctionCall, DataRace, Terminated, Runtime, TooManyOperations, NoMemory}
+use Rattle.grain_program.specs.View.{position_of}
+pub use Rattle.grain_means.specs.Worlds.{is_stop}
+use Rattle.grain_means.specs.Worlds.{Failed, Handler, Frame, World, InCatch, Act, Go, End, Setup}
+use Rattle.grain_host.specs.Law.{Verdict, GoOn, Stop}
+
+-- the text of a fault that the cell of a variable is lent
+abbrev pub race_text : List ℕ → List ℕ
+race_text name = codes "variable '" ++ name ++ codes "'"
+
+-- whether a fault of this kind is a throw of unit; no other kind is
+abbrev pub kind_throws_unit : FaultKind → Bool
+kind_throws_unit (Runtime v) = is_unit v
+kind_throws_unit k = false
+
+abbrev pub throws_unit : Problem → Bool
+throws_unit (Plain k p) = kind_throws_unit k
+throws_unit (InFunctionCall f s x p) = false
+throws_unit (InModule n x p) = false
+throws_unit (SystemError s e) = false
+throws_unit NoMemory = false
+
+-- what was caught, at the position of the throw, where unit is thrown; and else the fault
+abbrev pub thrown_anew : Problem → Problem → Problem
+thrown_anew y x = if throws_unit x then at_position (position_of_problem x) y else x
+
+-- the handlers around the innermost one
+abbrev pub outer_handlers : List Handler → List Handler
+outer_handlers [] = []
+outer_handlers (h ∷ hs) = hs
+
+module _ {S : Type 0} (m : Setup S) where
+  -- the position of a frame's instruction
+  abbrev pub position : Frame → Position
+  position f = position_of m.program f.address
+
+  -- a fault leaves a frame: the scope is cut, and the trace notes where the frame stopped
+  abbrev pub leave_by_fault : Option ℕ → Frame → Problem → World S → Act S
+  leave_by_fault slot f x w =
+      End (Failed x) (record w {
+        scope = take f.floor w.scope;
+        trace = w.trace ++ record { address = f.address; slot = slot } ∷ [];
+      })
+
+  -- a mark in a frame: memory is out here, or the run goes on
+  abbrev pub marked : Frame → World S → (World S → Act S) → Act S
+  marked f w go =
+      if is_stop m.stop w.passed then leave_by_fault None f NoMemory w
+      else go (record w { passed = w.passed + 1 })
+
+  -- of a handler, what follows if it is armed, and what follows from the fault that it has caught
+  abbrev pub if_armed : Option Problem → Act S → (Problem → Act S) → Act S
+  if_armed None armed left = armed
+  if_armed (Some y) armed left = left y
+
+  -- A fault is offered to handlers, the innermost first. One that has caught is left, and where unit
+  -- is thrown in its catch block, what it caught is thrown anew. An armed one catches what a script
+  -- may catch.
+  abbrev pub offered_to : List Handler → Frame → Problem → World S → Act S
+  offered_to [] f x w = leave_by_fault None f x w
+  offered_to (h ∷ hs) f x w =
+      if_armed h.caught
+      (if catchable x then Go (InCatch (record f { handlers = hs }) h x) w
+      else leave_by_fault None f x w)
+      (λ y. offered_to hs f (thrown_anew y x) w)
+
+  -- a fault in a frame is offered to the frame's own handlers
+  abbrev pub offered : Frame → Problem → World S → Act S
+  offered f x w = offered_to f.handlers f x w
+
+  -- a fault is raised
+  abbrev pub raised : Frame → Problem → World S → Act S
+  raised f x w = marked f w (offered f x)
+
+  -- what the host says of the operations so far: the run goes on, or it is terminated, and then
+  -- what follows from that fault
+  abbrev pub on_verdict : Verdict → Position → Frame → (Problem → World S → Act S) → World S →
+      (World S → Act S) → Act S
+  on_verdict GoOn p f fails w go = go w
+  on_verdict (Stop v) p f fails w go = marked f w (fails (Plain (Terminated v) p))
+
+  -- the host hears how many operations there were, with a mark before and one after
+  abbrev pub progressed : Position → Frame → (Problem → World S → Act S) → World S →
+      (World S → Act S) → Act S
+  progressed p f fails w go =
+      marked f w (λ w1. marked f (record w1 { host = m.law.progress_after w1.host w1.count }) (λ w2.
+      on_verdict (m.law.progress_reply w1.host w1.count) p f fails w2 go))
+
+  -- one operation more, of which the host hears, or the fault at this position that there are too
+  -- many, and then what follows from the fault
+  abbrev pub charged_or : Position → Frame → (Problem → World S → Act S) → World S →
+      (World S → Act S) → Act S
+  charged_or p f fails w go =
+      if nat_lt w.count m.engine.limits.operations then
+      marked f w (λ w1. progressed p f fails (record w1 { count = w1.count + 1 }) go) else
+      marked f w (fails (Plain TooManyOperations p))
+
+  -- an instruction costs an operation
+  abbrev pub charged : Frame → World S → (World S → Act S) → Act S
+  charged f w go = charged_or (position f) f (offered f) w go
+
+  -- what is raised while a handler catches leaves the frame, and is offered to no handler
+  abbrev pub escaped : Frame → Problem → World S → Act S
+  escaped f x w = marked f w (leave_by_fault None f x)
+
+  -- the fault that the cell of a variable is lent
+  abbrev pub data_race : List ℕ → Frame → World S → Act S
+  data_race name f w = raised f (Plain (DataRace (race_text name)) (position f)) w

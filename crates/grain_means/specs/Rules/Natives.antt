@@ -1,0 +1,111 @@
+-- Natives that the host is asked for.
+use Rattle.std.specs.Prelude.{ℕ, slice_set, List, [], ◌∷◌, Option, Some, None, Bool, false, if◌then◌else◌, ◌&&◌, map, option_map}
+use Rattle.grain_value.specs.declared.values.Dynamic.{Dynamic}
+use Rattle.grain_value.specs.declared.values.Held.{Held}
+use Rattle.grain_value.specs.declared.scopes.Entry.{Entry}
+use Rattle.grain_value.specs.Scopes.{set_held}
+use Rattle.grain_value.specs.Cells.{idle}
+use Rattle.grain_value.specs.declared.stores.Cell.{Cell}
+use Rattle.grain_value.specs.Operands.{values_in}
+use Rattle.grain_value.specs.Tree.{Tree}
+use Rattle.grain_value.specs.View.{tree}
+use Rattle.grain_value.specs.declared.natives.Native.{Native}
+use Rattle.grain_value.specs.Writing.{kind_of}
+use Rattle.grain_fault.specs.Positions.{at_position_if_none}
+use Rattle.grain_fault.specs.Problems.{Problem, Plain, NonPureCall}
+use Rattle.grain_means.specs.Worlds.{Failed, Frame, World, Act, Setup}
+use Rattle.grain_host.specs.Signatures.{not_found}
+use Rattle.grain_host.specs.Law.{Law, Reply, native_of}
+use Rattle.grain_host.specs.Law as reply
+use Rattle.grain_means.specs.Rules.Faults.{position, marked}
+
+-- the kinds and the trees of what is held
+abbrev pub kinds_in : List Held → List ℕ
+kinds_in hs = map (λ h. kind_of h.value) hs
+
+abbrev pub trees_in : List Held → List Tree
+trees_in hs = map (λ h. tree h.value) hs
+
+-- whether there is a first one, which can only be read
+abbrev pub first_is_read_only : List Held → Bool
+first_is_read_only [] = false
+first_is_read_only (h ∷ hs) = h.read_only
+
+-- what an entry of a scope holds, at its index, or what its cell holds, as a native is lent it
+pub record Receiver : Type 0 where
+  pub index : ℕ
+  pub cell : Option ℕ
+  pub held : Held
+
+abbrev pub lent_held : Option Receiver → Option Held
+lent_held r = option_map (λ q. q.held) r
+
+-- all arguments of a native: what is lent stands first
+abbrev pub given : Option Receiver → List Held → List Held
+given None args = args
+given (Some r) args = r.held ∷ args
+
+-- the scope once this is back in the entry; where the entry is a cell it stays
+abbrev pub back_in_entry : Option ℕ → ℕ → Held → List Entry → List Entry
+back_in_entry None i h scope = set_held scope i h
+back_in_entry (Some n) i h scope = scope
+
+-- the cells once this is back in the cell, if the entry is one
+abbrev pub back_in_cell : Option ℕ → Held → List Cell → List Cell
+back_in_cell None h cells = cells
+back_in_cell (Some n) h cells = slice_set cells n (idle h)
+
+-- the scope once what was lent is back, as the native left it
+abbrev pub given_back : {S : Type 0} → Law S → S → ℕ → List Tree → Option Receiver →
+    List Entry → List Entry
+given_back law s key values None scope = scope
+given_back law s key values (Some r) scope =
+    back_in_entry r.cell r.index (reply.written law s key values r.held) scope
+
+-- and the cells
+abbrev pub cells_given_back : {S : Type 0} → Law S → S → ℕ → List Tree → Option Receiver →
+    List Cell → List Cell
+cells_given_back law s key values None cells = cells
+cells_given_back law s key values (Some r) cells =
+    back_in_cell r.cell (reply.written law s key values r.held) cells
+
+module _ {S : Type 0} (m : Setup S) where
+  -- what the host answered, and then what follows from its value, or from its fault; one without a
+  -- position has the instruction's
+  abbrev pub answered : Reply → Frame → World S → (Dynamic → World S → Act S) →
+      (Problem → World S → Act S) → Act S
+  answered (reply.Done v) f w go fails = go v w
+  answered (reply.Failed x) f w go fails = fails (at_position_if_none (position m f) x) w
+
+  -- the host is called, with a mark before and one after
+  abbrev pub host_called : ℕ → Option Receiver → List Held → Frame → World S →
+      (Dynamic → World S → Act S) → (Problem → World S → Act S) → Act S
+  host_called key r args f w go fails =
+      marked m f w (λ w1.
+      marked m f (record w1 {
+        host = m.law.call_after w1.host key (lent_held r) (trees_in args);
+        scope = given_back m.law w1.host key (trees_in args) r w1.scope;
+        cells = cells_given_back m.law w1.host key (trees_in args) r w1.cells;
+      }) (λ w2.
+      answered (m.law.call_reply w1.host key (lent_held r) (trees_in args)) f w2 go fails))
+
+  -- a native that writes its first argument is not called where that can only be read
+  abbrev pub native_called : Native → List ℕ → Option Receiver → List Held → Frame → World S →
+      (Dynamic → World S → Act S) → (Problem → World S → Act S) → Act S
+  native_called n name r args f w go fails =
+      if n.writes && first_is_read_only (given r args)
+      then fails (Plain (NonPureCall name) (position m f)) w
+      else host_called n.key r args f w go fails
+
+  abbrev pub native_found : Option Native → List ℕ → Option Receiver → List Held → Frame →
+      World S → (Dynamic → World S → Act S) → (Problem → World S → Act S) → Act S
+  native_found None name r args f w go fails =
+      fails (not_found name (values_in (given r args)) (position m f)) w
+  native_found (Some n) name r args f w go fails = native_called n name r args f w go fails
+
+  -- the host's native of this name on what is lent and these arguments, and then what follows from
+  -- its value, or from the fault
+  abbrev pub native : List ℕ → Option Receiver → List Held → Frame → World S →
+      (Dynamic → World S → Act S) → (Problem → World S → Act S) → Act S
+  native name r args f w go fails =
+      native_found (native_of m.law w.host name (kinds_in (given r args))) name r args f w go fails
