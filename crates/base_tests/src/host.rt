@@ -1,5 +1,7 @@
 //! The host in memory, with enough memory, and the faults that a host may answer.
 
+mod registers;
+
 use crate::made::{array, check_text, quoted, text_of, value_of};
 use crate::raised::{Broken, Kind, OfText, OfTexts, OfValue, Plain, Raised, fault_of, named_text};
 use grain_fault::EvalAltResult;

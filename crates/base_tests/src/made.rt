@@ -4,9 +4,10 @@ use grain_value::{Array, Blob, Dynamic, FnPtr, Map, Text};
 use std::alloc::Global;
 use std::process::Abort;
 
-/// The value that a row names: `()`, `true`, `-7`, `char x`, `text ab`, `blob 0 255`, `pair` for
-/// `[1, ()]`, or one that holds such values: `[]`, `array 1, pair`, `map a 1, b text x`, and
-/// `fn f 1` for a pointer with one value before the arguments.
+/// The value that a row names: `()`, `true`, `-7`, `char x`, `text ab`, `blob 0 255`,
+/// `foreign 16 7` for a host's own value of kind 16 with the number 7, `pair` for `[1, ()]`, or one
+/// that holds such values: `[]`, `array 1, pair`, `map a 1, b text x`, and `fn f 1` for a pointer
+/// with one value before the arguments.
 pub(crate) fn value_of(rt: &impl Abort, alloc: Global, said: &str) -> Dynamic {
     match said.split_once(' ') {
         Some(("array", values)) => Dynamic::Array(array(rt, alloc, values)),
@@ -22,6 +23,7 @@ pub(crate) fn flat_value(rt: &impl Abort, alloc: Global, said: &str) -> Dynamic 
         Some(("text", text)) => Dynamic::Text(text_of(rt, alloc, text)),
         Some(("char", text)) => Dynamic::Char(character(rt, text)),
         Some(("blob", bytes)) => Dynamic::Blob(blob(rt, alloc, bytes)),
+        Some(("foreign", numbers)) => foreign(rt, numbers),
         _ => word_value(rt, alloc, said),
     }
 }
@@ -52,6 +54,14 @@ fn blob(rt: &impl Abort, alloc: Global, bytes: &str) -> Blob {
         blob.push(byte).expect(rt, "memory");
     }
     blob
+}
+
+fn foreign(rt: &impl Abort, numbers: &str) -> Dynamic {
+    let (kind, number) = numbers.split_once(' ').expect(rt, "a row's kind");
+    Dynamic::Foreign {
+        kind: kind.parse::<u32>().expect(rt, "a row's kind"),
+        number: number.parse::<u64>().expect(rt, "a row's number"),
+    }
 }
 
 fn pair(rt: &impl Abort, alloc: Global) -> Array {

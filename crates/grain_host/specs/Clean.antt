@@ -1,6 +1,6 @@
 -- The host in memory hands over what is clean, where its lines hold such values only and it is given
 -- such values, none of which is a cell.
-use Rattle.std.specs.Prelude.{ℕ, ◌≡◌, ◌==◌, Bool, true, false, ◌&&◌, not, List, [], ◌∷◌, ◌++◌, Option, Some, None, map, refl, if◌then◌else◌}
+use Rattle.std.specs.Prelude.{ℕ, ℤ, ◌≡◌, ◌==◌, Bool, true, false, ◌&&◌, not, List, [], ◌∷◌, ◌++◌, Option, Some, None, map, refl, slice_get, option_and_then, if◌then◌else◌}
 use Rattle.std.specs.List.{list_all}
 use Rattle.grain_value.specs.Tree.{Tree, array, pack}
 use Rattle.grain_value.specs.View.{tree, value_of}
@@ -10,12 +10,17 @@ use Rattle.grain_value.specs.declared.values.Dynamic.{Dynamic}
 use Rattle.grain_value.specs.declared.values.Dynamic.TheVariants as dynamic
 use Rattle.grain_value.specs.declared.values.Held.{Held}
 use Rattle.grain_host.specs.Law.{Reply, call_is_clean, is_plain, receiver_is_plain, reply_is_clean, verdict_is_clean}
+use Rattle.grain_host.specs.declared.register_natives.Access.{Access}
+use Rattle.grain_host.specs.declared.register_natives.Access.TheVariants as access
+use Rattle.grain_host.specs.declared.register_natives.Place.{Place}
+use Rattle.grain_host.specs.declared.register_natives.Place.TheVariants as place
 use Rattle.grain_host.specs.declared.tables.TableHost.{TableHost}
 use Rattle.grain_host.specs.declared.stop_lines.StopLine.{StopLine}
 use Rattle.grain_host.specs.declared.tables.Turn.{Turn}
 use Rattle.grain_host.specs.declared.tables.Turn.TheVariants as turns
 use Rattle.grain_host.specs.Stops.{stop_at, stops_clean}
-use Rattle.grain_host.specs.Tables.{print_reply, push_reply, counted, entries_in, len_reply, exit_reply, native_reply, sole, first_of_two, unknown, reply_at, after_at, written_at, pushed, verdict, turn, arguments, table_law}
+use Rattle.grain_host.specs.Registers.{register_of, number_of, register_at, named_by, own_reply, read_reply, write_reply, asked}
+use Rattle.grain_host.specs.Tables.{print_reply, push_reply, counted, entries_in, len_reply, exit_reply, register_reply, native_reply, sole, first_of_two, reply_at, after_at, written_at, pushed, verdict, turn, arguments, table_law}
 
 pub first_true : (a b : Bool) → a && b ≡ true → a ≡ true
 first_true true b h = refl
@@ -103,25 +108,51 @@ exit_clean (Some v) h =
     (both_true (is_clean (tree v)) true
     (first_true (is_clean (tree v)) (not (is_cell (tree v))) h) refl) refl
 
-native_clean : (key : ℕ) (vs : List Dynamic) → values_plain vs ≡ true →
-    reply_is_clean (native_reply key vs) ≡ true
-native_clean key vs h =
+own_clean : (kind : ℕ) (k : Option ℕ) (i : ℤ) →
+    reply_is_clean (own_reply kind k (dynamic.Int i)) ≡ true
+own_clean kind None i = refl
+own_clean kind (Some k) i = refl
+
+read_clean : (x : Option ℤ) (p : Place) → reply_is_clean (read_reply x (named_by p)) ≡ true
+read_clean None (place.Number k) = refl
+read_clean None (place.Index i) = refl
+read_clean (Some x) p = refl
+
+write_clean : (k : Option ℕ) (p : Place) → reply_is_clean (write_reply k (named_by p)) ≡ true
+write_clean None (place.Number k) = refl
+write_clean None (place.Index i) = refl
+write_clean (Some k) p = refl
+
+access_clean : (rs : List ℤ) (a : Option Access) → reply_is_clean (register_reply rs a) ≡ true
+access_clean rs None = refl
+access_clean rs (Some (access.Register i)) = own_clean 16 (register_of i) i
+access_clean rs (Some (access.Bank i)) = own_clean 17 (number_of i) i
+access_clean rs (Some (access.WriteBank i)) = own_clean 18 (number_of i) i
+access_clean rs (Some (access.Read p)) =
+    read_clean (option_and_then (slice_get rs) (register_at p)) p
+access_clean rs (Some (access.Write p x)) = write_clean (register_at p) p
+
+native_clean : (rs : List ℤ) (key : ℕ) (vs : List Dynamic) → values_plain vs ≡ true →
+    reply_is_clean (native_reply rs key vs) ≡ true
+native_clean rs key vs h =
     either (key == 1) _ _ (print_clean (sole vs))
     (either (key == 2) _ _ (push_clean (first_of_two vs))
     (either (key == 3) _ _ (len_clean (sole vs))
-    (either (key == 5) _ unknown (exit_clean (sole vs) (sole_plain vs h)) refl)))
+    (either (key == 5) _ _ (exit_clean (sole vs) (sole_plain vs h))
+    (access_clean rs (asked key vs)))))
 
-reply_clean : (t : Turn) (key : ℕ) (vs : List Dynamic) → values_plain vs ≡ true →
-    reply_is_clean (reply_at t key vs) ≡ true
-reply_clean turns.Full key vs h = refl
-reply_clean (turns.Failing k) key vs h = refl
-reply_clean (turns.Ready k) key vs h = native_clean key vs h
+reply_clean : (t : Turn) (rs : List ℤ) (key : ℕ) (vs : List Dynamic) → values_plain vs ≡ true →
+    reply_is_clean (reply_at t rs key vs) ≡ true
+reply_clean turns.Full rs key vs h = refl
+reply_clean (turns.Failing k) rs key vs h = refl
+reply_clean (turns.Ready k) rs key vs h = native_clean rs key vs h
 
 pub table_replies_clean : (s : TableHost) (key : ℕ) (receiver : Option Held)
     (values : List Tree) → call_is_clean table_law s receiver values ≡ true →
     reply_is_clean (table_law.call_reply s key receiver values) ≡ true
 table_replies_clean s key receiver values clean =
-    reply_clean (turn s) key (arguments receiver values) (given_plain s receiver values clean)
+    reply_clean (turn s) s.registers key (arguments receiver values)
+    (given_plain s receiver values clean)
 
 -- an array with one more value, which is no cell
 longer_clean : (ts : List Tree) (t : Tree) → is_clean (array (pack ts)) ≡ true → is_plain t ≡ true →

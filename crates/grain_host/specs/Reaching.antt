@@ -1,5 +1,5 @@
 -- The host in memory hands over no cells but those that it was given, or that its own lines hold.
-use Rattle.std.specs.Prelude.{ℕ, ◌≡◌, ◌==◌, ◌≤◌, max, Bool, true, false, List, [], ◌∷◌, ◌++◌, Option, Some, None, map, refl, if◌then◌else◌}
+use Rattle.std.specs.Prelude.{ℕ, ℤ, ◌≡◌, ◌==◌, ◌≤◌, max, Bool, true, false, List, [], ◌∷◌, ◌++◌, Option, Some, None, map, refl, slice_get, option_and_then, if◌then◌else◌}
 use Rattle.std.proofs.Common.{arith}
 use Rattle.std.proofs.Math.Nat.{le-max_left, le-max_right, max-le}
 use Rattle.grain_value.specs.Tree.{Tree, array, pack}
@@ -13,10 +13,15 @@ use Rattle.grain_value.specs.declared.values.Held.{Held}
 use Rattle.grain_host.specs.Law.{Reply, call_bound, receiver_bound, reply_bound, verdict_bound}
 use Rattle.grain_host.specs.declared.tables.TableHost.{TableHost}
 use Rattle.grain_host.specs.declared.stop_lines.StopLine.{StopLine}
+use Rattle.grain_host.specs.declared.register_natives.Access.{Access}
+use Rattle.grain_host.specs.declared.register_natives.Access.TheVariants as access
+use Rattle.grain_host.specs.declared.register_natives.Place.{Place}
+use Rattle.grain_host.specs.declared.register_natives.Place.TheVariants as place
 use Rattle.grain_host.specs.declared.tables.Turn.{Turn}
 use Rattle.grain_host.specs.declared.tables.Turn.TheVariants as turns
 use Rattle.grain_host.specs.Stops.{stop_at, stops_bound}
-use Rattle.grain_host.specs.Tables.{print_reply, push_reply, counted, entries_in, len_reply, exit_reply, native_reply, sole, first_of_two, unknown, reply_at, after_at, written_at, pushed, verdict, turn, arguments, table_law}
+use Rattle.grain_host.specs.Registers.{register_of, number_of, register_at, named_by, own_reply, read_reply, write_reply, asked}
+use Rattle.grain_host.specs.Tables.{print_reply, push_reply, counted, entries_in, len_reply, exit_reply, register_reply, native_reply, sole, first_of_two, reply_at, after_at, written_at, pushed, verdict, turn, arguments, table_law}
 
 -- one more than the greatest cell of an argument, if there is one, and of arguments
 abbrev pub argument_bound : Option Dynamic → ℕ
@@ -84,26 +89,52 @@ exit_within : (v : Option Dynamic) (n : ℕ) → argument_bound v ≤ n → repl
 exit_within None n le = omega arith
 exit_within (Some v) n le = max-le {a = cell_bound (tree v)} {b = 0} le (omega arith)
 
-native_within : (key : ℕ) (vs : List Dynamic) (n : ℕ) → arguments_bound vs ≤ n →
-    reply_bound (native_reply key vs) ≤ n
-native_within key vs n le =
+-- registers hold integers, and a place is named by an integer or by a value of the host's own
+own_within : (kind : ℕ) (k : Option ℕ) (i : ℤ) (n : ℕ) →
+    reply_bound (own_reply kind k (dynamic.Int i)) ≤ n
+own_within kind None i n = omega arith
+own_within kind (Some k) i n = omega arith
+
+read_within : (x : Option ℤ) (p : Place) (n : ℕ) → reply_bound (read_reply x (named_by p)) ≤ n
+read_within None (place.Number k) n = omega arith
+read_within None (place.Index i) n = omega arith
+read_within (Some x) p n = omega arith
+
+write_within : (k : Option ℕ) (p : Place) (n : ℕ) → reply_bound (write_reply k (named_by p)) ≤ n
+write_within None (place.Number k) n = omega arith
+write_within None (place.Index i) n = omega arith
+write_within (Some k) p n = omega arith
+
+access_within : (rs : List ℤ) (a : Option Access) (n : ℕ) → reply_bound (register_reply rs a) ≤ n
+access_within rs None n = omega arith
+access_within rs (Some (access.Register i)) n = own_within 16 (register_of i) i n
+access_within rs (Some (access.Bank i)) n = own_within 17 (number_of i) i n
+access_within rs (Some (access.WriteBank i)) n = own_within 18 (number_of i) i n
+access_within rs (Some (access.Read p)) n =
+    read_within (option_and_then (slice_get rs) (register_at p)) p n
+access_within rs (Some (access.Write p x)) n = write_within (register_at p) p n
+
+native_within : (rs : List ℤ) (key : ℕ) (vs : List Dynamic) (n : ℕ) → arguments_bound vs ≤ n →
+    reply_bound (native_reply rs key vs) ≤ n
+native_within rs key vs n le =
     either (key == 1) _ _ n (print_within (sole vs) n)
     (either (key == 2) _ _ n (push_within (first_of_two vs) n)
     (either (key == 3) _ _ n (len_within (sole vs) n)
-    (either (key == 5) _ unknown n
-    (exit_within (sole vs) n (omega (arith, sole_within vs, le))) (omega arith))))
+    (either (key == 5) _ _ n
+    (exit_within (sole vs) n (omega (arith, sole_within vs, le)))
+    (access_within rs (asked key vs) n))))
 
-reply_within : (t : Turn) (key : ℕ) (vs : List Dynamic) (n : ℕ) → arguments_bound vs ≤ n →
-    reply_bound (reply_at t key vs) ≤ n
-reply_within turns.Full key vs n le = omega arith
-reply_within (turns.Failing k) key vs n le = omega arith
-reply_within (turns.Ready k) key vs n le = native_within key vs n le
+reply_within : (t : Turn) (rs : List ℤ) (key : ℕ) (vs : List Dynamic) (n : ℕ) →
+    arguments_bound vs ≤ n → reply_bound (reply_at t rs key vs) ≤ n
+reply_within turns.Full rs key vs n le = omega arith
+reply_within (turns.Failing k) rs key vs n le = omega arith
+reply_within (turns.Ready k) rs key vs n le = native_within rs key vs n le
 
 pub table_replies : (s : TableHost) (key : ℕ) (receiver : Option Held) (values : List Tree) →
     reply_bound (table_law.call_reply s key receiver values)
     ≤ call_bound table_law s receiver values
 table_replies s key receiver values =
-    reply_within (turn s) key (arguments receiver values)
+    reply_within (turn s) s.registers key (arguments receiver values)
     (call_bound table_law s receiver values) (given_within s receiver values)
 
 -- an array with one more value names what the two name

@@ -1,5 +1,5 @@
 -- The host in memory: what its calls answer, print and write, by its tables.
-use Rattle.std.specs.Prelude.{◌≡◌, ℕ, ◌+◌, ◌-◌, ◌^◌, pos, Bool, ◌||◌, List, [], ◌∷◌, ◌++◌, Option, Some, None, codes, bytes_eq, ◌==◌, length, map, option_map, if◌then◌else◌}
+use Rattle.std.specs.Prelude.{◌≡◌, ℕ, ℤ, ◌+◌, ◌-◌, ◌^◌, pos, Bool, ◌||◌, List, [], ◌∷◌, ◌++◌, Option, Some, None, codes, bytes_eq, ◌==◌, length, map, option_map, if◌then◌else◌}
 use Rattle.std.specs.Fmt.{decimal}
 use Rattle.std.specs.Str.{chars}
 use Rattle.std.specs.List.{list_any}
@@ -13,16 +13,18 @@ use Rattle.grain_fault.specs.Places.{nowhere}
 use Rattle.grain_fault.specs.Problems.{Plain, Runtime, Exit, SystemError}
 use Rattle.grain_host.specs.Law.{Law, Reply, Done, Failed, Verdict, GoOn, Stop, receiver_after}
 use Rattle.grain_host.specs.Answers.{reply_of}
+use Rattle.grain_host.specs.Registers.{cleared, access_reply, asked, left_by, register_key_of}
 use Rattle.grain_host.specs.Stops.{stop_at, stops_bound, stops_clean}
 use Rattle.grain_host.specs.declared.host_answers.Args.{Args}
 use Rattle.grain_host.specs.declared.host_answers.HostAnswer.{HostAnswer}
+use Rattle.grain_host.specs.declared.register_natives.Access.{Access}
 use Rattle.grain_host.specs.declared.tables.TableHost.{TableHost}
 use Rattle.grain_host.specs.declared.tables.Turn.{Turn}
 use Rattle.grain_host.specs.declared.tables.Turn.TheVariants as turns
 
--- a host with empty tables that has printed nothing
+-- a host with empty tables and registers of 0, that has printed nothing
 abbrev pub blank : TableHost
-blank = record { printed = []; steps = 0; failing = []; stops = [] }
+blank = record { printed = []; steps = 0; failing = []; stops = []; registers = cleared }
 
 -- a further call that is to fail, by its number
 abbrev pub failing_at : ℕ → TableHost → TableHost
@@ -107,20 +109,29 @@ abbrev pub exit_reply : Option Dynamic → Reply
 exit_reply None = unknown
 exit_reply (Some v) = Failed (Plain (Exit v) nowhere)
 
--- the natives by their keys: 1 `print`, 2 `push`, 3 `len`, 5 `exit`
-abbrev pub native_reply : ℕ → List Dynamic → Reply
-native_reply key vs =
+-- what the registers answer, if anything may be asked of them
+abbrev pub register_reply : List ℤ → Option Access → Reply
+register_reply rs None = unknown
+register_reply rs (Some a) = access_reply rs a
+
+-- the natives by their keys: 1 `print`, 2 `push`, 3 `len`, 5 `exit`, and those of the registers
+abbrev pub native_reply : List ℤ → ℕ → List Dynamic → Reply
+native_reply rs key vs =
     if key == 1 then print_reply (sole vs)
     else (if key == 2 then push_reply (first_of_two vs)
     else (if key == 3 then len_reply (sole vs)
     else (if key == 5 then exit_reply (sole vs)
-    else unknown)))
+    else register_reply rs (asked key vs))))
 
 -- what the native of a key prints
 abbrev pub printed_by : ℕ → List Dynamic → List ℕ
 printed_by key vs = if key == 1 then line_of (sole vs) else []
 
--- `push` alone writes
+-- what the native of a key leaves of the registers
+abbrev pub registers_after : ℕ → List Dynamic → List ℤ → List ℤ
+registers_after key vs rs = left_by rs (asked key vs)
+
+-- `push` alone writes its first argument
 abbrev pub writing : ℕ → Bool
 writing key = key == 2
 
@@ -129,7 +140,7 @@ abbrev pub received : ℕ → Option Held → List Tree → Option Held
 received key receiver values = if writing key then pushed_receiver receiver values else receiver
 
 -- the natives by their names and kinds: `print` and `exit` take one argument of any kind, `push` an
--- array and one of any kind, `len` a text, an array, a blob or a map
+-- array and one of any kind, `len` a text, an array, a blob or a map; and those of the registers
 abbrev pub for_one : ℕ → List ℕ → Option ℕ
 for_one key (k ∷ []) = Some key
 for_one key ks = None
@@ -151,7 +162,7 @@ key_of name kinds =
     else (if bytes_eq name (codes "push") then for_array 2 kinds
     else (if bytes_eq name (codes "len") then for_entries 3 kinds
     else (if bytes_eq name (codes "exit") then for_one 5 kinds
-    else None)))
+    else register_key_of name kinds)))
 
 -- what comes of a call: the host can count no further call, or the call of this number is one that
 -- is to fail, or it is done; calls are counted from 1
@@ -161,17 +172,21 @@ turn s =
     else (if list_any (λ n. n == s.steps + 1) s.failing then turns.Failing (s.steps + 1)
     else turns.Ready (s.steps + 1))
 
-abbrev pub reply_at : Turn → ℕ → List Dynamic → Reply
-reply_at turns.Full key vs = refused (codes "table host is full")
-reply_at (turns.Failing n) key vs =
+abbrev pub reply_at : Turn → List ℤ → ℕ → List Dynamic → Reply
+reply_at turns.Full rs key vs = refused (codes "table host is full")
+reply_at (turns.Failing n) rs key vs =
     Failed (Plain (Runtime (dynamic.Text (codes "host failure " ++ decimal n))) nowhere)
-reply_at (turns.Ready n) key vs = native_reply key vs
+reply_at (turns.Ready n) rs key vs = native_reply rs key vs
 
 abbrev pub after_at : Turn → TableHost → ℕ → List Dynamic → TableHost
 after_at turns.Full s key vs = s
 after_at (turns.Failing n) s key vs = record s { steps = n }
 after_at (turns.Ready n) s key vs =
-    record s { steps = n; printed = s.printed ++ printed_by key vs }
+    record s {
+      steps = n;
+      printed = s.printed ++ printed_by key vs;
+      registers = registers_after key vs s.registers;
+    }
 
 abbrev pub written_at : Turn → Held → List Tree → Dynamic
 written_at turns.Full h values = h.value
@@ -187,7 +202,7 @@ table_law = record {
   resolves = λ s name kinds. key_of name kinds;
   writes = λ s key. writing key;
   call_reply = λ s key receiver values.
-      reply_at (turn s) key (arguments receiver values);
+      reply_at (turn s) s.registers key (arguments receiver values);
   call_after = λ s key receiver values. after_at (turn s) s key (arguments receiver values);
   call_written = λ s key h values. written_at (turn s) h values;
   progress_reply = λ s count. verdict (stop_at count s.stops);

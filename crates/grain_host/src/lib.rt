@@ -4,6 +4,8 @@
 mod host_answers;
 mod host_faults;
 mod hosts;
+mod register_natives;
+mod registers;
 mod signatures;
 mod stop_lines;
 mod table_natives;

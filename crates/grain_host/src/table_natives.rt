@@ -8,10 +8,13 @@ ghost use Rattle.grain_fault.specs.Places.{nowhere};
 ghost use Rattle.grain_fault.specs.Problems.{Plain, Runtime};
 ghost use Rattle.grain_host.specs.Law.{Failed};
 ghost use Rattle.grain_host.specs.Answers.{reply_of};
-ghost use Rattle.grain_host.specs.Tables.{arguments, sole, first_of_two, refused, unknown, print_reply, line_of, push_reply, pushed, pushed_receiver, len_reply, entries_in, exit_reply, native_reply, printed_by, received, key_of, for_one, for_array, for_entries, has_entries};
+ghost use Rattle.grain_host.specs.Registers.{asked, left_by};
+ghost use Rattle.grain_host.specs.Tables.{arguments, sole, first_of_two, refused, unknown, print_reply, line_of, push_reply, pushed, pushed_receiver, len_reply, entries_in, exit_reply, register_reply, native_reply, printed_by, received, registers_after, key_of, for_one, for_array, for_entries, has_entries};
 
 use crate::host_answers::{Args, HostAnswer};
 use crate::host_faults::HostFault;
+use crate::register_natives::{self, asked};
+use crate::registers::Registers;
 use grain_fault::{EvalAltResult, Position};
 use grain_value::{Array, Dynamic, OutOfMemory, Text};
 use std::alloc::Global;
@@ -43,7 +46,7 @@ pub(crate) fn key_of(name: &str, kinds: &[u32]) -> Option<u64>
         "push" => for_array(PUSH, kinds),
         "len" => for_entries(LEN, kinds),
         "exit" => for_one(EXIT, kinds),
-        _ => None,
+        _ => register_natives::key_of(name, kinds),
     }
 }
 
@@ -118,21 +121,44 @@ pub(crate) fn perform(
     key: u64,
     args: &mut Args,
     printed: &mut Text,
+    registers: &mut Registers,
 ) -> Result<HostAnswer, OutOfMemory>
     ensures reply { let given = arguments args.old.receiver args.old.values in
-        IfOk result (λ a. reply_of a ≡ Some (native_reply key given)) }
+        IfOk result (λ a. reply_of a ≡ Some (native_reply registers.old key given)) }
     ensures printed { let given = arguments args.old.receiver args.old.values in
         printed.new ≡ (if is_ok result then printed.old ++ printed_by key given else printed.old) }
     ensures receiver { args.new.receiver
         ≡ (if is_ok result then received key args.old.receiver args.old.values
         else args.old.receiver) }
+    ensures registers { let given = arguments args.old.receiver args.old.values in
+        registers.new
+        ≡ (if is_ok result then registers_after key given registers.old else registers.old) }
 {
     match key {
         PRINT => print(alloc, args, printed),
         PUSH => push(alloc, args),
         LEN => len(alloc, args),
         EXIT => exit(alloc, args),
-        _ => unknown(alloc),
+        _ => access(alloc, key, args, registers),
+    }
+}
+
+// Does what the native of this key asks of the registers.
+fn access(
+    alloc: Global,
+    key: u64,
+    args: &Args,
+    registers: &mut Registers,
+) -> Result<HostAnswer, OutOfMemory>
+    ensures reply { let access = asked key (arguments args.now.receiver args.now.values) in
+        IfOk result (λ a. reply_of a ≡ Some (register_reply registers.old access)) }
+    ensures registers { let access = asked key (arguments args.now.receiver args.now.values) in
+        registers.new
+        ≡ (if is_ok result then left_by registers.old access else registers.old) }
+{
+    match asked(key, args) {
+        None => unknown(alloc),
+        Some(access) => Ok(access.perform(registers)),
     }
 }
 

@@ -8,6 +8,7 @@ ghost use Rattle.grain_host.specs.Lawful.{table_lawful};
 
 use crate::host_answers::{Args, HostAnswer, ProgressAnswer};
 use crate::hosts::Host;
+use crate::registers::Registers;
 use crate::stop_lines::StopLines;
 use crate::table_natives::{self, key_of, perform};
 use grain_value::{Dynamic, Kinds, List, Native, OutOfMemory, Text};
@@ -21,19 +22,25 @@ enum Turn {
     Ready(u64),
 }
 
-/// A host that lives in memory. It has the natives `print`, `push`, `len` and `exit`. Its calls are
-/// counted, and calls of given numbers fail. Runs end at given numbers of operations, with tokens
-/// that are clean and name no cell.
+/// A host that lives in memory. It has the natives `print`, `push`, `len` and `exit`, and 256
+/// registers, which hold integers and begin at 0. `register(n)` gives the register of that number
+/// as a value of kind 16, which `get$value` reads and `set$value` writes. `bank(n)` gives a value
+/// of kind 17 with any number that is not negative; `index$get$` reads, and `index$set$` writes, the
+/// register of an index, whatever the bank's number is. `write_bank(n)` gives a value of kind 18,
+/// for which there is `index$set$` alone. Where there is no register, or no such value, the call
+/// fails with `ErrorIndexNotFound`. Calls are counted, and calls of given numbers fail. Runs end at
+/// given numbers of operations, with tokens that are clean and name no cell.
 #[derive(Drop)]
 pub struct TableHost {
     printed: Text,
     steps: u64,
     failing: List<u64>,
     stops: StopLines,
+    registers: Registers,
 }
 
 impl TableHost {
-    /// A host with empty tables that has printed nothing. It takes no memory.
+    /// A host with empty tables and registers of 0, that has printed nothing. It takes no memory.
     pub fn new(alloc: Global) -> TableHost
         ensures { result ≡ blank }
     {
@@ -42,6 +49,7 @@ impl TableHost {
             steps: 0,
             failing: List::new(alloc),
             stops: StopLines::new(alloc),
+            registers: Registers::new(),
         }
     }
 
@@ -100,7 +108,7 @@ impl TableHost {
                 Ok(answer)
             }
             Turn::Ready(number) => {
-                let answer = perform(alloc, key, args, &mut self.printed)?;
+                let answer = perform(alloc, key, args, &mut self.printed, &mut self.registers)?;
                 self.steps = number;
                 Ok(answer)
             }
