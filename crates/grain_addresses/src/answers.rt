@@ -115,7 +115,8 @@ fn told(
 /// The characters of bytes that are UTF-8.
 fn characters(alloc: Global, bytes: &[u8]) -> Result<Vec<char>, OutOfMemory>
     requires { is_utf8 bytes.now ≡ true }
-    ensures { IfOk result (λ v. v.items ≡ chars bytes.now) }
+    ensures chars { IfOk result (λ v. v.items ≡ chars bytes.now) }
+    ensures few { IfOk result (λ v. length v.items ≤ length bytes.now) }
 {
     match std::str::from_utf8(bytes) {
         Ok(text) => Ok(text.chars().collect(alloc)?),

@@ -22,7 +22,10 @@ pub fn find<'p, 'a>(places: &'p [Place<'a>], address: usize) -> Option<&'p Place
             ensures { result ≡ nat_le place.now.address address }
         { place.address() <= address },
     );
-    let place = places.get(after.checked_sub(1)?)?;
+    if after == 0 {
+        return None;
+    }
+    let place = &places[after - 1];
     if holds(place, address) {
         Some(place)
     } else {

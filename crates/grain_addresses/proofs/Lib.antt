@@ -1,0 +1,5 @@
+pub mod Gives
+pub mod Walked
+pub mod Tiles
+pub mod Cuts
+pub mod Readings
