@@ -37,8 +37,8 @@ past a p h =
 none_later : (a b : ℕ) (ps : List Place) → a < b → IsTiled b ps → found a ps ≡ None
 none_later a b [] l t = refl
 none_later a b (p ∷ ps) l t =
-    let not : holds a p ≡ false = not_yet a p (omega (arith, t.0)) in
-    rw not (none_later a (b + p.width) ps (omega arith) t.2)
+    let misses : holds a p ≡ false = not_yet a p (omega (arith, t.0)) in
+    rw misses (none_later a (b + p.width) ps (omega arith) t.2)
 
 behind : (a : ℕ) (p : Place) (ps : List Place) (n : ℕ) → IsCut a (p ∷ ps) (suc n) → IsCut a ps n
 behind a p ps n c = (
@@ -65,8 +65,8 @@ last_begun a b (p ∷ ps) zero x t c h is =
 last_begun a b (p ∷ []) (suc n) x t c h is = absurd (omega arith)
 last_begun a b (p ∷ q ∷ qs) (suc n) x t c h is =
     let before : q.address ≤ a = below q.address a (c.0 1 q (omega arith) (omega arith)) in
-    let not : holds a p ≡ false = past a p (omega (arith, before, t.0, t.2.0)) in
-    rw not (last_begun a (b + p.width) (q ∷ qs) n x t.2 (behind a p (q ∷ qs) (suc n) c)
+    let misses : holds a p ≡ false = past a p (omega (arith, before, t.0, t.2.0)) in
+    rw misses (last_begun a (b + p.width) (q ∷ qs) n x t.2 (behind a p (q ∷ qs) (suc n) c)
     (omega arith) is)
 
 -- lines whose bytes follow one another begin one after the other

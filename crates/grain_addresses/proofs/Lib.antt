@@ -3,3 +3,4 @@ pub mod Walked
 pub mod Tiles
 pub mod Cuts
 pub mod Readings
+pub mod Due

@@ -1,8 +1,7 @@
 -- What is known of bytes that are read as a listing.
-use Rattle.std.proofs.Common.{◌≡◌, ◌≤◌, ℕ, Bool, true, false, cond, List, [], length, nat_lt, chars, Result, Ok, Err, refl}
+use Rattle.std.proofs.Common.{◌≡◌, ◌≤◌, ℕ, Bool, true, false, cond, List, [], length, nat_lt, chars, Result, Ok, Err, refl, arith}
 use Rattle.std.proofs.lemmas.Bool.Decides.{nat_tests}
 use Rattle.std.specs.Str.{is_utf8}
-use Rattle.std.proofs.Common.{arith}
 use Rattle.grain_words.specs.Lines.{lines_of}
 use Rattle.grain_literals.specs.Steps.{and_then}
 use Rattle.grain_listing.specs.Statements.{Statement}

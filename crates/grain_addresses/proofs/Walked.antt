@@ -3,11 +3,11 @@ use Rattle.std.proofs.Common.{◌≡◌, ℕ, ◌+◌, List, [], ◌∷◌, ◌+
 use Rattle.grain_literals.specs.Steps.{and_then}
 use Rattle.grain_literals.specs.declared.reasons.Reason.{Reason}
 use Rattle.grain_program.specs.declared.code.functions.Function.{Function}
-use Rattle.grain_listing.specs.Statements.{Statement, code_line, main_line, fn_line, end_line, address, pieces, open_block, functions, functions_ended, function_of}
+use Rattle.grain_listing.specs.Statements.{Statement, code_line, end_line, address, pieces, open_block, functions, functions_ended, function_of}
 use Rattle.grain_listing.specs.LineMeanings.{says, at_line, statements}
 use Rattle.grain_listing.specs.declared.reasons.BadLine.{BadLine}
 use Rattle.grain_listing.specs.declared.blocks.OpenBlock.{OpenBlock}
-use Rattle.grain_listing.specs.declared.blocks.OpenBlock.TheVariants as open
+use Rattle.grain_listing.specs.declared.blocks.OpenBlock.TheVariants as blocks
 use Rattle.grain_addresses.specs.Places.{Place, block_of, block_after, place_said, on_said, places_after}
 use Rattle.grain_addresses.specs.Kinds.{line_kind}
 use Rattle.grain_addresses.specs.Walks.{functions_after, stepped, place_in, walked}
@@ -36,8 +36,8 @@ counted s before = omega arith
 ended : (o : Option OpenBlock) (a : ℕ) (fs : List Function) →
     functions_after (block_of o (length fs)) (length fs) ≡ length (functions_ended o a fs)
 ended None a fs = refl
-ended (Some (open.Main entry n)) a fs = refl
-ended (Some (open.Function entry h)) a fs =
+ended (Some (blocks.Main entry n)) a fs = refl
+ended (Some (blocks.Function entry h)) a fs =
     let more = length-append fs (function_of entry h a ∷ []) in
     omega (arith, more)
 

@@ -44,21 +44,24 @@ pub data Answered (qs : List Query) (source sink : Stream) : ℕ → Type 0 wher
   no_memory : sink.now ≡ sink.before → Answered qs source sink 7
 
 -- how a call whose words are no addresses ends: the usage goes to the sink of errors
-pub data Refused (errors : Stream) : ℕ → Type 0 where
-  wrote : errors.now ≡ added usage_text errors.before → Refused errors 2
-  sink_failed : PartAdded usage_text errors.before errors.now →
-      Rose errors.faults_before errors.faults_now → Refused errors 6
-  no_memory : errors.now ≡ errors.before → Refused errors 7
+pub data Unanswered (errors : Stream) : ℕ → Type 0 where
+  -- all of it is written
+  usage_written : errors.now ≡ added usage_text errors.before → Unanswered errors 2
+  -- the sink failed: its count rose, and a part of it is written
+  usage_cut : PartAdded usage_text errors.before errors.now →
+      Rose errors.faults_before errors.faults_now → Unanswered errors 6
+  -- memory was out, and nothing is written
+  usage_unmade : errors.now ≡ errors.before → Unanswered errors 7
 
 -- how a call ends, by its words
 pub data Ended (words : List (List ℕ)) (source sink errors : Stream) : ℕ → Type 0 where
   asked : {qs : List Query} {status : ℕ} → queries_of words ≡ Some qs →
       Answered qs source sink status → errors.now ≡ errors.before →
       Ended words source sink errors status
-  refused : {status : ℕ} → queries_of words ≡ None → Refused errors status →
+  not_asked : {status : ℕ} → queries_of words ≡ None → Unanswered errors status →
       sink.now ≡ sink.before → Ended words source sink errors status
-  -- memory was out before the words were read
-  no_memory : sink.now ≡ sink.before → errors.now ≡ errors.before →
+  -- memory was out while the words were read
+  words_unread : sink.now ≡ sink.before → errors.now ≡ errors.before →
       Ended words source sink errors 7
 
 -- the program was not given its words, so it reads nothing and writes nothing

@@ -4,7 +4,7 @@ use Rattle.std.specs.Prelude.{ℕ, ◌+◌, List, [], ◌∷◌, ◌++◌, lengt
 use Rattle.grain_fault.specs.declared.places.Position.{Position}
 use Rattle.grain_literals.specs.declared.reasons.Reason.{Reason}
 use Rattle.grain_listing.specs.declared.blocks.OpenBlock.{OpenBlock}
-use Rattle.grain_listing.specs.declared.blocks.OpenBlock.TheVariants as open
+use Rattle.grain_listing.specs.declared.blocks.OpenBlock.TheVariants as blocks
 use Rattle.grain_listing.specs.Statements.{Statement, code_line, width, address, open_block, functions}
 use Rattle.grain_listing.specs.LineMeanings.{says}
 use Rattle.grain_addresses.specs.declared.blocks.Block.{Block}
@@ -23,8 +23,8 @@ pub record Place : Type 0 where
 -- the block that is open, after n functions; code stands only in one that is open
 abbrev pub block_of : Option OpenBlock → ℕ → Block
 block_of None n = block.Main
-block_of (Some (open.Main entry stack)) n = block.Main
-block_of (Some (open.Function entry header)) n = block.Function n
+block_of (Some (blocks.Main entry stack)) n = block.Main
+block_of (Some (blocks.Function entry header)) n = block.Function n
 
 abbrev pub block_after : List Statement → Block
 block_after before = block_of (open_block before) (length (functions before))

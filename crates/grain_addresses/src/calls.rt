@@ -3,7 +3,7 @@
 ghost use Rattle.std.specs.Prelude.{◌≡◌, ◌≤◌, None, IfOk, OnErr, map, string_bytes};
 ghost use Rattle.grain_streams.specs.Reads.{ReadInTurn};
 ghost use Rattle.grain_streams.specs.Streams.{Rose, TakenWithin};
-ghost use Rattle.grain_addresses.specs.Calls.{stream, IsDue, Answered, Refused, Ended};
+ghost use Rattle.grain_addresses.specs.Calls.{stream, IsDue, Answered, Unanswered, Ended};
 ghost use Rattle.grain_addresses.specs.Queries.{queries_of};
 
 use crate::answers::explain;
@@ -70,7 +70,7 @@ fn answer_and_write<S: Source, K: Sink>(
 
 /// Writes the usage.
 fn write_usage<E: Sink>(alloc: Global, errors: &mut E) -> Status
-    ensures refused { Refused
+    ensures unanswered { Unanswered
         (stream (E.written errors.old) (E.written errors.new) (E.faults errors.old)
         (E.faults errors.new))
         result.number }
