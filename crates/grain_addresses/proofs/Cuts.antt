@@ -28,7 +28,7 @@ no_more : (b : Bool) → (b && false) ≡ false
 no_more true = refl
 no_more false = refl
 
-past : (a : ℕ) (p : Place) → p.address + p.width ≤ a → holds a p ≡ false
+pub past : (a : ℕ) (p : Place) → p.address + p.width ≤ a → holds a p ≡ false
 past a p h =
     let no : nat_lt a (p.address + p.width) ≡ false = grind (arith, nat_tests) in
     ap (λ (b : Bool). nat_le p.address a && b) no ∙ no_more (nat_le p.address a)

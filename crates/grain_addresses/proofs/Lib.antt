@@ -4,3 +4,4 @@ pub mod Tiles
 pub mod Cuts
 pub mod Readings
 pub mod Due
+pub mod Covered

@@ -1,5 +1,5 @@
 -- What is known of bytes that are read as a listing.
-use Rattle.std.proofs.Common.{◌≡◌, ◌≤◌, ℕ, Bool, true, false, cond, List, [], length, nat_lt, chars, Result, Ok, Err, refl, arith}
+use Rattle.std.proofs.Common.{◌≡◌, ◌≤◌, ℕ, Bool, true, false, cond, List, [], length, nat_lt, chars, Result, Ok, Err, refl, sym, ap, ◌∙◌, arith}
 use Rattle.std.proofs.lemmas.Bool.Decides.{nat_tests}
 use Rattle.std.specs.Str.{is_utf8}
 use Rattle.grain_words.specs.Lines.{lines_of}
@@ -8,11 +8,13 @@ use Rattle.grain_listing.specs.Statements.{Statement}
 use Rattle.grain_listing.specs.LineMeanings.{statements}
 use Rattle.grain_listing.specs.Reading.{SetUp, reads, meaning, set_up_of, most_bytes}
 use Rattle.grain_listing.specs.declared.reasons.BadLine.{BadLine}
-use Rattle.grain_addresses.specs.Places.{places_of}
+use Rattle.grain_addresses.specs.Places.{Place, places_of}
+use Rattle.grain_addresses.specs.Replies.{stock_of, are_begun, status_of, listed_text, explained_status, explained_text, status_due, text_due}
+use Rattle.grain_addresses.specs.declared.queries.Query.{Query}
 use Rattle.grain_addresses.specs.Walks.{start, walked}
 use Rattle.grain_addresses.proofs.Walked.{found_in_order}
 
-tested : (b c : Bool) (x y : BadLine) (m : Result SetUp BadLine) (s : SetUp) →
+pub tested : (b c : Bool) (x y : BadLine) (m : Result SetUp BadLine) (s : SetUp) →
     cond b (Err x) (cond c m (Err y)) ≡ Ok s → (b ≡ false) × (c ≡ true) × (m ≡ Ok s)
 tested true c x y m s e = absurd cc
 tested false true x y m s e = (refl, refl, e)
@@ -32,7 +34,7 @@ is_text bytes s e =
     (tested (nat_lt most_bytes (length bytes)) (is_utf8 bytes) _ _ (meaning (lines_of (chars bytes)))
     s e).1
 
-said_first : (r : Result (List Statement) BadLine)
+pub said_first : (r : Result (List Statement) BadLine)
     (go : List Statement → Result SetUp BadLine) (s : SetUp) → and_then r go ≡ Ok s →
     (all : List Statement) × (r ≡ Ok all)
 said_first (Ok all) go s e = (all, refl)
@@ -47,3 +49,26 @@ finds bytes s e =
     (tested (nat_lt most_bytes (length bytes)) (is_utf8 bytes) _ _ (meaning lines) s e).2 in
     let said = said_first (statements 0 [] lines) (λ all. set_up_of (length lines) all) s means in
     found_in_order [] lines said.0 said.1
+
+same_places : (bytes text : List ℕ) (s : SetUp) (places : List Place) → reads bytes ≡ Ok s →
+    text ≡ chars bytes → places ≡ walked start (lines_of text) →
+    places ≡ places_of (lines_of (chars bytes))
+same_places bytes text s places e is found =
+    found ∙ ap (λ (t : List ℕ). walked start (lines_of t)) is ∙ finds bytes s e
+
+-- what is answered of the lines that the walk finds is what is due
+pub told_status : (bytes text : List ℕ) (s : SetUp) (places : List Place) (qs : List Query) →
+    reads bytes ≡ Ok s → text ≡ chars bytes → places ≡ walked start (lines_of text) →
+    status_of (are_begun (stock_of s.parts places) qs) ≡ status_due bytes qs
+told_status bytes text s places qs e is found =
+    ap (λ (ps : List Place). status_of (are_begun (stock_of s.parts ps) qs))
+    (same_places bytes text s places e is found) ∙
+    sym (ap (λ (r : Result SetUp BadLine). explained_status r (chars bytes) qs) e)
+
+pub told_text : (bytes text : List ℕ) (s : SetUp) (places : List Place) (qs : List Query) →
+    reads bytes ≡ Ok s → text ≡ chars bytes → places ≡ walked start (lines_of text) →
+    listed_text (stock_of s.parts places) qs ≡ text_due bytes qs
+told_text bytes text s places qs e is found =
+    ap (λ (ps : List Place). listed_text (stock_of s.parts ps) qs)
+    (same_places bytes text s places e is found) ∙
+    sym (ap (λ (r : Result SetUp BadLine). explained_text r (chars bytes) qs) e)

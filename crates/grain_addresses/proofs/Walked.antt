@@ -16,7 +16,7 @@ use Rattle.grain_addresses.specs.declared.kinds.LineKind.{LineKind}
 use Rattle.grain_addresses.specs.declared.walks.Walk.{Walk}
 use Rattle.grain_addresses.proofs.Gives.{kind_said, gives, width-append}
 
-abbrev walk_at : ℕ → ℕ → Block → ℕ → Walk
+abbrev pub walk_at : ℕ → ℕ → Block → ℕ → Walk
 walk_at l a b f = record { lines = l; address = a; block = b; functions = f }
 
 -- where the next line stands, after lines that said this
@@ -30,7 +30,7 @@ same l m a b f g block el ea ef =
     ap (λ (x : ℕ). walk_at x a block f) el ∙ ap (λ (x : ℕ). walk_at m x block f) ea ∙
     ap (λ (x : ℕ). walk_at m b block x) ef
 
-counted : (s : Statement) (before : List Statement) → length before + 1 ≡ length (s ∷ before)
+pub counted : (s : Statement) (before : List Statement) → length before + 1 ≡ length (s ∷ before)
 counted s before = omega arith
 
 ended : (o : Option OpenBlock) (a : ℕ) (fs : List Function) →
@@ -42,7 +42,7 @@ ended (Some (blocks.Function entry h)) a fs =
     omega (arith, more)
 
 -- one more line
-onward : (s : Statement) (before : List Statement) →
+pub onward : (s : Statement) (before : List Statement) →
     stepped (kind_said s) (walk_after before) ≡ walk_after (s ∷ before)
 onward (code_line p ps at) before =
     same _ _ _ _ _ _ (block_after before) (counted (code_line p ps at) before)
@@ -58,7 +58,7 @@ placed l (code_line p ps at) before = refl
 placed l s before = refl
 
 -- a line that was read has said something
-taken : (r : Result Statement Reason) (n : ℕ)
+pub taken : (r : Result Statement Reason) (n : ℕ)
     (go : Statement → Result (List Statement) BadLine) (all : List Statement) →
     and_then (at_line n r) go ≡ Ok all → (s : Statement) × ((r ≡ Ok s) × (go s ≡ Ok all))
 taken (Ok s) n go all e = (s, (refl, e))

@@ -6,6 +6,7 @@ mod blocks;
 mod calls;
 mod finding;
 mod kinds;
+mod laws;
 mod places;
 mod program;
 mod queries;
@@ -15,6 +16,7 @@ mod walks;
 
 pub use answers::explain;
 pub use calls::where_words;
+pub use laws::addresses_have_lines;
 pub use program::{Exit, where_args, where_standard};
 pub use queries::{Query, queries_of};
 pub use replies::Reply;
