@@ -6,7 +6,7 @@ use Rattle.grain_program.specs.Typing.{IsProgram, IsRefusal}
 use Rattle.grain_program.specs.declared.verifier.refusals.Refusal.{Refusal}
 use Rattle.grain_program.specs.declared.verifier.refusals.Refusal.TheVariants as refusals
 use Rattle.std.proofs.lemmas.Bool.{cases_lt}
-use Rattle.grain_commands.specs.Streams.{IsSpent}
+use Rattle.grain_streams.specs.Streams.{IsSpent}
 use Rattle.grain_literals.specs.declared.reasons.Reason.TheVariants.{TooLong}
 use Rattle.grain_listing.specs.Reading.{ListingView, reads, bad_line, most_bytes}
 use Rattle.grain_commands.specs.Replies.{Replies, no_listing, refused, reported, bad_line_text, refusal_text}

@@ -13,7 +13,7 @@ use Rattle.grain_commands.specs.Replies.{Counts, Replies, no_listing, refused, r
 use Rattle.grain_commands.specs.Reports.{report_value, report_fault}
 use Rattle.grain_commands.specs.Runs.{Reported, engine_of, start, status_of, answer_report, report}
 use Rattle.grain_commands.specs.Statuses.{RunEnds, Gives, Completes}
-use Rattle.grain_commands.specs.Streams.{Rose, added}
+use Rattle.grain_streams.specs.Streams.{Rose, added}
 use Rattle.grain_listing.specs.declared.reasons.BadLine.{BadLine}
 
 -- a program means one end

@@ -11,7 +11,7 @@ use Rattle.grain_commands.specs.Replies.{Counts, Replies, no_listing, refused, r
 use Rattle.grain_commands.specs.Reports.{report_value, report_fault}
 use Rattle.grain_commands.specs.Runs.{status_of, answer_report}
 use Rattle.grain_commands.specs.Statuses.{RunEnds, IsRefused, Says, Beside}
-use Rattle.grain_commands.specs.Streams.{added}
+use Rattle.grain_streams.specs.Streams.{added}
 use Rattle.grain_listing.specs.declared.reasons.BadLine.{BadLine}
 
 -- what is said of the bytes, where they are reported

@@ -4,7 +4,7 @@ use Rattle.std.proofs.lemmas.Bool.Decides.{nat_tests}
 use Rattle.grain_listing.specs.Reading.{ListingView, reads, most_bytes}
 use Rattle.grain_commands.specs.Replies.{Replies, no_listing, refused, reported}
 use Rattle.grain_commands.specs.Statuses.{IsReadThrough}
-use Rattle.grain_commands.specs.Streams.{IsSpent}
+use Rattle.grain_streams.specs.Streams.{IsSpent}
 use Rattle.grain_listing.specs.declared.reasons.BadLine.{BadLine}
 
 no_error : (b : Bool) (e : BadLine) (other : Result ListingView BadLine) (s : ListingView) →

@@ -1,9 +1,5 @@
 -- What the contracts of this crate cite. For what a call of the program does, read `Statuses`, then
--- what it names in `Replies`, `Reports` and `Runs`; for streams `Streams`, `Reads` and `Memory`.
-pub mod Streams
-pub mod Reads
-pub mod Puts
-pub mod Memory
+-- what it names in `Replies`, `Reports` and `Runs`.
 pub mod Reports
 pub mod Replies
 pub mod Runs

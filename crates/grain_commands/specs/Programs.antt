@@ -2,7 +2,7 @@
 use Rattle.std.specs.Prelude.{◌≡◌, ◌≤◌, ℕ, List, Option}
 use Rattle.grain_commands.specs.Replies.{Counts, Ended}
 use Rattle.grain_commands.specs.Statuses.{IsReadThrough}
-use Rattle.grain_commands.specs.Streams.{TakenWithin}
+use Rattle.grain_streams.specs.Streams.{TakenWithin}
 
 -- A call of the program: what was left of the source and is left now, what was written to the sink
 -- and is now, if they say it, the counts of faults, and the status.

@@ -7,11 +7,11 @@ use Rattle.grain_program.specs.Typing.{IsProgram, IsRefusal}
 use Rattle.grain_program.specs.declared.verifier.refusals.Refusal.{Refusal}
 use Rattle.grain_literals.specs.Reasons.{reason_text}
 use Rattle.grain_listing.specs.Reading.{ListingView, reads}
-use Rattle.grain_commands.specs.Puts.{PutWhole, PutPart}
+use Rattle.grain_streams.specs.Puts.{PutWhole, PutPart}
 use Rattle.grain_commands.specs.Reports.{line_end}
 use Rattle.grain_commands.specs.Runs.{Reported, engine_of, start}
-use Rattle.grain_commands.specs.Streams.{Rose, added, PartAdded}
-use Rattle.grain_commands.specs.declared.sinks.Put.{Put}
+use Rattle.grain_streams.specs.Streams.{Rose, added, PartAdded}
+use Rattle.grain_streams.specs.declared.sinks.Put.{Put}
 use Rattle.grain_listing.specs.declared.reasons.BadLine.{BadLine}
 
 -- the one command so far is the one word `run`

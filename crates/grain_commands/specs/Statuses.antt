@@ -13,7 +13,7 @@ use Rattle.grain_listing.specs.Reading.{ListingView, reads}
 use Rattle.grain_commands.specs.Replies.{Counts, is_run, usage_text, bad_line_text, refusal_text}
 use Rattle.grain_commands.specs.Reports.{report_value, report_fault}
 use Rattle.grain_commands.specs.Runs.{engine_of, start}
-use Rattle.grain_commands.specs.Streams.{Rose, IsSpent, added, PartAdded}
+use Rattle.grain_streams.specs.Streams.{Rose, IsSpent, added, PartAdded}
 use Rattle.grain_listing.specs.declared.reasons.BadLine.{BadLine}
 
 -- the bytes are a listing whose parts are a program, and with the listing's limits, flag, scope and

@@ -1,19 +1,16 @@
 //! The commands: the call that does all that the program does.
 
 ghost use Rattle.std.specs.Prelude.{◌≡◌, ◌≤◌, true, false, IfOk, OnErr, map, string_bytes};
-ghost use Rattle.grain_commands.specs.Reads.{ReadInTurn};
+ghost use Rattle.grain_streams.specs.Reads.{ReadInTurn};
 ghost use Rattle.grain_commands.specs.Replies.{is_run, counts_of, Answers, Ended, Handed};
 ghost use Rattle.grain_commands.specs.Statuses.{Beside, Completes, IsReadThrough};
-ghost use Rattle.grain_commands.specs.Streams.{Rose, TakenWithin};
+ghost use Rattle.grain_streams.specs.Streams.{Rose, TakenWithin};
 
-use crate::inputs::{SourceFailed, read_all};
 use crate::laws::statuses_are_due;
-use crate::outputs::{SinkFailed, write_all};
 use crate::pipeline::run_listing;
 use crate::replies::{Reply, usage};
-use crate::sinks::Sink;
-use crate::sources::Source;
-use crate::status::Status;
+use grain_listing::MOST_BYTES;
+use grain_streams::{Sink, SinkFailed, Source, SourceFailed, Status, read_all, write_all};
 use grain_value::OutOfMemory;
 use grain_vm::Steps;
 use std::alloc::Global;
@@ -50,7 +47,7 @@ fn answer<S: Source, L: Ledger>(
         let reply = usage(alloc)?;
         return Ok(Ok(reply));
     }
-    match read_all(alloc, source)? {
+    match read_all(alloc, source, MOST_BYTES)? {
         Err(failed) => Ok(Err(failed)),
         Ok(bytes) => {
             let reply = run_listing(alloc, bytes.as_slice(), steps)?;

@@ -1,7 +1,7 @@
 //! The program over the arguments and the standard streams that the system gives.
 
 use crate::program::{Exit, run_args};
-use crate::standard::{StdSink, StdSource};
+use grain_streams::{StdSink, StdSource};
 use std::env;
 use std::marker::Brand;
 use std::sync::ledger::Blank;

@@ -4,15 +4,13 @@ ghost use Rattle.std.specs.Prelude.{◌≡◌, ◌⊎◌, ◌<◌, false, IfOk, 
 ghost use Rattle.std.specs.Process.{exit_status};
 ghost use Rattle.std.specs.Vec.Iter.{into_iter_items};
 ghost use Rattle.grain_commands.specs.Programs.{Call, NoCall};
-ghost use Rattle.grain_commands.specs.Reads.{ReadInTurn};
+ghost use Rattle.grain_streams.specs.Reads.{ReadInTurn};
 ghost use Rattle.grain_commands.specs.Replies.{is_run, counts_of, Handed};
 
 use crate::commands::run_words;
-use crate::sinks::Sink;
-use crate::sources::Source;
-use crate::status::{Status, exit_code};
+use grain_streams::{Sink, Source, Status, exit_code, words_after_name};
 use grain_vm::Steps;
-use std::alloc::{AllocError, Global};
+use std::alloc::Global;
 use std::env::Args;
 use std::io;
 use std::marker::Model;
@@ -44,14 +42,6 @@ impl Termination for Exit {
     {
         exit_code(self.status)
     }
-}
-
-/// The words after the first, which is the program's name.
-fn words_after_name(alloc: Global, mut args: Args) -> Result<Vec<String>, AllocError>
-    ensures { IfOk result (λ words. words.items ≡ drop 1 (into_iter_items args)) }
-{
-    args.next();
-    Vec::from_iter(alloc, args)
 }
 
 /// Does what the words after the program's name say, with counts of instructions and marks that

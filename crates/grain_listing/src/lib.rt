@@ -25,4 +25,4 @@ pub use laws::{instructions_are_read, stops_are_read};
 pub use listings::Listing;
 pub use reading::{MOST_BYTES, read};
 pub use reasons::BadLine;
-pub use table::instructions_are_in_the_table;
+pub use table::{Line, instructions_are_in_the_table, line_of};

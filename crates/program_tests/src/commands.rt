@@ -3,11 +3,11 @@
 //! cases of `run_corpus`.
 
 ghost use Rattle.std.specs.Prelude.{◌≡◌, None};
-ghost use Rattle.grain_commands.specs.declared.sources.Read.TheVariants.{Got};
+ghost use Rattle.grain_streams.specs.declared.sources.Read.TheVariants.{Got};
 
-use grain_commands::{
-    CallNumbers, Exit, MemorySink, MemorySource, Put, Read, Sink, Source, Status, exit_code,
-    run_args,
+use grain_commands::{Exit, run_args};
+use grain_streams::{
+    CallNumbers, MemorySink, MemorySource, Put, Read, Sink, Source, Status, exit_code,
 };
 use grain_value::{Blob, OutOfMemory};
 use std::alloc::Global;

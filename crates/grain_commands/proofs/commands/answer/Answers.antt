@@ -2,7 +2,7 @@ use Rattle.std.proofs.Common.{◌≡◌, rules, map, string_bytes, true, false}
 use Rattle.grain_listing.specs.Reading.{reads}
 use Rattle.grain_commands.specs.Replies.{is_run, Replies, no_command, replied}
 use Rattle.grain_commands.proofs.Answering.{same_reading}
-use Rattle.grain_commands.proofs.Readings.{no_read}
+use Rattle.grain_streams.specs.lemmas.Unread.{no_read}
 use Rattle.grain_commands.proofs.Through.{read_through}
 use Rattle.grain_commands.proofs.commands.answer.Goals as goal
 

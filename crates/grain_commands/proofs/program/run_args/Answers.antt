@@ -1,4 +1,4 @@
-use Rattle.grain_commands.proofs.Readings.{no_read}
+use Rattle.grain_streams.specs.lemmas.Unread.{no_read}
 use Rattle.grain_commands.proofs.program.run_args.Goals as goal
 
 pub returns-in_default-clause-reads : goal.returns-in_default-clause-reads

@@ -1,0 +1,67 @@
+-- The lines that a walk finds give bytes that follow one another, and few.
+use Rattle.std.proofs.Common.{◌≡◌, ℕ, ◌+◌, ◌*◌, ◌≤◌, List, [], ◌∷◌, ◌++◌, Option, Some, None, refl, arith}
+use Rattle.grain_program.specs.declared.code.instruction_set.Op.{Op}
+use Rattle.grain_program.specs.declared.code.instruction_set.Op.TheVariants as op
+use Rattle.grain_program.specs.InstructionSet.{fields_of}
+use Rattle.grain_words.specs.Words.{next_word}
+use Rattle.grain_listing.specs.Table.{line_of}
+use Rattle.grain_listing.specs.declared.table.Line.{Line}
+use Rattle.grain_listing.specs.declared.table.Line.TheVariants as lines
+use Rattle.grain_addresses.specs.Places.{Place}
+use Rattle.grain_addresses.specs.Finding.{IsTiled}
+use Rattle.grain_addresses.specs.Kinds.{fields_width, kind_of, kind_if, kind_begun, line_kind, IsNarrow}
+use Rattle.grain_addresses.specs.Walks.{functions_after, stepped, place_in, walked, IsBounded}
+use Rattle.grain_addresses.specs.declared.blocks.Block.{Block}
+use Rattle.grain_addresses.specs.declared.blocks.Block.TheVariants as block
+use Rattle.grain_addresses.specs.declared.kinds.LineKind.{LineKind}
+use Rattle.grain_addresses.specs.declared.kinds.LineKind.TheVariants as kinds
+use Rattle.grain_addresses.specs.declared.walks.Walk.{Walk}
+
+-- an instruction's operands have at most 12 bytes
+pub few : (o : Op) → fields_width (fields_of o) ≤ 12
+few op.Unit = omega arith
+few _ = omega arith
+
+line_narrow : (l : Line) (cs : List ℕ) → IsNarrow (kind_of l cs)
+line_narrow lines.Byte cs = (omega arith, omega arith)
+line_narrow (lines.Instruction o) cs = let h = few o in (omega arith, omega (arith, h))
+line_narrow _ cs = tt
+
+if_narrow : (o : Option Line) (cs : List ℕ) → IsNarrow (kind_if o cs)
+if_narrow None cs = tt
+if_narrow (Some l) cs = line_narrow l cs
+
+begun_narrow : (o : Option (List ℕ × List ℕ)) → IsNarrow (kind_begun o)
+begun_narrow None = tt
+begun_narrow (Some a) = if_narrow (line_of a.0) a.1
+
+pub narrow : (cs : List ℕ) → IsNarrow (line_kind cs)
+narrow cs = begun_narrow (next_word cs)
+
+one_tile : (k : LineKind) (w : Walk) (l : List ℕ) (rest : List Place) → IsNarrow k →
+    IsTiled (stepped k w).address rest → IsTiled w.address (place_in l w k ++ rest)
+one_tile (kinds.Code width position) w l rest n t = (refl, n.0, t)
+one_tile kinds.Main w l rest n t = t
+one_tile kinds.Function w l rest n t = t
+one_tile kinds.End w l rest n t = t
+one_tile kinds.Other w l rest n t = t
+
+pub tiled : (w : Walk) (ls : List (List ℕ)) → IsTiled w.address (walked w ls)
+tiled w [] = tt
+tiled w (l ∷ ls) =
+    one_tile (line_kind l) w l (walked (stepped (line_kind l) w) ls) (narrow l)
+    (tiled (stepped (line_kind l) w) ls)
+
+fewer : (b : Block) (n : ℕ) → functions_after b n ≤ n + 1
+fewer block.Main n = omega arith
+fewer (block.Function number) n = omega arith
+
+-- addresses and functions stay small
+pub bounded : (k : LineKind) (w : Walk) → IsNarrow k → IsBounded w → IsBounded (stepped k w)
+bounded (kinds.Code width position) w n h = (omega (arith, n.1, h.0), omega (arith, h.1))
+bounded kinds.Main w n h = (omega (arith, h.0), omega (arith, h.1))
+bounded kinds.Function w n h = (omega (arith, h.0), omega (arith, h.1))
+bounded kinds.End w n h =
+    let f = fewer w.block w.functions in
+    (omega (arith, h.0), omega (arith, h.1, f))
+bounded kinds.Other w n h = (omega (arith, h.0), omega (arith, h.1))

@@ -1,0 +1,95 @@
+-- A walk by words alone finds the lines that give code where a listing is read.
+use Rattle.std.proofs.Common.{◌≡◌, ℕ, ◌+◌, List, [], ◌∷◌, ◌++◌, length, Option, Some, None, Result, Ok, Err, refl, sym, ap, ◌∙◌, subst, arith, append_assoc, length-append}
+use Rattle.grain_literals.specs.Steps.{and_then}
+use Rattle.grain_literals.specs.declared.reasons.Reason.{Reason}
+use Rattle.grain_program.specs.declared.code.functions.Function.{Function}
+use Rattle.grain_listing.specs.Statements.{Statement, code_line, end_line, address, pieces, open_block, functions, functions_ended, function_of}
+use Rattle.grain_listing.specs.LineMeanings.{says, at_line, statements}
+use Rattle.grain_listing.specs.declared.reasons.BadLine.{BadLine}
+use Rattle.grain_listing.specs.declared.blocks.OpenBlock.{OpenBlock}
+use Rattle.grain_listing.specs.declared.blocks.OpenBlock.TheVariants as blocks
+use Rattle.grain_addresses.specs.Places.{Place, block_of, block_after, place_said, on_said, places_after}
+use Rattle.grain_addresses.specs.Kinds.{line_kind}
+use Rattle.grain_addresses.specs.Walks.{functions_after, stepped, place_in, walked}
+use Rattle.grain_addresses.specs.declared.blocks.Block.{Block}
+use Rattle.grain_addresses.specs.declared.kinds.LineKind.{LineKind}
+use Rattle.grain_addresses.specs.declared.walks.Walk.{Walk}
+use Rattle.grain_addresses.proofs.Gives.{kind_said, gives, width-append}
+
+abbrev pub walk_at : ℕ → ℕ → Block → ℕ → Walk
+walk_at l a b f = record { lines = l; address = a; block = b; functions = f }
+
+-- where the next line stands, after lines that said this
+abbrev pub walk_after : List Statement → Walk
+walk_after before =
+    walk_at (length before) (address before) (block_after before) (length (functions before))
+
+same : (l m a b f g : ℕ) (block : Block) → l ≡ m → a ≡ b → f ≡ g →
+    walk_at l a block f ≡ walk_at m b block g
+same l m a b f g block el ea ef =
+    ap (λ (x : ℕ). walk_at x a block f) el ∙ ap (λ (x : ℕ). walk_at m x block f) ea ∙
+    ap (λ (x : ℕ). walk_at m b block x) ef
+
+pub counted : (s : Statement) (before : List Statement) → length before + 1 ≡ length (s ∷ before)
+counted s before = omega arith
+
+ended : (o : Option OpenBlock) (a : ℕ) (fs : List Function) →
+    functions_after (block_of o (length fs)) (length fs) ≡ length (functions_ended o a fs)
+ended None a fs = refl
+ended (Some (blocks.Main entry n)) a fs = refl
+ended (Some (blocks.Function entry h)) a fs =
+    let more = length-append fs (function_of entry h a ∷ []) in
+    omega (arith, more)
+
+-- one more line
+pub onward : (s : Statement) (before : List Statement) →
+    stepped (kind_said s) (walk_after before) ≡ walk_after (s ∷ before)
+onward (code_line p ps at) before =
+    same _ _ _ _ _ _ (block_after before) (counted (code_line p ps at) before)
+    (sym (width-append (pieces before) (p ∷ ps))) refl
+onward end_line before =
+    same _ _ _ _ _ _ _ (counted end_line before) refl
+    (ended (open_block before) (address before) (functions before))
+onward s before = same _ _ _ _ _ _ _ (counted s before) refl refl
+
+placed : (l : List ℕ) (s : Statement) (before : List Statement) →
+    place_in l (walk_after before) (kind_said s) ≡ place_said l before s
+placed l (code_line p ps at) before = refl
+placed l s before = refl
+
+-- a line that was read has said something
+pub taken : (r : Result Statement Reason) (n : ℕ)
+    (go : Statement → Result (List Statement) BadLine) (all : List Statement) →
+    and_then (at_line n r) go ≡ Ok all → (s : Statement) × ((r ≡ Ok s) × (go s ≡ Ok all))
+taken (Ok s) n go all e = (s, (refl, e))
+taken (Err x) n go all e = absurd cc
+
+pub found_in_order : (before : List Statement) (ls : List (List ℕ)) (all : List Statement) →
+    statements (length before) before ls ≡ Ok all →
+    walked (walk_after before) ls ≡ places_after before ls
+found_in_order before [] all e = refl
+found_in_order before (l ∷ ls) all e =
+    let t = taken (says (length before + 1) l before) (length before + 1)
+    (λ s. statements (length before + 1) (s ∷ before) ls) all e in
+    let kind : kind_said t.0 ≡ line_kind l = gives (length before + 1) l before t.0 t.1.0 in
+    let rest : statements (length (t.0 ∷ before)) (t.0 ∷ before) ls ≡ Ok all =
+    subst (λ (k : ℕ). statements k (t.0 ∷ before) ls ≡ Ok all) (counted t.0 before) t.1.1 in
+    ap (λ (k : LineKind). place_in l (walk_after before) k ++
+    walked (stepped k (walk_after before)) ls) (sym kind) ∙
+    ap (λ (w : Walk). place_in l (walk_after before) (kind_said t.0) ++ walked w ls)
+    (onward t.0 before) ∙
+    ap (λ (ps : List Place). ps ++ walked (walk_after (t.0 ∷ before)) ls) (placed l t.0 before) ∙
+    ap (λ (ps : List Place). place_said l before t.0 ++ ps)
+    (found_in_order (t.0 ∷ before) ls all rest) ∙
+    sym (ap (λ (r : Result Statement Reason). on_said r
+    (λ s. place_said l before s ++ places_after (s ∷ before) ls)) t.1.0)
+
+-- one more line of a walk
+pub one_more : (found : List Place) (w : Walk) (k : LineKind) (line : List ℕ)
+    (rest after : List (List ℕ)) (all : List Place) → rest ≡ line ∷ after → k ≡ line_kind line →
+    found ++ walked w rest ≡ all →
+    (found ++ place_in line w k) ++ walked (stepped k w) after ≡ all
+one_more found w k line rest after all first is so_far =
+    append_assoc found (place_in line w k) (walked (stepped k w) after) ∙
+    ap (λ (x : LineKind). found ++ (place_in line w x ++ walked (stepped x w) after)) is ∙
+    sym (ap (λ (ls : List (List ℕ)). found ++ walked w ls) first) ∙ so_far

@@ -1,0 +1,56 @@
+-- What a line gives, by its words alone. It is what the line says, where the line is read.
+use Rattle.std.specs.Prelude.{ℕ, ◌+◌, ◌≤◌, List, [], ◌∷◌, Option, Some, None, Result, Ok, Err}
+use Rattle.grain_fault.specs.declared.places.Position.{Position}
+use Rattle.grain_words.specs.Words.{next_word, after_word}
+use Rattle.grain_program.specs.declared.code.fields.Field.{Field}
+use Rattle.grain_program.specs.Fields.{bytes_of, size_of}
+use Rattle.grain_program.specs.InstructionSet.{fields_of}
+use Rattle.grain_literals.specs.Operands.{position_after}
+use Rattle.grain_literals.specs.declared.reasons.Reason.{Reason}
+use Rattle.grain_listing.specs.Table.{line_of}
+use Rattle.grain_listing.specs.declared.table.Line.{Line}
+use Rattle.grain_listing.specs.declared.table.Line.TheVariants as lines
+use Rattle.grain_addresses.specs.declared.kinds.LineKind.{LineKind}
+use Rattle.grain_addresses.specs.declared.kinds.LineKind.TheVariants as kinds
+
+-- how many bytes the operands have, and what follows their words
+abbrev pub fields_width : List Field → ℕ
+fields_width [] = 0
+fields_width (f ∷ fs) = bytes_of (size_of f) + fields_width fs
+
+abbrev pub after_fields : List Field → List ℕ → List ℕ
+after_fields [] cs = cs
+after_fields (f ∷ fs) cs = after_fields fs (after_word cs)
+
+abbrev pub position_or_none : Result (Option Position) Reason → Option Position
+position_or_none (Ok p) = p
+position_or_none (Err e) = None
+
+abbrev pub instruction_kind : List Field → List ℕ → LineKind
+instruction_kind fs cs =
+    kinds.Code (1 + fields_width fs) (position_or_none (position_after (after_fields fs cs)))
+
+-- a line that begins with a word of the table, by what is left after the word
+abbrev pub kind_of : Line → List ℕ → LineKind
+kind_of lines.Main cs = kinds.Main
+kind_of lines.Function cs = kinds.Function
+kind_of lines.Byte cs = kinds.Code 1 (position_or_none (position_after (after_word cs)))
+kind_of lines.End cs = kinds.End
+kind_of (lines.Instruction o) cs = instruction_kind (fields_of o) cs
+kind_of l cs = kinds.Other
+
+abbrev pub kind_if : Option Line → List ℕ → LineKind
+kind_if None cs = kinds.Other
+kind_if (Some l) cs = kind_of l cs
+
+abbrev pub kind_begun : Option (List ℕ × List ℕ) → LineKind
+kind_begun None = kinds.Other
+kind_begun (Some a) = kind_if (line_of a.0) a.1
+
+abbrev pub line_kind : List ℕ → LineKind
+line_kind cs = kind_begun (next_word cs)
+
+-- a line gives at most 13 bytes, and one of code at least one
+abbrev pub IsNarrow : LineKind → Type 0
+IsNarrow (kinds.Code width position) = (1 ≤ width) × (width ≤ 13)
+IsNarrow kind = Unit {0}

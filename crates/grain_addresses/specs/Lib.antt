@@ -1,0 +1,11 @@
+-- What the contracts of this crate cite. For a call of the program read `Calls`; for what is
+-- answered `Replies`, then `Places`,
+-- `Finding`, `Queries` and `Texts`. `Kinds` and `Walks` have what private contracts alone cite.
+pub mod Places
+pub mod Finding
+pub mod Queries
+pub mod Texts
+pub mod Replies
+pub mod Calls
+pub mod Kinds
+pub mod Walks

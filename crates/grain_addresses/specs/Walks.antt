@@ -1,0 +1,53 @@
+-- A walk over lines, each of which gives something by its words alone.
+use Rattle.std.specs.Prelude.{ℕ, ◌+◌, ◌*◌, ◌≤◌, List, [], ◌∷◌, ◌++◌}
+use Rattle.grain_addresses.specs.Places.{Place}
+use Rattle.grain_addresses.specs.Kinds.{line_kind}
+use Rattle.grain_addresses.specs.declared.blocks.Block.{Block}
+use Rattle.grain_addresses.specs.declared.blocks.Block.TheVariants as block
+use Rattle.grain_addresses.specs.declared.kinds.LineKind.{LineKind}
+use Rattle.grain_addresses.specs.declared.kinds.LineKind.TheVariants as kinds
+use Rattle.grain_addresses.specs.declared.walks.Walk.{Walk}
+
+abbrev pub start : Walk
+start = record { lines = 0; address = 0; block = block.Main; functions = 0 }
+
+-- a function's end is one more
+abbrev pub functions_after : Block → ℕ → ℕ
+functions_after block.Main n = n
+functions_after (block.Function number) n = n + 1
+
+-- after one more line
+abbrev pub stepped : LineKind → Walk → Walk
+stepped (kinds.Code width position) w =
+    record w { lines = w.lines + 1; address = w.address + width }
+stepped kinds.Main w = record w { lines = w.lines + 1; block = block.Main }
+stepped kinds.Function w = record w { lines = w.lines + 1; block = block.Function w.functions }
+stepped kinds.End w =
+    record w {
+      lines = w.lines + 1;
+      block = block.Main;
+      functions = functions_after w.block w.functions;
+    }
+stepped kinds.Other w = record w { lines = w.lines + 1 }
+
+-- the line with these characters, if it gives code
+abbrev pub place_in : List ℕ → Walk → LineKind → List Place
+place_in l w (kinds.Code width position) =
+    record {
+      line = w.lines + 1;
+      address = w.address;
+      width = width;
+      block = w.block;
+      position = position;
+      text = l;
+    } ∷ []
+place_in l w kind = []
+
+-- the lines that give code among these
+abbrev pub walked : Walk → List (List ℕ) → List Place
+walked w [] = []
+walked w (l ∷ ls) = place_in l w (line_kind l) ++ walked (stepped (line_kind l) w) ls
+
+-- addresses and functions stay small
+abbrev pub IsBounded : Walk → Type 0
+IsBounded w = (w.address ≤ 13 * w.lines) × (w.functions ≤ w.lines)

@@ -1,0 +1,116 @@
+//! What a line of a listing gives, by its words alone.
+
+ghost use Rattle.std.specs.Prelude.{◌≡◌, ◌≤◌};
+ghost use Rattle.grain_program.specs.Fields.{present, size_of, bytes_of};
+ghost use Rattle.grain_program.specs.InstructionSet.{fields_of};
+ghost use Rattle.grain_literals.specs.Operands.{position_after};
+ghost use Rattle.grain_addresses.specs.Kinds.{fields_width, after_fields, position_or_none, instruction_kind, kind_of, line_kind, IsNarrow};
+
+use grain_fault::Position;
+use grain_listing::{Line, line_of};
+use grain_literals::position_after;
+use grain_program::{Field, Op};
+use grain_words::{after_word, next_word};
+
+/// What a line gives: code, of n bytes with a position if it has one; the beginning of the main
+/// block or of a function; the end of a block; or something that changes no address.
+#[derive(Clone, Copy, Debug, PartialEq, Eq)]
+pub enum LineKind {
+    Code(usize, Option<Position>),
+    Main,
+    Function,
+    End,
+    Other,
+}
+
+/// How many bytes the operand has.
+fn width_of(field: Field) -> usize
+    ensures { result ≡ bytes_of (size_of field) }
+{
+    match field {
+        Field::Count(_) => 1,
+        Field::Constant(_)
+        | Field::Name(_)
+        | Field::Assignment(_)
+        | Field::Token(_)
+        | Field::Slot(_)
+        | Field::Number(_) => 2,
+        Field::Target(_) => 4,
+    }
+}
+
+/// How many bytes the operands have, and what follows their words.
+fn after_operands<'a>(places: &[Option<Field>], line: &'a [char]) -> (usize, &'a [char])
+    requires { fields_width (present places.now) ≤ 12 }
+    ensures width { result.0 ≡ fields_width (present places.now) }
+    ensures rest { result.1.now ≡ after_fields (present places.now) line.now }
+{
+    let mut width = 0usize;
+    let mut rest = line;
+    for place in places {
+        if let Some(field) = place {
+            width += width_of(*field);
+            rest = after_word(rest);
+        }
+    }
+    (width, rest)
+}
+
+/// The position that stands here, if there is one.
+fn position_here(line: &[char]) -> Option<Position>
+    ensures { result ≡ position_or_none (position_after line.now) }
+{
+    match position_after(line) {
+        Ok(position) => position,
+        Err(_) => None,
+    }
+}
+
+/// What an instruction's line gives, by what stands after its word.
+fn instruction_kind(op: Op, line: &[char]) -> LineKind
+    ensures { result ≡ instruction_kind (fields_of op) line.now }
+{
+    let row = op.descriptor();
+    let (width, rest) = after_operands(row.fields.as_slice(), line);
+    LineKind::Code(1 + width, position_here(rest))
+}
+
+/// What a line gives that begins with a word of the table, by what stands after the word.
+fn kind_of(line: Line, rest: &[char]) -> LineKind
+    ensures { result ≡ kind_of line rest.now }
+{
+    match line {
+        Line::Main => LineKind::Main,
+        Line::Function => LineKind::Function,
+        Line::Byte => LineKind::Code(1, position_here(after_word(rest))),
+        Line::End => LineKind::End,
+        Line::Instruction(op) => instruction_kind(op, rest),
+        Line::Header
+        | Line::Capabilities
+        | Line::Source
+        | Line::Limit
+        | Line::Constant
+        | Line::Name
+        | Line::Operator
+        | Line::Assign
+        | Line::Entry
+        | Line::Flag
+        | Line::Fail
+        | Line::Stop
+        | Line::Later => LineKind::Other,
+    }
+}
+
+/// What a line gives, if the reader takes it.
+pub fn line_kind(line: &[char]) -> LineKind
+    ensures kind { result ≡ line_kind line.now }
+    ensures narrow { IsNarrow result }
+{
+    match next_word(line) {
+        None => LineKind::Other,
+        Some((word, rest)) => match line_of(word) {
+            None => LineKind::Other,
+            Some(line) => kind_of(line, rest),
+        },
+    }
+}

@@ -1,0 +1,4 @@
+pub mod Moves
+pub mod Takes
+pub mod Writes
+pub mod Readings

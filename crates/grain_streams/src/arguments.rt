@@ -1,0 +1,15 @@
+//! The words that the program is given.
+
+ghost use Rattle.std.specs.Prelude.{◌≡◌, IfOk, drop};
+ghost use Rattle.std.specs.Vec.Iter.{into_iter_items};
+
+use std::alloc::{AllocError, Global};
+use std::env::Args;
+
+/// The words after the first, which is the program's name.
+pub fn words_after_name(alloc: Global, mut args: Args) -> Result<Vec<String>, AllocError>
+    ensures { IfOk result (λ words. words.items ≡ drop 1 (into_iter_items args)) }
+{
+    args.next();
+    Vec::from_iter(alloc, args)
+}

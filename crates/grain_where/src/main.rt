@@ -1,0 +1,9 @@
+//! The program: it reads a listing from standard input, and writes the lines whose code stands at
+//! the addresses that its words say.
+#![tactic(auto)]
+
+use grain_addresses::{Exit, where_standard};
+
+fn main(rt: HostRuntime) -> Exit {
+    where_standard(rt)
+}

@@ -1,0 +1,155 @@
+//! Tests of whole calls of the program that says lines for addresses: its statuses and texts, which
+//! the one stored run of `grain_where` has no room for, and streams that fail.
+
+use grain_addresses::{Exit, where_args};
+use grain_streams::{CallNumbers, MemorySink, MemorySource};
+use grain_value::{Blob, OutOfMemory};
+use std::alloc::Global;
+use std::env::Args;
+use std::process::{Abort, ExitCode, Termination};
+
+/// A listing of two lines of code, which the verification refuses: an operand is missing.
+const POPS: &str = "grain 1\nmain 1\npop @2:0\nreturn ; never\nend\n";
+
+const USAGE: &str = "usage: where LISTING [ADDRESS or ADDRESS:SLOT ..]\n";
+
+/// A call of the program: its word, if it has one, what its source holds, and at which of their
+/// calls the source and the sinks fail. Calls are numbered from 1, so the number 0 is none.
+#[derive(Clone, Copy)]
+struct Call {
+    word: Option<&'static str>,
+    listing: &'static str,
+    source_fails: u64,
+    sinks_fail: u64,
+}
+
+/// All lines that give code, over streams that do not fail.
+const TABLE: Call = Call {
+    word: None,
+    listing: POPS,
+    source_fails: 0,
+    sinks_fail: 0,
+};
+
+/// The arguments of the program, with one word or none.
+fn args_of(alloc: Global, word: Option<&str>) -> Result<Args, OutOfMemory> {
+    let mut args = Vec::new(alloc);
+    args.push(String::from_str(alloc, "grain_where")?)?;
+    if let Some(word) = word {
+        args.push(String::from_str(alloc, word)?)?;
+    }
+    Ok(args.into_iter())
+}
+
+fn one_number(alloc: Global, number: u64) -> Result<CallNumbers, OutOfMemory> {
+    let mut numbers = CallNumbers::new(alloc);
+    numbers.push(number)?;
+    Ok(numbers)
+}
+
+/// Compares the status of a call, and what it writes to the two sinks.
+fn check(
+    rt: &(impl Abort + Eprint),
+    alloc: Global,
+    call: Call,
+    status: u8,
+    text: &str,
+    errors_text: &str,
+) -> Result<(), OutOfMemory> {
+    let args = args_of(alloc, call.word)?;
+    let bytes = Vec::from_slice(alloc, call.listing.as_bytes())?;
+    let source_fails = one_number(alloc, call.source_fails)?;
+    let mut source = MemorySource::new(Blob::from_vec(bytes), source_fails);
+    let sink_fails = one_number(alloc, call.sinks_fail)?;
+    let mut sink = MemorySink::new(alloc, 1000, sink_fails)?;
+    let errors_fail = one_number(alloc, call.sinks_fail)?;
+    let mut errors = MemorySink::new(alloc, 1000, errors_fail)?;
+    let exit: Exit = where_args(alloc, Ok(args), &mut source, &mut sink, &mut errors);
+    assert!(rt; exit.report(rt) == ExitCode::from(status));
+    assert!(rt; sink.bytes() == text.as_bytes());
+    assert!(rt; errors.bytes() == errors_text.as_bytes());
+    Ok(())
+}
+
+#[test]
+fn lines_are_found_or_not(rt: HostRuntime) -> Result<(), OutOfMemory> {
+    let rows = [
+        (
+            None,
+            0,
+            "0\tline 3\tmain\t@2:0\tpop @2:0\n1\tline 4\tmain\t-\treturn ; never\n",
+        ),
+        (Some("1"), 0, "1\tline 4\tmain\t-\treturn ; never\n"),
+        (Some("2"), 1, "2\tpast the code, which has 2 bytes\n"),
+        (
+            Some("0:7"),
+            1,
+            "0:7\tno slots in the instruction of line 3\n",
+        ),
+    ];
+    for (word, status, text) in rows {
+        check(&rt, rt.alloc(), Call { word, ..TABLE }, status, text, "")?;
+    }
+    Ok(())
+}
+
+#[test]
+fn words_that_are_no_addresses(rt: HostRuntime) -> Result<(), OutOfMemory> {
+    for word in [
+        "",
+        "x",
+        "-1",
+        "01",
+        "1:",
+        ":1",
+        "1:2:3",
+        "4294967296",
+        "99999999999999999999",
+    ] {
+        let call = Call {
+            word: Some(word),
+            source_fails: 1,
+            ..TABLE
+        };
+        check(&rt, rt.alloc(), call, 2, "", USAGE)?;
+    }
+    Ok(())
+}
+
+#[test]
+fn listings_that_are_none(rt: HostRuntime) -> Result<(), OutOfMemory> {
+    let rows = [
+        ("", "listing line 1: missing header\n"),
+        (
+            "grain 1\nmain 1\npop 1\nend\n",
+            "listing line 3: bad operand\n",
+        ),
+        (
+            "grain 1\nmain 1\njump top\nend\n",
+            "listing line 3: unknown label\n",
+        ),
+    ];
+    for (listing, text) in rows {
+        check(&rt, rt.alloc(), Call { listing, ..TABLE }, 3, text, "")?;
+    }
+    Ok(())
+}
+
+#[test]
+fn streams_fail(rt: HostRuntime) -> Result<(), OutOfMemory> {
+    let source = Call {
+        source_fails: 1,
+        ..TABLE
+    };
+    check(&rt, rt.alloc(), source, 5, "", "")?;
+    let sink = Call {
+        sinks_fail: 1,
+        ..TABLE
+    };
+    check(&rt, rt.alloc(), sink, 6, "", "")?;
+    let errors = Call {
+        word: Some("x"),
+        ..sink
+    };
+    check(&rt, rt.alloc(), errors, 6, "", "")
+}
