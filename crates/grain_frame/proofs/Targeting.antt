@@ -200,6 +200,15 @@ content_same s t h within = at t.cell where
       by_entry (held_at s.scope t.index) there.0 there.1
   at (Some n) = refl
 
+-- a cell that is not lent is written
+free_written : {S : Type 0} (m : Setup S) (o : Option Cell) (n : ℕ) (h : Held) (name : List ℕ)
+    (f : Frame) (w : World S) (go : World S → Act S) → option_map is_busy o ≡ Some false →
+    cell_written m o n h name f w go
+    ≡ marked m f w (λ w1. go (record w1 { cells = slice_set w1.cells n (idle h) }))
+free_written m None n h name f w go free = absurd cc
+free_written m (Some c) n h name f w go free =
+    let idles : c.busy ≡ false = cc in rw idles refl
+
 -- so is a target
 pub target_written : {H : Type 0} (m : Setup H) (s : Run H) (t : Target) (h : Held)
     (name : List ℕ) (f : Frame) (w : World H) (go : World H → Act H) → FreeCell s t.cell →

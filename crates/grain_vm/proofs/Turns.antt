@@ -110,6 +110,16 @@ next_runs p f f' s s' runs kept typed above = record {
   entered = omega (arith, runs.entered, ap (λ (fs : List StackFrame). length fs) kept.outer);
 }
 
+-- one turn after another
+progresses_on : {H : Type 0} (engine : Engine) (s t u : Run H) (f g h : Activation) →
+    Progresses engine s f t g → Progresses engine t g u h → t.count ≤ u.count →
+    Progresses engine s f u h
+progresses_on engine s t u f g h (inl a) b le = inl (omega (arith, a.0, le), a.1)
+progresses_on engine s t u f g h (inr a) (inl b) le =
+    inl (omega (arith, a.0, b.0), omega (arith, a.0, b.1))
+progresses_on engine s t u f g h (inr a) (inr b) le =
+    inr (omega (arith, a.0, b.0), omega (arith, a.1, b.1))
+
 -- two turns are one
 pub both : {H : Type 0} (law : Law H) (p : View) (engine : Engine) (f g h : Activation)
     (s t u : Run H) (n k l : StepsView) (host : H) → Stepped (setup law p engine)
