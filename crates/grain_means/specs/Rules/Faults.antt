@@ -6,8 +6,7 @@ use Rattle.grain_fault.specs.Classes.{catchable}
 use Rattle.grain_fault.specs.Positions.{at_position, position_of_problem}
 use Rattle.grain_fault.specs.Problems.{FaultKind, Problem, Plain, InModule, SystemError, InFunctionCall, DataRace, Terminated, Runtime, TooManyOperations, NoMemory}
 use Rattle.grain_program.specs.View.{position_of}
-pub use Rattle.grain_means.specs.Worlds.{is_stop}
-use Rattle.grain_means.specs.Worlds.{Failed, Handler, Frame, World, InCatch, Act, Go, End, Setup}
+use Rattle.grain_means.specs.Worlds.{is_stop, Failed, Handler, Frame, World, InCatch, Act, Go, End, Setup}
 use Rattle.grain_host.specs.Law.{Verdict, GoOn, Stop}
 
 -- the text of a fault that the cell of a variable is lent
