@@ -16,6 +16,7 @@ use Rattle.grain_global.specs.declared.engines.Engine.{Engine}
 use Rattle.grain_means.specs.Means.{Begin}
 use Rattle.grain_value.specs.declared.scopes.Entry.{Entry}
 use Rattle.run_examples.specs.Rules.{Ran}
+use Rattle.run_examples.specs.declared.budget.Budget.{Budget}
 use Rattle.run_examples.specs.declared.prices.PriceList.{PriceList}
 
 -- LF
@@ -46,6 +47,10 @@ printed_by host = host.printed
 -- what was charged to a price list, on a line
 abbrev pub charged_to : PriceList → List ℕ
 charged_to list = codes "charged " ++ signed_decimal list.total ++ line_end
+
+-- what is left of a budget, on a line
+abbrev pub left_of : Budget → List ℕ
+left_of budget = codes "left " ++ decimal budget.left ++ line_end
 
 -- the text is the report of how the program's run ends over a host of this law: what is said of the
 -- host as the run left it, and the end

@@ -5,14 +5,17 @@
 ghost use Rattle.std.specs.Prelude.{◌≡◌, ◌<◌, ℕ, List, bytes_eq, IfOk};
 ghost use Rattle.grain_host.specs.Tables.{table_law};
 ghost use Rattle.run_examples.specs.Prices.{price_law};
+ghost use Rattle.run_examples.specs.Budget.{budget_law};
 ghost use Rattle.run_examples.specs.Examples.{ReportedOver, shipped_list};
-ghost use Rattle.run_examples.specs.Reports.{Reported, printed_by, charged_to};
+ghost use Rattle.run_examples.specs.Reports.{Reported, printed_by, charged_to, left_of};
 ghost use Rattle.run_examples.specs.Rules.{engine_of, start};
 
+mod budget;
 mod prices;
 mod reports;
 mod rules;
 
+use budget::Budget;
 use grain_value::{OutOfMemory, Text};
 use grain_vm::Steps;
 use prices::PriceList;
@@ -32,11 +35,13 @@ enum ExampleHost {
     Table,
     /// A price list.
     Prices,
+    /// A budget of operations.
+    Budget,
 }
 
 /// The examples, with their hosts. NAME.grain is the listing, and NAME.out the report that is
 /// expected.
-const EXAMPLES: [(&str, ExampleHost); 7] = [
+const EXAMPLES: [(&str, ExampleHost); 9] = [
     ("sum", ExampleHost::Table),
     ("fibonacci", ExampleHost::Table),
     ("limit", ExampleHost::Table),
@@ -44,7 +49,12 @@ const EXAMPLES: [(&str, ExampleHost); 7] = [
     ("caught", ExampleHost::Table),
     ("closure", ExampleHost::Table),
     ("prices", ExampleHost::Prices),
+    ("budget", ExampleHost::Budget),
+    ("work", ExampleHost::Budget),
 ];
+
+/// How many operations the budget of the examples allows.
+const ALLOWED_OPERATIONS: u64 = 50;
 
 /// Into how many shares the counts of instructions and marks can be split.
 const SHARES: u64 = 8;
@@ -109,6 +119,42 @@ fn charges_of<L: Ledger>(
     report(alloc, &said, &outcome)
 }
 
+/// What is left of a budget, on a line.
+fn left(alloc: Global, budget: &Budget) -> Result<Text, OutOfMemory>
+    ensures { IfOk result (λ text. text ≡ left_of budget.now) }
+{
+    let mut text = Text::copy_of(alloc, "left ")?;
+    text.push_number(budget.left())?;
+    text.push_str("\n")?;
+    Ok(text)
+}
+
+/// The report of a rule's run over a budget: what is left of it, and the end.
+fn budget_report<L: Ledger>(
+    alloc: Global,
+    rule: Rule,
+    budget: Budget,
+    steps: &mut Steps<L>,
+) -> Result<Text, OutOfMemory>
+    requires { 0 < rule.limits.operations }
+    ensures { IfOk result (Reported budget_law left_of rule.program
+        (engine_of rule.limits rule.fast_operators) (start rule.scope budget)) }
+{
+    let mut budget = budget;
+    let mut scope = rule.scope;
+    let outcome = run(
+        alloc,
+        &rule.program,
+        rule.limits,
+        rule.fast_operators,
+        &mut budget,
+        &mut scope,
+        steps,
+    )?;
+    let said = left(alloc, &budget)?;
+    report(alloc, &said, &outcome)
+}
+
 /// The price list of the examples.
 fn price_list(alloc: Global) -> Result<PriceList, OutOfMemory>
     ensures { IfOk result (λ list. list ≡ shipped_list) }
@@ -132,6 +178,7 @@ fn report_over<L: Ledger>(
     match host {
         ExampleHost::Table => report_of(alloc, rule, steps),
         ExampleHost::Prices => charges_of(alloc, rule, price_list(alloc)?, steps),
+        ExampleHost::Budget => budget_report(alloc, rule, Budget::new(ALLOWED_OPERATIONS), steps),
     }
 }
 

@@ -1,0 +1,14 @@
+use Rattle.run_examples.specs.Budget.{budget_law}
+use Rattle.run_examples.specs.Rules.{engine_of, start}
+use Rattle.run_examples.specs.Reports.{left_of}
+use Rattle.run_examples.proofs.Reporting.{reported}
+use Rattle.run_examples.proofs.budget_report.Goals as goal
+
+pub returns : goal.returns
+returns g c =
+    let outcome = c.in_ok-outcome.outcome in
+    reported budget_law left_of c.args.rule.program
+    (engine_of c.args.rule.limits c.args.rule.fast_operators)
+    (start c.args.rule.scope c.args.budget) c.run.new.scope outcome.cells c.run.new.host
+    c.in_ok-said.said outcome.result outcome.trace.items c.in_ok-outcome.ensures
+    c.in_ok-said.ensures c.report.result c.report.ensures
