@@ -13,7 +13,8 @@ pub struct Engine {
     pub limits: Limits,
     /// Whether an operator goes to its built-in before any other function.
     pub fast_operators: bool,
-    /// Whether a chain that reads a key that a map does not have fails. Without it such a key has unit.
+    /// Whether a chain fails that comes to a key that a map does not have, but for the last step of an
+    /// assignment. Without this such a key has unit.
     pub strict_properties: bool,
 }
 

@@ -43,6 +43,6 @@ put roots p v = slice_set roots p.root (put_held p.path v (or_unit (slice_get ro
 abbrev pub deeper : Place → PathStep → Place
 deeper p s = record p { path = p.path ++ s ∷ [] }
 
--- the whole of the root behind that of a place
+-- the whole of the root after that of a place
 abbrev pub next_root : Place → Place
 next_root p = record { root = suc p.root; path = [] }

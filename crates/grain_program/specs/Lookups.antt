@@ -9,21 +9,19 @@ use Rattle.grain_program.specs.declared.code.functions.Function.{Function}
 use Rattle.grain_program.specs.declared.lookups.First.{First}
 use Rattle.grain_program.specs.View.{View}
 
--- the function is no method of one type
+-- A function is typed if it is a method of the values of one type alone, and else untyped.
 abbrev pub is_untyped : Function → Bool
 is_untyped f = is_none f.this_type
 
--- the function has this name, by its index, and is no method of one type
+-- the function has this name, by its index, and is untyped
 abbrev pub is_named_so : ℕ → Function → Bool
 is_named_so name f = (f.name == name) && is_untyped f
 
--- the function has this name, by its index, and this number of parameters, and is no method of one
--- type
+-- the function has this name, by its index, and this number of parameters, and is untyped
 abbrev pub is_called : ℕ → ℕ → Function → Bool
 is_called name count f = is_named_so name f && (length f.params == count)
 
--- the number of the first function of this name with this number of parameters that is no method of
--- one type
+-- the number of the first untyped function of this name with this number of parameters
 abbrev pub function_of : View → ℕ → ℕ → Option ℕ
 function_of p name count = position_from (is_called name count) 0 p.functions
 
@@ -32,13 +30,12 @@ abbrev pub is_text : List ℕ → Option (List ℕ) → Bool
 is_text text None = false
 is_text text (Some name) = bytes_eq name text
 
--- the function has a name of this text, and this number of parameters, and is no method of one type
+-- the function has a name of this text, and this number of parameters, and is untyped
 abbrev pub has_text : List (List ℕ) → List ℕ → ℕ → Function → Bool
 has_text names text count f =
     is_text text (slice_get names f.name) && (is_untyped f && (length f.params == count))
 
--- the number of the first function that has a name of this text, with this number of parameters, and
--- is no method of one type
+-- the number of the first untyped function that has a name of this text, with this number of parameters
 abbrev pub function_by_text : View → List ℕ → ℕ → Option ℕ
 function_by_text p text count = position_from (has_text p.names text count) 0 p.functions
 
@@ -58,8 +55,7 @@ or_else None other = other
 or_else (Some n) other = Some n
 
 -- the number of the function of this name with this number of parameters that a value of this type
--- has as a method: the first that is a method of that type alone, or else the first that is one of
--- every type
+-- has as a method: the first that is typed so, or else the first untyped one
 abbrev pub method_of : View → ℕ → ℕ → List ℕ → Option ℕ
 method_of p name count type =
     or_else (position_from (is_method p.names name count type) 0 p.functions)
@@ -70,8 +66,7 @@ abbrev pub name_at : View → Option ℕ → Option ℕ
 name_at p None = None
 name_at p (Some number) = option_map (λ f. f.name) (slice_get p.functions number)
 
--- a function of this number is there, with the name and this number of parameters, and is no method
--- of one type
+-- a function of this number is there, with the name and this number of parameters, and is untyped
 pub record Called (p : View) (name count number : ℕ) : Type 0 where
   pub function : Function
   pub is : slice_get p.functions number ≡ Some function
@@ -80,7 +75,7 @@ pub record Called (p : View) (name count number : ℕ) : Type 0 where
   pub count_is : length function.params ≡ count
 
 -- a function of this number is there, with a name of this text and this number of parameters, and is
--- no method of one type
+-- untyped
 pub record CalledByText (p : View) (text : List ℕ) (count number : ℕ) : Type 0 where
   pub function : Function
   pub is : slice_get p.functions number ≡ Some function
@@ -108,8 +103,8 @@ IsIndex fs function_index =
     (name count : ℕ)
     → get signature_cmp function_index (name, count) ≡ position_from (is_called name count) 0 fs
 
--- the first function of the name that is no method of one type, where the functions are counted from
--- this number on: its number, and how many parameters it has
+-- the first untyped function of the name, where the functions are counted from this number on: its
+-- number, and how many parameters it has
 abbrev pub first_named : ℕ → ℕ → List Function → Option First
 first_named name from [] = None
 first_named name from (f ∷ fs) =

@@ -10,18 +10,17 @@ use grain_value::OutOfMemory;
 use std::alloc::Global;
 use std::collections::BTreeMap;
 
-/// The first function of a name that is no method of one type: its number, and how many parameters it
-/// has.
+/// The first untyped function of a name: its number, and how many parameters it has.
 #[derive(Clone, Copy, Debug, PartialEq, Eq)]
 pub struct First {
     pub number: usize,
     pub count: usize,
 }
 
-/// The first function of each name that is no method of one type, by the name's index.
+/// The first untyped function of each name, by the name's index.
 pub type FirstFunctions = Vec<Option<First>>;
 
-/// The first function of each of the first `names` names that is no method of one type.
+/// The first untyped function of each of the first `names` names.
 pub fn first_functions(
     alloc: Global,
     functions: &[Function],
@@ -53,11 +52,10 @@ pub fn first_of(firsts: &[Option<First>], name: u32) -> Option<First>
     }
 }
 
-/// The number of the first function of each name, by its index, with each number of parameters, that is
-/// no method of one type.
+/// The number of the first untyped function of each name, by its index, with each number of parameters.
 pub type FunctionIndex = BTreeMap<(u32, usize), usize>;
 
-/// The first of these functions that are no methods of one type, by name and number of parameters.
+/// The first of the untyped ones of these functions, by name and number of parameters.
 pub fn index_functions(alloc: Global, functions: &[Function]) -> Result<FunctionIndex, OutOfMemory>
     ensures { IfOk result (λ function_index. IsIndex functions.now function_index) }
 {
@@ -71,8 +69,7 @@ pub fn index_functions(alloc: Global, functions: &[Function]) -> Result<Function
     Ok(function_index)
 }
 
-/// Whether the function has a name of this text, and this number of parameters, and is no method of one
-/// type.
+/// Whether the function has a name of this text, and this number of parameters, and is untyped.
 fn has_text(names: &Names, text: &str, count: usize, function: &Function) -> bool
     ensures { result ≡ has_text names.now text.now count function.now }
 {
@@ -84,8 +81,8 @@ fn has_text(names: &Names, text: &str, count: usize, function: &Function) -> boo
     }
 }
 
-/// The number of the first function that has a name of this text, with this number of parameters, and
-/// is no method of one type.
+/// The number of the first untyped function that has a name of this text, with this number of
+/// parameters.
 pub fn first_by_text(
     names: &Names,
     functions: &[Function],

@@ -180,7 +180,7 @@ impl Program {
     }
 
     /// The number of the first function of this name, by its index, with this number of parameters,
-    /// that is no method of one type.
+    /// that is untyped.
     #[inline(always)]
     pub fn function(&self, name_index: u32, argc: usize) -> Option<usize>
         ensures exact { result ≡ function_of self.now name_index argc }
@@ -204,7 +204,7 @@ impl Program {
     }
 
     /// The number of the first function whose name is this text, with this number of parameters, that
-    /// is no method of one type.
+    /// is untyped.
     pub fn function_named(&self, name: &str, argc: usize) -> Option<usize>
         ensures exact { result ≡ function_by_text self.now name.now argc }
         ensures called { IfSome result (CalledByText self.now name.now argc) }
@@ -218,9 +218,9 @@ impl Program {
     }
 
     /// The number of the function of this name, by its index, with this number of parameters that a
-    /// value of this type has as a method: the first that is a method of that type alone, or else the
-    /// first that is one of every type. It looks at each function that comes before the one of that
-    /// type alone, or at all of them if there is none.
+    /// value of this type has as a method: the first that is typed so, or else the first untyped one.
+    /// It looks at each function that comes before the one that is typed so, or at all of them if there
+    /// is none.
     pub fn method(&self, name_index: u32, argc: usize, type_name: &str) -> Option<usize>
         ensures exact { result ≡ method_of self.now name_index argc type_name.now }
         ensures called { IfSome result (MethodCalled self.now name_index argc) }
@@ -233,7 +233,7 @@ impl Program {
     }
 
     /// The index of the name of the first function whose name is this text, with this number of
-    /// parameters, that is no method of one type.
+    /// parameters, that is untyped.
     pub fn function_name_index(&self, name: &str, argc: usize) -> Option<u32>
         ensures { result ≡ name_at self.now (function_by_text self.now name.now argc) }
     {

@@ -1,6 +1,5 @@
 -- What an index names in a value: an integer one of its elements, bytes, characters or bits, and a
--- text
--- a key.
+-- text a key.
 use Rattle.std.specs.Prelude.{ℕ, ◌+◌, ◌-◌, ℤ, pos, negsuc, nat_lt, Bool, List, Option, Some, None, Result, Ok, Err, length, is_some, if◌then◌else◌}
 use Rattle.std.specs.Str.{chars}
 use Rattle.grain_value.specs.Maps.{Entries, entry_at}

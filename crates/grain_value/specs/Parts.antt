@@ -17,7 +17,7 @@ abbrev pub differs : Bool → Bool → Bool
 differs true b = not b
 differs false b = b
 
--- the integer with bit k so
+-- the integer with bit k set, or not set
 abbrev pub with_bit : ℕ → Bool → ℤ → ℤ
 with_bit k b n =
     if nat_lt k 64 && differs b (has_bit k n)

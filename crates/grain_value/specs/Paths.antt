@@ -1,5 +1,4 @@
--- A path leads from a value to one inside it: at each step to an element of an array, or to the
--- value
+-- A path leads from a value to one inside it: at each step to an element of an array, or to the value
 -- at a key of a map.
 use Rattle.std.specs.Prelude.{ℕ, ◌-◌, ◌^◌, min, ℤ, pos, List, [], ◌∷◌, Option, Some, None, Result, Ok, Err, slice_get, slice_set, length, IsOk}
 use Rattle.std.specs.Ordering.{nat_cmp}

@@ -128,9 +128,8 @@ impl Model for Map {
 
 /// How many arrays, maps and pointers may stand inside one another, and how many blocks of a
 /// fragment, in what is made or copied: the call answers that there is no memory for what would nest
-/// deeper. A path to a place has no more steps than this either, so a value may nest twice as deep
-/// once something was put at a place inside it. So what goes through a value, as a drop does, goes
-/// no deeper than that on the process's own stack.
+/// deeper. So what goes through a value, as a drop does, goes no deeper than this on the process's own
+/// stack, or twice as deep where something was put inside it (`Dynamic::put_at`).
 pub const MOST_LEVELS: usize = 1024;
 
 /// A value in an operand or a scope entry. One that is read-only may not be assigned to.

@@ -61,8 +61,8 @@ impl Root {
     }
 }
 
-/// One step of a chain. Where the flags have `SKIP_IF_UNIT`, and the step comes to unit, the chain
-/// ends there with unit. Positions are those of the script.
+/// One step of a chain. Where the flags have `SKIP_IF_UNIT`, and unit stands where the step begins,
+/// the chain ends there with unit. Positions are those of the script.
 #[derive(Clone, Copy, Debug, PartialEq, Eq)]
 pub enum Step {
     /// To what an index names: the chain's operand of this number.

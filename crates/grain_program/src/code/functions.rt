@@ -11,8 +11,8 @@ pub type Indices = List<u32>;
 pub struct Function {
     pub name: u32,
     pub params: Indices,
-    /// The index of the name of a type, if the function is a method of the values of that type alone.
-    /// Only a step of a chain calls such a function.
+    /// The index of the name of a type, if the function is typed: a method of the values of that type
+    /// alone. `Program::method` alone finds a typed function.
     pub this_type: Option<u32>,
     pub chunk: Chunk,
 }

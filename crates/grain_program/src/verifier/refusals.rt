@@ -16,8 +16,8 @@ pub enum Refusal {
     /// tile the code.
     Undecodable(usize),
     /// An index of the instruction there, or of a record that it uses, names no entry of its pool,
-    /// or a function that is entered there has a name or a parameter's name that is no entry of the
-    /// names.
+    /// or a function that is entered there has a name, a parameter's name or a type's name that is no
+    /// entry of the names.
     PoolIndex(usize),
     /// The target of the instruction there is no instruction of the same chunk.
     JumpTarget(usize),

@@ -73,7 +73,7 @@ fn has_bit(integer: i64, place: u32) -> bool
     }
 }
 
-// The integer with a bit so.
+// The integer with a bit set, or not set.
 fn with_bit(integer: i64, place: u32, bit: bool) -> i64
     ensures { result ≡ with_bit place bit integer }
 {

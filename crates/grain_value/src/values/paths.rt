@@ -94,9 +94,9 @@ impl Dynamic {
     }
 
     /// Puts a value at the end of the path, and gives the one that stood there. It takes no memory,
-    /// and so it does not refuse a value that then nests too deep: of a value that nests deeper than
-    /// `MOST_LEVELS` no copy is made, so that what is put, along a path of no more steps than that,
-    /// makes no value of more than twice as many levels.
+    /// and so it does not refuse a value that then nests too deep. A caller sees that the value has no
+    /// more than `MOST_LEVELS` levels, as every copy has, and the path no more steps: then what is made
+    /// has no more than twice as many levels.
     pub fn put_at(&mut self, path: &Path, value: Dynamic) -> Dynamic
         requires { Leads path.now (tree self.old) }
         ensures taken { at path.now (tree self.old) ≡ Ok (tree result) }
