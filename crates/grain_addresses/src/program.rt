@@ -1,10 +1,11 @@
 //! The whole program: from its arguments to its exit code, over any source and sinks, and over the
 //! standard streams.
 
-ghost use Rattle.std.specs.Prelude.{◌≡◌, ◌⊎◌, IfOk, OnErr, drop, map, string_bytes};
+ghost use Rattle.std.specs.Prelude.{◌≡◌, ◌⊎◌, IfOk, None, OnErr, drop, map, string_bytes};
 ghost use Rattle.std.specs.Process.{exit_status};
 ghost use Rattle.std.specs.Vec.Iter.{into_iter_items};
 ghost use Rattle.grain_streams.specs.Reads.{ReadInTurn};
+ghost use Rattle.grain_addresses.specs.Queries.{queries_of};
 ghost use Rattle.grain_addresses.specs.Calls.{stream, Ended, NoCall};
 
 use crate::calls::where_words;
@@ -66,6 +67,10 @@ pub fn where_args<S: Source, K: Sink, E: Sink>(
         (stream (E.written errors.old) (E.written errors.new) (E.faults errors.old)
         (E.faults errors.new))
         result) }
+    // words that are no addresses read nothing
+    ensures idle { IfOk args (λ all.
+        queries_of (map string_bytes (drop 1 (into_iter_items all))) ≡ None →
+        source.new ≡ source.old) }
     ensures reads { ReadInTurn S.reads 16777217 source.old source.new }
 {
     let Ok(args) = args else {
