@@ -7,7 +7,7 @@ use Rattle.grain_fault.specs.declared.places.Position.{Position}
 use Rattle.grain_fault.specs.declared.traces.Fault.{Fault}
 use Rattle.grain_fault.specs.Problems.{Problem, NoMemory}
 use Rattle.grain_means.specs.Worlds.{Act, Answer, Came, Failed, World, Setup, InFrame, InCatch}
-use Rattle.grain_means.specs.Rules.{is_stop, position}
+use Rattle.grain_means.specs.Rules.{is_stop}
 use Rattle.grain_means.specs.Comes.{ProgramPoint, CatchPoint, ComesToCatch, Meets}
 use Rattle.grain_means.specs.Leavings.{AtCheckpoint, Cut}
 use Rattle.grain_means.specs.Causes.{HasPosition, LeftCall, Tells, ThrownAnew, RaisedByCatch, Cause, Caused}

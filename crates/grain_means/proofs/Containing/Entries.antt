@@ -1,15 +1,13 @@
 -- Entries of a scope are read, declared, written, and become cells.
 use Rattle.std.proofs.Common.{◌≡◌, ◌≤◌, ◌+◌, ℕ, List, [], ◌∷◌, ◌++◌, Option, Some, None, Bool, if◌then◌else◌, length, refl, arith, length-append}
-use Rattle.grain_value.specs.Cells.{flat, idle}
+use Rattle.grain_value.specs.Cells.{idle}
 use Rattle.grain_value.specs.Looking.{cell_of}
 use Rattle.grain_value.specs.Operands.{below, read_write, top}
 use Rattle.grain_value.specs.Scopes.{new_entry, set_held}
-use Rattle.grain_value.specs.declared.stores.Cell.{Cell}
 use Rattle.grain_value.specs.declared.values.Dynamic.TheVariants as dynamic
 use Rattle.grain_value.specs.declared.values.Held.{Held}
 use Rattle.grain_fault.specs.Problems.{Plain, AssignmentToConstant, TooManyVariables}
 use Rattle.grain_program.specs.View.{name_of}
-use Rattle.grain_host.specs.Law.{written}
 use Rattle.grain_means.specs.Contained.{CellNames, Contained, EntryNames, HeldNames}
 use Rattle.grain_means.specs.Rules as rules
 use Rattle.grain_means.specs.Rules.{is_full, is_read_only, name_at, stepped}

@@ -18,7 +18,7 @@ use Rattle.grain_fault.specs.declared.faults.MalformedKind.TheVariants as kind
 use Rattle.grain_fault.specs.declared.places.Position.{Position}
 use Rattle.grain_program.specs.View.{name_of, source_text}
 use Rattle.grain_program.specs.declared.code.functions.Function.{Function}
-use Rattle.grain_host.specs.Law.{GoOn, IsLawful, Stop, Verdict, written}
+use Rattle.grain_host.specs.Law.{GoOn, IsLawful, Stop, Verdict}
 use Rattle.grain_means.specs.Contained.{AnswerNames, CellNames, ConstantsName, Contained, EntryNames, HeldNames, Names, ProblemNames}
 use Rattle.grain_means.specs.Rules as rules
 use Rattle.grain_means.specs.Rules.{bound, flat_all, held_at, is_stop, race_text, stepped, thrown_anew, throws_unit}

@@ -4,7 +4,7 @@ use Rattle.std.proofs.lemmas.List.{length-set}
 use Rattle.std.proofs.Math.Nat.{max-le}
 use Rattle.std.specs.List.{list_all}
 use Rattle.std.specs.Prelude.{max}
-use Rattle.grain_value.specs.Cells.{cell_bound, flat, idle}
+use Rattle.grain_value.specs.Cells.{cell_bound, idle}
 use Rattle.grain_value.specs.Looking.{cell_of}
 use Rattle.grain_value.specs.Operands.{values_in}
 use Rattle.grain_value.specs.Tree.{Tree, array, pack}
@@ -20,7 +20,7 @@ use Rattle.grain_means.specs.Contained.{CellNames, Contained, Names, ProblemName
 use Rattle.grain_means.specs.Rules as rules
 use Rattle.grain_means.specs.Rules.{Receiver, back_in_cell, back_in_entry, cells_given_back, bound, first_is_read_only, given, given_back, held_at, lent_held, trees_in}
 use Rattle.grain_host.specs.Signatures.{not_found}
-use Rattle.grain_means.specs.Worlds.{Act, Failed, Frame, Setup, World}
+use Rattle.grain_means.specs.Worlds.{Act, Frame, Setup, World}
 use Rattle.grain_means.proofs.Caught.{filled_names}
 use Rattle.grain_means.proofs.Footing.{by_test}
 use Rattle.grain_means.proofs.Naming.{all_set, PlainNames, plain_operands, plain_tree, plain_trees, set_names, trees_name}

@@ -1,6 +1,5 @@
 -- Operators and op-assignments keep to the store.
 use Rattle.std.proofs.Common.{◌≡◌, ◌≤◌, ◌+◌, ℕ, List, [], ◌∷◌, Option, Some, None, if◌then◌else◌, refl, subst, arith}
-use Rattle.grain_value.specs.Cells.{flat}
 use Rattle.grain_value.specs.Looking.{cell_of}
 use Rattle.grain_value.specs.Operands.{below, read_write, top}
 use Rattle.grain_value.specs.declared.values.Dynamic.{Dynamic}

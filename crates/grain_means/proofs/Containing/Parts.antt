@@ -2,7 +2,7 @@
 use Rattle.std.proofs.Common.{◌≡◌, ◌≤◌, ℕ, zero, suc, List, [], ◌∷◌, ◌++◌, Option, Some, None, Bool, true, false, if◌then◌else◌, drop, refl, subst, arith}
 use Rattle.std.specs.List.{AllByRecursion, starts_with}
 use Rattle.std.specs.Prelude.{bytes_eq, codes, eqb, slice_get}
-use Rattle.grain_value.specs.Cells.{flat, standing}
+use Rattle.grain_value.specs.Cells.{standing}
 use Rattle.grain_value.specs.Looking.{cell_of, pointer_of}
 use Rattle.grain_value.specs.Scopes.{set_held}
 use Rattle.grain_value.specs.declared.scopes.Entry.{Entry}

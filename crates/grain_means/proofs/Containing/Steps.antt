@@ -5,7 +5,6 @@ use Rattle.grain_value.specs.Operands.{below, top}
 use Rattle.grain_value.specs.declared.values.Dynamic.{Dynamic}
 use Rattle.grain_value.specs.declared.values.Held.{Held}
 use Rattle.grain_fault.specs.Problems.{Problem}
-use Rattle.grain_host.specs.Law.{written}
 use Rattle.grain_means.specs.Contained.{HeldNames, Names, ProblemNames}
 use Rattle.grain_means.specs.Rules as rules
 use Rattle.grain_means.specs.Rules.{Receiver, bound, given, held_at, stepped}

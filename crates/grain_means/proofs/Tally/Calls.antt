@@ -20,7 +20,7 @@ use Rattle.grain_value.specs.Cells.{flat}
 use Rattle.grain_value.specs.declared.values.FnPtr.{FnPtr}
 use Rattle.grain_means.specs.Worlds.{Act, Go, Then, Answer, Came, Failed, World, Setup, InFrame}
 use Rattle.grain_means.proofs.Moving.{unit_anywhere, unit_caught}
-use Rattle.grain_means.specs.Rules.{offered, pushed, without, bound, frame_at, stepped, marked, raised, charged, propagate, resume_caller, enter_function, function_entered, call_function, position, flattened, flat_all, operand_under, not_a_pointer}
+use Rattle.grain_means.specs.Rules.{offered, pushed, without, bound, frame_at, stepped, marked, raised, propagate, resume_caller, enter_function, function_entered, call_function, position, flattened, flat_all, operand_under, not_a_pointer}
 use Rattle.grain_means.specs.Comes.{here}
 use Rattle.grain_means.specs.Leavings.{Cuts}
 use Rattle.grain_means.specs.Causes.{AsksNative, Why, Calls, Charges, IsCharged, Overfills, CallsOn, Enters, LeftCall, Raised, Caused, ReadsLent, IsLent, Points, AsksPointer, Misses}

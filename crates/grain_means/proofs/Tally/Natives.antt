@@ -10,7 +10,7 @@ use Rattle.grain_fault.specs.Problems as problem
 use Rattle.grain_program.specs.declared.code.instruction_set.Op.{Op}
 use Rattle.grain_program.specs.Decoding.{op_at}
 use Rattle.grain_value.specs.declared.stores.Cell.{Cell}
-use Rattle.grain_means.specs.Worlds.{Act, Failed, World, Setup}
+use Rattle.grain_means.specs.Worlds.{Act, World, Setup}
 use Rattle.grain_host.specs.Signatures.{not_found}
 use Rattle.grain_host.specs.Law.{Reply}
 use Rattle.grain_host.specs.Law as reply

@@ -12,14 +12,14 @@ use Rattle.grain_program.specs.declared.code.instruction_set.Op.{Op}
 use Rattle.grain_program.specs.Decoding.{op_at}
 use Rattle.grain_program.specs.View.{name_of}
 use Rattle.grain_ops.specs.Outcomes.{Outcome, NotBuiltIn, Gave, ArithmeticFault, TooLarge}
-use Rattle.grain_value.specs.Cells.{flat, content}
+use Rattle.grain_value.specs.Cells.{flat}
 use Rattle.grain_value.specs.declared.stores.Cell.{Cell}
 use Rattle.grain_means.proofs.Readable.{stays_readable}
 use Rattle.grain_means.specs.Worlds.{World, Setup}
 use Rattle.grain_host.specs.Signatures.{not_found, says_missing}
 use Rattle.grain_host.specs.Law as reply
 use Rattle.grain_value.specs.declared.natives.Native.{Native}
-use Rattle.grain_means.specs.Rules.{Receiver, given, content_now, operator_assigned, op_assign_failed, native_assigned, trees_in, native, pushed, held_at, stepped, op_assigned, onward, push_outcome, assignment_to_constant, write_entry, store_outcome, position, flattened, is_read_only}
+use Rattle.grain_means.specs.Rules.{Receiver, given, content_now, operator_assigned, op_assign_failed, native_assigned, trees_in, pushed, held_at, stepped, op_assigned, onward, push_outcome, assignment_to_constant, write_entry, store_outcome, position, flattened, is_read_only}
 use Rattle.grain_means.specs.Comes.{ProgramPoint}
 use Rattle.grain_means.specs.Causes.{Question, native_asked, reply_to, asks_first, EndsWith, HasNoBuiltIn, AssignsByHost, AsksAgain, AsksSecond, AsksNative, IsCalled, ReadsTop, Holds, AssignsConstant, Operates, ReadsLent, AnswersLent, IsLent, AssignsLent}
 use Rattle.grain_means.proofs.Footing.{Sits, by_test}

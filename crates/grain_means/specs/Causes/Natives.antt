@@ -15,7 +15,7 @@ use Rattle.grain_program.specs.declared.code.instruction_set.Op.TheVariants as o
 use Rattle.grain_program.specs.declared.code.parts.AssignOp.{AssignOp}
 use Rattle.grain_program.specs.View.{name_of, assign_op_of}
 use Rattle.grain_ops.specs.Outcomes.{NotBuiltIn}
-use Rattle.grain_means.specs.Worlds.{Failed, World, Setup, Frame}
+use Rattle.grain_means.specs.Worlds.{World, Setup, Frame}
 use Rattle.grain_host.specs.Signatures.{missing_kind, not_found, says_missing}
 use Rattle.grain_host.specs.Law.{Reply, native_of}
 use Rattle.grain_host.specs.Law as reply

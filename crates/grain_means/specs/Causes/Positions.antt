@@ -5,7 +5,7 @@ use Rattle.grain_value.specs.declared.values.Dynamic.{Dynamic}
 use Rattle.grain_value.specs.declared.values.Held.{Held}
 use Rattle.grain_value.specs.Cells.{flat}
 use Rattle.grain_value.specs.Looking.{is_unit}
-use Rattle.grain_value.specs.Operands.{top, arguments}
+use Rattle.grain_value.specs.Operands.{top}
 use Rattle.grain_fault.specs.Classes.{catchable}
 use Rattle.grain_fault.specs.Positions.{at_position, at_position_if_none, position_of_problem}
 use Rattle.grain_fault.specs.declared.places.Position.{Position}

@@ -1,5 +1,5 @@
 -- Marks, faults that are raised and offered to handlers, and operations that are charged.
-use Rattle.std.specs.Prelude.{ℕ, ◌+◌, List, [], ◌∷◌, ◌++◌, Option, Some, None, Bool, false, if◌then◌else◌, nat_lt, nat_eq, take, codes}
+use Rattle.std.specs.Prelude.{ℕ, ◌+◌, List, [], ◌∷◌, ◌++◌, Option, Some, None, Bool, false, if◌then◌else◌, nat_lt, take, codes}
 use Rattle.grain_value.specs.Looking.{is_unit}
 use Rattle.grain_fault.specs.declared.places.Position.{Position}
 use Rattle.grain_fault.specs.Classes.{catchable}

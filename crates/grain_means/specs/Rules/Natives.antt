@@ -13,7 +13,7 @@ use Rattle.grain_value.specs.declared.natives.Native.{Native}
 use Rattle.grain_value.specs.Writing.{kind_of}
 use Rattle.grain_fault.specs.Positions.{at_position_if_none}
 use Rattle.grain_fault.specs.Problems.{Problem, Plain, NonPureCall}
-use Rattle.grain_means.specs.Worlds.{Failed, Frame, World, Act, Setup}
+use Rattle.grain_means.specs.Worlds.{Frame, World, Act, Setup}
 use Rattle.grain_host.specs.Signatures.{not_found}
 use Rattle.grain_host.specs.Law.{Law, Reply, native_of}
 use Rattle.grain_host.specs.Law as reply

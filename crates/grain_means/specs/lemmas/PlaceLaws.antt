@@ -1,20 +1,19 @@
 -- Values in their places: what is put is there, putting twice is putting once, and putting what is
 -- there changes nothing.
-use Rattle.std.proofs.Common.{◌≡◌, ◌<◌, ℕ, zero, suc, ◌+◌, List, [], ◌∷◌, ◌++◌, Option, Some, None, Bool, Result, Ok, Err, is_ok, length, take, refl, ap, sym, ◌∙◌, subst, arith, option_map}
+use Rattle.std.proofs.Common.{◌≡◌, ℕ, zero, suc, List, [], ◌∷◌, Option, Some, None, Bool, Result, Ok, Err, is_ok, refl, ap, sym, ◌∙◌, option_map}
 use Rattle.std.specs.Prelude.{slice_get, slice_set}
 use Rattle.grain_value.specs.Tree.{Tree}
 use Rattle.grain_value.specs.declared.values.Dynamic.{Dynamic}
 use Rattle.grain_value.specs.declared.values.Held.{Held}
 use Rattle.grain_value.specs.View.{tree, value_of}
 use Rattle.grain_value.specs.laws.Same.{tree-value_of, value_of-tree}
-use Rattle.grain_value.specs.Paths.{at, child, set_child, Leads, put_value}
+use Rattle.grain_value.specs.Paths.{at, Leads}
 use Rattle.grain_value.specs.Paths.{put as put_tree}
 use Rattle.grain_value.specs.declared.values.paths.PathStep.{PathStep}
 use Rattle.grain_value.specs.declared.values.value_faults.ValueFault.{ValueFault}
-use Rattle.grain_value.specs.laws.PathSteps.{at-step, put-step, leads-found}
 use Rattle.grain_value.specs.laws.PathLaws.{at-put, put-put, put-at}
 use Rattle.grain_means.specs.Worlds.{Place}
-use Rattle.grain_means.specs.Places.{or_unit, reached, along, find, look, put, put_held}
+use Rattle.grain_means.specs.Places.{or_unit, reached, along, find, put, put_held}
 
 none-some : {A B : Type 0} (a : A) → None ≡ Some a → B
 none-some a e = cc
