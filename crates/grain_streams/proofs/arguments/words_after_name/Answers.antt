@@ -3,7 +3,7 @@ use Rattle.std.proofs.IntoIterSteps.{All-taken}
 use Rattle.std.proofs.lemmas.Result.{IfOk-weaker}
 use Rattle.std.specs.Option.{IsSome, option_to_list}
 use Rattle.std.specs.Vec.Iter.{into_iter_items, into_iter_len}
-use Rattle.grain_streams.proofs.program.words_after_name.Goals as goal
+use Rattle.grain_streams.proofs.arguments.words_after_name.Goals as goal
 
 -- what is left behind a first item that was taken
 behind : {X : Type 0} (first : Option X) (all left : List X) → all ≡ option_to_list first ++ left →
