@@ -56,7 +56,7 @@ one_held (kinds.Code width position) w l rest a low more =
           IsSome (found a (code_at w width position l ∷ rest))
       at (inl h) =
           let yes = own a (code_at w width position l) low h in
-          rw yes tt
+          rw yes refl
       at (inr h) =
           let misses = past a (code_at w width position l) h in
           rw misses (more h)
@@ -134,15 +134,17 @@ goto_more a n (Ok code) h =
     omega (arith, length-append (to_le_bytes w32 a) code, four, h)
 goto_more a n (Err e) h = tt
 
+goto_there : (line n : ℕ) (o : Option ℕ) (r : Result (List ℕ) BadLine) → HasLength n r →
+    HasLength (4 + n) (and_then (present (Statements.bad_line line UnknownLabel) o)
+    (λ a. and_then r (λ code. Ok (to_le_bytes w32 a ++ code))))
+goto_there line n None r h = tt
+goto_there line n (Some a) r h = goto_more a n r h
+
 sized : (ls : List (List ℕ × ℕ)) (ps : List Piece) → HasLength (width ps) (code_of ls ps)
 sized ls [] = refl
 sized ls (Byte b ∷ ps) = byte_more b (width ps) (code_of ls ps) (sized ls ps)
-sized ls (Goto line label ∷ ps) = at (label_address label ls) where
-  at : (o : Option ℕ) → HasLength (4 + width ps)
-      (and_then (present (Statements.bad_line line UnknownLabel) o)
-      (λ a. and_then (code_of ls ps) (λ code. Ok (to_le_bytes w32 a ++ code))))
-  at None = tt
-  at (Some a) = goto_more a (width ps) (code_of ls ps) (sized ls ps)
+sized ls (Goto line label ∷ ps) =
+    goto_there line (width ps) (label_address label ls) (code_of ls ps) (sized ls ps)
 
 finished : (n : ℕ) (at : Section) (r : Result ListingView BadLine) (s : ListingView) →
     complete n at r ≡ Ok s → r ≡ Ok s

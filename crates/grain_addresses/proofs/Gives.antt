@@ -210,8 +210,11 @@ number_leaves cs = at (next_word cs) (λ a e. word_left cs a e) where
   at None left = tt
   at (Some a) left = within a.1 (number 255 a.0) (sym (left a refl))
 
+abbrev byte_with : ℕ → Result (Option Position) Reason → Result (ℕ × Option Position) Reason
+byte_with b r = and_then r (λ p. Ok (b, p))
+
 byte_at : (b : ℕ) (r : Result (Option Position) Reason) →
-    Gives (kinds.Code 1 (position_or_none r)) (and_then (and_then r (λ p. Ok (b, p)))
+    Gives (kinds.Code 1 (position_or_none r)) (and_then (byte_with b r)
     (λ x. Ok (code_line (Byte x.0) [] x.1)))
 byte_at b (Ok p) = refl
 byte_at b (Err e) = tt
@@ -222,11 +225,11 @@ byte_gives : (cs : List ℕ) →
 byte_gives cs = at (number_operand 255 cs) (number_leaves cs) where
   at : (r : Result (ℕ × List ℕ) Reason) → Leaves (after_word cs) r →
       Gives (kinds.Code 1 (position_or_none (position_after (after_word cs))))
-      (and_then (and_then r (λ a. and_then (position_after a.1) (λ p. Ok (a.0, p))))
+      (and_then (and_then r (λ a. byte_with a.0 (position_after a.1)))
       (λ x. Ok (code_line (Byte x.0) [] x.1)))
   at (Ok a) left = subst (λ (rest : List ℕ).
       Gives (kinds.Code 1 (position_or_none (position_after rest)))
-      (and_then (and_then (position_after a.1) (λ p. Ok (a.0, p)))
+      (and_then (byte_with a.0 (position_after a.1))
       (λ x. Ok (code_line (Byte x.0) [] x.1)))) left (byte_at a.0 (position_after a.1))
   at (Err e) left = tt
 

@@ -5,3 +5,4 @@ pub mod Cuts
 pub mod Readings
 pub mod Due
 pub mod Covered
+pub mod Joined

@@ -31,13 +31,13 @@ IsDue None qs status text =
 -- how a call with addresses, or with none, ends
 pub data Answered (qs : List Query) (source sink : Stream) : ℕ → Type 0 where
   -- the text that is due is written, and nothing else
-  wrote : {status : ℕ} {text : List ℕ} → IsDue source.before qs status text →
+  wrote : {status : ℕ} (text : List ℕ) → IsDue source.before qs status text →
       sink.now ≡ added text sink.before → Answered qs source sink status
   -- the source failed: its count rose, and nothing is written
   source_failed : Rose source.faults_before source.faults_now → sink.now ≡ sink.before →
       Answered qs source sink 5
   -- the sink failed: its count rose, and a part of the text that is due is written
-  sink_failed : {status : ℕ} {text : List ℕ} → IsDue source.before qs status text →
+  sink_failed : (status : ℕ) (text : List ℕ) → IsDue source.before qs status text →
       PartAdded text sink.before sink.now → Rose sink.faults_before sink.faults_now →
       Answered qs source sink 6
   -- memory was out, and nothing is written

@@ -10,15 +10,17 @@ number_in w = number (2 ^ 32 - 1) w
 abbrev pub bare : ℕ → Query
 bare a = record { address = a; slot = None }
 
-abbrev pub with_slot : ℕ → ℕ → Query
-with_slot a s = record { address = a; slot = Some s }
+abbrev pub both : Option ℕ → Option ℕ → Option Query
+both (Some a) (Some s) = Some (record { address = a; slot = Some s })
+both a s = None
+
+abbrev pub slotted : List ℕ → List ℕ → Option Query
+slotted v w = both (number_in v) (number_in w)
 
 -- a number, or two with a colon between them
 abbrev pub query_around : List ℕ → Option ℕ → Option Query
 query_around w None = option_map bare (number_in w)
-query_around w (Some colon) =
-    option_and_then (λ a. option_map (with_slot a) (number_in (drop (colon + 1) w)))
-    (number_in (take colon w))
+query_around w (Some colon) = slotted (take colon w) (drop (colon + 1) w)
 
 abbrev pub query_in : List ℕ → Option Query
 query_in w = query_around w (position (λ c. c == 58) w)

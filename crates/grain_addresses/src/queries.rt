@@ -1,8 +1,7 @@
 //! What is asked: addresses, as a trace has them.
 
-ghost use Rattle.std.specs.Prelude.{◌≡◌, ◌^◌, ◌-◌, IfOk, map, option_map, string_bytes};
-ghost use Rattle.grain_words.specs.Numerals.{number};
-ghost use Rattle.grain_addresses.specs.Queries.{query_in, query_of, queries_of};
+ghost use Rattle.std.specs.Prelude.{◌≡◌, ◌==◌, ◌<◌, IfOk, IfSome, length, map, option_map, position, string_bytes};
+ghost use Rattle.grain_addresses.specs.Queries.{number_in, bare, slotted, query_in, query_of, queries_of};
 
 use grain_value::OutOfMemory;
 use grain_words::number;
@@ -17,33 +16,56 @@ pub struct Query {
 
 /// The number of 32 bits that the word says.
 fn number_in(word: &[char]) -> Option<u32>
-    ensures { result ≡ number (2 ^ 32 - 1) word.now }
+    ensures { result ≡ number_in word.now }
 {
     let number = number(u32::MAX as u64, word)?;
     Some(number as u32)
+}
+
+/// Where the first colon stands.
+fn colon_in(word: &[char]) -> Option<usize>
+    ensures first { result ≡ position (λ c. c == 58) word.now }
+    ensures within { IfSome result (λ i. i < length word.now) }
+{
+    word.iter().position(|c| *c == ':')
+}
+
+/// An address alone.
+fn bare_query(word: &[char]) -> Option<Query>
+    ensures { result ≡ option_map bare (number_in word.now) }
+{
+    match number_in(word) {
+        None => None,
+        Some(address) => Some(Query {
+            address,
+            slot: None,
+        }),
+    }
+}
+
+/// An address, and a slot.
+fn query_with_slot(address: &[char], slot: &[char]) -> Option<Query>
+    ensures { result ≡ slotted address.now slot.now }
+{
+    match (number_in(address), number_in(slot)) {
+        (Some(address), Some(slot)) => Some(Query {
+            address,
+            slot: Some(slot),
+        }),
+        _ => None,
+    }
 }
 
 /// What the word asks for: a number, or two with a colon between them.
 fn query_in(word: &[char]) -> Option<Query>
     ensures { result ≡ query_in word.now }
 {
-    match word.iter().position(|c| *c == ':') {
-        None => {
-            let address = number_in(word)?;
-            Some(Query {
-                address,
-                slot: None,
-            })
-        }
+    match colon_in(word) {
+        None => bare_query(word),
         Some(colon) => {
-            let (before, _) = word.split_at(colon);
-            let (_, after) = word.split_at(colon + 1);
-            let address = number_in(before)?;
-            let slot = number_in(after)?;
-            Some(Query {
-                address,
-                slot: Some(slot),
-            })
+            let (address, _) = word.split_at(colon);
+            let (_, slot) = word.split_at(colon + 1);
+            query_with_slot(address, slot)
         }
     }
 }

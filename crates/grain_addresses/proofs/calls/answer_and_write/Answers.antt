@@ -13,10 +13,11 @@ pub returns-in-Ok-write_all-clause-answered : goal.returns-in-Ok-write_all-claus
 returns-in-Ok-write_all-clause-answered g c =
     let due = rw c.in-Ok-answered.is at c.in-Ok.ensures.due in
     let text : c.as_bytes.result.now ≡ c.in-Ok-answered.reply.text = search rules in
-    wrote due (rw text at c.in-Ok-write_all.ensures.whole)
+    wrote c.in-Ok-answered.reply.text due (rw text at c.in-Ok-write_all.ensures.whole)
 
 pub returns-clause-answered : goal.returns-clause-answered
 returns-clause-answered g c =
     let due = rw c.in-Ok-answered.is at c.in-Ok.ensures.due in
     let text : c.as_bytes.result.now ≡ c.in-Ok-answered.reply.text = search rules in
-    sink_failed due (rw text at c.in-Err-write_all.ensures.part) c.in-Err-write_all.ensures.failed
+    sink_failed c.in-Ok-answered.reply.status c.in-Ok-answered.reply.text due
+    (rw text at c.in-Err-write_all.ensures.part) c.in-Err-write_all.ensures.failed
