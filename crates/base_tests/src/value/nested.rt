@@ -1,5 +1,6 @@
 //! How deep values nest.
 
+use super::paths::replaced_at;
 use crate::made::quoted;
 use grain_value::{
     Array, Dynamic, MOST_LEVELS, Map, OutOfMemory, Path, PathStep, Store, Text, calc_data_sizes,
@@ -54,7 +55,7 @@ fn what_is_put_inside_nests_twice_as_deep_and_is_not_copied(rt: HostRuntime) {
     let mut value = nested(alloc, MOST_LEVELS).expect(&rt, "memory");
     let path = first_of_first(alloc, MOST_LEVELS).expect(&rt, "memory");
     let inner = nested(alloc, MOST_LEVELS).expect(&rt, "memory");
-    drop(value.put_at(&path, inner));
+    drop(replaced_at(&rt, alloc, &mut value, &path, inner));
     let text = quoted(&rt, alloc, &value);
     assert!(rt; text.len() == 4 * MOST_LEVELS + 2);
     let sizes = calc_data_sizes(&value, &Store::new(alloc));

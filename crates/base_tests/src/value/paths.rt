@@ -25,6 +25,28 @@ fn path(alloc: Global, first: usize, key: &str, last: usize) -> Result<Path, Out
     Ok(path)
 }
 
+/// Takes what stands at the end of a path, which has to lead there.
+fn taken_at(rt: &impl Abort, alloc: Global, value: &mut Dynamic, path: &Path) -> Dynamic {
+    match value.read_at(alloc, path) {
+        Ok(_) => value.take_at(path),
+        Err(_) => panic!(rt; "the path leads nowhere"),
+    }
+}
+
+/// Puts a value at the end of a path, which has to lead there.
+pub(super) fn replaced_at(
+    rt: &impl Abort,
+    alloc: Global,
+    value: &mut Dynamic,
+    path: &Path,
+    new: Dynamic,
+) -> Dynamic {
+    match value.read_at(alloc, path) {
+        Ok(_) => value.put_at(path, new),
+        Err(_) => panic!(rt; "the path leads nowhere"),
+    }
+}
+
 fn is_written(
     rt: &impl Abort,
     alloc: Global,
@@ -84,10 +106,12 @@ fn a_path_that_leads_nowhere_says_why(rt: HostRuntime) -> Result<(), OutOfMemory
 fn values_are_taken_and_put_at_a_path(rt: HostRuntime) -> Result<(), OutOfMemory> {
     let alloc = rt.alloc();
     let mut value = nested(alloc)?;
-    let taken = value.take_at(&path(alloc, 1, "k", 0)?);
+    let path = path(alloc, 1, "k", 0)?;
+    let taken = taken_at(&rt, alloc, &mut value, &path);
     is_written(&rt, alloc, &taken, "2")?;
     is_written(&rt, alloc, &value, "[1, #{\"k\": [()]}]")?;
-    drop(value.put_at(&path(alloc, 1, "k", 0)?, nested(alloc)?));
+    let inner = nested(alloc)?;
+    drop(replaced_at(&rt, alloc, &mut value, &path, inner));
     is_written(&rt, alloc, &value, "[1, #{\"k\": [[1, #{\"k\": [2]}]]}]")
 }
 
