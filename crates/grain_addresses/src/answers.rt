@@ -138,10 +138,10 @@ pub fn explain(alloc: Global, bytes: &[u8], queries: &[Query]) -> Result<Reply, 
 {
     match read(alloc, bytes)? {
         Err(bad) => no_listing(alloc, bad),
-        Ok(setup) => {
+        Ok(listing) => {
             let text = characters(alloc, bytes)?;
             let places = walked(alloc, text.as_slice())?;
-            told(alloc, &setup.parts, places.as_slice(), queries)
+            told(alloc, &listing.parts, places.as_slice(), queries)
         }
     }
 }

@@ -1,7 +1,7 @@
 use Rattle.std.proofs.Common.{◌≡◌, rules, sym, subst, ◌∙◌, IfOk, List, ℕ, Ok, chars}
 use Rattle.grain_words.specs.Lines.{lines_of}
 use Rattle.grain_listing.specs.Reading.{reads}
-use Rattle.grain_listing.specs.SetUpView.{set_up_of}
+use Rattle.grain_listing.specs.ListingViews.{set_up_of}
 use Rattle.grain_addresses.specs.Places.{Place}
 use Rattle.grain_addresses.specs.Walks.{start, walked}
 use Rattle.grain_addresses.specs.Finding.{IsTiled}
@@ -11,8 +11,8 @@ use Rattle.grain_addresses.proofs.answers.explain.Goals as goal
 
 pub characters-requires : goal.characters-requires
 characters-requires c =
-    let is : reads c.args.bytes.now ≡ Ok (set_up_of c.in-Ok.setup) = search rules in
-    is_text c.args.bytes.now (set_up_of c.in-Ok.setup) is
+    let is : reads c.args.bytes.now ≡ Ok (set_up_of c.in-Ok.listing) = search rules in
+    is_text c.args.bytes.now (set_up_of c.in-Ok.listing) is
 
 pub told-requires : goal.told-requires
 told-requires c =
@@ -23,22 +23,22 @@ told-requires c =
 
 pub returns-in_ok-places-in-Ok-clause-status : goal.returns-in_ok-places-in-Ok-clause-status
 returns-in_ok-places-in-Ok-clause-status c =
-    let is : reads c.args.bytes.now ≡ Ok (set_up_of c.in-Ok.setup) = search rules in
+    let is : reads c.args.bytes.now ≡ Ok (set_up_of c.in-Ok.listing) = search rules in
     let text : c.as_slice.result.now ≡ chars c.args.bytes.now =
     c.as_slice.ensures.value ∙ c.in_ok-text-in-Ok.ensures.chars in
     let places : c.as_slice-in-Ok.result.now ≡ walked start (lines_of c.as_slice.result.now) =
     c.as_slice-in-Ok.ensures.value ∙ c.in_ok-places-in-Ok.ensures in
     subst (λ (n : ℕ). IfOk c.told.result (λ r. r.status ≡ n))
-    (told_status c.args.bytes.now c.as_slice.result.now (set_up_of c.in-Ok.setup)
+    (told_status c.args.bytes.now c.as_slice.result.now (set_up_of c.in-Ok.listing)
     c.as_slice-in-Ok.result.now c.args.queries.now is text places) c.told.ensures.status
 
 pub returns-in_ok-places-in-Ok-clause-text : goal.returns-in_ok-places-in-Ok-clause-text
 returns-in_ok-places-in-Ok-clause-text c =
-    let is : reads c.args.bytes.now ≡ Ok (set_up_of c.in-Ok.setup) = search rules in
+    let is : reads c.args.bytes.now ≡ Ok (set_up_of c.in-Ok.listing) = search rules in
     let text : c.as_slice.result.now ≡ chars c.args.bytes.now =
     c.as_slice.ensures.value ∙ c.in_ok-text-in-Ok.ensures.chars in
     let places : c.as_slice-in-Ok.result.now ≡ walked start (lines_of c.as_slice.result.now) =
     c.as_slice-in-Ok.ensures.value ∙ c.in_ok-places-in-Ok.ensures in
     subst (λ (t : List ℕ). IfOk c.told.result (λ r. r.text ≡ t))
-    (told_text c.args.bytes.now c.as_slice.result.now (set_up_of c.in-Ok.setup)
+    (told_text c.args.bytes.now c.as_slice.result.now (set_up_of c.in-Ok.listing)
     c.as_slice-in-Ok.result.now c.args.queries.now is text places) c.told.ensures.text
