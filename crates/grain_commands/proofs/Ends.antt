@@ -42,8 +42,10 @@ EndsAs finish printed trace cells = (a : Answer) → ((finish a).answer ≡ a) �
 
 -- an engine whose flag is written
 pub engine_is : (e : Engine) (l : Limits) (fast : Bool) → e.limits ≡ l →
-    record e { fast_operators = fast } ≡ engine_of l fast
-engine_is e l fast limits = ap (λ (x : Limits). engine_of x fast) limits
+    e.strict_properties ≡ false → record e { fast_operators = fast } ≡ engine_of l fast
+engine_is e l fast limits lax =
+    ap (λ (x : Limits). record (engine_of x fast) { strict_properties = e.strict_properties }) limits ∙
+    ap (λ (b : Bool). record (engine_of l fast) { strict_properties = b }) lax
 
 pub begin_is : (scope : List Entry) (cells : List Cell) (host : TableHost) (m : VmView)
     (e : Engine) → cells ≡ [] →

@@ -13,7 +13,8 @@ returns-in-Ok g c =
     let first : Begin TableHost = start c.args.scope c.args.host in
     let written : Engine = record c.new-engine.result { fast_operators = c.args.fast_operators } in
     let engine : c.in_ok-vm.vm.engine ≡ under = ap (λ m. m.engine) c.in_ok-vm.ensures ∙
-    engine_is c.new-engine.result c.args.limits c.args.fast_operators c.new-engine.ensures.limits in
+    engine_is c.new-engine.result c.args.limits c.args.fast_operators c.new-engine.ensures.limits
+    c.new-engine.ensures.properties in
     let begun : begin c.args.scope c.new-cells.result c.args.host c.in_ok-vm.vm.global ≡ first =
     begin_is c.args.scope c.new-cells.result c.args.host c.in_ok-vm.vm written c.new-cells.ensures
     c.in_ok-vm.ensures in
@@ -34,7 +35,8 @@ returns g c =
     let first : Begin TableHost = start c.args.scope c.args.host in
     let written : Engine = record c.new-engine.result { fast_operators = c.args.fast_operators } in
     let engine : c.in_ok-vm.vm.engine ≡ under = ap (λ m. m.engine) c.in_ok-vm.ensures ∙
-    engine_is c.new-engine.result c.args.limits c.args.fast_operators c.new-engine.ensures.limits in
+    engine_is c.new-engine.result c.args.limits c.args.fast_operators c.new-engine.ensures.limits
+    c.new-engine.ensures.properties in
     let begun : begin c.args.scope c.new-cells.result c.args.host c.in_ok-vm.vm.global ≡ first =
     begin_is c.args.scope c.new-cells.result c.args.host c.in_ok-vm.vm written c.new-cells.ensures
     c.in_ok-vm.ensures in
