@@ -1,5 +1,5 @@
 -- A call of the machine, as the end that the program means.
-use Rattle.std.proofs.Common.{◌≡◌, ◌≢◌, ◌++◌, ℕ, Bool, List, [], Result, Ok, Err, IfOk, refl, ap, ◌∙◌}
+use Rattle.std.proofs.Common.{◌≡◌, ◌≢◌, ◌++◌, ℕ, Bool, false, List, [], Result, Ok, Err, IfOk, refl, ap, ◌∙◌}
 use Rattle.grain_value.specs.declared.memory.OutOfMemory.{OutOfMemory}
 use Rattle.grain_value.specs.declared.values.Dynamic.{Dynamic}
 use Rattle.grain_value.specs.declared.values.Limits.{Limits}
