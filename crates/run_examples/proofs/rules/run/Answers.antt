@@ -1,4 +1,4 @@
-use Rattle.std.proofs.Common.{◌≡◌, ◌∙◌, ℕ, Bool, List, [], Result, ap}
+use Rattle.std.proofs.Common.{◌≡◌, ◌∙◌, ℕ, Bool, false, List, [], Result, ap}
 use Rattle.grain_value.specs.declared.values.Dynamic.{Dynamic}
 use Rattle.grain_value.specs.declared.values.Limits.{Limits}
 use Rattle.grain_value.specs.declared.scopes.Entry.{Entry}
@@ -16,8 +16,10 @@ use Rattle.run_examples.proofs.rules.run.Goals as goal
 
 -- an engine whose flag is written
 engine_is : (e : Engine) (l : Limits) (fast : Bool) → e.limits ≡ l →
-    record e { fast_operators = fast } ≡ engine_of l fast
-engine_is e l fast limits = ap (λ (x : Limits). engine_of x fast) limits
+    e.strict_properties ≡ false → record e { fast_operators = fast } ≡ engine_of l fast
+engine_is e l fast limits lax =
+    ap (λ (x : Limits). record (engine_of x fast) { strict_properties = e.strict_properties }) limits ∙
+    ap (λ (b : Bool). record (engine_of l fast) { strict_properties = b }) lax
 
 begin_is : {S : Type 0} (scope : List Entry) (cells : List Cell) (host : S) (m : VmView)
     (e : Engine) → cells ≡ [] →
@@ -47,7 +49,7 @@ returns g c =
     let written : Engine = record c.new-engine.result { fast_operators = c.args.fast_operators } in
     let engine = ap (λ (m : VmView). m.engine) c.in_ok-vm.ensures ∙
     engine_is c.new-engine.result c.args.limits c.args.fast_operators
-    c.new-engine.ensures.limits in
+    c.new-engine.ensures.limits c.new-engine.ensures.properties in
     let begun =
     begin_is c.args.scope.now c.new-cells.result c.args.host.now vm written c.new-cells.ensures
     c.in_ok-vm.ensures in
