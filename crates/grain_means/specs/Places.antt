@@ -1,5 +1,5 @@
 -- Where a value stands among numbered roots, and what is read and put there.
-use Rattle.std.specs.Prelude.{List, Option, Some, None, Result, Ok, Err, option_map, slice_get, slice_set}
+use Rattle.std.specs.Prelude.{suc, List, [], ◌∷◌, ◌++◌, Option, Some, None, Result, Ok, Err, option_map, slice_get, slice_set}
 use Rattle.grain_value.specs.Tree.{Tree}
 use Rattle.grain_value.specs.View.{tree, value_of}
 use Rattle.grain_value.specs.Operands.{read_write}
@@ -38,3 +38,11 @@ put_held path v h = record h { value = put_value path v h.value }
 -- the roots, with a value at a place
 abbrev pub put : List Held → Place → Dynamic → List Held
 put roots p v = slice_set roots p.root (put_held p.path v (or_unit (slice_get roots p.root)))
+
+-- one step further down
+abbrev pub deeper : Place → PathStep → Place
+deeper p s = record p { path = p.path ++ s ∷ [] }
+
+-- the whole of the root after that of a place
+abbrev pub next_root : Place → Place
+next_root p = record { root = suc p.root; path = [] }
