@@ -8,7 +8,7 @@ use Rattle.grain_fault.specs.Problems.{FaultKind, Malformed, Runtime, Terminated
 use Rattle.grain_program.specs.Typing.{IsProgram}
 use Rattle.grain_means.specs.Worlds.{Act, Go, End, Then, Answer, Failed, World, Setup, Frame, Handler, Todo, InFrame, InCatch}
 use Rattle.grain_means.specs.Rules.{if_armed, kind_throws_unit, outer_handlers, position, throws_unit, thrown_anew}
-use Rattle.grain_means.specs.Comes.{ProgramPoint, CatchPoint, Comes, ComesToCatch, Meets, try_of, tries}
+use Rattle.grain_means.specs.Comes.{ProgramPoint, CatchPoint, Comes, ComesToCatch, BlamesNone, Meets, try_of, tries}
 use Rattle.grain_means.specs.Leavings.{Keeps, Cuts}
 use Rattle.grain_means.specs.Causes.{HasPosition, Why, Throws, Raises, Tells, ThrowsUnit, HaveCaughtUnit, Raised, Row, FailsToCatch, CatchRow, Caused, ThrowsUnitAt}
 use Rattle.grain_means.proofs.Moving.{placed_twice, unit_anywhere, unit_placed}
@@ -47,10 +47,10 @@ Guarded m root k [] = Unit {0}
 Guarded m root k (h ∷ hs) =
     (k.base ≤ h.scope) × HasCaught m root k.level h h.caught × Guarded m root k hs
 
--- a frame on this footing, which in a valid program fits
+-- a frame on this footing, which in a valid program fits, and blames no step
 abbrev pub Sits : {S : Type 0} → Setup S → Act S → Footing → Frame → Type 0
 Sits {S = S} m root k f = (f.base ≡ k.base) × (k.base ≤ f.floor) ×
-    (IsProgram m.program → Fitting m.program f) × Guarded m root k f.handlers
+    (IsProgram m.program → Fitting m.program f) × Guarded m root k f.handlers × BlamesNone f
 
 -- A frame on this footing, in which the handler catches the fault: the frame stood at an instruction
 -- that raised it.

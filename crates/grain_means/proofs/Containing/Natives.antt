@@ -18,13 +18,13 @@ use Rattle.grain_host.specs.Law.{Reply, call_bound, call_is_clean, is_plain, nat
 use Rattle.grain_host.specs.Law as reply
 use Rattle.grain_means.specs.Contained.{CellNames, Contained, Names, ProblemNames}
 use Rattle.grain_means.specs.Rules as rules
-use Rattle.grain_means.specs.Rules.{Receiver, back_in_cell, back_in_entry, cells_given_back, bound, first_is_read_only, given, given_back, held_at, lent_held, trees_in}
+use Rattle.grain_means.specs.Rules.{Home, InScope, AtPlace, Receiver, back_in_scope, back_in_cells, cells_given_back, roots_given_back, bound, first_is_read_only, given, given_back, lent_held, trees_in}
 use Rattle.grain_host.specs.Signatures.{not_found}
 use Rattle.grain_means.specs.Worlds.{Act, Frame, Setup, World}
 use Rattle.grain_means.proofs.Caught.{filled_names}
 use Rattle.grain_means.proofs.Footing.{by_test}
 use Rattle.grain_means.proofs.Naming.{all_set, PlainNames, plain_operands, plain_tree, plain_trees, set_names, trees_name}
-use Rattle.grain_means.proofs.Containing.Parts.{Arguments, FrameNames, none_missing, ReplyNames, ReceiverNames, LendsPlain, set_plain}
+use Rattle.grain_means.proofs.Containing.Parts.{Arguments, FrameNames, none_missing, ReplyNames, ReceiverNames, HoldsPlain, LendsPlain, set_plain}
 use Rattle.grain_means.proofs.Containing.Frames.{Grounds, At, Keeps, marks}
 
 module _ {S : Type 0} {m : Setup S} (on : Grounds m) where
@@ -114,26 +114,33 @@ module _ {S : Type 0} {m : Setup S} (on : Grounds m) where
         hands = after_hands key None args w at receiver given;
       }
       answers_at key (Some q) args w at receiver given =
-          by_cell q.cell (back_names key q args w at receiver given) where
+          by_home q.home (back_names key q args w at receiver given) where
             back : Held
             back = written m.law w.host key (trees_in args) q.held
 
-            by_cell : (c : Option ℕ) → PlainNames clean n back →
-                Contained m.law clean n (back_in_entry c q.index back w.scope)
-                (back_in_cell c back w.cells)
+            by_home : (h : Home) → PlainNames clean n back →
+                Contained m.law clean n (back_in_scope h back w.scope)
+                (back_in_cells h back w.cells)
                 (m.law.call_after w.host key (Some q.held) (trees_in args))
-            by_cell None held = record {
+            by_home (InScope index None) held = record {
               size = at.size;
-              entries = set_names clean n w.scope q.index back at.entries held.0;
+              entries = set_names clean n w.scope index back at.entries held.0;
               contents = at.contents;
               reaches = after_reaches key (Some q) args w at receiver given;
               hands = after_hands key (Some q) args w at receiver given;
             }
-            by_cell (Some i) held = record {
+            by_home (InScope index (Some i)) held = record {
               size = length-set w.cells i (idle back) ∙ at.size;
               entries = at.entries;
               contents = all_set (CellNames clean n) w.cells i (idle back) at.contents
                   (record { idle = refl; flat = held.1; names = held.0 });
+              reaches = after_reaches key (Some q) args w at receiver given;
+              hands = after_hands key (Some q) args w at receiver given;
+            }
+            by_home (AtPlace p) held = record {
+              size = at.size;
+              entries = at.entries;
+              contents = at.contents;
               reaches = after_reaches key (Some q) args w at receiver given;
               hands = after_hands key (Some q) args w at receiver given;
             }
@@ -144,15 +151,16 @@ module _ {S : Type 0} {m : Setup S} (on : Grounds m) where
           LendsPlain r (given_back m.law w.host key (trees_in args) r w.scope)
       lends_plain key None args w at receiver given = tt
       lends_plain key (Some q) args w at receiver given =
-          by_cell q.cell (back_names key q args w at receiver given).1 where
+          by_home q.home (back_names key q args w at receiver given).1 where
             back : Held
             back = written m.law w.host key (trees_in args) q.held
 
-            by_cell : (c : Option ℕ) → cell_of back.value ≡ None → c ≡ None → (h : Held) →
-                held_at (back_in_entry c q.index back w.scope) q.index ≡ Some h →
-                cell_of h.value ≡ None
-            by_cell None plain none h is = set_plain w.scope q.index back h plain is
-            by_cell (Some i) plain none h is = absurd cc
+            by_home : (h : Home) → cell_of back.value ≡ None →
+                HoldsPlain h (back_in_scope h back w.scope)
+            by_home (InScope index None) plain =
+                λ none h is. set_plain w.scope index back h plain is
+            by_home (InScope index (Some i)) plain = λ none h is. absurd cc
+            by_home (AtPlace p) plain = tt
 
       module _ (r : Option Receiver) (go : Dynamic → World S → Act S)
           (fails : Problem → World S → Act S)
@@ -175,6 +183,7 @@ module _ {S : Type 0} {m : Setup S} (on : Grounds m) where
               host = m.law.call_after v.host key (lent_held r) values;
               scope = given_back m.law v.host key values r v.scope;
               cells = cells_given_back m.law v.host key values r v.cells;
+              roots = roots_given_back m.law v.host key values r v.roots;
             } in
             marks on n low f w (λ w1. rules.marked m f (back w1) (λ w2. rules.answered m
             (m.law.call_reply w1.host key (lent_held r) values) f w2 go fails)) at

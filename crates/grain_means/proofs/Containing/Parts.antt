@@ -16,7 +16,7 @@ use Rattle.grain_fault.specs.Problems.{Problem, Plain, InFunctionCall, InModule,
 use Rattle.grain_fault.specs.declared.places.Position.{Position}
 use Rattle.grain_host.specs.Law.{Reply, Verdict, reply_bound, reply_is_clean, verdict_bound, verdict_is_clean}
 use Rattle.grain_means.specs.Contained.{CellNames, HeldNames, Names, ProblemNames}
-use Rattle.grain_means.specs.Rules.{Receiver, bound, held_at}
+use Rattle.grain_means.specs.Rules.{Home, InScope, AtPlace, Receiver, bound, held_at}
 use Rattle.grain_host.specs.Signatures.{index_text, not_found, signature_text, type_at, unknown_property, unwritable_property}
 use Rattle.grain_means.specs.Worlds.{Frame, Handler}
 use Rattle.grain_means.proofs.Caught.{first_names}
@@ -76,11 +76,15 @@ abbrev pub ReceiverNames : Bool → ℕ → Option Receiver → Type 0
 ReceiverNames clean n None = Unit {0}
 ReceiverNames clean n (Some q) = PlainNames clean n q.held
 
--- the entry that it is lent, if that is no cell, holds none
+-- the entry that it is lent, if it is lent one and that is no cell, holds none
+abbrev pub HoldsPlain : Home → List Entry → Type 0
+HoldsPlain (InScope i cell) scope =
+    cell ≡ None → (h : Held) → held_at scope i ≡ Some h → cell_of h.value ≡ None
+HoldsPlain (AtPlace p) scope = Unit {0}
+
 abbrev pub LendsPlain : Option Receiver → List Entry → Type 0
 LendsPlain None scope = Unit {0}
-LendsPlain (Some q) scope =
-    q.cell ≡ None → (h : Held) → held_at scope q.index ≡ Some h → cell_of h.value ≡ None
+LendsPlain (Some q) scope = HoldsPlain q.home scope
 
 pub set_plain : (scope : List Entry) (i : ℕ) (g h : Held) → cell_of g.value ≡ None →
     held_at (set_held scope i g) i ≡ Some h → cell_of h.value ≡ None

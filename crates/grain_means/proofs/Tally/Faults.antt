@@ -31,7 +31,7 @@ module _ {S : Type 0} {m : Setup S} (walk : Walk m) where
   -- the rules of an instruction that stands where the frame does
   module _ (o : Op) (width : ℕ) (stands : op_at m.program.code f.address ≡ Some (o, width)) where
     pub met : Meets m (point walk o) root
-    met = record { comes = comes; width = width; stands = stands }
+    met = record { comes = comes; blames = sits.4; width = width; stands = stands }
 
     -- why the instruction raises this fault
     pub why : (x : Problem) → HasPosition (position m f) x → Row m x (point walk o) → Reason walk x
@@ -157,6 +157,7 @@ module _ {S : Type 0} {m : Setup S} (walk : Walk m) where
           (ap (λ (how : Handling). handled how (length f.operands - takes_of o + gives_of o)
           (tries f.handlers)) (sym kept)),
       sits.3,
+      sits.4,
     )
 
     pub even_on : (g : Frame) → g.floor ≡ f.floor → Sits m root k g →

@@ -73,31 +73,31 @@ module _ {S : Type 0} {m : Setup S} (walk : Walk m) where
   -- a fault leaves the frame, at its own floor or at that of a checkpoint that is done
   even_left_at : (g : Frame) (r : ℕ) (x : Problem) (w : World S) → g.address ≡ f.address →
       FloorFor x g.floor → k.base ≤ g.floor → Steady r w → Caused m root k.level (Failed x) w →
-      Even r (leave_by_fault m None g x w)
+      Even r (leave_by_fault m g x w)
   even_left_at g r x w same floor low s cause =
       let cut : Cut m root k.level k.base x (take g.floor w.scope)
-      (w.trace ++ record { address = g.address; slot = None } ∷ []) = record {
+      (w.trace ++ record { address = g.address; slot = g.slot } ∷ []) = record {
         frame = f;
         world = now;
         comes = comes;
         own = level;
         based = sits.0;
         inner = w.trace;
-        slot = None;
+        slot = g.slot;
         last = rw same refl;
         short = short x g.floor (take g.floor w.scope) floor (cut_short g.floor w.scope);
       } in
       (s.0, s.1, s.2, keeps_cut k.base g.floor k.names w.scope low s.3, inl cut, cause)
 
   even_left : (r : ℕ) (x : Problem) (w : World S) → Steady r w →
-      Caused m root k.level (Failed x) w → Even r (leave_by_fault m None f x w)
+      Caused m root k.level (Failed x) w → Even r (leave_by_fault m f x w)
   even_left r x w s cause = even_left_at f r x w refl (inl refl) sits.1 s cause
 
   even_marked_at : (g : Frame) (r : ℕ) (w : World S) → g.address ≡ f.address → Floor g.floor →
       k.base ≤ g.floor → Steady r w → (go : World S → Act S) →
       Even r (go (record w { passed = w.passed + 1 })) → Even r (marked m g w go)
   even_marked_at g r w same floor low s go h =
-      by_test (Even r) (is_stop m.stop w.passed) (leave_by_fault m None g NoMemory w)
+      by_test (Even r) (is_stop m.stop w.passed) (leave_by_fault m g NoMemory w)
       (go (record w { passed = w.passed + 1 }))
       (λ stop. even_left_at g r NoMemory w same (out_of_memory g.floor floor) low s
       (inl (refl, stop))) (λ _. h)
@@ -140,10 +140,10 @@ module _ {S : Type 0} {m : Setup S} (walk : Walk m) where
       let around : Frame = record (holding operands) { handlers = hs } in
       by_arming m (Even r) h.caught
       (if catchable x then Go (InCatch around h x) w
-      else leave_by_fault m None (holding operands) x w)
+      else leave_by_fault m (holding operands) x w)
       (λ y. offered_to m hs (holding operands) (thrown_anew y x) w)
       (λ none. by_test (Even r) (catchable x) (Go (InCatch around h x) w)
-      (leave_by_fault m None (holding operands) x w)
+      (leave_by_fault m (holding operands) x w)
       (λ may. (
         s.0,
         s.1,
