@@ -57,6 +57,13 @@ module _ (N : ℕ) (assigns : Bool) where
   Goes next = (j : ℕ) (q : Place) (done : Rest) → suc q.root ≡ j → Follows j done →
       AllEnds P j (next q done)
 
+  -- only a chain that does not assign reads where its steps end
+  abbrev Fits : Role → Type 0
+  Fits Reads = assigns ≡ false
+  Fits Passes = Unit {0}
+  Fits (Writes v) = Unit {0}
+  Fits (Operates v a) = Unit {0}
+
   by : (b : Bool) (j : ℕ) (x y : Task) → AllEnds P j x → AllEnds P j y →
       AllEnds P j (if b then x else y)
   by true j x y h i = h
@@ -206,12 +213,11 @@ module _ (N : ℕ) (assigns : Bool) where
       roots o h next on j p done is f =
           (f (Ill n NoMemory) low, on (suc j) (next_root p) (walks.back g n o p done) (ap suc is) (goes_back j o p done is f))
 
-      into_answer : (q : Position) (own : Bool) (o : Origin) (next : Next) → Goes next → (j : ℕ)
+      into_answer : (q : Position) (o : Origin) (next : Next) → Goes next → (j : ℕ)
           (p : Place) (done : Rest) → suc p.root ≡ j → Follows j done → (v : Dynamic) →
-          AllEnds P j (walks.into_answer g n q own o next p done v)
-      into_answer q own o next on j p done is f v =
-          by own j _ _ (roots o (read_write v) next on j p done is f)
-          (reads j q v done _ f (λ u. roots o (read_write u) next on j p done is f))
+          AllEnds P j (walks.into_answer g n q o next p done v)
+      into_answer q o next on j p done is f v =
+          reads j q v done _ f (λ u. roots o (read_write u) next on j p done is f)
 
       -- the steps
       missing_key : (q : Position) (o : Origin) (role : Role) (k : List ℕ) (h : Held) (next : Next) →
@@ -221,58 +227,62 @@ module _ (N : ℕ) (assigns : Bool) where
           (by g.engine.strict_properties j _ _ (fails j _ done f)
           (roots o (record h { value = dynamic.Unit }) next on j p done is f))
 
-      by_indexer : (q bracket : Position) (role : Role) (i : Dynamic) (next : Next) → Goes next →
-          Goes (walks.by_indexer g n q bracket role i next)
-      by_indexer q bracket Passes i next on j p done is f =
-          (f (Ill n NoMemory) low, index_got j done _ f (into_answer q false (OfIndex i bracket) next on j p done is f))
-      by_indexer q bracket Reads i next on j p done is f =
-          (f (Ill n NoMemory) low, index_got j done _ f (into_answer q true (OfIndex i bracket) next on j p done is f))
-      by_indexer q bracket (Writes v) i next on j p done is f =
+      own_value : (j : ℕ) (done : Rest) → Follows j done → assigns ≡ false → (v : Dynamic) →
+          AllEnds P j (walks.own_value done v)
+      own_value j done f none v = f (Well v false) (λ s. absurd cc)
+
+      by_indexer : (q bracket : Position) (role : Role) → Fits role → (i : Dynamic) (next : Next) →
+          Goes next → Goes (walks.by_indexer g n q bracket role i next)
+      by_indexer q bracket Passes fit i next on j p done is f =
+          (f (Ill n NoMemory) low, index_got j done _ f (into_answer q (OfIndex i bracket) next on j p done is f))
+      by_indexer q bracket Reads fit i next on j p done is f =
+          (f (Ill n NoMemory) low, index_got j done _ f (own_value j done f fit))
+      by_indexer q bracket (Writes v) fit i next on j p done is f =
           sets_index j bracket p i v dynamic.Unit done f (λ s. refl)
-      by_indexer q bracket (Operates v a) i next on j p done is f =
+      by_indexer q bracket (Operates v a) fit i next on j p done is f =
           (f (Ill n NoMemory) low, index_read j bracket p i v done _ f
-          (into_answer bracket false (OfIndex i bracket) (walks.operating g n bracket a v)
+          (into_answer bracket (OfIndex i bracket) (walks.operating g n bracket a v)
           (operates bracket a v) j p done is f))
 
-      indexed : (q bracket : Position) (role : Role) (i v : Dynamic) (h : Held) (next : Next) →
+      indexed : (q bracket : Position) (role : Role) → Fits role → (i v : Dynamic) (h : Held) (next : Next) →
           Goes next → (j : ℕ) (p : Place) (done : Rest) → suc p.root ≡ j → Follows j done →
           (r : Result Spot ValueFault) →
           AllEnds P j (walks.indexed g n q bracket role i v h next p done r)
-      indexed q bracket role i v h next on j p done is f (Ok (spot.Item k)) =
+      indexed q bracket role fit i v h next on j p done is f (Ok (spot.Item k)) =
           (f (Ill n NoMemory) low, on j _ done is f)
-      indexed q bracket role i v h next on j p done is f (Ok spot.Key) =
+      indexed q bracket role fit i v h next on j p done is f (Ok spot.Key) =
           (f (Ill n NoMemory) low, on j _ done is f)
-      indexed q bracket role i v h next on j p done is f (Ok s) =
+      indexed q bracket role fit i v h next on j p done is f (Ok s) =
           roots (origin_of_part role s) (record h { value = part h.value s }) next on j p done is f
-      indexed q bracket role i v h next on j p done is f (Err (fault.Bounds size k)) =
+      indexed q bracket role fit i v h next on j p done is f (Err (fault.Bounds size k)) =
           fails j _ done f
-      indexed q bracket role i v h next on j p done is f (Err fault.NoKey) =
+      indexed q bracket role fit i v h next on j p done is f (Err fault.NoKey) =
           missing_key q (OfIndex i bracket) role _ h next on j p done is f
-      indexed q bracket role i v h next on j p done is f (Err fault.WrongType) = fails j _ done f
-      indexed q bracket role i v h next on j p done is f (Err e) =
-          by_indexer q bracket role i next on j p done is f
+      indexed q bracket role fit i v h next on j p done is f (Err fault.WrongType) = fails j _ done f
+      indexed q bracket role fit i v h next on j p done is f (Err e) =
+          by_indexer q bracket role fit i next on j p done is f
 
-      index_step : (i : Dynamic) (q bracket : Position) (role : Role) (next : Next) → Goes next →
+      index_step : (i : Dynamic) (q bracket : Position) (role : Role) → Fits role → (next : Next) → Goes next →
           Goes (walks.index_step g n i q bracket role next)
-      index_step i q bracket role next on j p done is f = λ h.
+      index_step i q bracket role fit next on j p done is f = λ h.
           by (is_indexed h.value) j _ _
-          (reads j q i done _ f (λ v. indexed q bracket role i v h next on j p done is f
+          (reads j q i done _ f (λ v. indexed q bracket role fit i v h next on j p done is f
           (locate h.value v)))
-          (by_indexer q bracket role i next on j p done is f)
+          (by_indexer q bracket role fit i next on j p done is f)
 
-      by_accessor : (name getter setter : ℕ) (q : Position) (role : Role) (next : Next) → Goes next →
+      by_accessor : (name getter setter : ℕ) (q : Position) (role : Role) → Fits role → (next : Next) → Goes next →
           Goes (walks.by_accessor g n name getter setter q role next)
-      by_accessor name getter setter q Passes next on j p done is f =
+      by_accessor name getter setter q Passes fit next on j p done is f =
           gets_property j name getter q p done _ f
-          (into_answer q false (OfProperty name setter q false) next on j p done is f)
-      by_accessor name getter setter q Reads next on j p done is f =
+          (into_answer q (OfProperty name setter q false) next on j p done is f)
+      by_accessor name getter setter q Reads fit next on j p done is f =
           gets_property j name getter q p done _ f
-          (into_answer q true (OfProperty name setter q false) next on j p done is f)
-      by_accessor name getter setter q (Writes v) next on j p done is f =
+          (own_value j done f fit)
+      by_accessor name getter setter q (Writes v) fit next on j p done is f =
           sets_property j name setter q true p v dynamic.Unit done f (λ s. refl)
-      by_accessor name getter setter q (Operates v a) next on j p done is f =
+      by_accessor name getter setter q (Operates v a) fit next on j p done is f =
           gets_property j name getter q p done _ f
-          (into_answer q false (OfProperty name setter q true) (walks.operating g n q a v)
+          (into_answer q (OfProperty name setter q true) (walks.operating g n q a v)
           (operates q a v) j p done is f)
 
       at_key : (q : Position) (role : Role) (k : List ℕ) (h : Held) (next : Next) → Goes next →
@@ -282,15 +292,15 @@ module _ (N : ℕ) (assigns : Bool) where
       at_key q role k h next on j p done is f None =
           missing_key q OfNothing role k h next on j p done is f
 
-      property_of : (name getter setter : ℕ) (q : Position) (role : Role) (h : Held) (next : Next) →
+      property_of : (name getter setter : ℕ) (q : Position) (role : Role) → Fits role → (h : Held) (next : Next) →
           Goes next → (j : ℕ) (p : Place) (done : Rest) → suc p.root ≡ j → Follows j done →
           (d : Dynamic) →
           AllEnds P j (walks.property_of g n name getter setter q role h next p done d)
-      property_of name getter setter q role h next on j p done is f (dynamic.Map es) =
+      property_of name getter setter q role fit h next on j p done is f (dynamic.Map es) =
           at_key q role (name_of g.program name) h next on j p done is f
           (entry_at (name_of g.program name) es)
-      property_of name getter setter q role h next on j p done is f d =
-          by_accessor name getter setter q role next on j p done is f
+      property_of name getter setter q role fit h next on j p done is f d =
+          by_accessor name getter setter q role fit next on j p done is f
 
   unless : (b : Bool) (j : ℕ) (p : Place) (done : Rest) (go : Task) → Follows j done →
       AllEnds P j go → AllEnds P j (walks.unless_unit b p done go)
@@ -302,12 +312,12 @@ module _ (c : Course) where
   abbrev Even : ℕ → Next → Type 0
   Even N next = Goes N (is_some c.assigns) next
 
-  takes : (N n : ℕ) → n < N → (s : Step) (role : Role) (next : Next) → Even N next →
+  takes : (N n : ℕ) → n < N → (s : Step) (role : Role) → Fits N (is_some c.assigns) role → (next : Next) → Even N next →
       Even N (walks.taken c s n role next)
-  takes N n low (step.Index i flags q bracket) role next on =
-      index_step N (is_some c.assigns) n low c.setting (walks.operand c i) q bracket role next on
-  takes N n low (step.Property name getter setter flags q) role next on =
-      λ j p done is f h. property_of N (is_some c.assigns) n low c.setting name getter setter q role h
+  takes N n low (step.Index i flags q bracket) role fit next on =
+      index_step N (is_some c.assigns) n low c.setting (walks.operand c i) q bracket role fit next on
+  takes N n low (step.Property name getter setter flags q) role fit next on =
+      λ j p done is f h. property_of N (is_some c.assigns) n low c.setting name getter setter q role fit h
       next on j p done is f h.value
 
   ends : (N n : ℕ) → n < N → (v : Option Dynamic) (op : Option AssignOp) →
@@ -319,6 +329,16 @@ module _ (c : Course) where
   ends N n low (Some v) (Some a) j p done is f =
       operates N true n low c.setting c.setting.position a v j p done is f
 
+  last_fits : (N : ℕ) (v : Option Dynamic) (op : Option AssignOp) →
+      Fits N (is_some v) (role_at_end v op)
+  last_fits N None op = refl
+  last_fits N (Some v) None = tt
+  last_fits N (Some v) (Some a) = tt
+
+  fits : (N : ℕ) (steps : List Step) → Fits N (is_some c.assigns) (walks.role_before c steps)
+  fits N [] = last_fits N c.assigns c.operator
+  fits N (s ∷ steps) = tt
+
   walks_on : (N : ℕ) (steps : List Step) (n : ℕ) → n + length steps ≡ N → 0 < N →
       Even N (walks.walked c steps n)
   walks_on N [] n all some =
@@ -327,7 +347,7 @@ module _ (c : Course) where
       let low : n < N = omega (arith, all) in
       (f (Ill n NoMemory) low,
       unless N (is_some c.assigns) (skips s) j p done _ f
-      (takes N n low s (walks.role_before c steps) (walks.walked c steps (n + 1))
+      (takes N n low s (walks.role_before c steps) (fits N steps) (walks.walked c steps (n + 1))
       (walks_on N steps (n + 1) (omega (arith, all)) some) j p done is f))
 
   pub walk_ends : (steps : List Step) → 0 < length steps →

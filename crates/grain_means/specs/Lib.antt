@@ -7,6 +7,7 @@ pub mod Worlds
 pub mod Places
 pub mod Tasks
 pub mod Walks
+pub mod WalkEnds
 pub mod Rules
 pub mod Ends
 pub mod Length

@@ -1,6 +1,5 @@
 -- The walk of a chain along a place: one rule for each kind of step, and for what is done where the
--- steps lead. What stands inside an array or a map is no cell, and no root of a walk is one but an
--- answer that is the chain's own value.
+-- steps lead. What stands inside an array or a map is no cell, and no root of a walk is one.
 --
 -- A step has a mark where it begins, and one where it leads on: to a place further down, to a new root,
 -- or to what is done where the steps end. There is one more before each thing that is written, asked
@@ -8,7 +7,7 @@
 pub mod Asking
 pub mod Returning
 pub use Rattle.grain_means.specs.Walks.Asking.{Setting, Rest, Next, index_get, index_set, at_mark, failing, flat_or_busy, flattening, asking, index_was_set, set_by_index, set_instead, property_was_set, got_instead, property_was_got, index_was_got, index_was_read, operator_answered, named, set_property, get_property, operator_asked, was_op_assigned, native_stored, stored, operating}
-pub use Rattle.grain_means.specs.Walks.Returning.{Origin, OfPart, OfIndex, OfProperty, OfNothing, put_part, set_back, back, rooted, into_answer}
+pub use Rattle.grain_means.specs.Walks.Returning.{Origin, OfPart, OfIndex, OfProperty, OfNothing, put_part, set_back, back, rooted, own_value, into_answer}
 use Rattle.std.specs.Prelude.{ℕ, ◌+◌, ◌-◌, ◌==◌, ℤ, Bool, true, false, List, [], ◌∷◌, Option, Some, None, Result, Ok, Err, slice_index_or, codes, if◌then◌else◌}
 use Rattle.std.specs.Int.{bit_at}
 use Rattle.grain_value.specs.Tree.{Tree, unit}
@@ -52,10 +51,6 @@ pub data Role : Type 0 where
   Reads : Role
   Writes : Dynamic → Role
   Operates : Dynamic → AssignOp → Role
-
-abbrev pub reads : Role → Bool
-reads Reads = true
-reads r = false
 
 abbrev pub assigning : Role → Bool
 assigning Passes = false
@@ -108,16 +103,20 @@ module _ (g : Setting) where
       else (if g.engine.strict_properties then failing n (Plain (PropertyNotFound k) q) done
       else rooted g n o (record h { value = dynamic.Unit }) next p done)
 
-  -- an index of a value that has none of its own is for the host's indexers
+  -- an index of a value that has none of its own is for the host's indexers; where the chain reads
+  -- there, the answer is its value
   abbrev pub by_indexer : ℕ → Position → Position → Role → Dynamic → Next → Place → Rest → Task
+  by_indexer n q bracket Passes i next p done =
+      asking n bracket index_get (Some p) (i ∷ []) done
+      (index_was_got n done (into_answer g n q (OfIndex i bracket) next p done))
+  by_indexer n q bracket Reads i next p done =
+      asking n bracket index_get (Some p) (i ∷ []) done
+      (index_was_got n done (own_value done))
   by_indexer n q bracket (Writes v) i next p done =
       set_by_index n bracket p i v dynamic.Unit done
   by_indexer n q bracket (Operates v a) i next p done =
       asking n bracket index_get (Some p) (i ∷ []) done (index_was_read n bracket p i v done
-      (into_answer g n bracket false (OfIndex i bracket) (operating g n bracket a v) p done))
-  by_indexer n q bracket role i next p done =
-      asking n bracket index_get (Some p) (i ∷ []) done
-      (index_was_got n done (into_answer g n q (reads role) (OfIndex i bracket) next p done))
+      (into_answer g n bracket (OfIndex i bracket) (operating g n bracket a v) p done))
 
   -- where an index leads: an operand, and what it is as it is read
   abbrev pub indexed : ℕ → Position → Position → Role → Dynamic → Dynamic → Held → Next → Place →
@@ -147,14 +146,16 @@ module _ (g : Setting) where
 
   -- a property of a value that is no map is for the host's getters and setters
   abbrev pub by_accessor : ℕ → ℕ → ℕ → ℕ → Position → Role → Next → Place → Rest → Task
+  by_accessor n name getter setter q Passes next p done =
+      get_property g n name getter q p done
+      (into_answer g n q (OfProperty name setter q false) next p done)
+  by_accessor n name getter setter q Reads next p done =
+      get_property g n name getter q p done (own_value done)
   by_accessor n name getter setter q (Writes v) next p done =
       set_property g n name setter q true p v dynamic.Unit done
   by_accessor n name getter setter q (Operates v a) next p done =
       get_property g n name getter q p done
-      (into_answer g n q false (OfProperty name setter q true) (operating g n q a v) p done)
-  by_accessor n name getter setter q role next p done =
-      get_property g n name getter q p done
-      (into_answer g n q (reads role) (OfProperty name setter q false) next p done)
+      (into_answer g n q (OfProperty name setter q true) (operating g n q a v) p done)
 
   abbrev pub at_key : ℕ → Position → Role → List ℕ → Held → Next → Place → Rest → Option Tree → Task
   at_key n q role k h next p done (Some t) =

@@ -53,11 +53,14 @@ module _ {S : Type 0} (m : Setup S) where
         trace = w.trace ++ record { address = f.address; slot = f.slot } ∷ [];
       })
 
-  -- a mark in a frame: memory is out here, or the run goes on
+  -- a mark: memory is out here, and then what follows from that, or the run goes on
+  abbrev pub marked_or : (World S → Act S) → World S → (World S → Act S) → Act S
+  marked_or out w go =
+      if is_stop m.stop w.passed then out w else go (record w { passed = w.passed + 1 })
+
+  -- a mark in a frame, which want of memory leaves
   abbrev pub marked : Frame → World S → (World S → Act S) → Act S
-  marked f w go =
-      if is_stop m.stop w.passed then leave_by_fault f NoMemory w
-      else go (record w { passed = w.passed + 1 })
+  marked f w go = marked_or (leave_by_fault f NoMemory) w go
 
   -- of a handler, what follows if it is armed, and what follows from the fault that it has caught
   abbrev pub if_armed : Option Problem → Act S → (Problem → Act S) → Act S

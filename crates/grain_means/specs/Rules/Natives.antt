@@ -12,13 +12,13 @@ use Rattle.grain_value.specs.View.{tree}
 use Rattle.grain_value.specs.declared.natives.Native.{Native}
 use Rattle.grain_value.specs.Writing.{kind_of}
 use Rattle.grain_fault.specs.Positions.{at_position_if_none}
-use Rattle.grain_fault.specs.Problems.{Problem, Plain, NonPureCall}
+use Rattle.grain_fault.specs.Problems.{Problem, Plain, NonPureCall, NoMemory}
 use Rattle.grain_means.specs.Worlds.{Place, Frame, World, Act, Setup}
 use Rattle.grain_means.specs.Places.{put}
 use Rattle.grain_host.specs.Signatures.{not_found}
 use Rattle.grain_host.specs.Law.{Law, Reply, native_of}
 use Rattle.grain_host.specs.Law as reply
-use Rattle.grain_means.specs.Rules.Faults.{position, marked}
+use Rattle.grain_means.specs.Rules.Faults.{position, leave_by_fault, marked_or}
 
 -- the kinds and the trees of what is held
 abbrev pub kinds_in : List Held → List ℕ
@@ -103,12 +103,12 @@ module _ {S : Type 0} (m : Setup S) where
   answered (reply.Done v) f w go fails = go v w
   answered (reply.Failed x) f w go fails = fails (at_position_if_none (position m f) x) w
 
-  -- the host is called, with a mark before and one after
-  abbrev pub host_called : ℕ → Option Receiver → List Held → Frame → World S →
-      (Dynamic → World S → Act S) → (Problem → World S → Act S) → Act S
-  host_called key r args f w go fails =
-      marked m f w (λ w1.
-      marked m f (record w1 {
+  -- the host is called, with a mark before and one after; and what follows where memory is out at one
+  abbrev pub host_called_or : (World S → Act S) → ℕ → Option Receiver → List Held → Frame →
+      World S → (Dynamic → World S → Act S) → (Problem → World S → Act S) → Act S
+  host_called_or out key r args f w go fails =
+      marked_or m out w (λ w1.
+      marked_or m out (record w1 {
         host = m.law.call_after w1.host key (lent_held r) (trees_in args);
         scope = given_back m.law w1.host key (trees_in args) r w1.scope;
         cells = cells_given_back m.law w1.host key (trees_in args) r w1.cells;
@@ -117,22 +117,47 @@ module _ {S : Type 0} (m : Setup S) where
       answered (m.law.call_reply w1.host key (lent_held r) (trees_in args)) f w2 go fails))
 
   -- a native that writes its first argument is not called where that can only be read
+  abbrev pub native_called_or : (World S → Act S) → Native → List ℕ → Option Receiver →
+      List Held → Frame → World S → (Dynamic → World S → Act S) → (Problem → World S → Act S) →
+      Act S
+  native_called_or out n name r args f w go fails =
+      if n.writes && first_is_read_only (given r args)
+      then fails (Plain (NonPureCall name) (position m f)) w
+      else host_called_or out n.key r args f w go fails
+
+  abbrev pub native_found_or : (World S → Act S) → Option Native → List ℕ → Option Receiver →
+      List Held → Frame → World S → (Dynamic → World S → Act S) → (Problem → World S → Act S) →
+      Act S
+  native_found_or out None name r args f w go fails =
+      fails (not_found name (values_in (given r args)) (position m f)) w
+  native_found_or out (Some n) name r args f w go fails =
+      native_called_or out n name r args f w go fails
+
+  -- the host's native of this name on what is lent and these arguments, and then what follows from
+  -- its value, from the fault, or from want of memory
+  abbrev pub native_or : (World S → Act S) → List ℕ → Option Receiver → List Held → Frame →
+      World S → (Dynamic → World S → Act S) → (Problem → World S → Act S) → Act S
+  native_or out name r args f w go fails =
+      native_found_or out (native_of m.law w.host name (kinds_in (given r args))) name r args f w
+      go fails
+
+  -- the same where want of memory leaves the frame
+  abbrev pub host_called : ℕ → Option Receiver → List Held → Frame → World S →
+      (Dynamic → World S → Act S) → (Problem → World S → Act S) → Act S
+  host_called key r args f w go fails =
+      host_called_or (leave_by_fault m f NoMemory) key r args f w go fails
+
   abbrev pub native_called : Native → List ℕ → Option Receiver → List Held → Frame → World S →
       (Dynamic → World S → Act S) → (Problem → World S → Act S) → Act S
   native_called n name r args f w go fails =
-      if n.writes && first_is_read_only (given r args)
-      then fails (Plain (NonPureCall name) (position m f)) w
-      else host_called n.key r args f w go fails
+      native_called_or (leave_by_fault m f NoMemory) n name r args f w go fails
 
   abbrev pub native_found : Option Native → List ℕ → Option Receiver → List Held → Frame →
       World S → (Dynamic → World S → Act S) → (Problem → World S → Act S) → Act S
-  native_found None name r args f w go fails =
-      fails (not_found name (values_in (given r args)) (position m f)) w
-  native_found (Some n) name r args f w go fails = native_called n name r args f w go fails
+  native_found found name r args f w go fails =
+      native_found_or (leave_by_fault m f NoMemory) found name r args f w go fails
 
-  -- the host's native of this name on what is lent and these arguments, and then what follows from
-  -- its value, or from the fault
   abbrev pub native : List ℕ → Option Receiver → List Held → Frame → World S →
       (Dynamic → World S → Act S) → (Problem → World S → Act S) → Act S
   native name r args f w go fails =
-      native_found (native_of m.law w.host name (kinds_in (given r args))) name r args f w go fails
+      native_or (leave_by_fault m f NoMemory) name r args f w go fails
