@@ -10,6 +10,7 @@ pub mod Operators
 pub mod Transfers
 pub mod Calls
 pub mod Catching
+pub mod Tasks
 use Rattle.std.proofs.Common.{◌≡◌, ◌≤◌, ◌+◌, ℕ, List, [], ◌∷◌, Option, Some, None, Bool, true, false, length, refl, arith}
 use Rattle.std.specs.List.{AllByRecursion}
 use Rattle.std.specs.Prelude.{is_some}

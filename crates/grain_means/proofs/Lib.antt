@@ -14,4 +14,6 @@ pub mod Plain
 pub mod CellFree
 pub mod Naming
 pub mod Caught
+pub mod Inside
 pub mod Containing
+pub mod Walking

@@ -202,12 +202,16 @@ module _ (N : ℕ) (assigns : Bool) where
 
       goes_back : (j : ℕ) (o : Origin) (p : Place) (done : Rest) → suc p.root ≡ j →
           Follows j done → Follows (suc j) (walks.back g n o p done)
-      goes_back j o p done is f (Ill k x) right =
-          (omega (arith, is), λ h. subst (λ i. AllEnds P i (done (Ill k x))) (sym is)
-          (f (Ill k x) right))
-      goes_back j o p done is f (Well u changed) right =
-          (omega (arith, is), λ h. subst (λ i. AllEnds P i (walks.set_back g n o p h.value u changed done))
-          (sym is) (sets_back j o p h.value u changed done f right))
+      goes_back j o p done is f (Ill k x) right = (
+        omega (arith, is),
+        λ h. subst (λ i. AllEnds P i (done (Ill k x))) (sym is)
+            (f (Ill k x) right),
+      )
+      goes_back j o p done is f (Well u changed) right = (
+        omega (arith, is),
+        λ h. subst (λ i. AllEnds P i (walks.set_back g n o p h.value u changed done))
+            (sym is) (sets_back j o p h.value u changed done f right),
+      )
 
       roots : (o : Origin) (h : Held) (next : Next) → Goes next → Goes (walks.rooted g n o h next)
       roots o h next on j p done is f =
@@ -239,10 +243,12 @@ module _ (N : ℕ) (assigns : Bool) where
           (f (Ill n NoMemory) low, index_got j done _ f (own_value j done f fit))
       by_indexer q bracket (Writes v) fit i next on j p done is f =
           sets_index j bracket p i v dynamic.Unit done f (λ s. refl)
-      by_indexer q bracket (Operates v a) fit i next on j p done is f =
-          (f (Ill n NoMemory) low, index_read j bracket p i v done _ f
-          (into_answer bracket (OfIndex i bracket) (walks.operating g n bracket a v)
-          (operates bracket a v) j p done is f))
+      by_indexer q bracket (Operates v a) fit i next on j p done is f = (
+        f (Ill n NoMemory) low,
+        index_read j bracket p i v done _ f
+            (into_answer bracket (OfIndex i bracket) (walks.operating g n bracket a v)
+            (operates bracket a v) j p done is f),
+      )
 
       indexed : (q bracket : Position) (role : Role) → Fits role → (i v : Dynamic) (h : Held) (next : Next) →
           Goes next → (j : ℕ) (p : Place) (done : Rest) → suc p.root ≡ j → Follows j done →
@@ -344,11 +350,12 @@ module _ (c : Course) where
   walks_on N [] n all some =
       ends N (n - 1) (omega (arith, all, some)) c.assigns c.operator
   walks_on N (s ∷ steps) n all some = λ j p done is f.
-      let low : n < N = omega (arith, all) in
-      (f (Ill n NoMemory) low,
-      unless N (is_some c.assigns) (skips s) j p done _ f
-      (takes N n low s (walks.role_before c steps) (fits N steps) (walks.walked c steps (n + 1))
-      (walks_on N steps (n + 1) (omega (arith, all)) some) j p done is f))
+      let low : n < N = omega (arith, all) in (
+        f (Ill n NoMemory) low,
+        unless N (is_some c.assigns) (skips s) j p done _ f
+            (takes N n low s (walks.role_before c steps) (fits N steps) (walks.walked c steps (n + 1))
+            (walks_on N steps (n + 1) (omega (arith, all)) some) j p done is f),
+      )
 
   pub walk_ends : (steps : List Step) → 0 < length steps →
       AllEnds (WalkEnds c steps) 1 (walks.whole_walk c steps)

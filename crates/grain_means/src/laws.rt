@@ -1,6 +1,6 @@
 //! Laws of the meaning alone. Each is a function that does nothing, whose contract is the law.
 
-ghost use Rattle.std.specs.Prelude.{◌≡◌, ◌≤◌, ◌+◌, [], length, ℕ, Bool, Option, Some};
+ghost use Rattle.std.specs.Prelude.{◌≡◌, ◌<◌, ◌≤◌, ◌+◌, [], length, List, ℕ, Bool, Option, Some};
 ghost use Rattle.grain_means.specs.Worlds.{Act, Answer, World, Setup, Place, Frame, InFrame};
 ghost use Rattle.grain_means.specs.CatchBlocks.{Catches};
 ghost use Rattle.grain_means.specs.Rules.{called};
@@ -15,6 +15,16 @@ ghost use Rattle.grain_program.specs.View.{View};
 ghost use Rattle.grain_host.specs.Law.{Law, IsLawful};
 ghost use Rattle.grain_means.specs.Contained.{AnswerNames, ConstantsName, Contained};
 ghost use Rattle.grain_program.specs.Typing.{IsProgram};
+ghost use Rattle.grain_program.specs.declared.code.chains.Step.{Step};
+ghost use Rattle.grain_value.specs.declared.stores.Cell.{Cell};
+ghost use Rattle.grain_value.specs.declared.values.Held.{Held};
+ghost use Rattle.grain_means.specs.Places.{find};
+ghost use Rattle.grain_means.specs.Rules.InWorld.{walks};
+ghost use Rattle.grain_means.specs.Tasks.{Own, Task, Walked, play};
+ghost use Rattle.grain_means.specs.WalkEnds.{AllEnds, PlayEnds, WalkEnds};
+ghost use Rattle.grain_means.specs.Walks.{Course, whole_walk};
+ghost use Rattle.grain_means.specs.lemmas.Plays.{laid, played};
+ghost use Rattle.grain_means.specs.lemmas.Spreading.{Rooted};
 
 /// A run has at most one end.
 pub fn one_end<S>()
@@ -73,4 +83,24 @@ pub fn one_meaning<S>()
     ensures { (law : Law S) (program : View) (engine : Engine) (b : Begin S) (e f : Finish S)
         (n k : ℕ) →
         Means law program engine b e n → Means law program engine b f k → (e ≡ f) × (n ≡ k) }
+{}
+
+/// Each end of a chain's walk leaves one root, that at which it began; a chain that assigns ends with
+/// unit; and a fault blames one of the chain's steps. What holds of every end of a task holds where a
+/// walk by itself ends, and of every end that it still can come to where it asks for something.
+pub fn walk_ends()
+    ensures all { (c : Course) (steps : List Step) → 0 < length steps →
+        AllEnds (WalkEnds c steps) 1 (whole_walk c steps) }
+    ensures by_play { (c : Course) (steps : List Step) (stop : Option ℕ) (cells : List Cell)
+        (t : Task) (s : Own) → AllEnds (WalkEnds c steps) (length s.roots) t →
+        PlayEnds (WalkEnds c steps) (play stop cells t s) }
+{}
+
+/// Where a walk by itself comes to, the walk in the world comes to, with the first root at its place
+/// and the others after all roots of the world.
+pub fn both_readings<S>()
+    ensures { (m : Setup S) (k : ℕ) (f : Frame) (p : Place) (g : Held)
+        (done : Walked → World S → Act S) (w : World S) → find w.roots p ≡ Some g → (t : Task)
+        (s : Own) → Rooted g.read_only s.roots → walks m k f p (length w.roots) t done (laid w p s)
+        ≡ played m k f p done w (play m.stop w.cells t s) }
 {}

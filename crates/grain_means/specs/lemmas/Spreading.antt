@@ -65,7 +65,7 @@ module _ (bs : List Held) (p : Place) (g : Held) (e : find bs p ≡ Some g) wher
       ∙ ap (λ l. l ++ rs) (put-twice bs p g r.value y e)
   put-own r rs (suc k) path v same =
       let far : length bs + k ≡ length (put bs p r.value) + k =
-          omega (arith, length-put bs p r.value) in
+      omega (arith, length-put bs p r.value) in
       ap (λ o. slice_set (put bs p r.value ++ rs) (length bs + k) (put_held path v (or_unit o)))
       (get-after (put bs p r.value) rs (length bs + k) k far)
       ∙ set-after (put bs p r.value) rs (length bs + k) k
