@@ -160,37 +160,45 @@ module _ (clean : Bool) (n : ℕ) where
   field_got : (test : List ℕ → Bool) (es : Fields) (c : Tree) → TreeNames (dict es) →
       lookup test (unpack_fields es) ≡ Some c → ItemNames c
   field_got test no_fields c h e = absurd cc
-  field_got test (more_fields k t es) c h e = by_test (test k) e where
-    by_test : (b : Bool) → cond b (Some t) (lookup test (unpack_fields es)) ≡ Some c → ItemNames c
-    by_test true is = let same : t ≡ c = cc in subst ItemNames same (first_field k t es h)
-    by_test false is = field_got test es c (other_fields k t es h) is
+  field_got test (more_fields k t es) c h e =
+      by_test (test k) (field_got test es c (other_fields k t es h)) e where
+        by_test : (b : Bool) → (lookup test (unpack_fields es) ≡ Some c → ItemNames c) →
+            cond b (Some t) (lookup test (unpack_fields es)) ≡ Some c → ItemNames c
+        by_test true later is = let same : t ≡ c = cc in subst ItemNames same (first_field k t es h)
+        by_test false later is = later is
 
   field_set : (test : List ℕ → Bool) (es : Fields) (c : Tree) → TreeNames (dict es) → ItemNames c →
       TreeNames (dict (pack_fields (set_value test (unpack_fields es) c)))
   field_set test no_fields c h one = h
-  field_set test (more_fields k t es) c h one = by_test (test k) where
-    by_test : (b : Bool) → TreeNames (dict (pack_fields
-        (cond b ((k, c) ∷ unpack_fields es) ((k, t) ∷ set_value test (unpack_fields es) c))))
-    by_test true =
-        more_entries k c (pack_fields (unpack_fields es)) one
-        (subst (λ (us : Fields). TreeNames (dict us)) (sym (pack-unpack_fields es))
-        (other_fields k t es h))
-    by_test false =
-        more_entries k t (pack_fields (set_value test (unpack_fields es) c)) (first_field k t es h)
-        (field_set test es c (other_fields k t es h) one)
+  field_set test (more_fields k t es) c h one =
+      by_test (test k) (field_set test es c (other_fields k t es h) one) where
+        by_test : (b : Bool) →
+            TreeNames (dict (pack_fields (set_value test (unpack_fields es) c))) →
+            TreeNames (dict (pack_fields (cond b ((k, c) ∷ unpack_fields es)
+            ((k, t) ∷ set_value test (unpack_fields es) c))))
+        by_test true later =
+            more_entries k c (pack_fields (unpack_fields es)) one
+            (subst (λ (us : Fields). TreeNames (dict us)) (sym (pack-unpack_fields es))
+            (other_fields k t es h))
+        by_test false later =
+            more_entries k t (pack_fields (set_value test (unpack_fields es) c))
+            (first_field k t es h) later
 
   pub entry_put : (k : List ℕ) (c : Tree) (es : Entries) → TreeNames (dict (pack_fields es)) →
       ItemNames c → TreeNames (dict (pack_fields (put_entry k c es)))
   entry_put k c [] h one = more_entries k c no_fields one h
-  entry_put k c (e ∷ es) h one = by_order (slice_cmp nat_cmp k e.0) where
-    by_order : (o : Ordering) → TreeNames (dict (pack_fields (match_ordering o ((k, c) ∷ e ∷ es)
-        ((e.0, c) ∷ es) (e ∷ insert_entry (slice_cmp nat_cmp) es k c))))
-    by_order ordering.Less = more_entries k c (pack_fields (e ∷ es)) one h
-    by_order ordering.Equal =
-        more_entries e.0 c (pack_fields es) one (other_fields e.0 e.1 (pack_fields es) h)
-    by_order ordering.Greater =
-        more_entries e.0 e.1 (pack_fields (put_entry k c es)) (first_field e.0 e.1 (pack_fields es) h)
-        (entry_put k c es (other_fields e.0 e.1 (pack_fields es) h) one)
+  entry_put k c (e ∷ es) h one =
+      by_order (slice_cmp nat_cmp k e.0)
+      (entry_put k c es (other_fields e.0 e.1 (pack_fields es) h) one) where
+        by_order : (o : Ordering) → TreeNames (dict (pack_fields (put_entry k c es))) →
+            TreeNames (dict (pack_fields (match_ordering o ((k, c) ∷ e ∷ es) ((e.0, c) ∷ es)
+            (e ∷ insert_entry (slice_cmp nat_cmp) es k c))))
+        by_order ordering.Less later = more_entries k c (pack_fields (e ∷ es)) one h
+        by_order ordering.Equal later =
+            more_entries e.0 c (pack_fields es) one (other_fields e.0 e.1 (pack_fields es) h)
+        by_order ordering.Greater later =
+            more_entries e.0 e.1 (pack_fields (put_entry k c es))
+            (first_field e.0 e.1 (pack_fields es) h) later
 
   -- one step down
   child_names : (s : PathStep) (t c : Tree) → TreeNames t → child s t ≡ Ok c → ItemNames c
@@ -210,11 +218,12 @@ module _ (clean : Bool) (n : ℕ) where
   -- at the end of a path
   at_names : (p : List PathStep) (t c : Tree) → ItemNames t → at p t ≡ Ok c → ItemNames c
   at_names [] t c h e = let same : t ≡ c = cc in subst ItemNames same h
-  at_names (s ∷ p) t c h e = by_child (child s t) refl e where
-    by_child : (r : Result Tree ValueFault) → child s t ≡ r → and_then (λ d. at p d) r ≡ Ok c →
-        ItemNames c
-    by_child (Ok d) is ends = at_names p d c (child_names s t d h.0 is) ends
-    by_child (Err x) is ends = absurd cc
+  at_names (s ∷ p) t c h e = by_child (child s t) refl (λ d one ends. at_names p d c one ends) e where
+    by_child : (r : Result Tree ValueFault) → child s t ≡ r →
+        ((d : Tree) → ItemNames d → at p d ≡ Ok c → ItemNames c) →
+        and_then (λ d. at p d) r ≡ Ok c → ItemNames c
+    by_child (Ok d) is later ends = later d (child_names s t d h.0 is) ends
+    by_child (Err x) is later ends = absurd cc
 
   put_item : (p : List PathStep) (v t : Tree) → (clean ≡ true → not (is_cell v) ≡ true) →
       (clean ≡ true → not (is_cell t) ≡ true) → clean ≡ true → not (is_cell (put_tree p v t)) ≡ true
@@ -224,14 +233,15 @@ module _ (clean : Bool) (n : ℕ) where
   put_names : (p : List PathStep) (v t : Tree) → ItemNames v → TreeNames t →
       TreeNames (put_tree p v t)
   put_names [] v t new h = new.0
-  put_names (s ∷ p) v t new h = by_child (child s t) refl where
+  put_names (s ∷ p) v t new h = by_child (child s t) refl (λ c inner. put_names p v c new inner) where
     by_child : (r : Result Tree ValueFault) → child s t ≡ r →
+        ((c : Tree) → TreeNames c → TreeNames (put_tree p v c)) →
         TreeNames (or_same (λ c. set_child s (put_tree p v c) t) t r)
-    by_child (Ok c) is =
+    by_child (Ok c) is later =
         let inner = child_names s t c h is in
         set_child_names s (put_tree p v c) t h
-        (put_names p v c new inner.0, put_item p v c new.1 inner.1)
-    by_child (Err x) is = h
+        (later c inner.0, put_item p v c new.1 inner.1)
+    by_child (Err x) is later = h
 
   -- what stands at a place of a walk: it names cells below this number only, and is none where values
   -- are clean

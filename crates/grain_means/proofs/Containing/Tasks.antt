@@ -1,7 +1,7 @@
 -- Every value that a chain's walk writes, lends, gives and holds as a root names cells of the store only.
 use Rattle.std.proofs.Common.{◌≡◌, ◌≤◌, ◌-◌, ◌+◌, ◌∙◌, ℕ, zero, suc, List, [], ◌∷◌, Bool, true, false, Option, Some, None, Result, Ok, Err, refl, arith}
 use Rattle.std.specs.List.{AllByRecursion}
-use Rattle.std.specs.Prelude.{if◌then◌else◌, codes, slice_get, slice_index_or}
+use Rattle.std.specs.Prelude.{if◌then◌else◌, slice_get, slice_index_or}
 use Rattle.std.specs.Str.{chars}
 use Rattle.grain_value.specs.Locating.{locate}
 use Rattle.grain_value.specs.Looking.{cell_of, is_unit}
@@ -148,7 +148,7 @@ module _ (clean : Bool) (n : ℕ) where
         Names clean n i → Names clean n v → Names clean n u →
         TaskNames (walks.set_by_index k q p i v u done)
     sets_index q p i v u done f index value names =
-        (out done k f, (index, (value, tt)), index_set u done f names)
+        (out done k f, ((index, (value, tt)), index_set u done f names))
 
     set_instead : (x : Problem) (assigned : Bool) (u : Dynamic) (done : Rest) → Follows done →
         ProblemNames clean n x → Names clean n u → (a : Answer) → AnswerNames clean n a →
@@ -166,7 +166,7 @@ module _ (clean : Bool) (n : ℕ) where
         f (Well u true) names
     property_set name q assigned p v u done f text value names (Failed x) bound =
         by (is_dot_expr x) _ _
-        (out done k f, (text, (value, tt)), set_instead x assigned u done f bound names)
+        (out done k f, ((text, (value, tt)), set_instead x assigned u done f bound names))
         (f (Ill k x) bound)
 
     got_instead : (x : Problem) (done : Rest) (go : Dynamic → Task) → Follows done →
@@ -181,7 +181,7 @@ module _ (clean : Bool) (n : ℕ) where
         TaskNames (walks.property_was_got k name q p done go a)
     property_got name q p done go f text h (Came v) bound = h v bound
     property_got name q p done go f text h (Failed x) bound =
-        by (is_dot_expr x) _ _ (out done k f, (text, tt), got_instead x done go f bound h)
+        by (is_dot_expr x) _ _ (out done k f, ((text, tt), got_instead x done go f bound h))
         (f (Ill k x) bound)
 
     index_got : (done : Rest) (go : Dynamic → Task) → Follows done → Reading go → (a : Answer) →
@@ -206,21 +206,22 @@ module _ (clean : Bool) (n : ℕ) where
           TaskNames (walks.set_property g k name setter q assigned p v u done)
       sets_property name setter q assigned p v u done f value names = (
         out done k f,
-        (value, tt),
-        property_set (walks.named g name) q assigned p v u done f (name_names name) value names,
+        ((value, tt),
+        property_set (walks.named g name) q assigned p v u done f (name_names name) value names),
       )
 
       gets_property : (name getter : ℕ) (q : Position) (p : Place) (done : Rest)
           (go : Dynamic → Task) → Follows done → Reading go →
           TaskNames (walks.get_property g k name getter q p done go)
       gets_property name getter q p done go f h =
-          (out done k f, tt, property_got (walks.named g name) q p done go f (name_names name) h)
+          (out done k f, (tt, property_got (walks.named g name) q p done go f (name_names name) h))
 
       -- an op-assignment
       operator : (q : Position) (p : Place) (done : Rest) → Follows done → (a : Answer) →
           AnswerNames clean n a → TaskNames (walks.operator_answered k q p done a)
       operator q p done f (Came r) bound =
-          reads q r done _ f bound (λ u plain. (out done k f, plain, assigned done f))
+          reads q r done (λ u. at_mark k done (Write p u (done (Well dynamic.Unit true)))) f bound
+          (λ u plain. (out done k f, (plain, assigned done f)))
       operator q p done f (Failed x) bound = f (Ill k x) bound
 
       module _ (q : Position) (a : AssignOp) (v : Dynamic) (value : Names clean n v) where
@@ -229,15 +230,15 @@ module _ (clean : Bool) (n : ℕ) where
         op_assigned_by p done f (Came r) bound = assigned done f
         op_assigned_by p done f (Failed x) bound =
             by (says_missing (name_of g.program a.op_assign_name) x) _ _
-            (λ h stands. (out done k f, (stands.0, (value, tt)), operator q p done f))
+            (λ h stands. (out done k f, ((stands.0, (value, tt)), operator q p done f)))
             (f (Ill k x) bound)
 
         stored : (p : Place) (done : Rest) → Follows done → (o : Outcome) → NamesNone o →
             TaskNames (walks.stored g k q a v p done o)
         stored p done f NotBuiltIn none =
-            (out done k f, (value, tt), op_assigned_by p done f)
+            (out done k f, ((value, tt), op_assigned_by p done f))
         stored p done f (Gave r) none =
-            (out done k f, (none_names clean n r none, no_cell r none), assigned done f)
+            (out done k f, ((none_names clean n r none, no_cell r none), assigned done f))
         stored p done f (ArithmeticFault text) none = fails _ done f (omega arith, λ s. refl)
         stored p done f (TooLarge what) none = fails _ done f (omega arith, λ s. refl)
 
@@ -250,7 +251,7 @@ module _ (clean : Bool) (n : ℕ) where
           Follows done → Names clean n u → (d : Option Dynamic) → NoneInside clean n d →
           TaskNames (walks.put_part g k s p v u changed done d)
       put_part s p v u changed done f names (Some d) none =
-          (out done k f, none, f (Well u changed) names)
+          (out done k f, (none, f (Well u changed) names))
       put_part s p v u changed done f names None none = fails _ done f (omega arith, λ s. refl)
 
       abbrev OriginNames : Origin → Type 0
@@ -283,13 +284,14 @@ module _ (clean : Bool) (n : ℕ) where
       roots : (o : Origin) → OriginNames o → (h : Held) → PlainNames clean n h → (next : Next) →
           Goes next → Goes (walks.rooted g k o h next)
       roots o from h plain next on p done f =
-          (out done k f, plain, on (next_root p) (walks.back g k o p done) (goes_back o from p done f))
+          (out done k f, (plain, on (next_root p) (walks.back g k o p done) (goes_back o from p done f)))
 
       into_answer : (q : Position) (o : Origin) → OriginNames o → (next : Next) → Goes next →
           (p : Place) (done : Rest) → Follows done →
           Reading (walks.into_answer g k q o next p done)
       into_answer q o from next on p done f v names =
-          reads q v done _ f names (λ u plain. roots o from (read_write u) plain next on p done f)
+          reads q v done (λ u. walks.rooted g k o (read_write u) next p done) f names
+          (λ u plain. roots o from (read_write u) plain next on p done f)
 
       own_value : (done : Rest) → Follows done → Reading (walks.own_value done)
       own_value done f v names = f (Well v false) names
@@ -307,7 +309,7 @@ module _ (clean : Bool) (n : ℕ) where
           Goes (walks.missing_key g k q o role name h next)
       missing_key q o from role name h held plain next on p done f =
           by (assigning role) _ _
-          (out done k f, key_added name h.value held plain, on _ done f)
+          (out done k f, (key_added name h.value held plain, on _ done f))
           (by g.engine.strict_properties _ _ (fails _ done f (omega arith, λ s. refl))
           (roots o from (record h { value = dynamic.Unit }) ((omega arith, λ s. refl), refl) next on
           p done f))
@@ -324,20 +326,26 @@ module _ (clean : Bool) (n : ℕ) where
           Goes (walks.by_indexer g k q bracket role i next)
       by_indexer q bracket Passes value i index next on p done f = (
         out done k f,
-        (index, tt),
-        index_got done _ f
-            (into_answer q (OfIndex i bracket) index next on p done f),
+        (
+          (index, tt),
+          index_got done (walks.into_answer g k q (OfIndex i bracket) next p done) f
+              (into_answer q (OfIndex i bracket) index next on p done f),
+        ),
       )
       by_indexer q bracket Reads value i index next on p done f =
-          (out done k f, (index, tt), index_got done _ f (own_value done f))
+          (out done k f, ((index, tt), index_got done _ f (own_value done f)))
       by_indexer q bracket (Writes v) value i index next on p done f =
           sets_index bracket p i v dynamic.Unit done f index value unit_names
       by_indexer q bracket (Operates v a) value i index next on p done f = (
         out done k f,
-        (index, tt),
-        index_read bracket p i v done _ f index value
-            (into_answer bracket (OfIndex i bracket) index (walks.operating g k bracket a v)
-            (operates bracket a v value) p done f),
+        (
+          (index, tt),
+          index_read bracket p i v done
+              (walks.into_answer g k bracket (OfIndex i bracket) (walks.operating g k bracket a v) p
+              done) f index value
+              (into_answer bracket (OfIndex i bracket) index (walks.operating g k bracket a v)
+              (operates bracket a v value) p done f),
+        ),
       )
 
       indexed : (q bracket : Position) (role : Role) → RoleNames role → (i v : Dynamic) →
@@ -385,7 +393,8 @@ module _ (clean : Bool) (n : ℕ) where
                 walks.indexed g k q bracket role i v h next p done (locate h.value v))
                 else walks.by_indexer g k q bracket role i next p done)
             by_kind h stands true e =
-                reads q i done _ f index (λ v plain. indexed q bracket role value i v index h stands.0
+                reads q i done (λ v. walks.indexed g k q bracket role i v h next p done (locate h.value v))
+                f index (λ v plain. indexed q bracket role value i v index h stands.0
                 (indexed_plain h.value e) next on p done f (locate h.value v))
             by_kind h stands false e = by_indexer q bracket role value i index next on p done f
 
@@ -459,7 +468,7 @@ module _ (clean : Bool) (n : ℕ) where
     ends : (k : ℕ) (v : Option Dynamic) → AssignsNames v → (op : Option AssignOp) →
         Goes (walks.ended c.setting (role_at_end v op) k)
     ends k None named op p done f = (out done k f, λ h stands. f (Well h.value false) stands.0)
-    ends k (Some v) named None p done f = (out done k f, named, assigned done f)
+    ends k (Some v) named None p done f = (out done k f, (named, assigned done f))
     ends k (Some v) named (Some a) p done f =
         operates k c.setting c.setting.position a v named.0 p done f
 
