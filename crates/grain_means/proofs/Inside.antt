@@ -270,10 +270,16 @@ module _ (clean : Bool) (n : ℕ) where
   may_put [] v e = e
   may_put (s ∷ p) v e = λ clear. e
 
-  put_clear : (path : List PathStep) (v : Dynamic) → MayPut path v → clean ≡ true →
+  pub put_clear : (path : List PathStep) (v : Dynamic) → MayPut path v → clean ≡ true →
       cell_of v ≡ None
   put_clear [] v e s = e
   put_clear (step ∷ p) v e s = e s
+
+  -- what is written there may be put where it was none before, if that was not
+  pub put_written : (path : List PathStep) (u v : Dynamic) → MayPut path u →
+      (cell_of u ≡ None → cell_of v ≡ None) → MayPut path v
+  put_written [] u v e keeps = keeps e
+  put_written (s ∷ p) u v e keeps = λ clear. keeps (e clear)
 
   put_no_cell : (path : List PathStep) (v d : Dynamic) → MayPut path v → cell_of d ≡ None →
       not (is_cell (put_tree path (tree v) (tree d))) ≡ true
@@ -370,3 +376,10 @@ module _ (clean : Bool) (n : ℕ) where
           subst TreeNames (sym (tree-value_of (tree r.value))) p.0,
           no_cell_value (tree r.value) (not_cell r.value p.1),
         )
+
+  -- so it may be put back
+  pub look_lent : (b : ℕ) (roots : List Held) (i : ℕ) (path : List PathStep) → b ≤ i →
+      RootsName b roots → MayPut path (look roots (record { root = i; path = path })).value
+  look_lent b roots i [] le h = (look_whole b roots i le h).1
+  look_lent b roots i (s ∷ path) le h =
+      (look_names b roots (record { root = i; path = s ∷ path }) le h).1
