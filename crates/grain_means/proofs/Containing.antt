@@ -11,6 +11,7 @@ pub mod Transfers
 pub mod Calls
 pub mod Catching
 pub mod Tasks
+pub mod Walks
 use Rattle.std.proofs.Common.{◌≡◌, ◌≤◌, ◌+◌, ℕ, List, [], ◌∷◌, Option, Some, None, Bool, true, false, length, refl, arith}
 use Rattle.std.specs.List.{AllByRecursion}
 use Rattle.std.specs.Prelude.{is_some}
