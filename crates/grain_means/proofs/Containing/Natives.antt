@@ -74,8 +74,7 @@ module _ {S : Type 0} {m : Setup S} (on : Grounds m) where
               value = m.law.call_written w.host key q.held values;
             } else q.held)
         by_flag true =
-            home_written clean n q.home q.held (m.law.call_written w.host key q.held values) receiver
-            (
+            home_written clean n q.home q.held (m.law.call_written w.host key q.held values) receiver (
               omega (
                 arith,
                 lawful.writes_within w.host key q.held values,

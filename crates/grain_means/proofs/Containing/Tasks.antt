@@ -206,8 +206,10 @@ module _ (clean : Bool) (n : ℕ) where
           TaskNames (walks.set_property g k name setter q assigned p v u done)
       sets_property name setter q assigned p v u done f value names = (
         out done k f,
-        ((value, tt),
-        property_set (walks.named g name) q assigned p v u done f (name_names name) value names),
+        (
+          (value, tt),
+          property_set (walks.named g name) q assigned p v u done f (name_names name) value names,
+        ),
       )
 
       gets_property : (name getter : ℕ) (q : Position) (p : Place) (done : Rest)

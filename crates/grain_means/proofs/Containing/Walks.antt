@@ -89,9 +89,11 @@ module _ {S : Type 0} {m : Setup S} (on : Grounds m) where
     lent_names : (o : Option Place) → PlacedAt o b → (w : World S) → In w →
         ReceiverNames clean n (lent_at w.roots o)
     lent_names None there w at = tt
-    lent_names (Some q) there w at =
-        ((look_names clean n b w.roots q there at.2).0, look_lent clean n b w.roots q.root q.path
-        there at.2)
+    lent_names (Some q) there w at = (
+      (look_names clean n b w.roots q there at.2).0,
+      look_lent clean n b w.roots q.root q.path
+          there at.2,
+    )
 
     abbrev after : ℕ → Option Place → List Held → World S → World S
     after key o args w = record w {

@@ -64,6 +64,11 @@ operator_of p (tail.Assign (Some a)) = Some (assign_op_of p a)
 abbrev pub new_root : List Held → Place
 new_root roots = record { root = length roots; path = [] }
 
+-- a root that is no cell goes back to its entry, and one that nothing holds goes away
+abbrev pub back_from : {S : Type 0} → Root → Frame → Held → World S → World S
+back_from (root.Local name slot) f h w = record w { scope = set_held w.scope (f.base + slot) h }
+back_from root.Temporary f h w = w
+
 module _ {S : Type 0} (m : Setup S) where
   -- what a chain's root holds
   abbrev pub at_root : Root → Frame → World S → (Held → Act S) → Act S
@@ -99,12 +104,6 @@ module _ {S : Type 0} (m : Setup S) where
       (λ o w1. chain_over k next f o
       (back (look w1.roots (new_root w.roots)) (record w1 { roots = take (length w.roots) w1.roots })))
       (record w { roots = w.roots ++ h ∷ [] })
-
-  -- a root that is no cell goes back to its entry, and one that nothing holds goes away
-  abbrev pub back_from : Root → Frame → Held → World S → World S
-  back_from (root.Local name slot) f h w =
-      record w { scope = set_held w.scope (f.base + slot) h }
-  back_from root.Temporary f h w = w
 
   -- what a cell held is lent as a root, which can only be read where the flag says so, and goes back
   -- to the cell
