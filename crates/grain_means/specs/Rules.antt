@@ -26,7 +26,7 @@ pub use Rattle.grain_means.specs.Rules.Natives.{kinds_in, trees_in, first_is_rea
 pub use Rattle.grain_means.specs.Rules.Operators.{if_fast, operated, op_assigned, content_now, operator_assigned, op_assign_failed, native_assigned, store_outcome, assign_op, push_outcome}
 pub use Rattle.grain_means.specs.Rules.Calls.{bound, function_numbered, function_found, function_by_name, propagate, resume_caller, function_entered, enter_function, call_function}
 pub use Rattle.grain_means.specs.Rules.Pointers.{curried_in, spread, operand_under, not_a_pointer, curried, curry, pointer_called, call_pointer}
-pub use Rattle.grain_means.specs.Rules.InWorld.{world_place, placed, at_step, lent_at, needed, performed, walks}
+pub use Rattle.grain_means.specs.Rules.InWorld.{world_place, placed, at_step, lent_at, failed_so, needed, performed, walks}
 pub use Rattle.grain_means.specs.Rules.Chains.{root_name, root_operands, assigned_operands, chain_operands, steps_operands, assigned_operand, operator_of, new_root, at_root, assigned_value, course_of, chain_over, walk_from, back_from, walk_cell, walk_root, unless_constant, chain_in, chain}
 use Rattle.std.specs.Prelude.{ℕ, ◌+◌, is_some, List, [], Option, Some, None, Bool, true, false, if◌then◌else◌, length}
 use Rattle.grain_value.specs.declared.values.Dynamic.{Dynamic}

@@ -2,6 +2,7 @@
 pub mod PlaceLaws
 pub mod Spreading
 pub mod Plays
+pub mod Added
 pub mod Roots
 pub mod Stretches
 pub mod Scopes

@@ -123,19 +123,26 @@ module _ {S : Type 0} {m : Setup S} (on : Grounds m) where
               at.2 back.0 back.1,
         )
 
+    fails_so : (heard : Answer → World S → Act S) → Hears heard → (x : Problem) (w : World S) →
+        ProblemNames clean n x → In w → Keeps on n low (rules.failed_so m heard x w)
+    fails_so heard hears x w bound at =
+        marks_or (heard (Failed NoMemory)) w (heard (Failed x))
+        (hears (Failed NoMemory) w (omega arith, λ s. refl) at)
+        (hears (Failed x) (record w { passed = w.passed + 1 }) bound at)
+
     module _ (c : Call) (g : Frame) (o : Option Place) (there : PlacedAt o b)
         (heard : Answer → World S → Act S) (hears : Hears heard) where
       replies : (a : Reply) (w : World S) → ReplyNames clean n a → In w →
           Keeps on n low (rules.answered m a g w (λ v w1. heard (Came v) w1)
-          (λ x w1. heard (Failed x) w1))
+          (rules.failed_so m heard))
       replies (reply.Done v) w bound at = hears (Came v) w bound at
       replies (reply.Failed x) w bound at =
-          hears (Failed (at_position_if_none (rules.position m g) x)) w
+          fails_so heard hears (at_position_if_none (rules.position m g) x) w
           (filled_names clean n (rules.position m g) x bound) at
 
       calls : (key : ℕ) (args : List Held) → Arguments clean n args → (w : World S) → In w →
           Keeps on n low (rules.host_called_or m (heard (Failed NoMemory)) key (lent_at w.roots o)
-          args g w (λ v w1. heard (Came v) w1) (λ x w1. heard (Failed x) w1))
+          args g w (λ v w1. heard (Came v) w1) (rules.failed_so m heard))
       calls key args plain w at =
           let r : Option Receiver = lent_at w.roots o in
           let values = trees_in args in
@@ -145,7 +152,7 @@ module _ {S : Type 0} {m : Setup S} (on : Grounds m) where
           let in2 : In w2 = answered_in key o there args plain w at in
           let out : World S → Act S = heard (Failed NoMemory) in
           let came : Dynamic → World S → Act S = λ v. heard (Came v) in
-          let failed : Problem → World S → Act S = λ x. heard (Failed x) in
+          let failed : Problem → World S → Act S = rules.failed_so m heard in
           marks_or out w (λ v1. rules.marked_or m out (record v1 {
             host = m.law.call_after v1.host key (lent_held r) values;
             scope = given_back m.law v1.host key values r v1.scope;
@@ -170,7 +177,7 @@ module _ {S : Type 0} {m : Setup S} (on : Grounds m) where
 
       natives : (args : List Held) → Arguments clean n args → (w : World S) → In w →
           Keeps on n low (rules.native_or m (heard (Failed NoMemory)) c.name (lent_at w.roots o) args
-          g w (λ v w1. heard (Came v) w1) (λ x w1. heard (Failed x) w1))
+          g w (λ v w1. heard (Came v) w1) (rules.failed_so m heard))
       natives args plain w at =
           by_native (native_of m.law w.host c.name (kinds_in (given r args))) where
             r : Option Receiver
@@ -178,16 +185,17 @@ module _ {S : Type 0} {m : Setup S} (on : Grounds m) where
 
             by_native : (found : Option Native) →
                 Keeps on n low (rules.native_found_or m (heard (Failed NoMemory)) found c.name r args
-                g w (λ v w1. heard (Came v) w1) (λ x w1. heard (Failed x) w1))
+                g w (λ v w1. heard (Came v) w1) (rules.failed_so m heard))
             by_native None =
-                hears (Failed (not_found c.name (values_in (given r args)) (rules.position m g))) w
+                fails_so heard hears
+                (not_found c.name (values_in (given r args)) (rules.position m g)) w
                 (none_missing clean n c.name (values_in (given r args)) (rules.position m g)) at
             by_native (Some q) =
                 by_test (Keeps on n low) (q.writes && first_is_read_only (given r args))
-                (heard (Failed (Plain (NonPureCall c.name) (rules.position m g))) w)
+                (rules.failed_so m heard (Plain (NonPureCall c.name) (rules.position m g)) w)
                 (rules.host_called_or m (heard (Failed NoMemory)) q.key r args g w
-                (λ v w1. heard (Came v) w1) (λ x w1. heard (Failed x) w1))
-                (λ not. hears (Failed (Plain (NonPureCall c.name) (rules.position m g))) w
+                (λ v w1. heard (Came v) w1) (rules.failed_so m heard))
+                (λ not. fails_so heard hears (Plain (NonPureCall c.name) (rules.position m g)) w
                 (omega arith, λ s. refl) at)
                 (λ may. calls q.key args plain w at)
 
@@ -205,7 +213,8 @@ module _ {S : Type 0} {m : Setup S} (on : Grounds m) where
           by_content : (hs : Option (List Held)) → flat_all w.cells (map read_write c.values) ≡ hs →
               Keeps on n low (rules.needed m k f c (lent_at w.roots o) heard w hs)
           by_content None is =
-              hears (Failed (Plain (DataRace (race_text [])) c.position)) w (omega arith, λ s. refl) at
+              fails_so heard hears (Plain (DataRace (race_text [])) c.position) w
+              (omega arith, λ s. refl) at
           by_content (Some args) is =
               natives c (at_step m.program k c.step c.position f) o there heard hears args
               (flat_all_names clean n cells (map read_write c.values) args at.0.contents

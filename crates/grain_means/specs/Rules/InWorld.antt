@@ -5,14 +5,14 @@ use Rattle.grain_value.specs.Cells.{flat}
 use Rattle.grain_value.specs.Operands.{read_write}
 use Rattle.grain_value.specs.declared.values.Held.{Held}
 use Rattle.grain_value.specs.declared.values.paths.PathStep.{PathStep}
-use Rattle.grain_fault.specs.Problems.{Plain, DataRace, NoMemory}
+use Rattle.grain_fault.specs.Problems.{Problem, Plain, DataRace, NoMemory}
 use Rattle.grain_fault.specs.declared.places.Position.{Position}
 use Rattle.grain_program.specs.Chains.{slot_of}
 use Rattle.grain_program.specs.View.{View}
 use Rattle.grain_means.specs.Worlds.{is_stop, Place, Answer, Came, Failed, Frame, World, Act, Setup}
 use Rattle.grain_means.specs.Places.{look, put}
 use Rattle.grain_means.specs.Tasks.{Task, Done, Mark, Look, Flatten, Write, Root, Drop, Need, Call, Walked}
-use Rattle.grain_means.specs.Rules.Faults.{race_text}
+use Rattle.grain_means.specs.Rules.Faults.{race_text, marked_or}
 use Rattle.grain_means.specs.Rules.Reads.{flat_all}
 use Rattle.grain_means.specs.Rules.Natives.{AtPlace, Receiver, native_or}
 
@@ -34,6 +34,11 @@ abbrev pub lent_at : List Held → Option Place → Option Receiver
 lent_at roots None = None
 lent_at roots (Some p) = Some (record { home = AtPlace p; held = look roots p })
 
+-- what a walk needs comes to a fault, which is raised: the walk hears of it, or, where memory is out
+-- there, of that
+abbrev pub failed_so : {S : Type 0} → Setup S → (Answer → World S → Act S) → Problem → World S → Act S
+failed_so m heard x w = marked_or m (heard (Failed NoMemory)) w (heard (Failed x))
+
 -- a walk of the chain of index k, in a frame
 module _ {S : Type 0} (m : Setup S) (k : ℕ) (f : Frame) where
   -- The native that a walk needs, on arguments as they are read, and then what follows from its answer,
@@ -41,11 +46,10 @@ module _ {S : Type 0} (m : Setup S) (k : ℕ) (f : Frame) where
   -- hears so.
   abbrev pub needed : Call → Option Receiver → (Answer → World S → Act S) → World S →
       Option (List Held) → Act S
-  needed c r heard w None = heard (Failed (Plain (DataRace (race_text [])) c.position)) w
+  needed c r heard w None = failed_so m heard (Plain (DataRace (race_text [])) c.position) w
   needed c r heard w (Some args) =
       native_or m (heard (Failed NoMemory)) c.name r args
-      (at_step m.program k c.step c.position f) w (λ v w1. heard (Came v) w1)
-      (λ x w1. heard (Failed x) w1)
+      (at_step m.program k c.step c.position f) w (λ v w1. heard (Came v) w1) (failed_so m heard)
 
   -- what a walk needs, with the place that is lent
   abbrev pub performed : Call → Option Place → (Answer → World S → Act S) → World S → Act S
