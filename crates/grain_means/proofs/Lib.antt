@@ -17,3 +17,4 @@ pub mod Caught
 pub mod Inside
 pub mod Containing
 pub mod Walking
+pub mod Explaining
