@@ -33,7 +33,7 @@ use Rattle.grain_means.specs.Rules.{op_assigned}
 use Rattle.grain_means.specs.Tasks.{Call, Task, Done, Mark, Look, Flatten, Write, Root, Drop, Need, Walked, Well, Ill}
 use Rattle.grain_means.specs.Walks as walks
 use Rattle.grain_means.specs.Walks.{Setting, Course, Rest, Next, Role, Passes, Reads, Writes, Operates, Origin, OfPart, OfIndex, OfProperty, OfNothing, at_mark, assigning, failing, flat_or_busy, flattening, is_indexed, key_of, origin_of_part, role_at_end, role_before, skips, with_key}
-use Rattle.grain_means.specs.Causes.Chains.{ChainWalk, WalksTo, here, marked, looked, read, wrote, added, dropped, heard, past, CallEnds, Falls, ComesTo, AtStep, Indexes, value_at, WalkRow, CallFails, lent_for, world_of}
+use Rattle.grain_means.specs.Causes.Spots.{ChainWalk, WalksTo, here, marked, looked, read, wrote, added, dropped, heard, past, CallEnds, Falls, ComesTo, AtStep, Indexes, value_at, WalkRow, CallFails, lent_for, world_of}
 
 if_false : {A : Type 0} (P : A → Type 0) (b : Bool) (x y : A) → b ≡ false → P y →
     P (if b then x else y)

@@ -3,6 +3,7 @@
 pub mod Instructions
 pub mod Natives
 pub mod Positions
+pub mod Spots
 pub mod Chains
 pub use Rattle.grain_means.specs.Causes.Instructions.{truth_read, truth_on_top, Points, CallsOn, Calls, Charges, IsCharged, HasTooMany, ReadsTop, Overfills, UsesEntry, Unwinds, Tests, AsksPointer, Throws, Holds, AssignsConstant, Misses, Operates, HasNoBuiltIn, Mistypes, IsLent, AssignsLent, StoresLent, ReadsLent}
 pub use Rattle.grain_means.specs.Causes.Natives.{AssignsByHost, Question, all_args, native_asked, reply_to, IsCalled, EndsWith, asks_first, AsksAgain, AsksSecond, AsksToAssign, AsksOnCopies, AsksNative, AsksLast, FindsNone, FindsNative, WritesConstant, HostAnswers, FromHost}

@@ -23,7 +23,7 @@ use Rattle.grain_means.specs.Comes.{Meets, tries}
 use Rattle.grain_means.specs.Causes.{HostAnswers, HasPosition, Charges, IsCharged, Row, ReadsLent, AnswersLent, IsLent}
 use Rattle.grain_means.proofs.Standing.{Fitting, fits_next, fits_covered}
 use Rattle.grain_means.proofs.Footing.{Sits, by_test, unit_by_row, Offers}
-use Rattle.grain_means.proofs.Tally.Frames.{Walk, Even, Steady, start, steady, even_marked, holding, even_offered, even_onward, point, Reason, Enough, all_there}
+use Rattle.grain_means.proofs.Tally.Frames.{Walk, Even, Steady, start, steady, even_marked, even_marked_at, blaming, holding, even_offered, even_offered_by, even_onward, point, Reason, Enough, all_there}
 
 module _ {S : Type 0} {m : Setup S} (walk : Walk m) where
   open walk use {root, footing as k, frame as f, now, comes, level, trace, sits}
@@ -85,6 +85,17 @@ module _ {S : Type 0} {m : Setup S} (walk : Walk m) where
         even_marked walk r w s (offered m (holding walk operands) x)
         (even_offered_in operands enough r x (record w { passed = w.passed + 1 }) s
         (inr reason.0, reason.1))
+
+    -- the same, with a step that is blamed
+    pub even_raised_by : (slot : Option ℕ) (operands : List Held) → Enough walk o operands →
+        (r : ℕ) (x : Problem) (w : World S) → Steady walk r w → Reason walk x → Even walk r
+        (raised m (blaming walk slot operands) x w)
+    even_raised_by slot operands enough r x w s reason =
+        even_marked_at walk (blaming walk slot operands) r w refl (inl refl) sits.1 s
+        (offered m (blaming walk slot operands) x)
+        (even_offered_by walk slot [] f.handlers refl sits.3 operands
+        (λ valid. fits_covered m.program valid f o width stands operands enough (sits.2 valid)) r
+        x (record w { passed = w.passed + 1 }) (λ unit. tt) s (inr reason.0, reason.1))
 
     pub even_raised : (r : ℕ) (x : Problem) (w : World S) → Steady walk r w → Reason walk x →
         Even walk r (raised m f x w)

@@ -93,7 +93,7 @@ module _ {S : Type 0} {m : Setup S} (walk : Walk m) where
       Caused m root k.level (Failed x) w → Even r (leave_by_fault m f x w)
   even_left r x w s cause = even_left_at f r x w refl (inl refl) sits.1 s cause
 
-  even_marked_at : (g : Frame) (r : ℕ) (w : World S) → g.address ≡ f.address → Floor g.floor →
+  pub even_marked_at : (g : Frame) (r : ℕ) (w : World S) → g.address ≡ f.address → Floor g.floor →
       k.base ≤ g.floor → Steady r w → (go : World S → Act S) →
       Even r (go (record w { passed = w.passed + 1 })) → Even r (marked m g w go)
   even_marked_at g r w same floor low s go h =
@@ -109,6 +109,10 @@ module _ {S : Type 0} {m : Setup S} (walk : Walk m) where
   -- the frame with other operands
   abbrev pub holding : List Held → Frame
   holding operands = record f { operands = operands }
+
+  -- the same, with a step that is blamed
+  abbrev pub blaming : Option ℕ → List Held → Frame
+  blaming slot operands = record f { operands = operands; slot = slot }
 
   -- the frame at another address with one more handler, and without its innermost one
   abbrev pub guarding : ℕ → Option ℕ → ℕ → Frame
@@ -128,22 +132,22 @@ module _ {S : Type 0} {m : Setup S} (walk : Walk m) where
 
   -- a fault is offered to handlers of the frame, and what they need of its operands is there; where
   -- it throws unit, those inside of them have caught throws of unit
-  pub even_offered : (inside hs : List Handler) → f.handlers ≡ inside ++ hs →
+  pub even_offered_by : (slot : Option ℕ) (inside hs : List Handler) → f.handlers ≡ inside ++ hs →
       Guarded m root k hs → (operands : List Held) →
       (IsProgram m.program → Covered m.program operands (tries hs)) → (r : ℕ) (x : Problem)
       (w : World S) → (throws_unit x ≡ true → HaveCaughtUnit inside) → Steady r w →
       Offers m root k.level f.handlers x w →
-      Even r (offered_to m hs (holding operands) x w)
-  even_offered inside [] split g operands covered r x w left s offers =
-      even_left r x w s offers.0
-  even_offered inside (h ∷ hs) split g operands covered r x w left s offers =
-      let around : Frame = record (holding operands) { handlers = hs } in
+      Even r (offered_to m hs (blaming slot operands) x w)
+  even_offered_by slot inside [] split g operands covered r x w left s offers =
+      even_left_at (blaming slot operands) r x w refl (inl refl) sits.1 s offers.0
+  even_offered_by slot inside (h ∷ hs) split g operands covered r x w left s offers =
+      let around : Frame = record (blaming slot operands) { handlers = hs } in
       by_arming m (Even r) h.caught
       (if catchable x then Go (InCatch around h x) w
-      else leave_by_fault m (holding operands) x w)
-      (λ y. offered_to m hs (holding operands) (thrown_anew y x) w)
+      else leave_by_fault m (blaming slot operands) x w)
+      (λ y. offered_to m hs (blaming slot operands) (thrown_anew y x) w)
       (λ none. by_test (Even r) (catchable x) (Go (InCatch around h x) w)
-      (leave_by_fault m (holding operands) x w)
+      (leave_by_fault m (blaming slot operands) x w)
       (λ may. (
         s.0,
         s.1,
@@ -167,13 +171,21 @@ module _ {S : Type 0} {m : Setup S} (walk : Walk m) where
           covered = covered;
         },
       ))
-      (λ _. even_left r x w s offers.0))
-      (λ y e. even_offered (inside ++ h ∷ []) hs (split ∙ sym (append_assoc inside (h ∷ []) hs))
+      (λ _. even_left_at (blaming slot operands) r x w refl (inl refl) sits.1 s offers.0))
+      (λ y e. even_offered_by slot (inside ++ h ∷ []) hs (split ∙ sym (append_assoc inside (h ∷ []) hs))
       g.2 operands
       (λ valid. covered_outside m.program operands (try_of h) (tries hs) (covered valid)) r
       (thrown_anew y x) w (left_so_far m inside h x y left e) s
       (offers_anew m root k.level f.handlers inside hs h y
       (subst (HasCaught m root k.level h) e g.1) split x w left offers))
+
+  pub even_offered : (inside hs : List Handler) → f.handlers ≡ inside ++ hs →
+      Guarded m root k hs → (operands : List Held) →
+      (IsProgram m.program → Covered m.program operands (tries hs)) → (r : ℕ) (x : Problem)
+      (w : World S) → (throws_unit x ≡ true → HaveCaughtUnit inside) → Steady r w →
+      Offers m root k.level f.handlers x w →
+      Even r (offered_to m hs (holding operands) x w)
+  even_offered = even_offered_by f.slot
 
   pub even_onward : (r : ℕ) (g : Frame) (w : World S) → Steady r w → w.trace ≡ [] →
       Floor g.floor → Sits m root k g → Even r (onward m f g w)
