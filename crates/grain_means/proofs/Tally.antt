@@ -13,6 +13,7 @@ pub mod Operators
 pub mod Transfers
 pub mod Calls
 pub mod Walks
+pub mod Chains
 use Rattle.std.proofs.Common.{◌≡◌, ℕ, ◌+◌, ◌-◌, List, [], ◌∷◌, ◌++◌, Option, Some, None, Bool, true, false, refl, ap, inl, inr, arith, length}
 use Rattle.std.specs.Prelude.{is_some}
 use Rattle.grain_value.specs.declared.values.Dynamic.TheVariants as dynamic

@@ -71,7 +71,7 @@ module _ {S : Type 0} {m : Setup S} (walk : Walk m) where
   short x n scope (inr (out, c, e)) le = inr (out, c, omega (arith, e, le))
 
   -- a fault leaves the frame, at its own floor or at that of a checkpoint that is done
-  even_left_at : (g : Frame) (r : ℕ) (x : Problem) (w : World S) → g.address ≡ f.address →
+  pub even_left_at : (g : Frame) (r : ℕ) (x : Problem) (w : World S) → g.address ≡ f.address →
       FloorFor x g.floor → k.base ≤ g.floor → Steady r w → Caused m root k.level (Failed x) w →
       Even r (leave_by_fault m g x w)
   even_left_at g r x w same floor low s cause =

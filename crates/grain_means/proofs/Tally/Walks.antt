@@ -30,7 +30,7 @@ module _ {S : Type 0} {m : Setup S} (walk : Walk m) where
     ran = now.ran + 1
 
     -- a world of the walk
-    abbrev Kept : World S → Type 0
+    abbrev pub Kept : World S → Type 0
     Kept w = Steady walk ran w × (w.trace ≡ [])
 
     abbrev Walks : Task → World S → Type 0
