@@ -11,6 +11,7 @@ pub mod Transfers
 pub mod Calls
 pub mod Catching
 pub mod Tasks
+pub mod StepTasks
 pub mod Walks
 pub mod Chains
 use Rattle.std.proofs.Common.{◌≡◌, ◌≤◌, ◌+◌, ℕ, List, [], ◌∷◌, Option, Some, None, Bool, true, false, length, refl, arith}

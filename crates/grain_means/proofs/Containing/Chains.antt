@@ -33,7 +33,8 @@ use Rattle.grain_means.proofs.Naming.{PlainNames, all_got, all_set, arguments_na
 use Rattle.grain_means.proofs.Containing.Parts.{FrameNames, Operands}
 use Rattle.grain_means.proofs.Containing.Frames.{Grounds, At, Keeps, raises}
 use Rattle.grain_means.proofs.Containing.Steps.{Stays, Here, looking, marking, pushing, raising, reading}
-use Rattle.grain_means.proofs.Containing.Tasks.{AssignsNames, TaskNames, WalkedNames, walk_names}
+use Rattle.grain_means.proofs.Containing.StepTasks.{AssignsNames, walk_names}
+use Rattle.grain_means.proofs.Containing.Tasks.{TaskNames, WalkedNames}
 use Rattle.grain_means.proofs.Containing.Walks.{In, walks_within}
 
 -- what is read beside a cell that is lent is what is read beside it as it was

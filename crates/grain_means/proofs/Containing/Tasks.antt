@@ -1,4 +1,5 @@
--- Every value that a chain's walk writes, lends, gives and holds as a root names cells of the store only.
+-- Every value that a chain's walk writes, lends, gives and holds as a root names cells of the store only:
+-- calls, op-assignments, and the way back.
 use Rattle.std.proofs.Common.{◌≡◌, ◌≤◌, ◌-◌, ◌+◌, ◌∙◌, ℕ, zero, suc, List, [], ◌∷◌, Bool, true, false, Option, Some, None, Result, Ok, Err, refl, arith}
 use Rattle.std.specs.List.{AllByRecursion}
 use Rattle.std.specs.Prelude.{if◌then◌else◌, slice_get, slice_index_or}
@@ -41,7 +42,7 @@ use Rattle.grain_means.proofs.Naming.{PlainNames}
 use Rattle.grain_means.proofs.Plain.{NamesNone, no_cell, op_assigned_plain}
 
 -- what a value that stands in no place of its own is: it names no cell
-part_none : (d : Dynamic) (s : Spot) (clean : Bool) (n : ℕ) →
+pub part_none : (d : Dynamic) (s : Spot) (clean : Bool) (n : ℕ) →
     Names clean n (part d s) × (cell_of (part d s) ≡ None)
 part_none (dynamic.Blob bs) (spot.Byte k) clean n = at (slice_get bs k) where
   at : (o : Option ℕ) → Names clean n (byte_value o) × (cell_of (byte_value o) ≡ None)
@@ -55,11 +56,11 @@ part_none (dynamic.Int i) (spot.Bit k) clean n = ((omega arith, λ s. refl), ref
 part_none d s clean n = ((omega arith, λ s. refl), refl)
 
 -- so is a value with such a part put in
-abbrev NoneInside : Bool → ℕ → Option Dynamic → Type 0
+abbrev pub NoneInside : Bool → ℕ → Option Dynamic → Type 0
 NoneInside clean n None = Unit {0}
 NoneInside clean n (Some d) = Names clean n d × (cell_of d ≡ None)
 
-with_part_none : (d : Dynamic) (s : Spot) (v : Dynamic) (clean : Bool) (n : ℕ) →
+pub with_part_none : (d : Dynamic) (s : Spot) (v : Dynamic) (clean : Bool) (n : ℕ) →
     NoneInside clean n (with_part d s v)
 with_part_none (dynamic.Blob bs) (spot.Byte k) (dynamic.Int i) clean n =
     ((omega arith, λ s. refl), refl)
@@ -68,14 +69,6 @@ with_part_none (dynamic.Text t) (spot.Character k) (dynamic.Char x) clean n =
 with_part_none (dynamic.Int i) (spot.Bit k) (dynamic.Bool b) clean n =
     ((omega arith, λ s. refl), refl)
 with_part_none d s v clean n = tt
-
--- an index that nothing stands at is a number
-bounds_none : (d : Dynamic) (size : ℕ) (i : _) (q : Position) (clean : Bool) (n : ℕ) →
-    ProblemNames clean n (Plain (out_of_bounds d size i) q)
-bounds_none (dynamic.Array ts) size i q clean n = (omega arith, λ s. refl)
-bounds_none (dynamic.Blob s) size i q clean n = (omega arith, λ s. refl)
-bounds_none (dynamic.Text s) size i q clean n = (omega arith, λ s. refl)
-bounds_none d size i q clean n = (omega arith, λ s. refl)
 
 module _ (clean : Bool) (n : ℕ) where
   abbrev pub WalkedNames : Walked → Type 0
@@ -103,54 +96,54 @@ module _ (clean : Bool) (n : ℕ) where
   TaskNames (Need c go) =
       ValuesName c.values × ((a : Answer) → AnswerNames clean n a → TaskNames (go a))
 
-  abbrev Follows : Rest → Type 0
+  abbrev pub Follows : Rest → Type 0
   Follows done = (o : Walked) → WalkedNames o → TaskNames (done o)
 
-  abbrev Goes : Next → Type 0
+  abbrev pub Goes : Next → Type 0
   Goes next = (p : Place) (done : Rest) → Follows done → TaskNames (next p done)
 
   -- what follows from a value that is read
-  abbrev Reading : (Dynamic → Task) → Type 0
+  abbrev pub Reading : (Dynamic → Task) → Type 0
   Reading go = (v : Dynamic) → Names clean n v → TaskNames (go v)
 
-  by : (b : Bool) (x y : Task) → TaskNames x → TaskNames y → TaskNames (if b then x else y)
+  pub by : (b : Bool) (x y : Task) → TaskNames x → TaskNames y → TaskNames (if b then x else y)
   by true x y h i = h
   by false x y h i = i
 
-  out : (done : Rest) (k : ℕ) → Follows done → TaskNames (done (Ill k NoMemory))
+  pub out : (done : Rest) (k : ℕ) → Follows done → TaskNames (done (Ill k NoMemory))
   out done k f = f (Ill k NoMemory) (omega arith, λ s. refl)
 
   -- unit, and a text
-  unit_names : Names clean n dynamic.Unit
+  pub unit_names : Names clean n dynamic.Unit
   unit_names = (omega arith, λ s. refl)
 
-  assigned : (done : Rest) → Follows done → TaskNames (done (Well dynamic.Unit true))
+  pub assigned : (done : Rest) → Follows done → TaskNames (done (Well dynamic.Unit true))
   assigned done f = f (Well dynamic.Unit true) unit_names
 
   -- a step of the chain
   module _ (k : ℕ) where
-    fails : (x : Problem) (done : Rest) → Follows done → ProblemNames clean n x →
+    pub fails : (x : Problem) (done : Rest) → Follows done → ProblemNames clean n x →
         TaskNames (failing k x done)
     fails x done f bound = (out done k f, f (Ill k x) bound)
 
-    reads : (q : Position) (v : Dynamic) (done : Rest) (go : Dynamic → Task) → Follows done →
+    pub reads : (q : Position) (v : Dynamic) (done : Rest) (go : Dynamic → Task) → Follows done →
         Names clean n v → ((u : Dynamic) → PlainValue u → TaskNames (go u)) →
         TaskNames (flattening k q v done go)
     reads q v done go f names h = (names, fails _ done f (omega arith, λ s. refl), h)
 
-    index_set : (u : Dynamic) (done : Rest) → Follows done → Names clean n u → (a : Answer) →
+    pub index_set : (u : Dynamic) (done : Rest) → Follows done → Names clean n u → (a : Answer) →
         AnswerNames clean n a → TaskNames (walks.index_was_set k u done a)
     index_set u done f names (Came r) bound = f (Well u true) names
     index_set u done f names (Failed x) bound =
         by (is_indexing_type x) _ _ (f (Well u true) names) (f (Ill k x) bound)
 
-    sets_index : (q : Position) (p : Place) (i v u : Dynamic) (done : Rest) → Follows done →
+    pub sets_index : (q : Position) (p : Place) (i v u : Dynamic) (done : Rest) → Follows done →
         Names clean n i → Names clean n v → Names clean n u →
         TaskNames (walks.set_by_index k q p i v u done)
     sets_index q p i v u done f index value names =
         (out done k f, ((index, (value, tt)), index_set u done f names))
 
-    set_instead : (x : Problem) (assigned : Bool) (u : Dynamic) (done : Rest) → Follows done →
+    pub set_instead : (x : Problem) (assigned : Bool) (u : Dynamic) (done : Rest) → Follows done →
         ProblemNames clean n x → Names clean n u → (a : Answer) → AnswerNames clean n a →
         TaskNames (walks.set_instead k x assigned u done a)
     set_instead x assigned u done f first names (Came r) bound = f (Well u true) names
@@ -158,7 +151,7 @@ module _ (clean : Bool) (n : ℕ) where
         by (is_indexing_type y) _ _
         (by assigned _ _ (f (Ill k x) first) (f (Well u true) names)) (f (Ill k y) bound)
 
-    property_set : (name : Dynamic) (q : Position) (assigned : Bool) (p : Place) (v u : Dynamic)
+    pub property_set : (name : Dynamic) (q : Position) (assigned : Bool) (p : Place) (v u : Dynamic)
         (done : Rest) → Follows done → Names clean n name → Names clean n v → Names clean n u →
         (a : Answer) → AnswerNames clean n a →
         TaskNames (walks.property_was_set k name q assigned p v u done a)
@@ -169,14 +162,14 @@ module _ (clean : Bool) (n : ℕ) where
         (out done k f, ((text, (value, tt)), set_instead x assigned u done f bound names))
         (f (Ill k x) bound)
 
-    got_instead : (x : Problem) (done : Rest) (go : Dynamic → Task) → Follows done →
+    pub got_instead : (x : Problem) (done : Rest) (go : Dynamic → Task) → Follows done →
         ProblemNames clean n x → Reading go → (a : Answer) → AnswerNames clean n a →
         TaskNames (walks.got_instead k x done go a)
     got_instead x done go f first h (Came v) bound = h v bound
     got_instead x done go f first h (Failed y) bound =
         by (is_indexing_type y) _ _ (f (Ill k x) first) (f (Ill k y) bound)
 
-    property_got : (name : Dynamic) (q : Position) (p : Place) (done : Rest) (go : Dynamic → Task) →
+    pub property_got : (name : Dynamic) (q : Position) (p : Place) (done : Rest) (go : Dynamic → Task) →
         Follows done → Names clean n name → Reading go → (a : Answer) → AnswerNames clean n a →
         TaskNames (walks.property_was_got k name q p done go a)
     property_got name q p done go f text h (Came v) bound = h v bound
@@ -184,12 +177,12 @@ module _ (clean : Bool) (n : ℕ) where
         by (is_dot_expr x) _ _ (out done k f, ((text, tt), got_instead x done go f bound h))
         (f (Ill k x) bound)
 
-    index_got : (done : Rest) (go : Dynamic → Task) → Follows done → Reading go → (a : Answer) →
+    pub index_got : (done : Rest) (go : Dynamic → Task) → Follows done → Reading go → (a : Answer) →
         AnswerNames clean n a → TaskNames (walks.index_was_got k done go a)
     index_got done go f h (Came v) bound = h v bound
     index_got done go f h (Failed x) bound = f (Ill k x) bound
 
-    index_read : (q : Position) (p : Place) (i v : Dynamic) (done : Rest) (go : Dynamic → Task) →
+    pub index_read : (q : Position) (p : Place) (i v : Dynamic) (done : Rest) (go : Dynamic → Task) →
         Follows done → Names clean n i → Names clean n v → Reading go → (a : Answer) →
         AnswerNames clean n a → TaskNames (walks.index_was_read k q p i v done go a)
     index_read q p i v done go f index value h (Came r) bound = h r bound
@@ -198,10 +191,10 @@ module _ (clean : Bool) (n : ℕ) where
         (f (Ill k x) bound)
 
     module _ (g : Setting) where
-      name_names : (name : ℕ) → Names clean n (walks.named g name)
+      pub name_names : (name : ℕ) → Names clean n (walks.named g name)
       name_names name = (omega arith, λ s. refl)
 
-      sets_property : (name setter : ℕ) (q : Position) (assigned : Bool) (p : Place)
+      pub sets_property : (name setter : ℕ) (q : Position) (assigned : Bool) (p : Place)
           (v u : Dynamic) (done : Rest) → Follows done → Names clean n v → Names clean n u →
           TaskNames (walks.set_property g k name setter q assigned p v u done)
       sets_property name setter q assigned p v u done f value names = (
@@ -212,14 +205,14 @@ module _ (clean : Bool) (n : ℕ) where
         ),
       )
 
-      gets_property : (name getter : ℕ) (q : Position) (p : Place) (done : Rest)
+      pub gets_property : (name getter : ℕ) (q : Position) (p : Place) (done : Rest)
           (go : Dynamic → Task) → Follows done → Reading go →
           TaskNames (walks.get_property g k name getter q p done go)
       gets_property name getter q p done go f h =
           (out done k f, (tt, property_got (walks.named g name) q p done go f (name_names name) h))
 
       -- an op-assignment
-      operator : (q : Position) (p : Place) (done : Rest) → Follows done → (a : Answer) →
+      pub operator : (q : Position) (p : Place) (done : Rest) → Follows done → (a : Answer) →
           AnswerNames clean n a → TaskNames (walks.operator_answered k q p done a)
       operator q p done f (Came r) bound =
           reads q r done (λ u. at_mark k done (Write p u (done (Well dynamic.Unit true)))) f bound
@@ -227,7 +220,7 @@ module _ (clean : Bool) (n : ℕ) where
       operator q p done f (Failed x) bound = f (Ill k x) bound
 
       module _ (q : Position) (a : AssignOp) (v : Dynamic) (value : Names clean n v) where
-        op_assigned_by : (p : Place) (done : Rest) → Follows done → (b : Answer) →
+        pub op_assigned_by : (p : Place) (done : Rest) → Follows done → (b : Answer) →
             AnswerNames clean n b → TaskNames (walks.was_op_assigned g k q a v p done b)
         op_assigned_by p done f (Came r) bound = assigned done f
         op_assigned_by p done f (Failed x) bound =
@@ -235,7 +228,7 @@ module _ (clean : Bool) (n : ℕ) where
             (λ h stands. (out done k f, ((stands.0, (value, tt)), operator q p done f)))
             (f (Ill k x) bound)
 
-        stored : (p : Place) (done : Rest) → Follows done → (o : Outcome) → NamesNone o →
+        pub stored : (p : Place) (done : Rest) → Follows done → (o : Outcome) → NamesNone o →
             TaskNames (walks.stored g k q a v p done o)
         stored p done f NotBuiltIn none =
             (out done k f, ((value, tt), op_assigned_by p done f))
@@ -244,25 +237,25 @@ module _ (clean : Bool) (n : ℕ) where
         stored p done f (ArithmeticFault text) none = fails _ done f (omega arith, λ s. refl)
         stored p done f (TooLarge what) none = fails _ done f (omega arith, λ s. refl)
 
-        operates : Goes (walks.operating g k q a v)
+        pub operates : Goes (walks.operating g k q a v)
         operates p done f = λ h stands.
             stored p done f (op_assigned g.engine a h.value v) (op_assigned_plain g.engine a h.value v)
 
       -- the way back
-      put_part : (s : Spot) (p : Place) (v u : Dynamic) (changed : Bool) (done : Rest) →
+      pub put_part : (s : Spot) (p : Place) (v u : Dynamic) (changed : Bool) (done : Rest) →
           Follows done → Names clean n u → (d : Option Dynamic) → NoneInside clean n d →
           TaskNames (walks.put_part g k s p v u changed done d)
       put_part s p v u changed done f names (Some d) none =
           (out done k f, (none, f (Well u changed) names))
       put_part s p v u changed done f names None none = fails _ done f (omega arith, λ s. refl)
 
-      abbrev OriginNames : Origin → Type 0
+      abbrev pub OriginNames : Origin → Type 0
       OriginNames (OfPart s) = Unit {0}
       OriginNames (OfIndex i q) = Names clean n i
       OriginNames (OfProperty name setter q assigned) = Unit {0}
       OriginNames OfNothing = Unit {0}
 
-      sets_back : (o : Origin) → OriginNames o → (p : Place) (v u : Dynamic) (changed : Bool)
+      pub sets_back : (o : Origin) → OriginNames o → (p : Place) (v u : Dynamic) (changed : Bool)
           (done : Rest) → Follows done → Names clean n v → Names clean n u →
           TaskNames (walks.set_back g k o p v u changed done)
       sets_back (OfPart s) from p v u changed done f value names = (
@@ -277,221 +270,23 @@ module _ (clean : Bool) (n : ℕ) where
           (f (Well u false) names)
       sets_back OfNothing from p v u changed done f value names = f (Well u changed) names
 
-      goes_back : (o : Origin) → OriginNames o → (p : Place) (done : Rest) → Follows done →
+      pub goes_back : (o : Origin) → OriginNames o → (p : Place) (done : Rest) → Follows done →
           Follows (walks.back g k o p done)
       goes_back o from p done f (Ill j x) bound = λ h plain. f (Ill j x) bound
       goes_back o from p done f (Well u changed) names = λ h plain.
           sets_back o from p h.value u changed done f plain.0 names
 
-      roots : (o : Origin) → OriginNames o → (h : Held) → PlainNames clean n h → (next : Next) →
+      pub roots : (o : Origin) → OriginNames o → (h : Held) → PlainNames clean n h → (next : Next) →
           Goes next → Goes (walks.rooted g k o h next)
       roots o from h plain next on p done f =
           (out done k f, (plain, on (next_root p) (walks.back g k o p done) (goes_back o from p done f)))
 
-      into_answer : (q : Position) (o : Origin) → OriginNames o → (next : Next) → Goes next →
+      pub into_answer : (q : Position) (o : Origin) → OriginNames o → (next : Next) → Goes next →
           (p : Place) (done : Rest) → Follows done →
           Reading (walks.into_answer g k q o next p done)
       into_answer q o from next on p done f v names =
           reads q v done (λ u. walks.rooted g k o (read_write u) next p done) f names
           (λ u plain. roots o from (read_write u) plain next on p done f)
 
-      own_value : (done : Rest) → Follows done → Reading (walks.own_value done)
+      pub own_value : (done : Rest) → Follows done → Reading (walks.own_value done)
       own_value done f v names = f (Well v false) names
-
-      -- a map with a key more
-      key_added : (name : List ℕ) (d : Dynamic) → Names clean n d → cell_of d ≡ None →
-          PlainValue (with_key name d)
-      key_added name (dynamic.Map es) names plain =
-          (entry_put clean n name unit es names ((omega arith, λ s. refl), λ s. refl), refl)
-      key_added name d names plain = (names, plain)
-
-      -- a value is none where what stands there is none
-      missing_key : (q : Position) (o : Origin) → OriginNames o → (role : Role) (name : List ℕ)
-          (h : Held) → HeldNames clean n h → cell_of h.value ≡ None → (next : Next) → Goes next →
-          Goes (walks.missing_key g k q o role name h next)
-      missing_key q o from role name h held plain next on p done f =
-          by (assigning role) _ _
-          (out done k f, (key_added name h.value held plain, on _ done f))
-          (by g.engine.strict_properties _ _ (fails _ done f (omega arith, λ s. refl))
-          (roots o from (record h { value = dynamic.Unit }) ((omega arith, λ s. refl), refl) next on
-          p done f))
-
-      -- the value that a role assigns
-      abbrev RoleNames : Role → Type 0
-      RoleNames Passes = Unit {0}
-      RoleNames Reads = Unit {0}
-      RoleNames (Writes v) = Names clean n v
-      RoleNames (Operates v a) = Names clean n v
-
-      by_indexer : (q bracket : Position) (role : Role) → RoleNames role → (i : Dynamic) →
-          Names clean n i → (next : Next) → Goes next →
-          Goes (walks.by_indexer g k q bracket role i next)
-      by_indexer q bracket Passes value i index next on p done f = (
-        out done k f,
-        (
-          (index, tt),
-          index_got done (walks.into_answer g k q (OfIndex i bracket) next p done) f
-              (into_answer q (OfIndex i bracket) index next on p done f),
-        ),
-      )
-      by_indexer q bracket Reads value i index next on p done f =
-          (out done k f, ((index, tt), index_got done _ f (own_value done f)))
-      by_indexer q bracket (Writes v) value i index next on p done f =
-          sets_index bracket p i v dynamic.Unit done f index value unit_names
-      by_indexer q bracket (Operates v a) value i index next on p done f = (
-        out done k f,
-        (
-          (index, tt),
-          index_read bracket p i v done
-              (walks.into_answer g k bracket (OfIndex i bracket) (walks.operating g k bracket a v) p
-              done) f index value
-              (into_answer bracket (OfIndex i bracket) index (walks.operating g k bracket a v)
-              (operates bracket a v value) p done f),
-        ),
-      )
-
-      indexed : (q bracket : Position) (role : Role) → RoleNames role → (i v : Dynamic) →
-          Names clean n i → (h : Held) → HeldNames clean n h → cell_of h.value ≡ None →
-          (next : Next) → Goes next → (p : Place) (done : Rest) → Follows done →
-          (r : Result Spot ValueFault) →
-          TaskNames (walks.indexed g k q bracket role i v h next p done r)
-      indexed q bracket role value i v index h held plain next on p done f (Ok (spot.Item j)) =
-          (out done k f, on _ done f)
-      indexed q bracket role value i v index h held plain next on p done f (Ok spot.Key) =
-          (out done k f, on _ done f)
-      indexed q bracket role value i v index h held plain next on p done f (Ok s) =
-          roots (origin_of_part role s) (part_origin role s) (record h { value = part h.value s })
-          (part_none h.value s clean n) next on p done f where
-            part_origin : (r : Role) (s : Spot) → OriginNames (origin_of_part r s)
-            part_origin Passes s = tt
-            part_origin Reads s = tt
-            part_origin (Writes v) s = tt
-            part_origin (Operates v a) s = tt
-      indexed q bracket role value i v index h held plain next on p done f
-          (Err (fault.Bounds size j)) = fails _ done f (bounds_none h.value size j q clean n)
-      indexed q bracket role value i v index h held plain next on p done f (Err fault.NoKey) =
-          missing_key q (OfIndex i bracket) index role _ h held plain next on p done f
-      indexed q bracket role value i v index h held plain next on p done f (Err fault.WrongType) =
-          fails _ done f (omega arith, λ s. refl)
-      indexed q bracket role value i v index h held plain next on p done f (Err e) =
-          by_indexer q bracket role value i index next on p done f
-
-      -- what is indexed itself is no cell
-      indexed_plain : (d : Dynamic) → is_indexed d ≡ true → cell_of d ≡ None
-      indexed_plain (dynamic.Array ts) e = refl
-      indexed_plain (dynamic.Blob s) e = refl
-      indexed_plain (dynamic.Text s) e = refl
-      indexed_plain (dynamic.Int i) e = refl
-      indexed_plain (dynamic.Map es) e = refl
-      indexed_plain d e = absurd cc
-
-      index_step : (i : Dynamic) → Names clean n i → (q bracket : Position) (role : Role) →
-          RoleNames role → (next : Next) → Goes next →
-          Goes (walks.index_step g k i q bracket role next)
-      index_step i index q bracket role value next on p done f = λ h stands.
-          by_kind h stands (is_indexed h.value) refl where
-            by_kind : (h : Held) → Stands clean n h → (b : Bool) → is_indexed h.value ≡ b →
-                TaskNames (if b then flattening k q i done (λ v.
-                walks.indexed g k q bracket role i v h next p done (locate h.value v))
-                else walks.by_indexer g k q bracket role i next p done)
-            by_kind h stands true e =
-                reads q i done (λ v. walks.indexed g k q bracket role i v h next p done (locate h.value v))
-                f index (λ v plain. indexed q bracket role value i v index h stands.0
-                (indexed_plain h.value e) next on p done f (locate h.value v))
-            by_kind h stands false e = by_indexer q bracket role value i index next on p done f
-
-      by_accessor : (name getter setter : ℕ) (q : Position) (role : Role) → RoleNames role →
-          (next : Next) → Goes next → Goes (walks.by_accessor g k name getter setter q role next)
-      by_accessor name getter setter q Passes value next on p done f =
-          gets_property name getter q p done _ f
-          (into_answer q (OfProperty name setter q false) tt next on p done f)
-      by_accessor name getter setter q Reads value next on p done f =
-          gets_property name getter q p done _ f (own_value done f)
-      by_accessor name getter setter q (Writes v) value next on p done f =
-          sets_property name setter q true p v dynamic.Unit done f value unit_names
-      by_accessor name getter setter q (Operates v a) value next on p done f =
-          gets_property name getter q p done _ f
-          (into_answer q (OfProperty name setter q true) tt (walks.operating g k q a v)
-          (operates q a v value) p done f)
-
-      at_key : (q : Position) (role : Role) (name : List ℕ) (h : Held) → HeldNames clean n h →
-          cell_of h.value ≡ None → (next : Next) → Goes next → (p : Place) (done : Rest) →
-          Follows done → (t : Option Tree) → TaskNames (walks.at_key g k q role name h next p done t)
-      at_key q role name h held plain next on p done f (Some t) = (out done k f, on _ done f)
-      at_key q role name h held plain next on p done f None =
-          missing_key q OfNothing tt role name h held plain next on p done f
-
-      property_step : (name getter setter : ℕ) (q : Position) (role : Role) → RoleNames role →
-          (next : Next) → Goes next → Goes (walks.property_step g k name getter setter q role next)
-      property_step name getter setter q role value next on p done f = λ h stands.
-          at h stands h.value refl where
-            at : (h : Held) → Stands clean n h → (d : Dynamic) → h.value ≡ d →
-                TaskNames (walks.property_of g k name getter setter q role h next p done d)
-            at h stands (dynamic.Map es) e =
-                at_key q role (name_of g.program name) h stands.0 (ap_none e) next on p done f
-                (entry_at (name_of g.program name) es) where
-                  ap_none : h.value ≡ dynamic.Map es → cell_of h.value ≡ None
-                  ap_none same = rw same refl
-            at h stands d e = by_accessor name getter setter q role value next on p done f
-
-  unless : (b : Bool) (p : Place) (done : Rest) (go : Task) → Follows done → TaskNames go →
-      TaskNames (walks.unless_unit b p done go)
-  unless false p done go f h = h
-  unless true p done go f h = λ x stands.
-      by (is_unit x.value) _ _ (f (Well dynamic.Unit false) unit_names) h
-
-  -- an operand of the chain
-  trees_got : (ts : List Tree) (i : ℕ) → AllByRecursion (TreeNames clean n) ts →
-      Names clean n (value_of (slice_index_or ts i unit))
-  trees_got ts i all = at ts i all where
-    named : (t : Tree) → TreeNames clean n t → Names clean n (value_of t)
-    named t h = rw (tree-value_of t) h
-
-    at : (ts : List Tree) (i : ℕ) → AllByRecursion (TreeNames clean n) ts →
-        Names clean n (value_of (slice_index_or ts i unit))
-    at [] i h = (omega arith, λ s. refl)
-    at (t ∷ ts) zero h = named t h.0
-    at (t ∷ ts) (suc i) h = at ts i h.1
-
-  abbrev pub AssignsNames : Option Dynamic → Type 0
-  AssignsNames None = Unit {0}
-  AssignsNames (Some v) = PlainValue v
-
-  module _ (c : Course) (operands : AllByRecursion (TreeNames clean n) c.operands)
-      (value : AssignsNames c.assigns) where
-    takes : (k : ℕ) (s : Step) (role : Role) → RoleNames k c.setting role → (next : Next) →
-        Goes next → Goes (walks.taken c s k role next)
-    takes k (step.Index i flags q bracket) role named next on =
-        index_step k c.setting (walks.operand c i) (trees_got c.operands i operands) q bracket role
-        named next on
-    takes k (step.Property name getter setter flags q) role named next on =
-        property_step k c.setting name getter setter q role named next on
-
-    ends : (k : ℕ) (v : Option Dynamic) → AssignsNames v → (op : Option AssignOp) →
-        Goes (walks.ended c.setting (role_at_end v op) k)
-    ends k None named op p done f = (out done k f, λ h stands. f (Well h.value false) stands.0)
-    ends k (Some v) named None p done f = (out done k f, (named, assigned done f))
-    ends k (Some v) named (Some a) p done f =
-        operates k c.setting c.setting.position a v named.0 p done f
-
-    last_names : (k : ℕ) (v : Option Dynamic) → AssignsNames v → (op : Option AssignOp) →
-        RoleNames k c.setting (role_at_end v op)
-    last_names k None named op = tt
-    last_names k (Some v) named None = named.0
-    last_names k (Some v) named (Some a) = named.0
-
-    role_names : (k : ℕ) (steps : List Step) → RoleNames k c.setting (walks.role_before c steps)
-    role_names k [] = last_names k c.assigns value c.operator
-    role_names k (s ∷ steps) = tt
-
-    walks_on : (steps : List Step) (k : ℕ) → Goes (walks.walked c steps k)
-    walks_on [] k = ends (k - 1) c.assigns value c.operator
-    walks_on (s ∷ steps) k = λ p done f. (
-      out done k f,
-      unless (skips s) p done _ f
-          (takes k s (walks.role_before c steps) (role_names k steps) (walks.walked c steps (k + 1))
-          (walks_on steps (k + 1)) p done f),
-    )
-
-    pub walk_names : (steps : List Step) → TaskNames (walks.whole_walk c steps)
-    walk_names steps = walks_on steps 0 (record { root = 0; path = [] }) Done (λ o names. names)

@@ -16,7 +16,7 @@ use Rattle.grain_means.specs.Tasks.{Call, Task, Done, Mark, Look, Flatten, Write
 use Rattle.grain_means.specs.Worlds.{Act, Answer, Came, Failed, Frame, Place, Setup, World}
 use Rattle.grain_means.specs.Causes.Natives.{IsCalled, Question, native_asked, reply_to}
 use Rattle.grain_means.specs.Causes.Spots.{CallEnds, ChainWalk, Falls, WalkRow, answered_world, failed, gave, lent, lent_for, missing, past, question_of, refused, world_of}
-use Rattle.grain_means.proofs.Explaining.{Stops, Why}
+use Rattle.grain_means.proofs.Explaining.Ways.{Stops, Why}
 use Rattle.grain_means.proofs.Footing.{by_test}
 use Rattle.grain_means.proofs.Kept.{keeps_given}
 use Rattle.grain_means.proofs.Tally.Frames.{Even, Steady, Walk}
