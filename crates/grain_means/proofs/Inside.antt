@@ -13,7 +13,7 @@ use Rattle.std.specs.declared.cmp.Ordering.TheVariants as ordering
 use Rattle.grain_value.specs.Cells.{cell_bound, fields_bound, is_cell, is_clean, items_bound}
 use Rattle.grain_value.specs.Looking.{cell_of}
 use Rattle.grain_value.specs.Maps.{Entries, entry_at, put_entry}
-use Rattle.grain_value.specs.Paths.{and_then, at, child, or_same, put as put_tree, put_value, set_child}
+use Rattle.grain_value.specs.Paths.{and_then, at, child, or_same, put as put_tree, set_child}
 use Rattle.grain_value.specs.Tree.{Tree, Trees, Fields, array, dict, pointer, cell, unit, boolean, integer, character, text, blob, range, foreign, no_trees, more_trees, no_fields, more_fields, pack, pack_fields, unpack, unpack_fields}
 use Rattle.grain_value.specs.View.{tree, value_of}
 use Rattle.grain_value.specs.laws.PathSteps.{element_found, keyed_found}
@@ -26,7 +26,7 @@ use Rattle.grain_value.specs.declared.values.paths.PathStep.TheVariants.{Index, 
 use Rattle.grain_value.specs.declared.values.value_faults.ValueFault.{ValueFault}
 use Rattle.grain_host.specs.Clean.{both_true, first_true, second_true}
 use Rattle.grain_means.specs.Contained.{HeldNames, Names}
-use Rattle.grain_means.specs.Places.{along, find, look, or_unit, put, put_held}
+use Rattle.grain_means.specs.Places.{along, look, or_unit, put, put_held}
 use Rattle.grain_means.specs.Worlds.{Place}
 use Rattle.grain_means.specs.lemmas.PlaceLaws.{along-ok}
 use Rattle.grain_means.proofs.Naming.{PlainNames, all_drop, all_got, not_cell}

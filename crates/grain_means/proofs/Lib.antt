@@ -17,4 +17,5 @@ pub mod Caught
 pub mod Inside
 pub mod Containing
 pub mod Walking
+pub mod Reading
 pub mod Explaining

@@ -8,6 +8,7 @@ pub mod Places
 pub mod Tasks
 pub mod Walks
 pub mod WalkEnds
+pub mod Readings
 pub mod Rules
 pub mod Ends
 pub mod Length

@@ -1,6 +1,6 @@
 //! Laws of the meaning alone. Each is a function that does nothing, whose contract is the law.
 
-ghost use Rattle.std.specs.Prelude.{◌≡◌, ◌<◌, ◌≤◌, ◌+◌, [], length, List, ℕ, Bool, Option, Some};
+ghost use Rattle.std.specs.Prelude.{◌≡◌, ◌<◌, ◌≤◌, ◌+◌, [], ◌∷◌, false, length, List, ℕ, Bool, Ok, Option, None, Some};
 ghost use Rattle.grain_means.specs.Worlds.{Act, Answer, World, Setup, Place, Frame, InFrame};
 ghost use Rattle.grain_means.specs.CatchBlocks.{Catches};
 ghost use Rattle.grain_means.specs.Rules.{called};
@@ -17,10 +17,15 @@ ghost use Rattle.grain_means.specs.Contained.{AnswerNames, ConstantsName, Contai
 ghost use Rattle.grain_program.specs.Typing.{IsProgram};
 ghost use Rattle.grain_program.specs.declared.code.chains.Step.{Step};
 ghost use Rattle.grain_value.specs.declared.stores.Cell.{Cell};
+ghost use Rattle.grain_value.specs.Paths.{at};
+ghost use Rattle.grain_value.specs.View.{tree};
+ghost use Rattle.grain_value.specs.declared.values.Dynamic.{Dynamic};
 ghost use Rattle.grain_value.specs.declared.values.Held.{Held};
+ghost use Rattle.grain_value.specs.declared.values.paths.PathStep.{PathStep};
 ghost use Rattle.grain_means.specs.Places.{find};
 ghost use Rattle.grain_means.specs.Rules.InWorld.{walks};
-ghost use Rattle.grain_means.specs.Tasks.{Own, Task, Walked, play};
+ghost use Rattle.grain_means.specs.Readings.{ReadsAlong};
+ghost use Rattle.grain_means.specs.Tasks.{Over, Own, Task, Walked, Well, play};
 ghost use Rattle.grain_means.specs.WalkEnds.{AllEnds, PlayEnds, WalkEnds};
 ghost use Rattle.grain_means.specs.Walks.{Course, whole_walk};
 ghost use Rattle.grain_means.specs.lemmas.Plays.{laid, played};
@@ -103,4 +108,15 @@ pub fn both_readings<S>()
         (done : Walked → World S → Act S) (w : World S) → find w.roots p ≡ Some g → (t : Task)
         (s : Own) → Rooted g.read_only s.roots → walks m k f p (length w.roots) t done (laid w p s)
         ≡ played m k f p done w (play m.stop w.cells t s) }
+{}
+
+/// A chain that assigns nothing, and whose steps lead along elements of arrays and keys of maps alone,
+/// gives what stands at the end of their path, leaves its root as it was, and asks for nothing.
+pub fn reads_along()
+    ensures { (c : Course) (cells : List Cell) (h : Held) (steps : List Step)
+        (path : List PathStep) (u : Dynamic) → c.assigns ≡ None →
+        ReadsAlong cells c steps h.value path u →
+        (j : ℕ) × (play None cells (whole_walk c steps) (record { roots = h ∷ []; passed = 0 })
+        ≡ Over (Well u false) (record { roots = h ∷ []; passed = j }))
+        × (at path (tree h.value) ≡ Ok (tree u)) }
 {}

@@ -1,12 +1,11 @@
 -- A chain keeps to the store.
-use Rattle.std.proofs.Common.{◌≡◌, ◌≤◌, ◌+◌, ◌∙◌, ℕ, zero, suc, List, [], ◌∷◌, ◌++◌, Option, Some, None, Bool, true, false, if◌then◌else◌, ◌&&◌, length, take, refl, sym, ap, subst, arith}
+use Rattle.std.proofs.Common.{◌≡◌, ◌≤◌, ◌+◌, ◌∙◌, ℕ, zero, suc, List, [], ◌∷◌, ◌++◌, Option, Some, None, Bool, ◌&&◌, length, take, refl, sym, ap, subst, arith}
 use Rattle.std.proofs.lemmas.List.{length-set}
 use Rattle.std.specs.List.{AllByRecursion}
 use Rattle.std.specs.Prelude.{slice_get, slice_set}
 use Rattle.grain_value.specs.Cells.{content, flat, idle, lent}
 use Rattle.grain_value.specs.Looking.{cell_of}
-use Rattle.grain_value.specs.Operands.{arguments, top, under}
-use Rattle.grain_value.specs.Scopes.{set_held}
+use Rattle.grain_value.specs.Operands.{top, under}
 use Rattle.grain_value.specs.declared.stores.Cell.{Cell}
 use Rattle.grain_value.specs.declared.values.Dynamic.{Dynamic}
 use Rattle.grain_value.specs.declared.values.Dynamic.TheVariants as dynamic
@@ -19,7 +18,7 @@ use Rattle.grain_program.specs.declared.code.chains.Root.{Root}
 use Rattle.grain_program.specs.declared.code.chains.Root.TheVariants as root
 use Rattle.grain_program.specs.declared.code.chains.Tail.{Tail}
 use Rattle.grain_program.specs.declared.code.chains.Tail.TheVariants as tail
-use Rattle.grain_means.specs.Contained.{CellNames, Contained, HeldNames, Names}
+use Rattle.grain_means.specs.Contained.{CellNames, Contained, HeldNames}
 use Rattle.grain_means.specs.Places.{look}
 use Rattle.grain_means.specs.Rules as rules
 use Rattle.grain_means.specs.Rules.{assigned_operand, back_from, chain_operands, course_of, is_read_only, new_root, race_text, root_name, root_operands, steps_operands, trees_in, without}

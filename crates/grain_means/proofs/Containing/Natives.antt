@@ -5,7 +5,6 @@ use Rattle.std.proofs.Math.Nat.{max-le}
 use Rattle.std.specs.List.{list_all}
 use Rattle.std.specs.Prelude.{max}
 use Rattle.grain_value.specs.Cells.{cell_bound, idle}
-use Rattle.grain_value.specs.Looking.{cell_of}
 use Rattle.grain_value.specs.Operands.{values_in}
 use Rattle.grain_value.specs.Tree.{Tree, array, pack}
 use Rattle.grain_value.specs.declared.natives.Native.{Native}
@@ -23,7 +22,7 @@ use Rattle.grain_host.specs.Signatures.{not_found}
 use Rattle.grain_means.specs.Worlds.{Act, Frame, Setup, World}
 use Rattle.grain_means.proofs.Caught.{filled_names}
 use Rattle.grain_means.proofs.Footing.{by_test}
-use Rattle.grain_means.proofs.Naming.{all_set, PlainNames, plain_operands, plain_tree, plain_trees, set_names, trees_name}
+use Rattle.grain_means.proofs.Naming.{all_set, plain_operands, plain_tree, plain_trees, set_names, trees_name}
 use Rattle.grain_means.proofs.Containing.Parts.{Arguments, FrameNames, none_missing, ReplyNames, HomeNames, home_names, home_clear, home_written, ReceiverNames, HoldsPlain, LendsPlain, set_plain}
 use Rattle.grain_means.proofs.Containing.Frames.{Grounds, At, Keeps, marks}
 

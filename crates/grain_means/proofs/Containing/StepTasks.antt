@@ -1,15 +1,13 @@
 -- The same of the steps of a walk, and so of a chain's whole walk.
-use Rattle.std.proofs.Common.{◌≡◌, ◌≤◌, ◌-◌, ◌+◌, ◌∙◌, ℕ, zero, suc, List, [], ◌∷◌, Bool, true, false, Option, Some, None, Result, Ok, Err, refl, arith}
+use Rattle.std.proofs.Common.{◌≡◌, ◌-◌, ◌+◌, ℕ, zero, suc, List, [], ◌∷◌, Bool, true, false, Option, Some, None, Result, Ok, Err, refl, arith}
 use Rattle.std.specs.List.{AllByRecursion}
-use Rattle.std.specs.Prelude.{if◌then◌else◌, slice_get, slice_index_or}
-use Rattle.std.specs.Str.{chars}
+use Rattle.std.specs.Prelude.{if◌then◌else◌, slice_index_or}
 use Rattle.grain_value.specs.Locating.{locate}
 use Rattle.grain_value.specs.Looking.{cell_of, is_unit}
 use Rattle.grain_value.specs.Maps.{entry_at}
-use Rattle.grain_value.specs.Operands.{read_write}
-use Rattle.grain_value.specs.Parts.{byte_value, character_value, part, with_part}
+use Rattle.grain_value.specs.Parts.{part}
 use Rattle.grain_value.specs.Tree.{Tree, unit}
-use Rattle.grain_value.specs.View.{tree, value_of}
+use Rattle.grain_value.specs.View.{value_of}
 use Rattle.grain_value.specs.laws.Same.{tree-value_of}
 use Rattle.grain_value.specs.declared.values.Dynamic.{Dynamic}
 use Rattle.grain_value.specs.declared.values.Dynamic.TheVariants as dynamic
@@ -18,28 +16,19 @@ use Rattle.grain_value.specs.declared.values.locating.Spot.{Spot}
 use Rattle.grain_value.specs.declared.values.locating.Spot.TheVariants as spot
 use Rattle.grain_value.specs.declared.values.value_faults.ValueFault.{ValueFault}
 use Rattle.grain_value.specs.declared.values.value_faults.ValueFault.TheVariants as fault
-use Rattle.grain_fault.specs.Absences.{is_dot_expr, is_indexing_type}
-use Rattle.grain_fault.specs.Classes.{catchable}
-use Rattle.grain_fault.specs.Problems.{Problem, Plain, NoMemory}
+use Rattle.grain_fault.specs.Problems.{Plain}
 use Rattle.grain_fault.specs.declared.places.Position.{Position}
-use Rattle.grain_host.specs.Signatures.{says_missing}
-use Rattle.grain_ops.specs.Outcomes.{Outcome, NotBuiltIn, Gave, ArithmeticFault, TooLarge}
 use Rattle.grain_program.specs.View.{name_of}
 use Rattle.grain_program.specs.declared.code.parts.AssignOp.{AssignOp}
 use Rattle.grain_program.specs.declared.code.chains.Step.{Step}
 use Rattle.grain_program.specs.declared.code.chains.Step.TheVariants as step
-use Rattle.grain_means.specs.Contained.{AnswerNames, HeldNames, Names, ProblemNames}
-use Rattle.grain_means.specs.Places.{next_root}
-use Rattle.grain_means.specs.Rules.{op_assigned}
-use Rattle.grain_means.specs.Tasks.{Walked, Well, Ill, Task, Done, Mark, Look, Flatten, Write, Root, Drop, Need}
+use Rattle.grain_means.specs.Contained.{HeldNames, Names, ProblemNames}
+use Rattle.grain_means.specs.Tasks.{Well, Task, Done}
 use Rattle.grain_means.specs.Walks as walks
 use Rattle.grain_means.specs.Walks.{Setting, Course, Rest, Next, Role, Passes, Reads, Writes, Operates, Origin, OfPart, OfIndex, OfProperty, OfNothing, at_mark, assigning, failing, flat_or_busy, flattening, is_indexed, origin_of_part, out_of_bounds, role_at_end, skips, with_key}
-use Rattle.grain_means.specs.Worlds.{Place, Answer, Came, Failed}
-use Rattle.grain_means.proofs.CellFree.{none_names}
-use Rattle.grain_means.proofs.Inside.{ItemNames, Stands, TreeNames, entry_put}
-use Rattle.grain_means.proofs.Naming.{PlainNames}
-use Rattle.grain_means.proofs.Plain.{NamesNone, no_cell, op_assigned_plain}
-use Rattle.grain_means.proofs.Containing.Tasks.{part_none, with_part_none, NoneInside, WalkedNames, ValuesName, PlainValue, TaskNames, Follows, Goes, Reading, by, out, unit_names, assigned, fails, reads, index_set, sets_index, set_instead, property_set, got_instead, property_got, index_got, index_read, name_names, sets_property, gets_property, operator, op_assigned_by, stored, operates, put_part, OriginNames, sets_back, goes_back, roots, into_answer, own_value}
+use Rattle.grain_means.specs.Worlds.{Place}
+use Rattle.grain_means.proofs.Inside.{Stands, TreeNames, entry_put}
+use Rattle.grain_means.proofs.Containing.Tasks.{part_none, PlainValue, TaskNames, Follows, Goes, by, out, unit_names, assigned, fails, reads, sets_index, index_got, index_read, sets_property, gets_property, operates, OriginNames, roots, into_answer, own_value}
 
 -- an index that nothing stands at is a number
 bounds_none : (d : Dynamic) (size : ℕ) (i : _) (q : Position) (clean : Bool) (n : ℕ) →

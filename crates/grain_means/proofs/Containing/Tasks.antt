@@ -1,35 +1,26 @@
 -- Every value that a chain's walk writes, lends, gives and holds as a root names cells of the store only:
 -- calls, op-assignments, and the way back.
-use Rattle.std.proofs.Common.{◌≡◌, ◌≤◌, ◌-◌, ◌+◌, ◌∙◌, ℕ, zero, suc, List, [], ◌∷◌, Bool, true, false, Option, Some, None, Result, Ok, Err, refl, arith}
+use Rattle.std.proofs.Common.{◌≡◌, ℕ, List, Bool, true, false, Option, Some, None, refl, arith}
 use Rattle.std.specs.List.{AllByRecursion}
-use Rattle.std.specs.Prelude.{if◌then◌else◌, slice_get, slice_index_or}
+use Rattle.std.specs.Prelude.{if◌then◌else◌, slice_get}
 use Rattle.std.specs.Str.{chars}
-use Rattle.grain_value.specs.Locating.{locate}
-use Rattle.grain_value.specs.Looking.{cell_of, is_unit}
-use Rattle.grain_value.specs.Maps.{entry_at}
+use Rattle.grain_value.specs.Looking.{cell_of}
 use Rattle.grain_value.specs.Operands.{read_write}
 use Rattle.grain_value.specs.Parts.{byte_value, character_value, part, with_part}
-use Rattle.grain_value.specs.Tree.{Tree, unit}
-use Rattle.grain_value.specs.View.{tree, value_of}
-use Rattle.grain_value.specs.laws.Same.{tree-value_of}
 use Rattle.grain_value.specs.declared.values.Dynamic.{Dynamic}
 use Rattle.grain_value.specs.declared.values.Dynamic.TheVariants as dynamic
 use Rattle.grain_value.specs.declared.values.Held.{Held}
 use Rattle.grain_value.specs.declared.values.locating.Spot.{Spot}
 use Rattle.grain_value.specs.declared.values.locating.Spot.TheVariants as spot
-use Rattle.grain_value.specs.declared.values.value_faults.ValueFault.{ValueFault}
-use Rattle.grain_value.specs.declared.values.value_faults.ValueFault.TheVariants as fault
 use Rattle.grain_fault.specs.Absences.{is_dot_expr, is_indexing_type}
 use Rattle.grain_fault.specs.Classes.{catchable}
-use Rattle.grain_fault.specs.Problems.{Problem, Plain, NoMemory}
+use Rattle.grain_fault.specs.Problems.{Problem, NoMemory}
 use Rattle.grain_fault.specs.declared.places.Position.{Position}
 use Rattle.grain_host.specs.Signatures.{says_missing}
 use Rattle.grain_ops.specs.Outcomes.{Outcome, NotBuiltIn, Gave, ArithmeticFault, TooLarge}
 use Rattle.grain_program.specs.View.{name_of}
 use Rattle.grain_program.specs.declared.code.parts.AssignOp.{AssignOp}
-use Rattle.grain_program.specs.declared.code.chains.Step.{Step}
-use Rattle.grain_program.specs.declared.code.chains.Step.TheVariants as step
-use Rattle.grain_means.specs.Contained.{AnswerNames, HeldNames, Names, ProblemNames}
+use Rattle.grain_means.specs.Contained.{AnswerNames, Names, ProblemNames}
 use Rattle.grain_means.specs.Places.{next_root}
 use Rattle.grain_means.specs.Rules.{op_assigned}
 use Rattle.grain_means.specs.Tasks.{Walked, Well, Ill, Task, Done, Mark, Look, Flatten, Write, Root, Drop, Need}
@@ -37,7 +28,7 @@ use Rattle.grain_means.specs.Walks as walks
 use Rattle.grain_means.specs.Walks.{Setting, Course, Rest, Next, Role, Passes, Reads, Writes, Operates, Origin, OfPart, OfIndex, OfProperty, OfNothing, at_mark, assigning, failing, flat_or_busy, flattening, is_indexed, origin_of_part, out_of_bounds, role_at_end, skips, with_key}
 use Rattle.grain_means.specs.Worlds.{Place, Answer, Came, Failed}
 use Rattle.grain_means.proofs.CellFree.{none_names}
-use Rattle.grain_means.proofs.Inside.{ItemNames, Stands, TreeNames, entry_put}
+use Rattle.grain_means.proofs.Inside.{Stands}
 use Rattle.grain_means.proofs.Naming.{PlainNames}
 use Rattle.grain_means.proofs.Plain.{NamesNone, no_cell, op_assigned_plain}
 

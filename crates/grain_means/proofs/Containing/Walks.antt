@@ -1,13 +1,8 @@
 -- A walk in the world, and a chain, keep to the store.
-use Rattle.std.proofs.Common.{◌≡◌, ◌≤◌, ◌+◌, ◌∙◌, ℕ, zero, suc, List, [], ◌∷◌, ◌++◌, Option, Some, None, Bool, true, false, if◌then◌else◌, ◌&&◌, length, map, take, refl, sym, ap, subst, arith, option_map}
-use Rattle.std.proofs.lemmas.List.{length-set}
+use Rattle.std.proofs.Common.{◌≡◌, ◌≤◌, ◌+◌, ℕ, zero, suc, List, [], ◌∷◌, ◌++◌, Option, Some, None, ◌&&◌, map, take, refl, subst, arith, option_map}
 use Rattle.std.specs.List.{AllByRecursion}
-use Rattle.std.specs.Prelude.{slice_get, slice_set}
-use Rattle.grain_value.specs.Cells.{content, flat, idle, lent}
-use Rattle.grain_value.specs.Looking.{cell_of}
-use Rattle.grain_value.specs.Operands.{arguments, read_write, top, under, values_in}
-use Rattle.grain_value.specs.Scopes.{set_held}
-use Rattle.grain_value.specs.View.{tree}
+use Rattle.grain_value.specs.Cells.{flat}
+use Rattle.grain_value.specs.Operands.{read_write, values_in}
 use Rattle.grain_value.specs.declared.natives.Native.{Native}
 use Rattle.grain_value.specs.declared.stores.Cell.{Cell}
 use Rattle.grain_value.specs.declared.values.Dynamic.{Dynamic}
@@ -18,7 +13,7 @@ use Rattle.grain_fault.specs.Problems.{Problem, Plain, DataRace, NonPureCall, No
 use Rattle.grain_host.specs.Law.{Reply, native_of, written}
 use Rattle.grain_host.specs.Law as reply
 use Rattle.grain_host.specs.Signatures.{not_found}
-use Rattle.grain_means.specs.Contained.{AnswerNames, HeldNames, Names, ProblemNames}
+use Rattle.grain_means.specs.Contained.{AnswerNames, HeldNames, ProblemNames}
 use Rattle.grain_means.specs.Places.{look, put}
 use Rattle.grain_means.specs.Rules as rules
 use Rattle.grain_means.specs.Rules.{AtPlace, Receiver, at_step, first_is_read_only, flat_all, flat_before, given, is_stop, kinds_in, lent_at, lent_held, placed, race_text, roots_given_back, given_back, cells_given_back, trees_in, world_place}
@@ -26,12 +21,12 @@ use Rattle.grain_means.specs.Tasks.{Task, Done, Mark, Look, Flatten, Write, Root
 use Rattle.grain_means.specs.Worlds.{Act, Answer, Came, Failed, Frame, Place, Setup, World}
 use Rattle.grain_means.proofs.Caught.{filled_names}
 use Rattle.grain_means.proofs.Footing.{by_test}
-use Rattle.grain_means.proofs.Inside.{RootsName, Stands, look_lent, look_names, look_whole, may_put, put_roots, roots_added, roots_taken}
-use Rattle.grain_means.proofs.Naming.{PlainNames, flat_all_names, flat_names}
-use Rattle.grain_means.proofs.Containing.Parts.{Arguments, FrameNames, HomeNames, none_missing, ReceiverNames, ReplyNames}
+use Rattle.grain_means.proofs.Inside.{RootsName, look_lent, look_names, look_whole, may_put, put_roots, roots_added, roots_taken}
+use Rattle.grain_means.proofs.Naming.{flat_all_names, flat_names}
+use Rattle.grain_means.proofs.Containing.Parts.{Arguments, FrameNames, none_missing, ReceiverNames, ReplyNames}
 use Rattle.grain_means.proofs.Containing.Frames.{Grounds, At, Keeps}
 use Rattle.grain_means.proofs.Containing.Natives.{answers_at, back_names, call_clean, call_names}
-use Rattle.grain_means.proofs.Containing.Tasks.{PlainValue, TaskNames, ValuesName, WalkedNames}
+use Rattle.grain_means.proofs.Containing.Tasks.{TaskNames, ValuesName, WalkedNames}
 
 -- a place of a walk is one of the roots from the walk's own on
 placed_root : (b : ℕ) (p : Place) (i : ℕ) (q : Place) → b ≤ p.root → b ≤ i →

@@ -1,40 +1,27 @@
 -- Why a chain's walk ends in a fault: the calls that it needs, op-assignments, and the way back.
-use Rattle.std.proofs.Common.{◌≡◌, ◌⊎◌, ◌+◌, ◌-◌, ℕ, zero, suc, Bool, true, false, List, [], ◌∷◌, ◌++◌, Option, Some, None, Result, Ok, Err, drop, take, refl, sym, ap, ◌∙◌, inl, inr, subst, arith, option_map}
-use Rattle.std.specs.Prelude.{if◌then◌else◌, codes}
-use Rattle.grain_value.specs.Cells.{flat}
-use Rattle.grain_value.specs.Locating.{locate}
-use Rattle.grain_value.specs.Looking.{is_unit}
-use Rattle.grain_value.specs.Maps.{entry_at}
+use Rattle.std.proofs.Common.{◌≡◌, ◌+◌, ℕ, Bool, true, false, [], ◌∷◌, ◌++◌, Option, Some, None, take, refl, inl, inr}
+use Rattle.std.specs.Prelude.{if◌then◌else◌}
 use Rattle.grain_value.specs.Operands.{read_write}
-use Rattle.grain_value.specs.Parts.{part, with_part}
-use Rattle.grain_value.specs.Tree.{Tree}
+use Rattle.grain_value.specs.Parts.{with_part}
 use Rattle.grain_value.specs.declared.values.Dynamic.{Dynamic}
 use Rattle.grain_value.specs.declared.values.Dynamic.TheVariants as dynamic
 use Rattle.grain_value.specs.declared.values.Held.{Held}
-use Rattle.grain_value.specs.declared.values.locating.Spot.{Spot}
-use Rattle.grain_value.specs.declared.values.locating.Spot.TheVariants as spot
-use Rattle.grain_value.specs.declared.values.value_faults.ValueFault.{ValueFault}
-use Rattle.grain_value.specs.declared.values.value_faults.ValueFault.TheVariants as fault
 use Rattle.grain_fault.specs.Absences.{is_dot_expr, is_indexing_type}
 use Rattle.grain_fault.specs.Classes.{catchable}
-use Rattle.grain_fault.specs.Problems.{Problem, Plain, PropertyNotFound, NoMemory}
+use Rattle.grain_fault.specs.Problems.{Problem, NoMemory}
 use Rattle.grain_fault.specs.declared.places.Position.{Position}
 use Rattle.grain_host.specs.Signatures.{says_missing}
 use Rattle.grain_ops.specs.Outcomes.{Outcome, NotBuiltIn, Gave, ArithmeticFault, TooLarge}
 use Rattle.grain_program.specs.View.{name_of}
 use Rattle.grain_program.specs.declared.code.parts.AssignOp.{AssignOp}
-use Rattle.grain_program.specs.declared.code.chains.Step.{Step}
-use Rattle.grain_program.specs.declared.code.chains.Step.TheVariants as step
-use Rattle.grain_program.specs.declared.code.chains.StepFlags.{StepFlags}
-use Rattle.grain_means.specs.Worlds.{is_stop, Answer, Came, Failed, Place, Setup, World}
-use Rattle.grain_value.specs.declared.values.paths.PathStep.TheVariants as path_step
-use Rattle.grain_means.specs.Places.{deeper, look, put, next_root}
+use Rattle.grain_means.specs.Worlds.{Came, Failed, Place, Setup}
+use Rattle.grain_means.specs.Places.{look, put, next_root}
 use Rattle.grain_means.specs.Rules.{op_assigned}
-use Rattle.grain_means.specs.Tasks.{Call, Task, Done, Mark, Look, Flatten, Write, Root, Drop, Need, Walked, Well, Ill}
+use Rattle.grain_means.specs.Tasks.{Call, Task, Write, Root, Well, Ill}
 use Rattle.grain_means.specs.Walks as walks
 use Rattle.grain_means.specs.Walks.{Setting, Course, Rest, Next, Role, Passes, Reads, Writes, Operates, Origin, OfPart, OfIndex, OfProperty, OfNothing, at_mark, assigning, failing, flat_or_busy, flattening, is_indexed, key_of, origin_of_part, role_at_end, role_before, skips, with_key}
-use Rattle.grain_means.specs.Causes.Spots.{ChainWalk, WalksTo, here, marked, looked, read, wrote, added, dropped, heard, past, CallEnds, Falls, ComesTo, AtStep, Indexes, value_at, WalkRow, CallFails, lent_for, world_of}
-use Rattle.grain_means.proofs.Explaining.Ways.{join, On, Stops, Why, From, Goes, Follows, fallen, ill, out, marks, fails, reads, call_of, Hears, asks, failing_call, native_row, instead_row}
+use Rattle.grain_means.specs.Causes.Spots.{ChainWalk, here, marked, looked, wrote, added, dropped, past, Falls, CallFails, world_of}
+use Rattle.grain_means.proofs.Explaining.Ways.{join, On, Why, From, Goes, Follows, ill, out, marks, fails, reads, call_of, Hears, asks, failing_call, native_row, instead_row}
 
 pub if_false : {A : Type 0} (P : A → Type 0) (b : Bool) (x y : A) → b ≡ false → P y →
     P (if b then x else y)

@@ -1,7 +1,7 @@
 -- The walk over the rules through a chain.
-use Rattle.std.proofs.Common.{◌≡◌, ◌+◌, ℕ, List, [], ◌∷◌, ◌++◌, Option, Some, None, Bool, true, false, if◌then◌else◌, ◌&&◌, length, take, refl, sym, subst, inl, inr, ◌∙◌}
+use Rattle.std.proofs.Common.{◌≡◌, ◌+◌, ℕ, List, [], ◌∷◌, ◌++◌, Option, Some, None, Bool, true, false, ◌&&◌, length, take, refl, sym, subst, inl}
 use Rattle.std.specs.Prelude.{slice_get, slice_set}
-use Rattle.grain_value.specs.Cells.{content, flat, idle, lent}
+use Rattle.grain_value.specs.Cells.{flat, idle, lent}
 use Rattle.grain_value.specs.Looking.{cell_of}
 use Rattle.grain_value.specs.Operands.{read_write, top, under}
 use Rattle.grain_value.specs.declared.stores.Cell.{Cell}
@@ -21,7 +21,7 @@ use Rattle.grain_program.specs.declared.code.instruction_set.Op.{Op}
 use Rattle.grain_means.specs.Places.{look}
 use Rattle.grain_means.specs.Rules as rules
 use Rattle.grain_means.specs.Rules.{assigned_operand, back_from, chain_operands, course_of, held_at, is_read_only, is_stop, leave_by_fault, new_root, offered, position, race_text, root_name, stepped, without}
-use Rattle.grain_means.specs.Tasks.{Task, Walked, Well, Ill}
+use Rattle.grain_means.specs.Tasks.{Task, Well, Ill}
 use Rattle.grain_means.specs.Walks.{whole_walk}
 use Rattle.grain_means.specs.Worlds.{Act, Frame, Setup, World}
 use Rattle.grain_means.specs.Causes.Chains.{AssignsValue, ChainReads, ChainRow, RootHolds, RootLends, by_walk, constant, past_scope, root_lent, value_lent, walk_of}

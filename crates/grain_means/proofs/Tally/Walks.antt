@@ -1,5 +1,5 @@
 -- The walk over the rules through a walk along a place.
-use Rattle.std.proofs.Common.{◌≡◌, ◌+◌, ℕ, List, [], ◌∷◌, ◌++◌, Option, Some, None, Bool, true, false, if◌then◌else◌, ◌&&◌, map, take, refl, subst, option_map}
+use Rattle.std.proofs.Common.{◌≡◌, ◌+◌, ℕ, List, [], ◌∷◌, ◌++◌, Option, Some, None, Bool, true, ◌&&◌, map, take, refl}
 use Rattle.grain_value.specs.Cells.{flat}
 use Rattle.grain_value.specs.Operands.{read_write, values_in}
 use Rattle.grain_value.specs.declared.natives.Native.{Native}
@@ -11,12 +11,12 @@ use Rattle.grain_host.specs.Law.{Reply}
 use Rattle.grain_host.specs.Law as reply
 use Rattle.grain_host.specs.Signatures.{not_found}
 use Rattle.grain_means.specs.Places.{look, put}
-use Rattle.grain_means.specs.Rules.{Receiver, answered, at_step, cells_given_back, failed_so, first_is_read_only, flat_all, given, given_back, host_called_or, is_stop, lent_at, lent_held, marked_or, native_found_or, needed, performed, race_text, roots_given_back, trees_in, walks}
+use Rattle.grain_means.specs.Rules.{Receiver, answered, at_step, cells_given_back, failed_so, first_is_read_only, flat_all, given, given_back, host_called_or, is_stop, lent_held, marked_or, native_found_or, needed, race_text, roots_given_back, trees_in, walks}
 use Rattle.grain_means.specs.Tasks.{Call, Task, Done, Mark, Look, Flatten, Write, Root, Drop, Need, Walked, Well, Ill}
-use Rattle.grain_means.specs.Worlds.{Act, Answer, Came, Failed, Frame, Place, Setup, World}
+use Rattle.grain_means.specs.Worlds.{Act, Answer, Came, Failed, Frame, Setup, World}
 use Rattle.grain_means.specs.Causes.Natives.{IsCalled, Question, native_asked, reply_to}
 use Rattle.grain_means.specs.Causes.Spots.{CallEnds, ChainWalk, Falls, WalkRow, answered_world, failed, gave, lent, lent_for, missing, past, question_of, refused, world_of}
-use Rattle.grain_means.proofs.Explaining.Ways.{Stops, Why}
+use Rattle.grain_means.proofs.Explaining.Ways.{Why}
 use Rattle.grain_means.proofs.Footing.{by_test}
 use Rattle.grain_means.proofs.Kept.{keeps_given}
 use Rattle.grain_means.proofs.Tally.Frames.{Even, Steady, Walk}

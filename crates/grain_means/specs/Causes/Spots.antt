@@ -1,5 +1,5 @@
 -- The spots to which the walk of a chain comes, and what it finds there where it ends in a fault.
-use Rattle.std.specs.Prelude.{◌≡◌, ◌⊎◌, ◌+◌, ◌&&◌, ℕ, ℤ, zero, suc, List, [], ◌∷◌, ◌++◌, Option, Some, None, Bool, true, false, Err, drop, map, option_map, take, if◌then◌else◌}
+use Rattle.std.specs.Prelude.{◌≡◌, ◌⊎◌, ◌+◌, ◌&&◌, ℕ, ℤ, List, [], ◌∷◌, ◌++◌, Option, Some, None, Bool, true, false, Err, drop, map, option_map, take}
 use Rattle.grain_value.specs.Cells.{flat}
 use Rattle.grain_value.specs.Locating.{locate}
 use Rattle.grain_value.specs.Maps.{Entries, entry_at}
@@ -27,8 +27,8 @@ use Rattle.grain_program.specs.declared.code.chains.StepFlags.{StepFlags}
 use Rattle.grain_means.specs.Worlds.{is_stop, Answer, Came, Failed, Place, Setup, World}
 use Rattle.grain_means.specs.Places.{look, put}
 use Rattle.grain_means.specs.Rules.{Receiver, cells_given_back, first_is_read_only, flat_all, given, given_back, lent_at, lent_held, op_assigned, placed, race_text, roots_given_back, trees_in}
-use Rattle.grain_means.specs.Tasks.{Call, Task, Done, Mark, Look, Flatten, Write, Root, Drop, Need, Walked, Ill}
-use Rattle.grain_means.specs.Walks.{Course, Origin, OfPart, Rest, assigning, flattening, index_type, key_of, operand, operating, out_of_bounds, role_before, set_back, taken, walked, whole_walk}
+use Rattle.grain_means.specs.Tasks.{Call, Task, Done, Mark, Look, Flatten, Write, Root, Drop, Need, Ill}
+use Rattle.grain_means.specs.Walks.{Course, OfPart, Rest, assigning, flattening, index_type, key_of, operand, operating, out_of_bounds, role_before, set_back, taken, walked, whole_walk}
 use Rattle.grain_means.specs.Causes.Natives.{IsCalled, Question, native_asked, reply_to}
 
 -- A walk of a chain in the world: what the chain took from the operands, and its steps, the place of the
