@@ -55,6 +55,7 @@ module _ {S : Type 0} (m : Setup S) where
       around = a.around;
       block = a.block;
       left = a.left;
+      ended = a.ended;
       is = a.is;
     }
 

@@ -25,7 +25,8 @@ ghost use Rattle.grain_value.specs.declared.values.paths.PathStep.{PathStep};
 ghost use Rattle.grain_means.specs.Places.{find};
 ghost use Rattle.grain_means.specs.Rules.InWorld.{walks};
 ghost use Rattle.grain_means.specs.Readings.{ReadsAlong};
-ghost use Rattle.grain_means.specs.Tasks.{Over, Own, Task, Walked, Well, play};
+ghost use Rattle.grain_means.specs.Tasks.{Own, Task, Walked, Well, play};
+ghost use Rattle.grain_means.specs.Tasks.{Over as WalkOver};
 ghost use Rattle.grain_means.specs.WalkEnds.{AllEnds, PlayEnds, WalkEnds};
 ghost use Rattle.grain_means.specs.Walks.{Course, whole_walk};
 ghost use Rattle.grain_means.specs.lemmas.Plays.{laid, played};
@@ -117,6 +118,6 @@ pub fn reads_along()
         (path : List PathStep) (u : Dynamic) → c.assigns ≡ None →
         ReadsAlong cells c steps h.value path u →
         (j : ℕ) × (play None cells (whole_walk c steps) (record { roots = h ∷ []; passed = 0 })
-        ≡ Over (Well u false) (record { roots = h ∷ []; passed = j }))
+        ≡ WalkOver (Well u false) (record { roots = h ∷ []; passed = j }))
         × (at path (tree h.value) ≡ Ok (tree u)) }
 {}

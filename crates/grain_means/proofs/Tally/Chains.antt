@@ -31,8 +31,8 @@ use Rattle.grain_means.proofs.Footing.{Sits, by_test}
 use Rattle.grain_means.proofs.Kept.{keeps_set}
 use Rattle.grain_means.proofs.Lengths.{past_scope as scope_passed}
 use Rattle.grain_means.proofs.Tally.Entries.{busy_content}
-use Rattle.grain_means.proofs.Tally.Faults.{even_raised_by}
-use Rattle.grain_means.proofs.Tally.Frames.{Enough, Even, Reason, Steady, Walk, all_there, blaming, even_left_at, even_marked_at, even_onward, point, start, steady}
+use Rattle.grain_means.proofs.Tally.Faults.{even_raised_at}
+use Rattle.grain_means.proofs.Tally.Frames.{Enough, Even, Reason, Steady, Walk, all_there, stepping, even_left_at, even_marked_at, even_onward, point, start, steady}
 use Rattle.grain_means.proofs.Tally.Walks.{even_walks}
 
 module _ {S : Type 0} {m : Setup S} (walk : Walk m) where
@@ -71,13 +71,13 @@ module _ {S : Type 0} {m : Setup S} (walk : Walk m) where
     over_ill : (n : ℕ) (x : Problem) (w : World S) → ChainRow m c (point walk o) n x → Here w →
         Even walk ran (rules.chain_over m index next walking (Ill n x) w)
     over_ill n x w row s =
-        even_raised_by walk o width stands (Some (slot_of m.program index n)) walking.operands after
+        even_raised_at walk o width stands (Some (slot_of m.program index n)) f.position walking.operands after
         ran x w s.0 (reason n x row)
 
     over_out : (n : ℕ) (w : World S) → is_stop m.stop w.passed ≡ true → Here w →
         Even walk ran (rules.chain_over m index next walking (Ill n NoMemory) w)
     over_out n w stop s =
-        let g : Frame = blaming walk (Some (slot_of m.program index n)) walking.operands in
+        let g : Frame = stepping walk (Some (slot_of m.program index n)) f.position walking.operands in
         by_test (Even walk ran) (is_stop m.stop w.passed) (leave_by_fault m g NoMemory w)
         (offered m g NoMemory (record w { passed = w.passed + 1 }))
         (λ yes. even_left_at walk g ran NoMemory w refl (inl refl) sits.1 s.0 (inl (refl, stop)))
@@ -134,7 +134,7 @@ module _ {S : Type 0} {m : Setup S} (walk : Walk m) where
     even_rooting : (x : Problem) → ChainRow m c (point walk o) 0 x → (w : World S) → Here w →
         Even walk ran (rules.raised m rooting x w)
     even_rooting x row w s =
-        even_raised_by walk o width stands (Some (slot_of m.program index 0)) f.operands
+        even_raised_at walk o width stands (Some (slot_of m.program index 0)) f.position f.operands
         (all_there walk o) ran x w s.0 (reason 0 x row)
 
     -- the chain's mark is passed
