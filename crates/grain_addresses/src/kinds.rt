@@ -32,6 +32,7 @@ fn width_of(field: Field) -> usize
         Field::Constant(_)
         | Field::Name(_)
         | Field::Assignment(_)
+        | Field::Chain(_)
         | Field::Token(_)
         | Field::Slot(_)
         | Field::Number(_) => 2,

@@ -8,7 +8,7 @@ use Rattle.grain_fault.specs.Problems.{Problem, NoMemory, problem_of}
 use Rattle.grain_fault.specs.declared.faults.EvalAltResult.{EvalAltResult}
 use Rattle.grain_program.specs.declared.code.instruction_set.Op.{Op}
 use Rattle.grain_program.specs.declared.code.instruction_set.Op.TheVariants as op
-use Rattle.grain_program.specs.Effects.{takes_of, gives_of, leads_of}
+use Rattle.grain_program.specs.Effects.{own_takes, takes_of, gives_of, leads_of}
 use Rattle.grain_program.specs.Layout.{most_code}
 use Rattle.grain_program.specs.Shapes.{TryHandler}
 use Rattle.grain_program.specs.TypedAt.{IsTypedAt, IsCovered, Verified}
@@ -148,12 +148,21 @@ pub record KeepsFrame {H : Type 0} (f : Activation) (s : Run H) (f' : Activation
   pub level : s'.level ≡ s.level
   pub later : s.count ≤ s'.count
 
--- an instruction can begin in the frame: its operands and the room for what it gives are there
-pub record Ready {H : Type 0} (f : Activation) (s : Run H) (o : Op) (next : ℕ) : Type 0 where
+-- an instruction can begin in the frame that takes and gives these numbers of operands: they and the
+-- room for them are there
+pub record CanBegin {H : Type 0} (f : Activation) (s : Run H) (takes gives next : ℕ) : Type 0 where
   pub inside : f.base ≤ length s.scope
-  pub operands : takes_of o ≤ length s.stacks.operands
-  pub room : length s.stacks.operands - takes_of o + gives_of o ≤ s.stacks.room
+  pub operands : takes ≤ length s.stacks.operands
+  pub room : length s.stacks.operands - takes + gives ≤ s.stacks.room
   pub ahead : f.address < next
+
+-- an instruction that has no chain can begin in the frame
+abbrev pub Ready : {H : Type 0} → Activation → Run H → Op → ℕ → Type 0
+Ready f s o next = CanBegin f s (own_takes o) (gives_of o) next
+
+-- an instruction of the program can begin in the frame
+abbrev pub ReadyIn : {H : Type 0} → View → Activation → Run H → Op → ℕ → Type 0
+ReadyIn p f s o next = CanBegin f s (takes_of p o) (gives_of o) next
 
 -- what stays the same in a run, by its context
 abbrev pub setup_of : {H : Type 0} → Law H → Context → Setup H
@@ -189,7 +198,7 @@ abbrev pub Performs : {H : Type 0} → Setup H → Moment H → Op → ℕ →
     Result Progress OutOfMemory → Moment H → Type 0
 Performs m a o next result b =
     Implements m a (λ m place w. instr m o next (frame_in a.frame a.run place) w)
-    (leads_of o next) (takes_of o) (gives_of o) a.run.stacks.handlers result b
+    (leads_of o next) (takes_of m.program o) (gives_of o) a.run.stacks.handlers result b
 
 -- a frame runs: it stands where the typing of its chunk knows it and its handlers, and has noted no
 -- fault

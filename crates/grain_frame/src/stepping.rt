@@ -1,7 +1,7 @@
 //! One instruction of a frame that calls no function.
 
 ghost use Rattle.grain_program.specs.Indices.{InPools};
-ghost use Rattle.grain_frame.specs.Abstraction.{Runs, Ready, StandsAt, Stepped, CallsNothing, IsNoCall, setup_of, moment};
+ghost use Rattle.grain_frame.specs.Abstraction.{Runs, ReadyIn, StandsAt, Stepped, CallsNothing, IsNoCall, setup_of, moment};
 
 use crate::activations::Activation;
 use crate::contexts::Context;
@@ -47,7 +47,7 @@ impl<H: Host> Run<H> {
     ) -> Result<Progress, OutOfMemory>
         requires runs { Runs context.program.now frame.old self.old }
         requires stands { StandsAt context.program.now frame.old self.old op next }
-        requires ready { Ready frame.old self.old op next }
+        requires ready { ReadyIn context.program.now frame.old self.old op next }
         requires pools { InPools context.program.now op }
         requires calls_nothing { IsNoCall op }
         ensures stepped { Stepped (setup_of H.law context.entry)

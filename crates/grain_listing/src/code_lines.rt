@@ -24,6 +24,7 @@ fn kind_of(field: Field) -> OperandKind
         Field::Constant(_)
         | Field::Name(_)
         | Field::Assignment(_)
+        | Field::Chain(_)
         | Field::Token(_)
         | Field::Slot(_)
         | Field::Number(_) => OperandKind::Index,

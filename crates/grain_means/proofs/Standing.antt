@@ -10,7 +10,7 @@ use Rattle.grain_program.specs.declared.code.instruction_set.Op.{Op}
 use Rattle.grain_program.specs.Effects.{takes_of, gives_of, leads_of, handling_of}
 use Rattle.grain_program.specs.Shapes.{TryHandler, handled, outer}
 use Rattle.grain_program.specs.TypedAt.{IsTypedAt, IsCovered}
-use Rattle.grain_program.specs.laws.TypedAt.{stands, verified, begins, enters, covers_height, uncovered, catches}
+use Rattle.grain_program.specs.laws.TypedAt.{stands, verified, goes_on, begins, enters, covers_height, uncovered, catches}
 use Rattle.grain_program.specs.Decoding.{op_at}
 use Rattle.grain_program.specs.Typing.{In, IsProgram}
 use Rattle.grain_program.specs.View.{View}
@@ -73,10 +73,10 @@ module _ (p : View) (valid : IsProgram p) where
   -- with its handlers
   pub fits_next : (f : Frame) (o : Op) (width : ℕ) → op_at p.code f.address ≡ Some (o, width) →
       (g : Frame) → In g.address (leads_of o (f.address + width)) →
-      (takes_of o ≤ length f.operands → length g.operands ≡ length f.operands - takes_of o +
+      (takes_of p o ≤ length f.operands → length g.operands ≡ length f.operands - takes_of p o +
       gives_of o) →
       tries g.handlers ≡
-      handled (handling_of o) (length f.operands - takes_of o + gives_of o) (tries f.handlers) →
+      handled (handling_of o) (length f.operands - takes_of p o + gives_of o) (tries f.handlers) →
       Fitting p f → Fitting p g
   fits_next f o width stands g to many handlers fit =
       let s = verified p valid fit.0 f.address (length f.operands) (tries f.handlers) fit.1
@@ -85,19 +85,19 @@ module _ (p : View) (valid : IsProgram p) where
         subst (λ (hs : List TryHandler). IsTypedAt p fit.0 g.address (length g.operands) hs)
             (sym handlers)
             (subst (λ (n : ℕ). IsTypedAt p fit.0 g.address n
-            (handled (handling_of o) (length f.operands - takes_of o + gives_of o)
-            (tries f.handlers))) (sym (many s.provides.enough)) (s.goes g.address to)),
+            (handled (handling_of o) (length f.operands - takes_of p o + gives_of o)
+            (tries f.handlers))) (sym (many s.provides.enough)) (goes_on s g.address to)),
       )
 
   -- where an instruction raises a fault, what the handlers need of the operands is there, if no
   -- more of them are gone than it takes
   pub fits_covered : (f : Frame) (o : Op) (width : ℕ) → op_at p.code f.address ≡ Some (o, width) →
-      (operands : List Held) → length f.operands - takes_of o ≤ length operands → Fitting p f →
+      (operands : List Held) → length f.operands - takes_of p o ≤ length operands → Fitting p f →
       Covered p operands (tries f.handlers)
   fits_covered f o width stands operands enough fit =
       let s = verified p valid fit.0 f.address (length f.operands) (tries f.handlers) fit.1
       (o, width) stands in
-      (fit.0, length f.operands - takes_of o, enough, s.covered)
+      (fit.0, length f.operands - takes_of p o, enough, s.covered)
 
   pub fits_stand : (f : Frame) → Fitting p f → Stands p f
   fits_stand f fit =

@@ -64,7 +64,7 @@ pub record Stands (program : View) (f : Frame) : Type 0 where
   pub instruction : Op
   pub width : ℕ
   pub stands : op_at program.code f.address ≡ Some (instruction, width)
-  pub operands : takes_of instruction ≤ length f.operands
+  pub operands : takes_of program instruction ≤ length f.operands
   pub handler : lacks_handler (handling_of instruction) (tries f.handlers) ≡ false
   pub pools : InPools program instruction
 

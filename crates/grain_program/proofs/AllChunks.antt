@@ -47,7 +47,7 @@ module _ (p : View) (chunks : List Chunk) (laid : layout_fault (length p.code) c
     entries : (j : ℕ) (c : Chunk) → slice_get cs j ≡ Some c → shape_at f'.shapes c.entry ≡ Some bare
 
   from_ok : (cs : List Chunk) (f f' : AnalysisState) → Among cs → Sound p chunks laid w f →
-      f.waiting ≡ [] → analyse_from p.code cs f ≡ Ok f' → Over cs f f'
+      f.waiting ≡ [] → analyse_from p cs f ≡ Ok f' → Over cs f f'
   from_ok [] f f' among sound e ok =
       let same : f ≡ f' = cc in
       subst (Over [] f) same (record {
@@ -58,7 +58,7 @@ module _ (p : View) (chunks : List Chunk) (laid : layout_fault (length p.code) c
             λ j c k. absurd cc;
       })
   from_ok (c ∷ cs) f f' among sound e ok =
-      let t = then_ok (analyse_chunk p.code c f) (λ g. analyse_from p.code cs g) f' ok in
+      let t = then_ok (analyse_chunk p c f) (λ g. analyse_from p cs g) f' ok in
       let i = among 0 c refl in
       let s = chunk_ok p chunks laid w i.0 c i.1 f t.0 sound e t.1 in
       let more = from_ok cs t.0 f' (λ j d k. among (suc j) d k) s.taken.sound s.taken.over t.2 in
@@ -76,10 +76,10 @@ module _ (p : View) (chunks : List Chunk) (laid : layout_fault (length p.code) c
             cc in subst (λ (x : Chunk). shape_at f'.shapes x.entry ≡ Some bare) same first
         entry first later (suc j) d k = later j d k
 
-  from_fits : (typing : ℕ → Option Shape) → Typing p.code chunks typing
+  from_fits : (typing : ℕ → Option Shape) → Typing p chunks typing
       → (cs : List Chunk) (f : AnalysisState) → Among cs → Sound p chunks laid w f → f.waiting ≡ []
       → Below typing f
-      → (f' : AnalysisState) × (analyse_from p.code cs f ≡ Ok f')
+      → (f' : AnalysisState) × (analyse_from p cs f ≡ Ok f')
   from_fits typing y [] f among sound e below = (f, refl)
   from_fits typing y (c ∷ cs) f among sound e below =
       let i = among 0 c refl in
@@ -88,7 +88,7 @@ module _ (p : View) (chunks : List Chunk) (laid : layout_fault (length p.code) c
       let more =
       from_fits typing y cs t.0 (λ j d k. among (suc j) d k) s.taken.sound s.taken.over t.2 in (
         more.0,
-        ap (λ (x : Result AnalysisState Refusal). x >>= λ g. analyse_from p.code cs g) t.1
+        ap (λ (x : Result AnalysisState Refusal). x >>= λ g. analyse_from p cs g) t.1
             ∙ more.1,
       )
 
@@ -101,7 +101,7 @@ module _ (p : View) (chunks : List Chunk) (laid : layout_fault (length p.code) c
   }
 
   -- a search that is not refused has found a typing
-  pub has_typing : (f : AnalysisState) → analysis p.code chunks ≡ Ok f → HasTyping p.code chunks
+  pub has_typing : (f : AnalysisState) → analysis p chunks ≡ Ok f → HasTyping p chunks
   has_typing f ok = (
     shape_at f.shapes,
     record {
@@ -115,15 +115,15 @@ module _ (p : View) (chunks : List Chunk) (laid : layout_fault (length p.code) c
 
     at : (i : ℕ) (c : Chunk) (a : ℕ) (r : Op × ℕ) (s : Shape) → slice_get chunks i ≡ Some c
         → Start p.code c a → op_at p.code a ≡ Some r → In a f.waiting
-        ⊎ (None_out p chunks laid w a ⊎ Done p.code chunks f a s)
-        → Agrees (shape_at f.shapes) c.max_stack a r.1 (effect_of r.0) s
+        ⊎ (None_out p chunks laid w a ⊎ Done p chunks f a s)
+        → Agrees (shape_at f.shapes) c.max_stack a r.1 (effect_of p r.0) s
     at i c a r s g st is (inl j) = absurd (subst (In a) o.over j)
     at i c a r s g st is (inr (inl out)) = absurd out
     at i c a r s g st is (inr (inr d)) = d i c r g st is
 
   -- where there is a typing, the search is not refused
-  pub never_stops : (typing : ℕ → Option Shape) → Typing p.code chunks typing → (r : Refusal)
-      → analysis p.code chunks ≡ Err r → ⊥
+  pub never_stops : (typing : ℕ → Option Shape) → Typing p chunks typing → (r : Refusal)
+      → analysis p chunks ≡ Err r → ⊥
   never_stops typing y r e =
       let q =
       from_fits typing y chunks (nothing_seen (length p.code)) (λ j c k. (j, k)) nothing_sound

@@ -8,15 +8,22 @@ use Rattle.grain_program.specs.declared.code.instruction_set.Op.{Op}
 use Rattle.grain_program.specs.declared.code.fields.Field.{Field}
 use Rattle.grain_program.specs.declared.code.fields.Field.TheVariants as field
 use Rattle.grain_program.specs.declared.code.parts.AssignOp.{AssignOp}
+use Rattle.grain_program.specs.declared.code.chains.Root.{Root}
+use Rattle.grain_program.specs.declared.code.chains.Root.TheVariants as root
+use Rattle.grain_program.specs.declared.code.chains.Step.{Step}
+use Rattle.grain_program.specs.declared.code.chains.Step.TheVariants as step
+use Rattle.grain_program.specs.declared.code.chains.Tail.{Tail}
+use Rattle.grain_program.specs.declared.code.chains.Tail.TheVariants as tail
+use Rattle.grain_program.specs.declared.code.chains.Chain.{Chain}
 use Rattle.grain_program.specs.declared.code.parts.Chunk.{Chunk}
 use Rattle.grain_program.specs.declared.code.functions.Function.{Function}
 use Rattle.grain_program.specs.declared.verifier.refusals.Refusal.{Refusal}
 use Rattle.grain_program.specs.declared.code.effects.Flow.{Flow}
 use Rattle.grain_program.specs.declared.code.effects.Flow.TheVariants as flow
-use Rattle.grain_program.specs.View.{View, no_op}
+use Rattle.grain_program.specs.View.{View, no_op, no_chain}
 use Rattle.grain_program.specs.Fields.{every}
 use Rattle.grain_program.specs.InstructionSet.{fields_of}
-use Rattle.grain_program.specs.Indices.{HasAssignOp, InPool, InPools, record_named, in_pool, in_pools, IsNamed, all_below, below_if, is_named}
+use Rattle.grain_program.specs.Indices.{HasAssignOp, IsRootIndexed, IsStepIndexed, IsTailIndexed, IsIndexed, HasChain, InPool, InPools, record_named, root_indexed, step_indexed, steps_indexed, tail_indexed, chain_indexed, in_pool, in_pools, IsNamed, all_below, below_if, is_named}
 use Rattle.grain_program.specs.Capabilities.{needs, Permits, permits}
 use Rattle.grain_program.specs.Rules.{StaysIn, address_of, rule_of, Precedes, precedes}
 use Rattle.grain_program.specs.Owners.{stays_in}
@@ -66,18 +73,26 @@ precedes_decide r s =
 pub permits_decide : (caps : ℕ) (o : Op) → Decides (permits caps o) (Permits caps o)
 permits_decide caps o = eq_decides (bit_and caps (needs o)) (needs o)
 
--- what a list has at an index, by the same default
-record Entry (xs : List AssignOp) (i : ℕ) (r : AssignOp) : Type 0 where
+-- what a list has at an index, by this default
+record Entry {A : Type 0} (default : A) (xs : List A) (i : ℕ) (r : A) : Type 0 where
   inside : i < length xs
-  is : get_or xs i no_op ≡ r
+  is : get_or xs i default ≡ r
 
-entry_of : (xs : List AssignOp) (i : ℕ) (r : AssignOp) → slice_get xs i ≡ Some r → Entry xs i r
-entry_of [] i r e = absurd cc
-entry_of (x ∷ xs) zero r e = record { inside = omega arith; is = cc }
-entry_of (x ∷ xs) (suc i) r e =
-    let n = entry_of xs i r e in record { inside = omega (arith, n.inside); is = n.is }
+entry_of : {A : Type 0} (default : A) (xs : List A) (i : ℕ) (r : A) → slice_get xs i ≡ Some r
+    → Entry default xs i r
+entry_of default [] i r e = absurd cc
+entry_of default (x ∷ xs) zero r e = record { inside = omega arith; is = cc }
+entry_of default (x ∷ xs) (suc i) r e =
+    let n = entry_of default xs i r e in record { inside = omega (arith, n.inside); is = n.is }
 
-no_entry : (xs : List AssignOp) (i : ℕ) → slice_get xs i ≡ None → i < length xs → ⊥
+-- past the end there is the default
+pub past_end : {A : Type 0} (default : A) (xs : List A) (i : ℕ) → slice_get xs i ≡ None
+    → get_or xs i default ≡ default
+past_end default [] i e = refl
+past_end default (x ∷ xs) zero e = absurd cc
+past_end default (x ∷ xs) (suc i) e = past_end default xs i e
+
+no_entry : {A : Type 0} (xs : List A) (i : ℕ) → slice_get xs i ≡ None → i < length xs → ⊥
 no_entry [] i e lt = omega arith
 no_entry (x ∷ xs) zero e lt = cc
 no_entry (x ∷ xs) (suc i) e lt = no_entry xs i e (omega arith)
@@ -85,7 +100,7 @@ no_entry (x ∷ xs) (suc i) e lt = no_entry xs i e (omega arith)
 named_decides : (p : View) (a : ℕ)
     → Decides (record_named (length p.names) (slice_get p.assign_ops a)) (HasAssignOp p a)
 named_decides p a = at (slice_get p.assign_ops a) refl where
-  some : (r : AssignOp) → Entry p.assign_ops a r → (b : Bool)
+  some : (r : AssignOp) → Entry no_op p.assign_ops a r → (b : Bool)
       → Decides b ((r.op_assign_name < length p.names) × (r.op_name < length p.names))
       → Decides b (HasAssignOp p a)
   some r e true h = (
@@ -103,17 +118,80 @@ named_decides p a = at (slice_get p.assign_ops a) refl where
       → Decides (record_named (length p.names) o) (HasAssignOp p a)
   at None e = λ n. no_entry p.assign_ops a e n.0
   at (Some r) e =
-      some r (entry_of p.assign_ops a r e) (nat_lt r.op_assign_name (length p.names) && nat_lt
+      some r (entry_of no_op p.assign_ops a r e) (nat_lt r.op_assign_name (length p.names) && nat_lt
       r.op_name (length p.names))
       (both_decide (r.op_assign_name < length p.names) (r.op_name < length p.names)
       (nat_lt r.op_assign_name (length p.names)) (nat_lt r.op_name (length p.names))
       (lt_decides r.op_assign_name (length p.names)) (lt_decides r.op_name (length p.names)))
+
+-- ---- the indices of a chain
+
+root_decides : (p : View) (r : Root) → Decides (root_indexed (length p.names) r) (IsRootIndexed p r)
+root_decides p (root.Local name slot) = lt_decides name (length p.names)
+root_decides p root.Temporary = tt
+
+three_decide : (P Q R : Type 0) (b : Bool) → Decides b (P × (Q × R)) → Decides b (P × Q × R)
+three_decide P Q R true h = (h.0, h.1.0, h.1.1)
+three_decide P Q R false h = λ n. h (n.0, (n.1, n.2))
+
+step_decides : (p : View) (s : Step) → Decides (step_indexed (length p.names) s) (IsStepIndexed p s)
+step_decides p (step.Index operand flags q bracket) = tt
+step_decides p (step.Property name getter setter flags q) =
+    let names : ℕ = length p.names in
+    three_decide (name < names) (getter < names) (setter < names)
+    (nat_lt name names && (nat_lt getter names && nat_lt setter names))
+    (both_decide (name < names) ((getter < names) × (setter < names)) (nat_lt name names)
+    (nat_lt getter names && nat_lt setter names) (lt_decides name names)
+    (both_decide (getter < names) (setter < names) (nat_lt getter names) (nat_lt setter names)
+    (lt_decides getter names) (lt_decides setter names)))
+
+steps_decide : (p : View) (ss : List Step)
+    → Decides (steps_indexed (length p.names) ss) (AllByRecursion (IsStepIndexed p) ss)
+steps_decide p [] = tt
+steps_decide p (s ∷ ss) = both_decide (IsStepIndexed p s) (AllByRecursion (IsStepIndexed p) ss)
+    (step_indexed (length p.names) s) (steps_indexed (length p.names) ss) (step_decides p s)
+    (steps_decide p ss)
+
+tail_decides : (p : View) (t : Tail) → Decides (tail_indexed p t) (IsTailIndexed p t)
+tail_decides p tail.Read = tt
+tail_decides p (tail.Assign None) = tt
+tail_decides p (tail.Assign (Some a)) = named_decides p a
+
+abbrev Parts : View → Chain → Type 0
+Parts p c =
+    IsRootIndexed p c.root × (AllByRecursion (IsStepIndexed p) c.steps × IsTailIndexed p c.tail)
+
+-- the test of a chain decides whether it is there with its indices
+chain_decides : (p : View) (k : ℕ)
+    → Decides (chain_indexed p (slice_get p.chains k)) (HasChain p k)
+chain_decides p k = at (slice_get p.chains k) refl where
+  some : (c : Chain) → Entry no_chain p.chains k c → (b : Bool) → Decides b (Parts p c)
+      → Decides b (HasChain p k)
+  some c e true h = (
+    e.inside,
+    subst (IsIndexed p) (sym e.is) (record { root = h.0; steps = h.1.0; tail = h.1.1 }),
+  )
+  some c e false h = λ n.
+      let i = subst (IsIndexed p) e.is n.1 in
+      h (i.root, (i.steps, i.tail))
+
+  at : (o : Option Chain) → slice_get p.chains k ≡ o → Decides (chain_indexed p o) (HasChain p k)
+  at None e = λ n. no_entry p.chains k e n.0
+  at (Some c) e =
+      some c (entry_of no_chain p.chains k c e) (chain_indexed p (Some c))
+      (both_decide (IsRootIndexed p c.root) (AllByRecursion (IsStepIndexed p) c.steps
+      × IsTailIndexed p c.tail) (root_indexed (length p.names) c.root)
+      (steps_indexed (length p.names) c.steps && tail_indexed p c.tail) (root_decides p c.root)
+      (both_decide (AllByRecursion (IsStepIndexed p) c.steps) (IsTailIndexed p c.tail)
+      (steps_indexed (length p.names) c.steps) (tail_indexed p c.tail) (steps_decide p c.steps)
+      (tail_decides p c.tail)))
 
 -- the test of one operand decides whether its index is in its pool
 pool_decides : (p : View) (f : Field) → Decides (in_pool p f) (InPool p f)
 pool_decides p (field.Constant n) = lt_decides n (length p.consts)
 pool_decides p (field.Name n) = lt_decides n (length p.names)
 pool_decides p (field.Assignment n) = named_decides p n
+pool_decides p (field.Chain n) = chain_decides p n
 pool_decides p (field.Token n) = lt_decides n (length p.tokens)
 pool_decides p (field.Slot n) = tt
 pool_decides p (field.Target n) = tt

@@ -8,15 +8,15 @@ use Rattle.grain_program.specs.declared.verifier.refusals.Refusal.{Refusal}
 use Rattle.grain_program.specs.declared.verifier.refusals.Refusal.TheVariants.{Memory}
 use Rattle.grain_program.specs.View.{View}
 use Rattle.grain_program.specs.Decoding.{op_at}
-use Rattle.grain_program.specs.Effects.{effect_of, leads}
+use Rattle.grain_program.specs.Effects.{flow_of, leads}
 use Rattle.grain_program.specs.Starts.{Start}
 use Rattle.grain_program.specs.laws.Starts.{start_first, start_within}
 use Rattle.grain_program.specs.Rules.{IsSplit}
-use Rattle.grain_program.specs.Shapes.{Shape, bare, shape_at}
+use Rattle.grain_program.specs.Shapes.{Shape, bare, Arrival, arrival, arrivals, shape_at}
 use Rattle.grain_program.specs.Typing.{In, HasTyping, AnalysisState, ◌>>=◌, arrive, take_at, take_lowest, with_lowest, take_all, analyse_chunk, analyse_from, analysis, Ready, IsAnalysable}
 use Rattle.grain_program.proofs.Tiles.{is_tiled}
 use Rattle.grain_program.proofs.Cells.{free}
-use Rattle.grain_program.proofs.Grows.{Spread, arrive_spread, Moved, moved}
+use Rattle.grain_program.proofs.Grows.{addresses, known_there, where_it_reaches, Spread, arrive_spread, Moved, moved}
 use Rattle.grain_program.proofs.Worklists.{free_within, take_none, inside, closed}
 use Rattle.grain_program.proofs.AllChunks.{has_typing}
 
@@ -26,57 +26,57 @@ all_in P [] h = tt
 all_in P (b ∷ bs) h = (h b (inl refl), all_in P bs (λ x i. h x (inr i)))
 
 -- the loop has come so far: what is left of it gives what all of it gives, and is long enough
-pub record Taking (code : List ℕ) (c : Chunk) (before f : AnalysisState) : Type 0 where
+pub record Taking (p : View) (c : Chunk) (before f : AnalysisState) : Type 0 where
   pub left : ℕ
-  pub is : take_all code c.max_stack left f ≡ analyse_chunk code c before
+  pub is : take_all p c.max_stack left f ≡ analyse_chunk p c before
   pub enough : free f.shapes + length f.waiting ≤ left
-  pub long : length f.shapes ≡ length code
+  pub long : length f.shapes ≡ length p.code
   pub known : (a : ℕ) → In a f.waiting → (s : Shape) × (shape_at f.shapes a ≡ Some s)
-  pub mine : (a : ℕ) → In a f.waiting → Start code c a
+  pub mine : (a : ℕ) → In a f.waiting → Start p.code c a
 
-module _ (code : List ℕ) (c : Chunk) (before : AnalysisState) (w : IsAnalysable code c before) where
-  within : (a : ℕ) → Start code c a → a < length code
-  within a s = let x = start_within code c a s in omega (arith, x.1, w.inside)
+module _ (p : View) (c : Chunk) (before : AnalysisState) (w : IsAnalysable p.code c before) where
+  within : (a : ℕ) → Start p.code c a → a < length p.code
+  within a s = let x = start_within p.code c a s in omega (arith, x.1, w.inside)
 
   pub entry_within : c.entry < length before.shapes
   entry_within = omega (arith, w.full, w.inside, w.room)
 
-  pub entered : (f : AnalysisState) → arrive bare before c.entry ≡ Ok f → Taking code c before f
+  pub entered : (f : AnalysisState) → arrive bare before c.entry ≡ Ok f → Taking p c before f
   unfolding analyse_chunk
   entered f ok = record {
-    left = length code;
-    is = sym (ap (λ (x : Result AnalysisState Refusal). x >>= λ g. take_all code c.max_stack
-        (length code) g) ok);
+    left = length p.code;
+    is = sym (ap (λ (x : Result AnalysisState Refusal). x >>= λ g. take_all p c.max_stack
+        (length p.code) g) ok);
     enough = omega (arith, spread.less, ap length w.none, free_within before.shapes, w.room);
     long = spread.long ∙ w.room;
     known = λ a i. known a (spread.fresh a i);
     mine = λ a i. mine a (spread.fresh a i);
   } where
-    spread : Spread bare before f (c.entry ∷ [])
+    spread : Spread before f (arrival c.entry bare ∷ [])
     spread = arrive_spread bare before f c.entry entry_within ok
 
     known : (a : ℕ) → In a before.waiting ⊎ In a (c.entry ∷ [])
         → (s : Shape) × (shape_at f.shapes a ≡ Some s)
     known a (inl i) = absurd (subst (In a) w.none i)
-    known a (inr i) = (bare, spread.there a i)
+    known a (inr i) = known_there before f (arrival c.entry bare ∷ []) spread a i
 
-    at : (a : ℕ) → In a (c.entry ∷ []) → Start code c a
-    at a (inl same) = subst (Start code c) (sym same) (start_first code c w.full)
+    at : (a : ℕ) → In a (c.entry ∷ []) → Start p.code c a
+    at a (inl same) = subst (Start p.code c) (sym same) (start_first p.code c w.full)
     at a (inr i) = absurd i
 
-    mine : (a : ℕ) → In a before.waiting ⊎ In a (c.entry ∷ []) → Start code c a
+    mine : (a : ℕ) → In a before.waiting ⊎ In a (c.entry ∷ []) → Start p.code c a
     mine a (inl i) = absurd (subst (In a) w.none i)
     mine a (inr i) = at a i
 
   pub not_entered : (r : Refusal) → (r ≡ Memory) ⊎ (arrive bare before c.entry ≡ Err r)
-      → (r ≡ Memory) ⊎ (analyse_chunk code c before ≡ Err r)
+      → (r ≡ Memory) ⊎ (analyse_chunk p c before ≡ Err r)
   unfolding analyse_chunk
   not_entered r (inl m) = inl m
-  not_entered r (inr e) = inr (ap (λ (x : Result AnalysisState Refusal). x >>= λ g. take_all code
-      c.max_stack (length code) g) e)
+  not_entered r (inr e) = inr (ap (λ (x : Result AnalysisState Refusal). x >>= λ g. take_all p
+      c.max_stack (length p.code) g) e)
 
   -- the address is the lowest that waits, and the others wait still
-  module _ (f g : AnalysisState) (a : ℕ) (so : Taking code c before f) (e : f ≡ with_lowest a g)
+  module _ (f g : AnalysisState) (a : ℕ) (so : Taking p c before f) (e : f ≡ with_lowest a g)
     where
       waits : f.waiting ≡ a ∷ g.waiting
       waits = ap (λ (x : AnalysisState). x.waiting) e
@@ -87,20 +87,20 @@ module _ (code : List ℕ) (c : Chunk) (before : AnalysisState) (w : IsAnalysabl
       here : In a f.waiting
       here = subst (In a) (sym waits) (inl refl)
 
-      start : Start code c a
+      start : Start p.code c a
       start = so.mine a here
 
       known : (t : Shape) × (shape_at g.shapes a ≡ Some t)
       known = let k = so.known a here in (k.0, ap (λ l. shape_at l a) (sym shapes) ∙ k.1)
 
-      long : length g.shapes ≡ length code
+      long : length g.shapes ≡ length p.code
       long = ap length (sym shapes) ∙ so.long
 
-      read : (r : Op × ℕ) × (op_at code a ≡ Some r) × ((b : ℕ)
-          → In b (leads (effect_of r.0).flow (a + r.1)) → Start code c b)
+      read : (r : Op × ℕ) × (op_at p.code a ≡ Some r) × ((b : ℕ)
+          → In b (leads (flow_of r.0) (a + r.1)) → Start p.code c b)
       read = w.closed a start
 
-      pub is_ready : Ready code g.shapes a
+      pub is_ready : Ready p.code g.shapes a
       is_ready = record {
         small = w.small;
         room = long;
@@ -109,29 +109,29 @@ module _ (code : List ℕ) (c : Chunk) (before : AnalysisState) (w : IsAnalysabl
         known = λ k. let bad : None ≡ Some known.0 = sym k ∙ known.1 in cc;
         targets = λ r k. targets r k;
       } where
-        targets : (r : Op × ℕ) → op_at code a ≡ Some r
-            → AllByRecursion (λ b. b < length code) (leads (effect_of r.0).flow (a + r.1))
+        targets : (r : Op × ℕ) → op_at p.code a ≡ Some r
+            → AllByRecursion (λ b. b < length p.code) (leads (flow_of r.0) (a + r.1))
         targets r k =
             let both : Some read.0 ≡ Some r = sym read.1 ∙ k in
             let same : read.0 ≡ r = cc in
-            subst (λ (x : Op × ℕ). AllByRecursion (λ b. b < length code) (leads (effect_of x.0).flow
+            subst (λ (x : Op × ℕ). AllByRecursion (λ b. b < length p.code) (leads (flow_of x.0)
             (a + x.1))) same
-            (all_in (λ b. b < length code) (leads (effect_of read.0.0).flow (a + read.0.1))
+            (all_in (λ b. b < length p.code) (leads (flow_of read.0.0) (a + read.0.1))
             (λ b i. within b (read.2 b i)))
 
       -- one step less is left
       step : (n : ℕ) → so.left ≡ suc n → (x : Result AnalysisState Refusal)
-          → take_at code c.max_stack a g ≡ x
-          → analyse_chunk code c before ≡ (x >>= λ h. take_all code
+          → take_at p c.max_stack a g ≡ x
+          → analyse_chunk p c before ≡ (x >>= λ h. take_all p
           c.max_stack n h)
       unfolding take_all
       step n l x k =
           sym so.is
-          ∙ ap (λ m. take_all code c.max_stack m f) l
-          ∙ ap (λ (y : AnalysisState). take_lowest code c.max_stack y y.waiting >>= λ h. take_all
-          code
+          ∙ ap (λ m. take_all p c.max_stack m f) l
+          ∙ ap (λ (y : AnalysisState). take_lowest p c.max_stack y y.waiting >>= λ h. take_all
+          p
           c.max_stack n h) e
-          ∙ ap (λ (y : Result AnalysisState Refusal). y >>= λ h. take_all code c.max_stack n h) k
+          ∙ ap (λ (y : Result AnalysisState Refusal). y >>= λ h. take_all p c.max_stack n h) k
 
       some_left : (m : ℕ) → so.left ≡ m → (n : ℕ) × (so.left ≡ suc n)
       some_left zero l = absurd (omega (arith, so.enough, ap length waits, l))
@@ -140,8 +140,8 @@ module _ (code : List ℕ) (c : Chunk) (before : AnalysisState) (w : IsAnalysabl
       left : (n : ℕ) × (so.left ≡ suc n)
       left = some_left so.left refl
 
-      pub taken_on : (h : AnalysisState) → take_at code c.max_stack a g ≡ Ok h
-          → Taking code c before h × (free h.shapes + length h.waiting < free f.shapes + length
+      pub taken_on : (h : AnalysisState) → take_at p c.max_stack a g ≡ Ok h
+          → Taking p c before h × (free h.shapes + length h.waiting < free f.shapes + length
           f.waiting)
       taken_on h k = (
         record {
@@ -154,8 +154,8 @@ module _ (code : List ℕ) (c : Chunk) (before : AnalysisState) (w : IsAnalysabl
         },
         less,
       ) where
-        m : Moved code c.max_stack a read.0 known.0 g h
-        m = moved code c.max_stack a read.0 known.0 g read.1 known.1 h (λ b i. let lt =
+        m : Moved p c.max_stack a read.0 known.0 g h
+        m = moved p c.max_stack a read.0 known.0 g read.1 known.1 h (λ b i. let lt =
             within b (read.2 b i) in omega (arith, long)) k
 
         less : free h.shapes + length h.waiting < free f.shapes + length f.waiting
@@ -164,28 +164,32 @@ module _ (code : List ℕ) (c : Chunk) (before : AnalysisState) (w : IsAnalysabl
         old : (x : ℕ) → In x g.waiting → In x f.waiting
         old x i = subst (In x) (sym waits) (inr i)
 
-        known' : (x : ℕ) → In x g.waiting ⊎ In x (leads (effect_of read.0.0).flow (a + read.0.1))
+        -- what the instruction reaches
+        reached : List Arrival
+        reached = arrivals (flow_of read.0.0) (a + read.0.1) m.shape
+
+        known' : (x : ℕ) → In x g.waiting ⊎ In x (addresses reached)
             → (s : Shape) × (shape_at h.shapes x ≡ Some s)
         known' x (inl i) = let k = so.known x (old x i) in (
           k.0,
           m.spread.stays x k.0
               (ap (λ l. shape_at l x) (sym shapes) ∙ k.1),
         )
-        known' x (inr i) = (m.shape, m.spread.there x i)
+        known' x (inr i) = known_there g h reached m.spread x i
 
-        mine' : (x : ℕ) → In x g.waiting ⊎ In x (leads (effect_of read.0.0).flow (a + read.0.1))
-            → Start code c x
+        mine' : (x : ℕ) → In x g.waiting ⊎ In x (addresses reached) → Start p.code c x
         mine' x (inl i) = so.mine x (old x i)
-        mine' x (inr i) = read.2 x i
+        mine' x (inr i) =
+            where_it_reaches (Start p.code c) (flow_of read.0.0) (a + read.0.1) m.shape read.2 x i
 
-      pub refused_on : (r : Refusal) → (r ≡ Memory) ⊎ (take_at code c.max_stack a g ≡ Err r)
-          → (r ≡ Memory) ⊎ (analyse_chunk code c before ≡ Err r)
+      pub refused_on : (r : Refusal) → (r ≡ Memory) ⊎ (take_at p c.max_stack a g ≡ Err r)
+          → (r ≡ Memory) ⊎ (analyse_chunk p c before ≡ Err r)
       refused_on r (inl m) = inl m
       refused_on r (inr k) = inr (step left.0 left.1 (Err r) k)
 
-  pub ended : (f : AnalysisState) → Taking code c before f → f.waiting ≡ []
-      → analyse_chunk code c before ≡ Ok f
-  ended f so e = sym so.is ∙ take_none code c.max_stack so.left f e
+  pub ended : (f : AnalysisState) → Taking p c before f → f.waiting ≡ []
+      → analyse_chunk p c before ≡ Ok f
+  ended f so e = sym so.is ∙ take_none p c.max_stack so.left f e
 
 -- ---- the loop over the chunks
 
@@ -203,7 +207,7 @@ module _ (p : View) (chunks : List Chunk) (split : IsSplit p chunks) (i : ℕ) (
 
 -- where no chunk is left, a typing is found
 pub found : (p : View) (chunks : List Chunk) → IsSplit p chunks
-    → (cs : List Chunk) (f : AnalysisState) → analyse_from p.code cs f ≡ analysis p.code chunks
-    → cs ≡ [] → HasTyping p.code chunks
+    → (cs : List Chunk) (f : AnalysisState) → analyse_from p cs f ≡ analysis p chunks
+    → cs ≡ [] → HasTyping p chunks
 found p chunks split cs f so e =
-    has_typing p chunks split.laid split.splits f (sym so ∙ ap (λ l. analyse_from p.code l f) e)
+    has_typing p chunks split.laid split.splits f (sym so ∙ ap (λ l. analyse_from p l f) e)

@@ -16,7 +16,7 @@ use Rattle.grain_program.specs.View.{View}
 use Rattle.grain_program.specs.Fields.{every}
 use Rattle.grain_program.specs.InstructionSet.{fields_of}
 use Rattle.grain_program.specs.Decoding.{op_at}
-use Rattle.grain_program.specs.Effects.{effect_of}
+use Rattle.grain_program.specs.Effects.{flow_of}
 use Rattle.grain_program.specs.Indices.{in_pools, IsNamed}
 use Rattle.grain_program.specs.Capabilities.{permits}
 use Rattle.grain_program.specs.Layout.{Tiled}
@@ -209,7 +209,7 @@ module _ (p : View) (chunks : List Chunk) (t : Tiled (length p.code) chunks) whe
         after_end r = cond (permits p.caps r.0) None (Some (refusal.Capability a))
 
         abbrev after_target : Op × ℕ → Option Refusal
-        after_target r = cond (stays_in c.end (a + r.1) (effect_of r.0).flow) (after_end r)
+        after_target r = cond (stays_in c.end (a + r.1) (flow_of r.0)) (after_end r)
             (Some (refusal.FallsOff a))
 
         abbrev after_index : Op × ℕ → Option Refusal
@@ -250,8 +250,8 @@ module _ (p : View) (chunks : List Chunk) (t : Tiled (length p.code) chunks) whe
 
           third : IndexRule p c a r → (b : Bool) → Decides b (TargetRule p c a r)
               → Says (cond b (after_target r) (Some (refusal.JumpTarget a)))
-          third ix true h = fourth ix h (stays_in c.end (a + r.1) (effect_of r.0).flow)
-              (stays_decide c (a + r.1) (effect_of r.0).flow)
+          third ix true h = fourth ix h (stays_in c.end (a + r.1) (flow_of r.0))
+              (stays_decide c (a + r.1) (flow_of r.0))
           third ix false h = record {
             there = refl;
             breach = (start_here, (r, w, h));

@@ -10,8 +10,9 @@ use Rattle.grain_program.specs.declared.code.effects.Effect.{Effect}
 use Rattle.grain_program.specs.declared.verifier.shapes.NumberedShape.{NumberedShape}
 use Rattle.grain_program.specs.declared.verifier.refusals.Refusal.{Refusal}
 use Rattle.grain_program.specs.Decoding.{op_at}
-use Rattle.grain_program.specs.Effects.{effect_of, leads}
-use Rattle.grain_program.specs.Shapes.{TryHandler, Shape, shape_after, shape_at}
+use Rattle.grain_program.specs.View.{View}
+use Rattle.grain_program.specs.Effects.{effect_of, flow_of}
+use Rattle.grain_program.specs.Shapes.{TryHandler, Shape, arrivals, shape_after, shape_at}
 use Rattle.grain_program.specs.HandlerLists.{Grows}
 use Rattle.grain_program.specs.Numbered.{numbered_at, shape_of, known_of, AreNumbered, Search, state_of}
 use Rattle.grain_program.specs.Typing.{AnalysisState, ◌>>=◌, nothing_seen, with_lowest, meets, arrive, arrive_all, take_op, take_at, Gives}
@@ -154,44 +155,44 @@ lowest_of (Some a) f shapes waiting now ls same h =
 
 -- ---- one instruction
 
-module _ (code : List ℕ) (max a : ℕ) (f : Search) (r : Op × ℕ) (s : NumberedShape)
-    (is : op_at code a ≡ Some r) (known : numbered_at f.shapes a ≡ Some s) where
-  taking : take_at code max a (state_of f)
-      ≡ (shape_after max a (effect_of r.0) (shape_of f.lists s) >>= λ t. arrive_all t
-      (leads (effect_of r.0).flow (a + r.1)) (state_of f))
-  taking = ap (λ (o : Option (Op × ℕ)). take_op max a (state_of f) o (shape_at (state_of f).shapes
+module _ (p : View) (max a : ℕ) (f : Search) (r : Op × ℕ) (s : NumberedShape)
+    (is : op_at p.code a ≡ Some r) (known : numbered_at f.shapes a ≡ Some s) where
+  taking : take_at p max a (state_of f)
+      ≡ (shape_after max a (effect_of p r.0) (shape_of f.lists s) >>= λ t. arrive_all
+      (arrivals (flow_of r.0) (a + r.1) t) (state_of f))
+  taking = ap (λ (o : Option (Op × ℕ)). take_op p max a (state_of f) o (shape_at (state_of f).shapes
       a)) is
-      ∙ ap (λ (o : Option Shape). take_op max a (state_of f) (Some r) o) (known_at f a
+      ∙ ap (λ (o : Option Shape). take_op p max a (state_of f) (Some r) o) (known_at f a
       ∙ ap (known_of f.lists) known)
 
   -- the shape after it comes to where it leads
   stepped_on : (g : AnalysisState) (t : Shape) (o : Result (Unit {0}) Refusal)
-      → shape_after max a (effect_of r.0) (shape_of f.lists s) ≡ Ok t
-      → Gives g o (arrive_all t (leads (effect_of r.0).flow (a + r.1)) (state_of f))
-      → Gives g o (take_at code max a (state_of f))
+      → shape_after max a (effect_of p r.0) (shape_of f.lists s) ≡ Ok t
+      → Gives g o (arrive_all (arrivals (flow_of r.0) (a + r.1) t) (state_of f))
+      → Gives g o (take_at p max a (state_of f))
   stepped_on g t o e h =
-      subst (Gives g o) (sym (taking ∙ ap (λ (x : Result Shape Refusal). x >>= λ t. arrive_all t
-      (leads (effect_of r.0).flow (a + r.1)) (state_of f)) e)) h
+      subst (Gives g o) (sym (taking ∙ ap (λ (x : Result Shape Refusal). x >>= λ t. arrive_all
+      (arrivals (flow_of r.0) (a + r.1) t) (state_of f)) e)) h
 
 -- the same, of what the code has before and after
-pub taken_on : (code : List ℕ) (max a : ℕ) (f : Search) (shapes : List (Option NumberedShape))
+pub taken_on : (p : View) (max a : ℕ) (f : Search) (shapes : List (Option NumberedShape))
     (waiting : List ℕ) (ls more : List (List TryHandler))
     → ◌≡◌ {A = Search} (record { shapes = shapes; waiting = waiting; lists = ls }) f
-    → AreNumbered ls shapes → Grows ls more → (r : Op × ℕ) → op_at code a ≡ Some r
+    → AreNumbered ls shapes → Grows ls more → (r : Op × ℕ) → op_at p.code a ≡ Some r
     → (s : NumberedShape) → numbered_at shapes a ≡ Some s
-    → (e : Effect) → e ≡ effect_of r.0 → (g : AnalysisState) (t : Shape)
+    → (e : Effect) → e ≡ effect_of p r.0 → (g : AnalysisState) (t : Shape)
     (o : Result (Unit {0}) Refusal) → shape_after max a e (shape_of ls s) ≡ Ok t
-    → Gives g o (arrive_all t (leads e.flow (a + r.1)) (state_of (record {
+    → Gives g o (arrive_all (arrivals e.flow (a + r.1) t) (state_of (record {
       shapes = shapes;
       waiting = waiting;
       lists = more;
     })))
-    → Gives g o (take_at code max a (state_of f))
-taken_on code max a f shapes waiting ls more same numbers grows r is s known e row g t o k h =
-    subst (λ (x : Search). Gives g o (take_at code max a (state_of x))) same
-    (stepped_on code max a (search_of ls shapes waiting) r s is known g t o
+    → Gives g o (take_at p max a (state_of f))
+taken_on p max a f shapes waiting ls more same numbers grows r is s known e row g t o k h =
+    subst (λ (x : Search). Gives g o (take_at p max a (state_of x))) same
+    (stepped_on p max a (search_of ls shapes waiting) r s is known g t o
     (subst (λ (x : Effect). shape_after max a x (shape_of ls s) ≡ Ok t) row k)
-    (subst (λ (x : Effect). Gives g o (arrive_all t (leads x.flow (a + r.1)) (state_of (search_of ls
+    (subst (λ (x : Effect). Gives g o (arrive_all (arrivals x.flow (a + r.1) t) (state_of (search_of ls
     shapes waiting)))) row
-    (subst (λ (x : AnalysisState). Gives g o (arrive_all t (leads e.flow (a + r.1)) x))
+    (subst (λ (x : AnalysisState). Gives g o (arrive_all (arrivals e.flow (a + r.1) t) x))
     (state_still shapes waiting ls more grows numbers) h)))

@@ -5,7 +5,7 @@ use Rattle.std.proofs.lemmas.Bool.{eqb-true, eq-eqb, ltb-false, le-ltb}
 use Rattle.grain_program.specs.declared.code.effects.Effect.{Effect}
 use Rattle.grain_program.specs.declared.verifier.refusals.Refusal.{Refusal}
 use Rattle.grain_program.specs.declared.verifier.refusals.Refusal.TheVariants as refusal
-use Rattle.grain_program.specs.Shapes.{TryHandler, Shape, height_after, after, lacks_handler, is_under, shape_after, same_handlers, clash}
+use Rattle.grain_program.specs.Shapes.{TryHandler, Shape, shape, height_after, after, lacks_handler, is_under, shape_after, same_handlers, clash}
 use Rattle.grain_program.specs.Typing.{◌>>=◌}
 use Rattle.grain_program.proofs.SameHandlers.{handlers_same, handlers_self}
 
@@ -62,9 +62,6 @@ stepped_ok max a e s le handler above room =
     (nat_lt max (height_after e s))) handler
     ∙ ap (λ (b : Bool). tested a e s false false b (nat_lt max (height_after e s))) above
     ∙ ap (λ (b : Bool). tested a e s false false false b) (le-ltb max (height_after e s) room)
-
-abbrev pub shape : ℕ → List TryHandler → Shape
-shape height handlers = record { height = height; handlers = handlers }
 
 one_shape : (s t : Shape) → s.height ≡ t.height → s.handlers ≡ t.handlers → s ≡ t
 one_shape s t e f =

@@ -67,7 +67,7 @@ module _ (p : View) (chunks : List Chunk) where
   refused_before_chains r (inr h) = inr (inl h)
 
   pub typed_well : IsSplit p chunks → first_bad_chain 0 0 p.chains ≡ None
-      → (x : Result (Unit {0}) Refusal) → IfOk x (λ y. HasTyping p.code chunks)
+      → (x : Result (Unit {0}) Refusal) → IfOk x (λ y. HasTyping p chunks)
       → IfOk x (λ y. Valid p chunks)
   typed_well split e (Ok y) h = record {
     layout = split.laid;
@@ -84,7 +84,7 @@ module _ (p : View) (chunks : List Chunk) where
 
   pub refused_by_heights : IsSplit p chunks → first_bad_chain 0 0 p.chains ≡ None
       → (x : Result (Unit {0}) Refusal) → IfErr x (λ r. (r ≡ refusal.Memory)
-      ⊎ StopsWith p.code chunks r) → IfErr x (λ r. (r ≡ refusal.Memory) ⊎ Refused p chunks r)
+      ⊎ StopsWith p chunks r) → IfErr x (λ r. (r ≡ refusal.Memory) ⊎ Refused p chunks r)
   refused_by_heights split e (Ok y) h = tt
   refused_by_heights split e (Err r) (inl m) = inl m
   refused_by_heights split e (Err r) (inr s) =
@@ -129,7 +129,7 @@ module _ (p : View) (chunks : List Chunk) where
   one_early r s (inr x) (inl y) = let bad : Some y.0 ≡ None = sym y.1 ∙ x.0 in absurd cc
   one_early r s (inr x) (inr y) = one_first r s x.1 y.1
 
-  one_stop : (r s : Refusal) → analysis p.code chunks ≡ Err r → analysis p.code chunks ≡ Err s
+  one_stop : (r s : Refusal) → analysis p chunks ≡ Err r → analysis p chunks ≡ Err s
       → r ≡ s
   one_stop r s x y =
       let both : Err r ≡ Err s = sym x ∙ y in

@@ -6,18 +6,18 @@ use Rattle.grain_program.specs.declared.code.parts.Chunk.{Chunk}
 use Rattle.grain_program.specs.declared.verifier.refusals.Refusal.{Refusal}
 use Rattle.grain_program.specs.View.{View}
 use Rattle.grain_program.specs.Decoding.{op_at}
-use Rattle.grain_program.specs.Effects.{effect_of, leads}
+use Rattle.grain_program.specs.Effects.{effect_of, flow_of, leads}
 use Rattle.grain_program.specs.Layout.{layout_fault, Tiled}
 use Rattle.grain_program.specs.Starts.{Start}
 use Rattle.grain_program.specs.laws.Starts.{start_first, start_next, start_within}
 use Rattle.grain_program.specs.Rules.{Splits, InstructionStart}
-use Rattle.grain_program.specs.Shapes.{Shape, bare, shape_at}
+use Rattle.grain_program.specs.Shapes.{Shape, bare, Arrival, arrival, arrivals, shape_at}
 use Rattle.grain_program.specs.Typing.{In, Agrees, Typing, AnalysisState, ◌>>=◌, arrive, take_at, take_lowest, take_all, analyse_chunk}
 use Rattle.grain_program.specs.laws.TypedAt.{leads_to_start}
 use Rattle.grain_program.proofs.Tiles.{is_tiled}
 use Rattle.grain_program.proofs.Meaning.{same_chunk}
 use Rattle.grain_program.proofs.Cells.{free}
-use Rattle.grain_program.proofs.Grows.{Stays, Spread, arrive_spread, Moved, moved, SoundBut, Done, spread_sound, Below, arrive_fits, take_fits}
+use Rattle.grain_program.proofs.Grows.{Stays, addresses, where_it_reaches, Spread, arrive_spread, Moved, moved, SoundBut, Done, spread_sound, Below, arrive_fits, take_fits}
 use Rattle.grain_program.proofs.ShapeSteps.{then_ok}
 
 -- an address without a shape is free, so there are no more of them than addresses
@@ -27,12 +27,12 @@ free_within (None ∷ xs) = omega (arith, free_within xs)
 free_within (Some s ∷ xs) = omega (arith, free_within xs)
 
 -- where none waits, no more is taken
-pub take_none : (code : List ℕ) (max n : ℕ) (f : AnalysisState) → f.waiting ≡ []
-    → take_all code max n f ≡ Ok f
+pub take_none : (p : View) (max n : ℕ) (f : AnalysisState) → f.waiting ≡ []
+    → take_all p max n f ≡ Ok f
 unfolding take_all
-take_none code max zero f e = refl
-take_none code max (suc n) f e =
-    ap (λ xs. take_lowest code max f xs >>= λ g. take_all code max n g) e ∙ take_none code max n f e
+take_none p max zero f e = refl
+take_none p max (suc n) f e =
+    ap (λ xs. take_lowest p max f xs >>= λ g. take_all p max n g) e ∙ take_none p max n f e
 
 pub empty : (xs : List ℕ) → length xs ≤ 0 → xs ≡ []
 empty [] le = refl
@@ -47,7 +47,7 @@ module _ (p : View) (chunks : List Chunk) (laid : layout_fault (length p.code) c
   -- an instruction of the chunk is read, and leads to instructions of the chunk
   pub closed : (i : ℕ) (c : Chunk) → slice_get chunks i ≡ Some c → (a : ℕ) → Start p.code c a
       → (r : Op × ℕ) × (op_at p.code a ≡ Some r) × ((b : ℕ)
-      → In b (leads (effect_of r.0).flow (a + r.1)) → Start p.code c b)
+      → In b (leads (flow_of r.0) (a + r.1)) → Start p.code c b)
   closed i c g a s =
       let o = w.obeys i c a g s in (
         o.read,
@@ -64,7 +64,7 @@ module _ (p : View) (chunks : List Chunk) (laid : layout_fault (length p.code) c
 
   -- each known address waits or is done
   abbrev pub Sound : AnalysisState → Type 0
-  Sound f = SoundBut p.code chunks None_out f
+  Sound f = SoundBut p chunks None_out f
 
   -- ---- one chunk
 
@@ -94,14 +94,14 @@ module _ (p : View) (chunks : List Chunk) (laid : layout_fault (length p.code) c
         start = h.mine a waits
 
         read : (r : Op × ℕ) × (op_at p.code a ≡ Some r) × ((b : ℕ)
-            → In b (leads (effect_of r.0).flow (a + r.1)) → Start p.code c b)
+            → In b (leads (flow_of r.0) (a + r.1)) → Start p.code c b)
         read = closed i c g a start
 
         known : (t : Shape) × (shape_at f.shapes a ≡ Some t)
         known = h.sound.known a waits
 
         -- without the address that is taken, all others are sound
-        rest_sound : SoundBut p.code chunks (λ x. x ≡ a) (record {
+        rest_sound : SoundBut p chunks (λ x. x ≡ a) (record {
           shapes = f.shapes;
           waiting =
               rest;
@@ -113,7 +113,7 @@ module _ (p : View) (chunks : List Chunk) (laid : layout_fault (length p.code) c
           done = λ x s k. at x s (h.sound.done x s k);
         } where
           one : (x : ℕ) (s : Shape) → In x (a ∷ rest)
-              → In x rest ⊎ ((x ≡ a) ⊎ Done p.code chunks (record {
+              → In x rest ⊎ ((x ≡ a) ⊎ Done p chunks (record {
                 shapes = f.shapes;
                 waiting =
                     rest;
@@ -121,8 +121,8 @@ module _ (p : View) (chunks : List Chunk) (laid : layout_fault (length p.code) c
           one x s (inl same) = inr (inl same)
           one x s (inr j) = inl j
 
-          at : (x : ℕ) (s : Shape) → In x f.waiting ⊎ (None_out x ⊎ Done p.code chunks f x s)
-              → In x rest ⊎ ((x ≡ a) ⊎ Done p.code chunks (record {
+          at : (x : ℕ) (s : Shape) → In x f.waiting ⊎ (None_out x ⊎ Done p chunks f x s)
+              → In x rest ⊎ ((x ≡ a) ⊎ Done p chunks (record {
                 shapes = f.shapes;
                 waiting =
                     rest;
@@ -131,50 +131,56 @@ module _ (p : View) (chunks : List Chunk) (laid : layout_fault (length p.code) c
           at x s (inr (inl o)) = absurd o
           at x s (inr (inr d)) = inr (inr d)
 
-        module _ (h' : AnalysisState) (ok : take_at p.code c.max_stack a (record {
+        module _ (h' : AnalysisState) (ok : take_at p c.max_stack a (record {
           shapes =
               f.shapes;
           waiting = rest;
         }) ≡ Ok h') where
-          m : Moved p.code c.max_stack a read.0 known.0 (record {
+          m : Moved p c.max_stack a read.0 known.0 (record {
             shapes = f.shapes;
             waiting =
                 rest;
           })
               h'
-          m = moved p.code c.max_stack a read.0 known.0 (record {
+          m = moved p c.max_stack a read.0 known.0 (record {
             shapes = f.shapes;
             waiting =
                 rest;
           })
               read.1 known.1 h' (λ b j. within f h.sound b (read.2 b j)) ok
 
-          all : SoundBut p.code chunks (λ x. x ≡ a) h'
-          all = spread_sound p.code chunks (λ x. x ≡ a) m.shape (record {
+          -- what the instruction reaches are instructions of the chunk
+          goes_to : (b : ℕ) → In b (addresses (arrivals (flow_of read.0.0) (a + read.0.1) m.shape))
+              → Start p.code c b
+          goes_to = where_it_reaches (Start p.code c) (flow_of read.0.0) (a + read.0.1) m.shape read.2
+
+          all : SoundBut p chunks (λ x. x ≡ a) h'
+          all = spread_sound p chunks (λ x. x ≡ a) (record {
             shapes = f.shapes;
             waiting =
                 rest;
-          }) h' (leads (effect_of read.0.0).flow (a + read.0.1)) (λ b j. start_here b
-              (read.2 b j)) rest_sound m.spread
+          }) h' (arrivals (flow_of read.0.0) (a + read.0.1) m.shape)
+              (λ b j. start_here b (goes_to b j)) rest_sound m.spread
 
           -- the address that was taken is done
-          done : Done p.code chunks h' a known.0
+          done : Done p chunks h' a known.0
           done j d r k s is =
               let both : Some read.0 ≡ Some r = sym read.1 ∙ is in
               let same : read.0 ≡ r = cc in
               let chunk : c ≡ d = same_chunk p chunks tiles i j c d a g k start s in
               let after = m.shape_after.is in
-              subst (λ (x : Chunk). Agrees (shape_at h'.shapes) x.max_stack a r.1 (effect_of r.0)
+              subst (λ (x : Chunk). Agrees (shape_at h'.shapes) x.max_stack a r.1 (effect_of p r.0)
               known.0) chunk
-              (subst (λ (x : Op × ℕ). Agrees (shape_at h'.shapes) c.max_stack a x.1 (effect_of x.0)
+              (subst (λ (x : Op × ℕ). Agrees (shape_at h'.shapes) c.max_stack a x.1 (effect_of p x.0)
               known.0) same
               (record {
                 enough = m.shape_after.enough;
                 handler = m.shape_after.handler;
                 above = m.shape_after.above;
                 room = m.shape_after.room;
-                arrives =
-                    λ b q. m.spread.there b q ∙ ap (λ (x : Shape). Some x) (sym after);
+                arrives = subst (λ (t : Shape). (y : Arrival)
+                    → In y (arrivals (flow_of read.0.0) (a + read.0.1) t)
+                    → shape_at h'.shapes y.address ≡ Some y.shape) (sym after) m.spread.there;
               }))
 
           here : Here h'
@@ -189,8 +195,8 @@ module _ (p : View) (chunks : List Chunk) (laid : layout_fault (length p.code) c
             mine = λ x j. mine x (m.spread.fresh x j);
           } where
             at : (x : ℕ) (s : Shape) → shape_at h'.shapes x ≡ Some s → In x h'.waiting
-                ⊎ ((x ≡ a) ⊎ Done p.code chunks h' x s) → In x h'.waiting
-                ⊎ (None_out x ⊎ Done p.code chunks h' x s)
+                ⊎ ((x ≡ a) ⊎ Done p chunks h' x s) → In x h'.waiting
+                ⊎ (None_out x ⊎ Done p chunks h' x s)
             at x s k (inl j) = inl j
             at x s k (inr (inr d)) = inr (inr d)
             at x s k (inr (inl same)) =
@@ -198,26 +204,27 @@ module _ (p : View) (chunks : List Chunk) (laid : layout_fault (length p.code) c
                 let both : Some known.0 ≡ Some s =
                 sym is ∙ ap (shape_at h'.shapes) (sym same) ∙ k in
                 let shape : known.0 ≡ s = cc in
-                inr (inr (subst (λ y. Done p.code chunks h' y s) (sym same)
-                (subst (λ (y : Shape). Done p.code chunks h' a y) shape done)))
+                inr (inr (subst (λ y. Done p chunks h' y s) (sym same)
+                (subst (λ (y : Shape). Done p chunks h' a y) shape done)))
 
-            mine : (x : ℕ) → In x rest ⊎ In x (leads (effect_of read.0.0).flow (a + read.0.1))
+            mine : (x : ℕ) → In x rest
+                ⊎ In x (addresses (arrivals (flow_of read.0.0) (a + read.0.1) m.shape))
                 → Start p.code c x
             mine x (inl j) = h.mine x (subst (In x) (sym e) (inr j))
-            mine x (inr j) = read.2 x j
+            mine x (inr j) = goes_to x j
 
           step_ok : Here h' × Stays f h' × (free h'.shapes + length h'.waiting < free
               f.shapes + length f.waiting)
           step_ok = (here, m.spread.stays, omega (arith, m.spread.less, ap length e))
 
-        step_fits : (typing : ℕ → Option Shape) → Typing p.code chunks typing → Below typing f
-            → (h' : AnalysisState) × (take_at p.code c.max_stack a (record {
+        step_fits : (typing : ℕ → Option Shape) → Typing p chunks typing → Below typing f
+            → (h' : AnalysisState) × (take_at p c.max_stack a (record {
               shapes =
                   f.shapes;
               waiting = rest;
             }) ≡ Ok h') × Below typing h'
         step_fits typing y below =
-            take_fits p.code typing c.max_stack a read.0 known.0 (record {
+            take_fits p typing c.max_stack a read.0 known.0 (record {
               shapes =
                   f.shapes;
               waiting = rest;
@@ -231,7 +238,7 @@ module _ (p : View) (chunks : List Chunk) (laid : layout_fault (length p.code) c
       pub stays : Stays f f'
 
     take_all_ok : (n : ℕ) (f f' : AnalysisState) → Here f → free f.shapes + length f.waiting ≤ n
-        → take_all p.code c.max_stack n f ≡ Ok f' → AllTaken f f'
+        → take_all p c.max_stack n f ≡ Ok f' → AllTaken f f'
     unfolding take_all
     take_all_ok zero f f' h enough ok =
         let same : f ≡ f' = cc in
@@ -243,47 +250,47 @@ module _ (p : View) (chunks : List Chunk) (laid : layout_fault (length p.code) c
     take_all_ok (suc n) f f' h enough ok =
         at f.waiting refl ok (λ k h' less ok'. take_all_ok n k f' h' less ok') where
           at : (xs : List ℕ) → f.waiting ≡ xs
-              → (take_lowest p.code c.max_stack f xs >>= λ g. take_all
-              p.code c.max_stack n g) ≡ Ok f'
+              → (take_lowest p c.max_stack f xs >>= λ g. take_all
+              p c.max_stack n g) ≡ Ok f'
               → ((k : AnalysisState) → Here k → free k.shapes + length k.waiting ≤ n
-              → take_all p.code c.max_stack n k ≡ Ok f' → AllTaken k f') → AllTaken f f'
+              → take_all p c.max_stack n k ≡ Ok f' → AllTaken k f') → AllTaken f f'
           at [] e k more =
-              let both : Ok f ≡ Ok f' = sym (take_none p.code c.max_stack n f e) ∙ k in
+              let both : Ok f ≡ Ok f' = sym (take_none p c.max_stack n f e) ∙ k in
               let same : f ≡ f' = cc in
               subst (AllTaken f) same (record { sound = h.sound; over = e; stays = λ a s q. q })
           at (a ∷ rest) e k more =
               let t =
-              then_ok (take_at p.code c.max_stack a (record { shapes = f.shapes; waiting = rest }))
-              (λ g. take_all p.code c.max_stack n g) f' k in
+              then_ok (take_at p c.max_stack a (record { shapes = f.shapes; waiting = rest }))
+              (λ g. take_all p c.max_stack n g) f' k in
               let s = step_ok f a rest h e t.0 t.1 in
               let w = more t.0 s.0 (omega (arith, s.2, enough)) t.2 in
               record { sound = w.sound; over = w.over; stays = λ x q z. w.stays x q (s.1 x q z) }
 
-    take_all_fits : (typing : ℕ → Option Shape) → Typing p.code chunks typing
+    take_all_fits : (typing : ℕ → Option Shape) → Typing p chunks typing
         → (n : ℕ) (f : AnalysisState) → Here f → Below typing f
-        → (f' : AnalysisState) × (take_all p.code c.max_stack n f ≡ Ok f') × Below typing f'
+        → (f' : AnalysisState) × (take_all p c.max_stack n f ≡ Ok f') × Below typing f'
     unfolding take_all
     take_all_fits typing y zero f h below = (f, refl, below)
     take_all_fits typing y (suc n) f h below =
         at f.waiting refl (λ k h' b. take_all_fits typing y n k h' b) where
           at : (xs : List ℕ) → f.waiting ≡ xs → ((k : AnalysisState) → Here k → Below typing k
-              → (f' : AnalysisState) × (take_all p.code c.max_stack n k ≡ Ok f') × Below typing f')
-              → (f' : AnalysisState) × ((take_lowest p.code c.max_stack f xs >>= λ g. take_all
-              p.code
+              → (f' : AnalysisState) × (take_all p c.max_stack n k ≡ Ok f') × Below typing f')
+              → (f' : AnalysisState) × ((take_lowest p c.max_stack f xs >>= λ g. take_all
+              p
               c.max_stack n g) ≡ Ok f') × Below typing f'
-          at [] e more = (f, take_none p.code c.max_stack n f e, below)
+          at [] e more = (f, take_none p c.max_stack n f e, below)
           at (a ∷ rest) e more =
               let t = step_fits f a rest h e typing y below in
               let w = more t.0 (step_ok f a rest h e t.0 t.1).0 t.2 in (
                 w.0,
-                ap (λ (x : Result AnalysisState Refusal). x >>= λ g. take_all p.code c.max_stack n
+                ap (λ (x : Result AnalysisState Refusal). x >>= λ g. take_all p c.max_stack n
                     g) t.1 ∙ w.1,
                 w.2,
               )
 
     -- a bare frame at the entry begins the loop
     enter : (f k : AnalysisState) → Sound f → f.waiting ≡ [] → arrive bare f c.entry ≡ Ok k
-        → Here k × Spread bare f k (c.entry ∷ [])
+        → Here k × Spread f k (arrival c.entry bare ∷ [])
     enter f k sound e ok =
         (record { sound = all; mine = λ a j. mine a (spread.fresh a j) }, spread) where
           first : Start p.code c c.entry
@@ -293,11 +300,11 @@ module _ (p : View) (chunks : List Chunk) (laid : layout_fault (length p.code) c
           at b (inl same) = subst (Start p.code c) (sym same) first
           at b (inr j) = absurd j
 
-          spread : Spread bare f k (c.entry ∷ [])
+          spread : Spread f k (arrival c.entry bare ∷ [])
           spread = arrive_spread bare f k c.entry (within f sound c.entry first) ok
 
           all : Sound k
-          all = spread_sound p.code chunks None_out bare f k (c.entry ∷ []) (λ b j. start_here b
+          all = spread_sound p chunks None_out f k (arrival c.entry bare ∷ []) (λ b j. start_here b
               (at b j)) sound spread
 
           mine : (a : ℕ) → In a f.waiting ⊎ In a (c.entry ∷ []) → Start p.code c a
@@ -309,12 +316,12 @@ module _ (p : View) (chunks : List Chunk) (laid : layout_fault (length p.code) c
       pub taken : AllTaken f f'
       pub entry : shape_at f'.shapes c.entry ≡ Some bare
 
-    pub chunk_ok : (f f' : AnalysisState) → Sound f → f.waiting ≡ [] → analyse_chunk p.code c f ≡ Ok
+    pub chunk_ok : (f f' : AnalysisState) → Sound f → f.waiting ≡ [] → analyse_chunk p c f ≡ Ok
         f' → Analysed f f'
     unfolding analyse_chunk
     chunk_ok f f' sound e ok =
         let t =
-        then_ok (arrive bare f c.entry) (λ g. take_all p.code c.max_stack (length p.code) g) f'
+        then_ok (arrive bare f c.entry) (λ g. take_all p c.max_stack (length p.code) g) f'
         ok in
         let h = enter f t.0 sound e t.1 in
         let v =
@@ -333,19 +340,19 @@ module _ (p : View) (chunks : List Chunk) (laid : layout_fault (length p.code) c
             stays =
                 λ a s k. v.stays a s (h.1.stays a s k);
           };
-          entry = v.stays c.entry bare (h.1.there c.entry (inl refl));
+          entry = v.stays c.entry bare (h.1.there (arrival c.entry bare) (inl refl));
         }
 
-    pub chunk_fits : (typing : ℕ → Option Shape) → Typing p.code chunks typing → (f : AnalysisState)
+    pub chunk_fits : (typing : ℕ → Option Shape) → Typing p chunks typing → (f : AnalysisState)
         → Sound f → f.waiting ≡ [] → Below typing f
-        → (f' : AnalysisState) × (analyse_chunk p.code c f ≡ Ok f') × Below typing f'
+        → (f' : AnalysisState) × (analyse_chunk p c f ≡ Ok f') × Below typing f'
     unfolding analyse_chunk
     chunk_fits typing y f sound e below =
         let b = arrive_fits typing bare f c.entry (y.entries i c g) below in
         let h = enter f b.0 sound e b.1 in
         let v = take_all_fits typing y (length p.code) b.0 h.0 b.2 in (
           v.0,
-          ap (λ (x : Result AnalysisState Refusal). x >>= λ g. take_all p.code c.max_stack
+          ap (λ (x : Result AnalysisState Refusal). x >>= λ g. take_all p c.max_stack
               (length p.code) g) b.1 ∙ v.1,
           v.2,
         )

@@ -1,4 +1,5 @@
--- Chains: the rules that they obey, and the slots by which a trace names their steps.
+-- Chains: the slots by which a trace names their steps, the operands that they take, and the rules
+-- that they obey.
 use Rattle.std.specs.Prelude.{ℕ, ◌≡◌, ◌<◌, ◌≤◌, ◌+◌, ◌-◌, ◌^◌, ◌&&◌, nat_lt, nat_le, not, Bool, true, false, List, [], ◌∷◌, length, take, slice_get, Option, Some, None, if◌then◌else◌}
 use Rattle.std.specs.List.{AllByRecursion}
 use Rattle.grain_program.specs.declared.code.chains.Root.{Root}
@@ -53,11 +54,7 @@ abbrev pub first_slots : ℕ → List Chain → List ℕ
 first_slots before [] = []
 first_slots before (c ∷ cs) = before ∷ first_slots (before + chain_slots c) cs
 
--- ---- rules
-
--- how many slots all chains may have together
-abbrev pub most_slots : ℕ
-most_slots = 2 ^ 32 - 1
+-- ---- operands
 
 -- the chain assigns a value
 abbrev pub assigns : Tail → Bool
@@ -68,6 +65,18 @@ assigns (tail.Assign op) = true
 abbrev pub is_temporary : Root → Bool
 is_temporary (root.Local name slot) = false
 is_temporary root.Temporary = true
+
+-- how many operands a chain takes: those of its steps, the value that it assigns, if it assigns one,
+-- and the value at which it begins, if nothing holds that
+abbrev pub chain_takes : Chain → ℕ
+chain_takes c =
+    c.operands + (if assigns c.tail then 1 else 0) + (if is_temporary c.root then 1 else 0)
+
+-- ---- rules
+
+-- how many slots all chains may have together
+abbrev pub most_slots : ℕ
+most_slots = 2 ^ 32 - 1
 
 -- the operand of a step is one of this number
 abbrev pub HasOperands : ℕ → Step → Type 0

@@ -1,14 +1,16 @@
 -- What each instruction takes and gives, where it leads, and what it does to the handlers of its
--- frame, by its row.
-use Rattle.std.specs.Prelude.{ℕ, List, [], ◌∷◌, Option, nat_lt, if◌then◌else◌}
+-- frame, by its row and by what the program has at its chain.
+use Rattle.std.specs.Prelude.{ℕ, ◌+◌, List, [], ◌∷◌, Option, Some, None, nat_lt, if◌then◌else◌}
 use Rattle.grain_program.specs.declared.code.instruction_set.Op.{Op}
 use Rattle.grain_program.specs.declared.code.effects.Effect.{Effect}
 use Rattle.grain_program.specs.declared.code.effects.Flow.{Flow}
 use Rattle.grain_program.specs.declared.code.effects.Flow.TheVariants as flow
 use Rattle.grain_program.specs.declared.code.effects.Handling.{Handling}
 use Rattle.grain_program.specs.declared.code.effects.Handling.TheVariants as handling
-use Rattle.grain_program.specs.Fields.{targets_of, name_in}
+use Rattle.grain_program.specs.View.{View, chain_of}
+use Rattle.grain_program.specs.Fields.{targets_of, name_in, chain_in}
 use Rattle.grain_program.specs.InstructionSet.{Transfer, falls_through, jumps, branches, ends, HandlerUse, keeps_handlers, pushes_handler, pops_handler, row}
+use Rattle.grain_program.specs.Chains.{chain_takes}
 
 -- where the machine goes, given the targets among the instruction's operands
 abbrev pub flow_to : Transfer → List ℕ → Flow
@@ -28,14 +30,39 @@ handling_to pushes_handler (t ∷ targets) name = handling.Push t name
 handling_to pushes_handler [] name = handling.Keep
 handling_to pops_handler targets name = handling.Pop
 
--- how many operands the instruction takes, how many it then gives, where the machine goes, and what
--- becomes of the handlers
-abbrev pub effect_of : Op → Effect
-effect_of o = record {
-  takes = (row o).takes;
-  gives = (row o).gives;
-  flow = flow_to (row o).transfer (targets_of (row o).fields);
-  handling = handling_to (row o).handlers (targets_of (row o).fields) (name_in (row o).fields);
+-- how many operands the instruction takes, but for those of its chain
+abbrev pub own_takes : Op → ℕ
+own_takes o = (row o).takes
+
+-- how many operands the instruction gives once it has taken its own
+abbrev pub gives_of : Op → ℕ
+gives_of o = (row o).gives
+
+-- where the machine goes after the instruction
+abbrev pub flow_of : Op → Flow
+flow_of o = flow_to (row o).transfer (targets_of (row o).fields)
+
+-- what the instruction does to the handlers
+abbrev pub handling_of : Op → Handling
+handling_of o = handling_to (row o).handlers (targets_of (row o).fields) (name_in (row o).fields)
+
+-- how many operands are taken: this number, and those of the chain of this index, if there is one
+abbrev pub taken : View → ℕ → Option ℕ → ℕ
+taken p own None = own
+taken p own (Some k) = own + chain_takes (chain_of p k)
+
+-- how many operands the instruction takes in the program
+abbrev pub takes_of : View → Op → ℕ
+takes_of p o = taken p (own_takes o) (chain_in (row o).fields)
+
+-- what the instruction does in the program: how many operands it takes and how many it then gives,
+-- where the machine goes, and what becomes of the handlers
+abbrev pub effect_of : View → Op → Effect
+effect_of p o = record {
+  takes = takes_of p o;
+  gives = gives_of o;
+  flow = flow_of o;
+  handling = handling_of o;
 }
 
 -- the addresses that a flow leads to, given the address after the instruction, the lower one first
@@ -45,18 +72,6 @@ leads (flow.Jump t) next = t ∷ []
 leads (flow.Branch t) next = if nat_lt t next then t ∷ next ∷ [] else next ∷ t ∷ []
 leads flow.End next = []
 
--- how many operands the instruction takes
-abbrev pub takes_of : Op → ℕ
-takes_of o = (effect_of o).takes
-
--- how many operands the instruction gives once it has taken its own
-abbrev pub gives_of : Op → ℕ
-gives_of o = (effect_of o).gives
-
 -- the addresses that the instruction leads to, given the address after it
 abbrev pub leads_of : Op → ℕ → List ℕ
-leads_of o next = leads (effect_of o).flow next
-
--- what the instruction does to the handlers
-abbrev pub handling_of : Op → Handling
-handling_of o = (effect_of o).handling
+leads_of o next = leads (flow_of o) next

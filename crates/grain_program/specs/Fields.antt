@@ -19,6 +19,7 @@ abbrev pub size_of : Field → Size
 size_of (field.Constant n) = two
 size_of (field.Name n) = two
 size_of (field.Assignment n) = two
+size_of (field.Chain n) = two
 size_of (field.Token n) = two
 size_of (field.Slot n) = two
 size_of (field.Target n) = four
@@ -30,6 +31,7 @@ abbrev pub number_of : Field → ℕ
 number_of (field.Constant n) = n
 number_of (field.Name n) = n
 number_of (field.Assignment n) = n
+number_of (field.Chain n) = n
 number_of (field.Token n) = n
 number_of (field.Slot n) = n
 number_of (field.Target n) = n
@@ -57,6 +59,7 @@ targets_of [] = []
 targets_of (field.Constant n ∷ fs) = targets_of fs
 targets_of (field.Name n ∷ fs) = targets_of fs
 targets_of (field.Assignment n ∷ fs) = targets_of fs
+targets_of (field.Chain n ∷ fs) = targets_of fs
 targets_of (field.Token n ∷ fs) = targets_of fs
 targets_of (field.Slot n ∷ fs) = targets_of fs
 targets_of (field.Target n ∷ fs) = n ∷ targets_of fs
@@ -69,11 +72,25 @@ name_in [] = None
 name_in (field.Constant n ∷ fs) = name_in fs
 name_in (field.Name n ∷ fs) = Some n
 name_in (field.Assignment n ∷ fs) = name_in fs
+name_in (field.Chain n ∷ fs) = name_in fs
 name_in (field.Token n ∷ fs) = name_in fs
 name_in (field.Slot n ∷ fs) = name_in fs
 name_in (field.Target n ∷ fs) = name_in fs
 name_in (field.Count n ∷ fs) = name_in fs
 name_in (field.Number n ∷ fs) = name_in fs
+
+-- the first chain among the operands, if there is one
+abbrev pub chain_in : List Field → Option ℕ
+chain_in [] = None
+chain_in (field.Constant n ∷ fs) = chain_in fs
+chain_in (field.Name n ∷ fs) = chain_in fs
+chain_in (field.Assignment n ∷ fs) = chain_in fs
+chain_in (field.Chain n ∷ fs) = Some n
+chain_in (field.Token n ∷ fs) = chain_in fs
+chain_in (field.Slot n ∷ fs) = chain_in fs
+chain_in (field.Target n ∷ fs) = chain_in fs
+chain_in (field.Count n ∷ fs) = chain_in fs
+chain_in (field.Number n ∷ fs) = chain_in fs
 
 -- each operand passes the test
 abbrev pub every : (Field → Bool) → List Field → Bool

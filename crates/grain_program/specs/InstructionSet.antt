@@ -34,7 +34,7 @@ pub record Row : Type 0 where
   pub tag : ℕ
   -- what its other bytes say, in their order
   pub fields : List Field
-  -- how many operands it takes from the stack, and how many it then gives
+  -- how many operands it takes from the stack, but for those of its chain, and how many it then gives
   pub takes : ℕ
   pub gives : ℕ
   pub transfer : Transfer

@@ -15,7 +15,7 @@ use Rattle.grain_program.specs.View.{View}
 use Rattle.grain_program.specs.Fields.{every}
 use Rattle.grain_program.specs.InstructionSet.{fields_of}
 use Rattle.grain_program.specs.Decoding.{op_at}
-use Rattle.grain_program.specs.Effects.{effect_of}
+use Rattle.grain_program.specs.Effects.{flow_of}
 use Rattle.grain_program.specs.Indices.{in_pools, is_named}
 use Rattle.grain_program.specs.Capabilities.{permits}
 use Rattle.grain_program.specs.Starts.{Start}
@@ -59,6 +59,7 @@ abbrev pub lands : List Owner → ℕ → Field → Bool
 lands owners end (field.Constant n) = true
 lands owners end (field.Name n) = true
 lands owners end (field.Assignment n) = true
+lands owners end (field.Chain n) = true
 lands owners end (field.Token n) = true
 lands owners end (field.Slot n) = true
 lands owners end (field.Target n) = (owner_at owners n).end == end
@@ -79,7 +80,7 @@ rule_in p owners end a (Some r) =
     if nat_lt end (a + r.1) then Some (refusal.Undecodable a)
     else if in_pools p r.0 then
     (if every (lands owners end) (fields_of r.0) then
-    (if stays_in end (a + r.1) (effect_of r.0).flow then
+    (if stays_in end (a + r.1) (flow_of r.0) then
     (if permits p.caps r.0 then None else Some (refusal.Capability a))
     else Some (refusal.FallsOff a))
     else Some (refusal.JumpTarget a))

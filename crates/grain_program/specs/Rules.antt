@@ -14,7 +14,7 @@ use Rattle.grain_program.specs.declared.code.fields.Field.TheVariants as field
 use Rattle.grain_program.specs.View.{View}
 use Rattle.grain_program.specs.InstructionSet.{fields_of}
 use Rattle.grain_program.specs.Decoding.{op_at}
-use Rattle.grain_program.specs.Effects.{effect_of}
+use Rattle.grain_program.specs.Effects.{flow_of}
 use Rattle.grain_program.specs.Indices.{InPools, IsNamed}
 use Rattle.grain_program.specs.Capabilities.{Permits}
 use Rattle.grain_program.specs.Layout.{layout_fault}
@@ -26,6 +26,7 @@ abbrev pub Lands : View → Chunk → Field → Type 0
 Lands p c (field.Constant n) = Unit {0}
 Lands p c (field.Name n) = Unit {0}
 Lands p c (field.Assignment n) = Unit {0}
+Lands p c (field.Chain n) = Unit {0}
 Lands p c (field.Token n) = Unit {0}
 Lands p c (field.Slot n) = Unit {0}
 Lands p c (field.Target n) = Start p.code c n
@@ -54,7 +55,7 @@ TargetRule p c a r = AllByRecursion (Lands p c) (fields_of r.0)
 
 -- an instruction does not go on past its chunk
 abbrev pub EndRule : View → Chunk → ℕ → Op × ℕ → Type 0
-EndRule p c a r = StaysIn c (a + r.1) (effect_of r.0).flow
+EndRule p c a r = StaysIn c (a + r.1) (flow_of r.0)
 
 -- the capability that an instruction needs is among the program's
 abbrev pub CapabilityRule : View → Chunk → ℕ → Op × ℕ → Type 0

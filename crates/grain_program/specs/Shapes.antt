@@ -2,6 +2,8 @@
 -- an instruction does to it, and when it may not.
 use Rattle.std.specs.Prelude.{ℕ, ◌+◌, ◌-◌, ◌==◌, ◌&&◌, ◌||◌, nat_lt, Bool, true, false, List, [], ◌∷◌, slice_index_or, Option, Some, None, Result, Ok, Err, if◌then◌else◌}
 use Rattle.grain_program.specs.declared.code.effects.Effect.{Effect}
+use Rattle.grain_program.specs.declared.code.effects.Flow.{Flow}
+use Rattle.grain_program.specs.declared.code.effects.Flow.TheVariants as flow
 use Rattle.grain_program.specs.declared.code.effects.Handling.{Handling}
 use Rattle.grain_program.specs.declared.code.effects.Handling.TheVariants as handling
 use Rattle.grain_program.specs.declared.verifier.refusals.Refusal.{Refusal}
@@ -19,9 +21,12 @@ pub record Shape : Type 0 where
   pub height : ℕ
   pub handlers : List TryHandler
 
+abbrev pub shape : ℕ → List TryHandler → Shape
+shape height handlers = record { height = height; handlers = handlers }
+
 -- a frame without operands and handlers
 abbrev pub bare : Shape
-bare = record { height = 0; handlers = [] }
+bare = shape 0 []
 
 -- all but the first
 abbrev pub outer : List TryHandler → List TryHandler
@@ -43,6 +48,23 @@ height_after e s = s.height - e.takes + e.gives
 abbrev pub after : Effect → Shape → Shape
 after e s =
     record { height = height_after e s; handlers = handled e.handling (height_after e s) s.handlers }
+
+-- an address that is reached, and the shape with which it is reached
+pub record Arrival : Type 0 where
+  pub address : ℕ
+  pub shape : Shape
+
+abbrev pub arrival : ℕ → Shape → Arrival
+arrival address shape = record { address = address; shape = shape }
+
+-- what is reached by a flow from an instruction that leaves this shape, given the address after it,
+-- the lower address first
+abbrev pub arrivals : Flow → ℕ → Shape → List Arrival
+arrivals flow.Next next s = arrival next s ∷ []
+arrivals (flow.Jump t) next s = arrival t s ∷ []
+arrivals (flow.Branch t) next s =
+    if nat_lt t next then arrival t s ∷ arrival next s ∷ [] else arrival next s ∷ arrival t s ∷ []
+arrivals flow.End next s = []
 
 -- there is a handler
 abbrev pub is_tried : List TryHandler → Bool

@@ -4,10 +4,10 @@ use Rattle.std.specs.Prelude.{ℕ, ◌≡◌, ◌<◌, ◌≤◌, ◌+◌, ◌-�
 use Rattle.grain_program.specs.declared.code.instruction_set.Op.{Op}
 use Rattle.grain_program.specs.declared.code.parts.Chunk.{Chunk}
 use Rattle.grain_program.specs.View.{View}
-use Rattle.grain_program.specs.Effects.{takes_of, gives_of, leads_of, handling_of}
+use Rattle.grain_program.specs.Effects.{takes_of, gives_of, flow_of, handling_of, effect_of}
 use Rattle.grain_program.specs.Indices.{InPools}
 use Rattle.grain_program.specs.Layout.{chunks_in, most_code}
-use Rattle.grain_program.specs.Shapes.{Shape, TryHandler, handled, lacks_handler}
+use Rattle.grain_program.specs.Shapes.{Shape, TryHandler, shape, after, Arrival, arrivals, lacks_handler}
 use Rattle.grain_program.specs.Starts.{Start}
 use Rattle.grain_program.specs.Typing.{In, Typing}
 
@@ -32,7 +32,7 @@ pub record IsCovered (p : View) (c : Chunk) (depth : ℕ) (handlers : List TryHa
   pub number : ℕ
   pub is : slice_get (chunks_in p) number ≡ Some c
   pub typing : ℕ → Option Shape
-  pub typed : Typing p.code (chunks_in p) typing
+  pub typed : Typing p (chunks_in p) typing
   pub low : depth ≤ c.max_stack
   pub covers : Covers p c typing depth handlers
 
@@ -44,15 +44,15 @@ pub record IsTypedAt (p : View) (c : Chunk) (at depth : ℕ) (handlers : List Tr
     pub is : slice_get (chunks_in p) number ≡ Some c
     pub start : Start p.code c at
     pub typing : ℕ → Option Shape
-    pub typed : Typing p.code (chunks_in p) typing
+    pub typed : Typing p (chunks_in p) typing
     pub known : typing at ≡ Some (record { height = depth; handlers = handlers })
     pub low : depth ≤ c.max_stack
     pub covers : Covers p c typing depth handlers
 
 -- what validity says of the instruction at which a frame stands, whatever its handlers are
 pub record Provides (p : View) (c : Chunk) (at depth : ℕ) (op : Op) (width : ℕ) : Type 0 where
-  pub enough : takes_of op ≤ depth
-  pub room : depth - takes_of op + gives_of op ≤ c.max_stack
+  pub enough : takes_of p op ≤ depth
+  pub room : depth - takes_of p op + gives_of op ≤ c.max_stack
   pub pools : InPools p op
   pub inside : at + width ≤ most_code
   pub wide : 1 ≤ width
@@ -63,7 +63,7 @@ pub record Verified (p : View) (c : Chunk) (at depth : ℕ) (handlers : List Try
   pub provides : Provides p c at depth op width
   pub handler : lacks_handler (handling_of op) handlers ≡ false
   -- the operands that the handlers need stay
-  pub covered : IsCovered p c (depth - takes_of op) handlers
-  pub goes : (b : ℕ) → In b (leads_of op (at + width))
-      → IsTypedAt p c b (depth - takes_of op + gives_of op)
-      (handled (handling_of op) (depth - takes_of op + gives_of op) handlers)
+  pub covered : IsCovered p c (depth - takes_of p op) handlers
+  pub goes : (x : Arrival)
+      → In x (arrivals (flow_of op) (at + width) (after (effect_of p op) (shape depth handlers)))
+      → IsTypedAt p c x.address x.shape.height x.shape.handlers

@@ -63,7 +63,7 @@ abbrev pub assign_op_of : View → ℕ → AssignOp
 assign_op_of v i = slice_index_or v.assign_ops i no_op
 
 abbrev pub no_chain : Chain
-no_chain = record { root = root.Temporary; steps = []; tail = tail.Read; operands = 0 }
+no_chain = record { root = root.Local 0 0; steps = []; tail = tail.Read; operands = 0 }
 
 abbrev pub chain_of : View → ℕ → Chain
 chain_of v i = slice_index_or v.chains i no_chain

@@ -7,6 +7,7 @@ pub mod handlers;
 pub mod heights;
 pub mod layout;
 pub mod owners;
+pub mod pool_records;
 pub mod refusals;
 pub mod rules;
 pub mod shapes;

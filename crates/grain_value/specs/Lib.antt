@@ -1,6 +1,6 @@
 -- What the contracts of this crate cite. Read `Tree`, `View`, `Quoting`, `Writing` and `Scopes`
 -- first, and for places inside a value `Paths`, `Locating` and `Parts`. `Lending` says what a scope
--- is after a loan, and `Extensions` serves one private function.
+-- is after a loan, `LentEntries` what a list is, and `Extensions` serves one private function.
 pub mod Tree
 pub mod View
 pub mod Maps
@@ -14,6 +14,7 @@ pub mod Cells
 pub mod Sizes
 pub mod Spare
 pub mod Lending
+pub mod LentEntries
 pub mod Extensions
 pub mod Operands
 pub mod Paths

@@ -1,7 +1,8 @@
 //! Lists.
 
 ghost use Rattle.std.specs.Prelude.{◌≡◌, ◌==◌, ◌<◌, ◌++◌, ◌∷◌, [], length, Some, is_ok, if◌then◌else◌, slice_get};
-ghost use Rattle.std.specs.Option.{option_copied};
+ghost use Rattle.std.specs.Option.{option_copied, option_copied_mut};
+ghost use Rattle.std.specs.Borrow.{sem};
 
 use crate::memory::OutOfMemory;
 use std::alloc::Global;
@@ -58,6 +59,16 @@ impl<T: Drop> List<T> {
         ensures { slice_get self.now index ≡ Some result.now }
     {
         &self.entries[index]
+    }
+
+    ghost use Rattle.grain_value.specs.LentEntries.{LendsEntry};
+
+    /// The entry at the index, to be written, if there is one. All other entries stay as they are.
+    pub fn get_mut(&mut self, index: usize) -> Option<&mut T>
+        ensures* writes_back { sem 𝓛 (LendsEntry T.row self.entry index result) }
+        ensures value { option_copied_mut result ≡ slice_get self.old index }
+    {
+        self.entries.get_mut(index)
     }
 
     /// The entries as a slice.

@@ -281,7 +281,7 @@ found_stepped {H = H} law p engine f f1 f2 s s1 s2 n n1 n2 number next host host
     (λ m place w. instr m o k (frame_in f s place) w) (is_out r) (abstraction s2 n2 host2)
     (continuation r s2.fault (frame_in f2 s2))) there one)
     kept_here
-    (subst (λ (k : ℕ). ContinuesAt engine s f s2 f2 (leads_of o k) (takes_of o) (gives_of o)
+    (subst (λ (k : ℕ). ContinuesAt engine s f s2 f2 (leads_of o k) (takes_of p o) (gives_of o)
     s.stacks.handlers r) there lands_here)
     (before ∙ finds.before) where
       kept_here : KeepsFrame f s f2 s2
@@ -302,10 +302,10 @@ found_stepped {H = H} law p engine f f1 f2 s s1 s2 n n1 n2 number next host host
       here : (b : ℕ) → In b (next ∷ []) → In b (leads_of o next)
       here b inside = subst (λ (ts : List ℕ). In b ts) (sym call.leads) inside
 
-      lands_here : ContinuesAt engine s f s2 f2 (leads_of o next) (takes_of o) (gives_of o)
+      lands_here : ContinuesAt engine s f s2 f2 (leads_of o next) (takes_of p o) (gives_of o)
           s.stacks.handlers r
       lands_here =
           lands_on engine s s2 stacks f f2 (next ∷ []) (leads_of o next) (length g.params) 1
-          (takes_of o) (gives_of o) stacks.handlers r
+          (takes_of p o) (gives_of o) stacks.handlers r
           (omega (arith, finds.operands g is, call.gives))
           (omega (arith, finds.operands g is)) refl here from

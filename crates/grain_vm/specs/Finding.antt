@@ -27,7 +27,7 @@ pub record FindsFunction {H : Type 0} (m : Setup H) (a : Moment H) (o : Op)
       (λ m place w. enter_function m g (length g.params) (frame_in b.frame b.run place) next w)
   pub operands : (g : Function) → slice_get m.program.functions number ≡ Some g →
       length b.run.stacks.operands
-      ≡ length a.run.stacks.operands - takes_of o + length g.params
+      ≡ length a.run.stacks.operands - takes_of m.program o + length g.params
   pub frame : b.frame ≡ a.frame
   pub others : b.run
       ≡ record a.run { stacks = record a.run.stacks { operands = b.run.stacks.operands } }

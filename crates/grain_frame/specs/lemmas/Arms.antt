@@ -14,7 +14,7 @@ use Rattle.grain_program.specs.declared.code.effects.Handling.{Handling}
 use Rattle.grain_program.specs.declared.code.effects.Handling.TheVariants as handling
 use Rattle.grain_program.specs.Effects.{takes_of, gives_of, leads_of, handling_of}
 use Rattle.grain_program.specs.Shapes.{TryHandler, handled}
-use Rattle.grain_program.specs.laws.TypedAt.{IsTypedAt, Verified}
+use Rattle.grain_program.specs.laws.TypedAt.{IsTypedAt, Verified, goes_on}
 use Rattle.grain_program.specs.Decoding.{op_at}
 use Rattle.grain_program.specs.View.{View}
 use Rattle.grain_stack.specs.declared.handlers.Handler.{Handler}
@@ -28,7 +28,7 @@ use Rattle.grain_means.specs.lemmas.Stretches.{same, exactly, compose}
 use Rattle.grain_means.specs.lemmas.Branches.{of_two}
 use Rattle.grain_means.specs.lemmas.Scopes.{length_set_held}
 use Rattle.grain_global.specs.StepsView.{StepsView}
-use Rattle.grain_frame.specs.Abstraction.{abstraction, frame_in, tries_in, Above, is_out, continuation, KeepsFrame, ContinuesAt, Ready, Runs, Implements, Performs, Raises, StaysTyped, Stepped, StandsAt, instruction_here, moment}
+use Rattle.grain_frame.specs.Abstraction.{abstraction, frame_in, tries_in, Above, is_out, continuation, KeepsFrame, ContinuesAt, ReadyIn, Runs, Implements, Performs, Raises, StaysTyped, Stepped, StandsAt, instruction_here, moment}
 use Rattle.grain_frame.specs.declared.activations.Activation.{Activation}
 use Rattle.grain_frame.specs.declared.runs.Progress.{Progress}
 use Rattle.grain_frame.specs.declared.runs.Progress.TheVariants as progress
@@ -73,14 +73,14 @@ module _ {H : Type 0} (law : Law H) (p : View) (engine : Engine) (f : Activation
     width) where
   -- the operands that it leaves
   abbrev left : ℕ
-  left = length s.stacks.operands - takes_of o + gives_of o
+  left = length s.stacks.operands - takes_of p o + gives_of o
 
   -- the frame goes on with other handlers
   module _ (handlers : List Handler)
       (become : tries_in handlers ≡ handled (handling_of o) left (tries_in s.stacks.handlers))
       (above : Above f.base handlers) (f' : Activation) (s' : Run H) where
     stays : (r : Result Progress OutOfMemory) → KeepsFrame f s f' s' →
-        ContinuesAt engine s f s' f' (leads_of o (f.address + width)) (takes_of o) (gives_of o)
+        ContinuesAt engine s f s' f' (leads_of o (f.address + width)) (takes_of p o) (gives_of o)
         handlers r → StaysTyped p engine s f s' f' r
     stays (Ok progress.Continues) kept lands =
         let hs = tries_in s.stacks.handlers in
@@ -93,14 +93,14 @@ module _ {H : Type 0} (law : Law H) (p : View) (engine : Engine) (f : Activation
               (subst (λ (ts : List TryHandler).
               IsTypedAt p f.chunk f'.address (length s'.stacks.operands) ts) same
               (subst (λ (k : ℕ). IsTypedAt p f.chunk f'.address k
-              (handled (handling_of o) left hs)) (sym lands.1) (here.goes f'.address lands.0))),
+              (handled (handling_of o) left hs)) (sym lands.1) (goes_on here f'.address lands.0))),
           lands.3,
           omega (arith, inside, wide),
           rw (kept.base, lands.2) above,
         )
     stays (Ok progress.Returned) kept lands = tt
     stays (Ok progress.Failed) kept lands = (
-      length s.stacks.operands - takes_of o,
+      length s.stacks.operands - takes_of p o,
       lands.0,
       rw (kept.chunk, lands.1) here.covered,
       rw (kept.base, lands.1) runs.above,
@@ -114,7 +114,7 @@ module _ {H : Type 0} (law : Law H) (p : View) (engine : Engine) (f : Activation
         (λ m place w. instr m o (f.address + width) (frame_in f s place) w) (is_out r)
         (abstraction s' n' host') (continuation r s'.fault (frame_in f' s')) →
         KeepsFrame f s f' s' →
-        ContinuesAt engine s f s' f' (leads_of o (f.address + width)) (takes_of o) (gives_of o)
+        ContinuesAt engine s f s' f' (leads_of o (f.address + width)) (takes_of p o) (gives_of o)
         handlers r → n'.before ≡ n.before → Stepped (setup law p engine) (moment f s n host) r
         (moment f' s' n' host')
     done_with read n n' host host' {r} goes kept lands before = record {
@@ -132,7 +132,7 @@ module _ {H : Type 0} (law : Law H) (p : View) (engine : Engine) (f : Activation
       (λ m place w. instr m o (f.address + width) (frame_in f s place) w) (is_out r)
       (abstraction s' n' host') (continuation r s'.fault (frame_in f' s')) →
       KeepsFrame f s f' s' →
-      ContinuesAt engine s f s' f' (leads_of o (f.address + width)) (takes_of o) (gives_of o)
+      ContinuesAt engine s f s' f' (leads_of o (f.address + width)) (takes_of p o) (gives_of o)
       s.stacks.handlers r → n'.before ≡ n.before → Stepped (setup law p engine) (moment f s n host)
       r (moment f' s' n' host')
   done keeps read n f' s' n' host host' goes kept lands before =
@@ -160,7 +160,7 @@ module _ {H : Type 0} (law : Law H) (p : View) (engine : Engine) (f : Activation
   there read = read ∙ ap (λ (q : Op). Some (q, width)) is
 
   -- the instruction can begin
-  pub ready : Ready f s o (f.address + width)
+  pub ready : ReadyIn p f s o (f.address + width)
   ready = record {
     inside = runs.inside;
     operands = here.provides.enough;
@@ -176,12 +176,12 @@ module _ {H : Type 0} (law : Law H) (p : View) (engine : Engine) (f : Activation
   -- where the instruction leads, the typing knows the frame
   pub leads_typed : handling_of o ≡ handling.Keep → (b : ℕ) →
       In b (leads_of o (f.address + width)) →
-      IsTypedAt p f.chunk b (length s.stacks.operands - takes_of o + gives_of o)
+      IsTypedAt p f.chunk b (length s.stacks.operands - takes_of p o + gives_of o)
       (tries_in s.stacks.handlers)
   leads_typed keeps b leads =
-      let left : ℕ = length s.stacks.operands - takes_of o + gives_of o in
+      let left : ℕ = length s.stacks.operands - takes_of p o + gives_of o in
       subst (λ (h : Handling). IsTypedAt p f.chunk b left
-      (handled h left (tries_in s.stacks.handlers))) keeps (here.goes b leads)
+      (handled h left (tries_in s.stacks.handlers))) keeps (goes_on here b leads)
 
   module _ (read : op_at p.code f.address ≡ Some (said, width))
       (keeps : handling_of o ≡ handling.Keep) (n : StepsView) (f' : Activation) (s' : Run H)
@@ -208,10 +208,10 @@ pub arm_with : {H : Type 0} {law : Law H} {p : View} {engine : Engine} {f f' : A
     {s s' : Run H} {n n' : StepsView} {host host' : H} {said o : Op} {next : ℕ}
     {r : Result Progress OutOfMemory} (is : said ≡ o) (handlers : List Handler) →
     tries_in handlers ≡ handled (handling_of o)
-    (length s.stacks.operands - takes_of o + gives_of o) (tries_in s.stacks.handlers) →
+    (length s.stacks.operands - takes_of p o + gives_of o) (tries_in s.stacks.handlers) →
     Above f.base handlers → StandsAt p f s said next → Runs p f s →
     Implements (setup law p engine) (moment f s n host)
-    (λ m place w. instr m o next (frame_in f s place) w) (leads_of o next) (takes_of o)
+    (λ m place w. instr m o next (frame_in f s place) w) (leads_of o next) (takes_of p o)
     (gives_of o) handlers r (moment f' s' n' host') →
     Stepped (setup law p engine) (moment f s n host) r (moment f' s' n' host')
 arm_with {H = H} {law} {p} {engine} {f} {f'} {s} {s'} {n} {n'} {host} {host'} {said} {o} {next} {r}
@@ -219,7 +219,7 @@ arm_with {H = H} {law} {p} {engine} {f} {f'} {s} {s'} {n} {n'} {host} {host'} {s
     let read : op_at p.code f.address ≡ Some (o, at.width) =
     at.read ∙ ap (λ (q : Op). Some (q, at.width)) is in
     let here = subst (λ (k : ℕ). Implements (setup law p engine) (moment f s n host)
-    (λ m place w. instr m o k (frame_in f s place) w) (leads_of o k) (takes_of o)
+    (λ m place w. instr m o k (frame_in f s place) w) (leads_of o k) (takes_of p o)
     (gives_of o) handlers r (moment f' s' n' host')) at.next_is does in
     done_with law p engine f s o at.width runs (verified is at) handlers become above f' s' read n
     n' host host' (same here.same) here.kept here.lands here.before
@@ -235,7 +235,7 @@ arm {H = H} {law} {p} {engine} {f} {f'} {s} {s'} {n} {n'} {host} {host'} {said} 
     keeps at runs does =
     arm_with {law = law} {p = p} {engine = engine} {f = f} {f' = f'} {s = s} {s' = s'} {n = n}
     {n' = n'} {host = host} {host' = host'} {o = o} {next = next} is s.stacks.handlers
-    (ap (λ (h : Handling). handled h (length s.stacks.operands - takes_of o + gives_of o)
+    (ap (λ (h : Handling). handled h (length s.stacks.operands - takes_of p o + gives_of o)
     (tries_in s.stacks.handlers)) (sym keeps)) runs.above at runs does
 
 -- where a branch leads

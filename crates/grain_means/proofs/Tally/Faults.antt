@@ -149,10 +149,10 @@ module _ {S : Type 0} {m : Setup S} (walk : Walk m) where
     -- the frame goes on at an address to which the instruction leads, with as many operands and
     -- with such handlers as it leaves
     pub fits_on : (g : Frame) → In g.address (leads_of o (f.address + width)) →
-        (takes_of o ≤ length f.operands → length g.operands ≡ length f.operands - takes_of o +
+        (takes_of m.program o ≤ length f.operands → length g.operands ≡ length f.operands - takes_of m.program o +
         gives_of o) →
         tries g.handlers ≡
-        handled (handling_of o) (length f.operands - takes_of o + gives_of o)
+        handled (handling_of o) (length f.operands - takes_of m.program o + gives_of o)
         (tries f.handlers) →
         IsProgram m.program → Fitting m.program g
     fits_on g to many handlers valid =
@@ -161,13 +161,13 @@ module _ {S : Type 0} {m : Setup S} (walk : Walk m) where
     -- the same with the handlers that it has
     pub sits_at : handling_of o ≡ handling.Keep → (a : ℕ) (operands : List Held) →
         In a (leads_of o (f.address + width)) →
-        (takes_of o ≤ length f.operands → length operands ≡ length f.operands - takes_of o +
+        (takes_of m.program o ≤ length f.operands → length operands ≡ length f.operands - takes_of m.program o +
         gives_of o) → Sits m root k (stepped f a operands)
     sits_at kept a operands to many = (
       sits.0,
       sits.1,
       fits_on (stepped f a operands) to many
-          (ap (λ (how : Handling). handled how (length f.operands - takes_of o + gives_of o)
+          (ap (λ (how : Handling). handled how (length f.operands - takes_of m.program o + gives_of o)
           (tries f.handlers)) (sym kept)),
       sits.3,
       sits.4,

@@ -217,7 +217,7 @@ module _ {S : Type 0} {m : Setup S} (walk : Walk m) where
 
   -- there are no fewer operands than an instruction leaves of those that were there
   abbrev pub Enough : Op → List Held → Type 0
-  Enough o operands = length f.operands - takes_of o ≤ length operands
+  Enough o operands = length f.operands - takes_of m.program o ≤ length operands
 
   pub all_there : (o : Op) → Enough o f.operands
   all_there o = omega arith

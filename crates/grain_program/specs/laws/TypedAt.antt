@@ -1,7 +1,7 @@
 -- A frame that is typed at an instruction stays typed, and what is verified holds of each
 -- instruction.
 use Rattle.std.specs.Prelude.{ℕ, suc, ◌≡◌, ◌<◌, ◌≤◌, ◌+◌, ◌-◌, nat_lt, Bool, true, false, cond, List, [], ◌∷◌, length, slice_get, Option, Some, None, refl}
-use Rattle.std.proofs.Common.{sym, subst, ◌∙◌, inl, inr, arith}
+use Rattle.std.proofs.Common.{sym, ap, subst, ◌∙◌, inl, inr, arith}
 use Rattle.std.proofs.lemmas.Bool.{ltb-false}
 use Rattle.std.specs.List.{AllByRecursion}
 use Rattle.grain_program.specs.declared.code.instruction_set.Op.{Op}
@@ -19,14 +19,14 @@ use Rattle.grain_program.specs.declared.code.fields.Field.{Field}
 use Rattle.grain_program.specs.declared.code.fields.Field.TheVariants as field
 use Rattle.grain_program.specs.Fields.{targets_of}
 use Rattle.grain_program.specs.InstructionSet.{Transfer, falls_through, jumps, branches, ends, row, fields_of}
-use Rattle.grain_program.specs.Effects.{flow_to, effect_of, leads, leads_of, handling_of}
+use Rattle.grain_program.specs.Effects.{flow_to, effect_of, takes_of, gives_of, flow_of, leads, leads_of, handling_of}
 use Rattle.grain_program.specs.Indices.{InPools}
 use Rattle.grain_program.specs.Layout.{chunks_in, gap_from, layout_fault}
 use Rattle.grain_program.specs.laws.Layout.{function_chunk}
 use Rattle.grain_program.specs.Starts.{Start}
 use Rattle.grain_program.specs.laws.Starts.{start_first, start_next}
 use Rattle.grain_program.specs.Rules.{Lands, StaysIn}
-use Rattle.grain_program.specs.Shapes.{Shape, TryHandler, height_after, handled, is_under}
+use Rattle.grain_program.specs.Shapes.{Shape, TryHandler, shape, height_after, after, Arrival, arrival, arrivals, handled, is_under}
 use Rattle.grain_program.specs.Typing.{Agrees}
 use Rattle.grain_program.specs.TypedAt.{HasName, Covers}
 pub use Rattle.grain_program.specs.Typing.{In, IsProgram}
@@ -74,12 +74,52 @@ flow_leads code c next flow.End lands stays go b i = absurd i
 
 -- where an instruction leads, an instruction of its chunk begins
 pub leads_to_start : (p : View) (c : Chunk) (next : ℕ) (o : Op)
-    → AllByRecursion (Lands p c) (fields_of o) → StaysIn c next (effect_of o).flow → (next < c.end
+    → AllByRecursion (Lands p c) (fields_of o) → StaysIn c next (flow_of o) → (next < c.end
     → Start p.code c next) → (b : ℕ)
     → In b (leads_of o next) → Start p.code c b
 leads_to_start p c next o lands stays go b i =
-    flow_leads p.code c next (effect_of o).flow (flow_lands p.code c (row o).transfer
+    flow_leads p.code c next (flow_of o) (flow_lands p.code c (row o).transfer
     (targets_of (fields_of o)) (targets_land p c (fields_of o) lands)) stays go b i
+
+-- what a flow reaches is an address to which it leads, with the shape that the instruction leaves
+reached_in : (w : Flow) (next : ℕ) (s : Shape) (x : Arrival) → In x (arrivals w next s)
+    → In x.address (leads w next) × (x.shape ≡ s)
+reached_in flow.Next next s x (inl e) = (inl (ap (λ (y : Arrival). y.address) e), ap (λ (y : Arrival). y.shape) e)
+reached_in flow.Next next s x (inr i) = absurd i
+reached_in (flow.Jump t) next s x (inl e) = (inl (ap (λ (y : Arrival). y.address) e), ap (λ (y : Arrival). y.shape) e)
+reached_in (flow.Jump t) next s x (inr i) = absurd i
+reached_in (flow.Branch t) next s x i = at (nat_lt t next) i where
+  two : (a b : ℕ) → In x (arrival a s ∷ arrival b s ∷ [])
+      → In x.address (a ∷ b ∷ []) × (x.shape ≡ s)
+  two a b (inl e) = (inl (ap (λ (y : Arrival). y.address) e), ap (λ (y : Arrival). y.shape) e)
+  two a b (inr (inl e)) = (inr (inl (ap (λ (y : Arrival). y.address) e)), ap (λ (y : Arrival). y.shape) e)
+  two a b (inr (inr i)) = absurd i
+
+  at : (q : Bool) → In x (cond q (arrival t s ∷ arrival next s ∷ []) (arrival next s ∷ arrival t s
+      ∷ [])) → In x.address (cond q (t ∷ next ∷ []) (next ∷ t ∷ [])) × (x.shape ≡ s)
+  at true i = two t next i
+  at false i = two next t i
+reached_in flow.End next s x i = absurd i
+
+-- an address to which a flow leads is reached, with the shape that the instruction leaves
+reaches_with : (w : Flow) (next : ℕ) (s : Shape) (b : ℕ) → In b (leads w next)
+    → In (arrival b s) (arrivals w next s)
+reaches_with flow.Next next s b (inl e) = inl (ap (λ (a : ℕ). arrival a s) e)
+reaches_with flow.Next next s b (inr i) = absurd i
+reaches_with (flow.Jump t) next s b (inl e) = inl (ap (λ (a : ℕ). arrival a s) e)
+reaches_with (flow.Jump t) next s b (inr i) = absurd i
+reaches_with (flow.Branch t) next s b i = at (nat_lt t next) i where
+  two : (x y : ℕ) → In b (x ∷ y ∷ []) → In (arrival b s) (arrival x s ∷ arrival y s ∷ [])
+  two x y (inl e) = inl (ap (λ (a : ℕ). arrival a s) e)
+  two x y (inr (inl e)) = inr (inl (ap (λ (a : ℕ). arrival a s) e))
+  two x y (inr (inr i)) = absurd i
+
+  at : (q : Bool) → In b (cond q (t ∷ next ∷ []) (next ∷ t ∷ []))
+      → In (arrival b s) (cond q (arrival t s ∷ arrival next s ∷ []) (arrival next s ∷ arrival t s
+      ∷ []))
+  at true i = two t next i
+  at false i = two next t i
+reaches_with flow.End next s b i = absurd i
 
 -- the code is no longer than the layout allows
 short : (len : ℕ) (chunks : List Chunk) → layout_fault len chunks ≡ None → len ≤ 16777216
@@ -128,20 +168,29 @@ module _ (p : View) (c : Chunk) (typing : ℕ → Option Shape) where
   handled_covers handling.Pop low height (h ∷ hs) le k push =
       covers_more h.height height hs (omega (arith, le, k.0)) k.4
 
-  in_branch : (t next : ℕ) → In t (leads (flow.Branch t) next)
-  in_branch t next = at (nat_lt t next) where
-    at : (b : Bool) → In t (cond b (t ∷ next ∷ []) (next ∷ t ∷ []))
+  in_branch : (t next : ℕ) (s : Shape) → In (arrival t s) (arrivals (flow.Branch t) next s)
+  in_branch t next s = at (nat_lt t next) where
+    at : (b : Bool) → In (arrival t s) (cond b (arrival t s ∷ arrival next s ∷ [])
+        (arrival next s ∷ arrival t s ∷ []))
     at true = inl refl
     at false = inr (inl refl)
 
   -- a push leads to its handler's target, and its variable has a name
   pushes : (o : Op) (max at width : ℕ) (s : Shape) → AllByRecursion (Lands p c) (fields_of o)
-      → InPools p o → Agrees typing max at width (effect_of o) s
-      → Catches (handling_of o) (height_after (effect_of o) s) s.handlers
-  pushes (op.PushHandler t) max at width s lands pools agrees =
-      (tt, lands.0, agrees.arrives t (in_branch t (at + width)))
-  pushes (op.PushHandlerVar t n) max at width s lands pools agrees =
-      (pools.1.0, lands.0, agrees.arrives t (in_branch t (at + width)))
+      → InPools p o → Agrees typing max at width (effect_of p o) s
+      → Catches (handling_of o) (height_after (effect_of p o) s) s.handlers
+  pushes (op.PushHandler t) max at width s lands pools agrees = (
+    tt,
+    lands.0,
+    agrees.arrives (arrival t (after (effect_of p (op.PushHandler t)) s))
+        (in_branch t (at + width) (after (effect_of p (op.PushHandler t)) s)),
+  )
+  pushes (op.PushHandlerVar t n) max at width s lands pools agrees = (
+    pools.1.0,
+    lands.0,
+    agrees.arrives (arrival t (after (effect_of p (op.PushHandlerVar t n)) s))
+        (in_branch t (at + width) (after (effect_of p (op.PushHandlerVar t n)) s)),
+  )
   pushes _ max at width s lands pools agrees = tt
 
 -- an instruction is there
@@ -159,12 +208,12 @@ verified p v c at depth hs f r e =
     let both : Some o.read ≡ Some r = sym o.whole.is ∙ e in
     let same : o.read ≡ r = cc in
     let lands = subst (λ (x : Op × ℕ). AllByRecursion (Lands p c) (fields_of x.0)) same o.target in
-    let stays = subst (λ (x : Op × ℕ). StaysIn c (at + x.1) (effect_of x.0).flow) same o.end in
+    let stays = subst (λ (x : Op × ℕ). StaysIn c (at + x.1) (flow_of x.0)) same o.end in
     let pools = subst (λ (x : Op × ℕ). InPools p x.0) same o.index in
-    let s : Shape = record { height = depth; handlers = hs } in
+    let s : Shape = shape depth hs in
     let agrees = f.typed.steps f.number c at r s f.is f.start e f.known in
     let wide = op_at_within p.code at r e in
-    let left = depth - (effect_of r.0).takes in
+    let left = depth - takes_of p r.0 in
     let keeps : Covers p c f.typing left hs =
     covers_less p c f.typing left depth hs agrees.above f.covers in
     record {
@@ -184,20 +233,32 @@ verified p v c at depth hs f r e =
         low = omega (arith, f.low);
         covers = keeps;
       };
-      goes = λ b i. record {
-        number = f.number;
-        is = f.is;
-        start = leads_to_start p c (at + r.1) r.0 lands stays (λ lt. start_next p.code c at r
-            f.start e lt) b i;
-        typing = f.typing;
-        typed = f.typed;
-        known = agrees.arrives b i;
-        low = agrees.room;
-        covers = handled_covers p c f.typing (handling_of r.0) left (height_after (effect_of r.0) s)
-            hs (omega arith) keeps
-            (pushes p c f.typing r.0 c.max_stack at r.1 s lands pools agrees);
-      };
+      goes = λ x i.
+          let t = after (effect_of p r.0) s in
+          let to = reached_in (flow_of r.0) (at + r.1) t x i in
+          subst (λ (y : Shape). IsTypedAt p c x.address y.height y.handlers) (sym to.1) (record {
+            number = f.number;
+            is = f.is;
+            start = leads_to_start p c (at + r.1) r.0 lands stays (λ lt. start_next p.code c at r
+                f.start e lt) x.address to.0;
+            typing = f.typing;
+            typed = f.typed;
+            known = agrees.arrives x i ∙ ap (λ (y : Shape). Some y) to.1;
+            low = agrees.room;
+            covers = handled_covers p c f.typing (handling_of r.0) left t.height hs (omega arith)
+                keeps (pushes p c f.typing r.0 c.max_stack at r.1 s lands pools agrees);
+          });
     }
+
+-- wherever the instruction leads, the typing knows the frame with the operands and the handlers that
+-- the instruction leaves
+pub goes_on : {p : View} {c : Chunk} {at depth : ℕ} {hs : List TryHandler} {o : Op} {width : ℕ}
+    → Verified p c at depth hs o width → (b : ℕ) → In b (leads_of o (at + width))
+    → IsTypedAt p c b (depth - takes_of p o + gives_of o)
+    (handled (handling_of o) (depth - takes_of p o + gives_of o) hs)
+goes_on {p} {c} {at} {depth} {hs} {o} {width} v b i =
+    let t = after (effect_of p o) (shape depth hs) in
+    v.goes (arrival b t) (reaches_with (flow_of o) (at + width) t b i)
 
 -- a frame of the main chunk begins at its entry, without operands and handlers
 pub begins : (p : View) → IsProgram p → IsTypedAt p p.main p.main.entry 0 []

@@ -2,7 +2,7 @@
 
 ghost use Rattle.std.specs.Prelude.{⊤, ◌≡◌, ◌<◌, ◌≤◌, ◌+◌, ◌^◌, [], ◌∷◌, codes, length, take};
 ghost use Rattle.grain_program.specs.Bits.{step_bits};
-ghost use Rattle.grain_program.specs.Chains.{root_slots, step_slots, steps_slots};
+ghost use Rattle.grain_program.specs.Chains.{root_slots, step_slots, steps_slots, assigns, is_temporary, chain_takes};
 
 use bitflags::{Flag, Flags, bitflag_items};
 use grain_fault::Position;
@@ -59,6 +59,16 @@ impl Root {
             Root::Local { .. } | Root::Temporary => 0,
         }
     }
+
+    /// Whether the chain begins at a value that nothing holds.
+    pub fn is_temporary(self) -> bool
+        ensures { result ≡ is_temporary self }
+    {
+        match self {
+            Root::Local { .. } => false,
+            Root::Temporary => true,
+        }
+    }
 }
 
 /// One step of a chain. Where the flags have `SKIP_IF_UNIT`, and unit stands where the step begins,
@@ -104,6 +114,18 @@ pub enum Tail {
     Assign { op: Option<u32> },
 }
 
+impl Tail {
+    /// Whether the chain assigns a value.
+    pub fn assigns(self) -> bool
+        ensures { result ≡ assigns self }
+    {
+        match self {
+            Tail::Read => false,
+            Tail::Assign { .. } => true,
+        }
+    }
+}
+
 /// The steps of a chain.
 pub type Steplist = List<Step>;
 
@@ -118,6 +140,19 @@ pub struct Chain {
     pub tail: Tail,
     /// How many operands its steps use.
     pub operands: u32,
+}
+
+impl Chain {
+    /// How many operands it takes: those of its steps, the value that it assigns, if it assigns one,
+    /// and the value at which it begins, if nothing holds that.
+    pub fn takes(&self) -> u64
+        ensures exact { result ≡ chain_takes self.now }
+        ensures small { result < 2 ^ 33 }
+    {
+        let assigned = if self.tail.assigns() { 1 } else { 0 };
+        let begun = if self.root.is_temporary() { 1 } else { 0 };
+        u64::from(self.operands) + assigned + begun
+    }
 }
 
 /// The chains of a program.

@@ -4,7 +4,7 @@ ghost use Rattle.std.specs.Prelude.{◌≡◌};
 ghost use Rattle.grain_program.specs.declared.code.effects.Handling.TheVariants as handling;
 
 use crate::code::caps::Caps;
-use crate::code::effects::{Effect, Flow, Handling};
+use crate::code::effects::{Flow, Handling};
 use crate::code::fields::Fields;
 use bitflags::Flags;
 
@@ -16,9 +16,13 @@ pub struct Descriptor {
     pub tag: u8,
     /// What its other bytes say.
     pub fields: Fields,
-    /// How many operands it takes and gives, where the machine goes afterwards, and what becomes of
-    /// the handlers.
-    pub effect: Effect,
+    /// How many operands it takes, but for those of its chain, and how many it then gives.
+    pub takes: u32,
+    pub gives: u32,
+    /// Where the machine goes afterwards.
+    pub flow: Flow,
+    /// What becomes of the handlers.
+    pub handling: Handling,
     /// The capability that a program needs to have it, or none.
     pub capability: Caps,
 }
@@ -28,24 +32,19 @@ pub struct Descriptor {
 pub(crate) fn plain(tag: u8, fields: Fields, takes: u32, gives: u32, flow: Flow) -> Descriptor
     ensures tag { result.tag ≡ tag }
     ensures fields { result.fields ≡ fields }
-    ensures effect { result.effect ≡ record {
-      takes = takes;
-      gives = gives;
-      flow = flow;
-      handling = handling.Keep;
-    } }
+    ensures takes { result.takes ≡ takes }
+    ensures gives { result.gives ≡ gives }
+    ensures flow { result.flow ≡ flow }
+    ensures handling { result.handling ≡ handling.Keep }
     ensures capability { result.capability.0 ≡ 0 }
 {
-    let effect = Effect {
+    Descriptor {
+        tag,
+        fields,
         takes,
         gives,
         flow,
         handling: Handling::Keep,
-    };
-    Descriptor {
-        tag,
-        fields,
-        effect,
         capability: Caps::empty(),
     }
 }
@@ -55,7 +54,10 @@ pub(crate) fn plain(tag: u8, fields: Fields, takes: u32, gives: u32, flow: Flow)
 pub(crate) fn needing(capability: Caps, row: Descriptor) -> Descriptor
     ensures tag { result.tag ≡ row.tag }
     ensures fields { result.fields ≡ row.fields }
-    ensures effect { result.effect ≡ row.effect }
+    ensures takes { result.takes ≡ row.takes }
+    ensures gives { result.gives ≡ row.gives }
+    ensures flow { result.flow ≡ row.flow }
+    ensures handling { result.handling ≡ row.handling }
     ensures capability { result.capability ≡ capability }
 {
     Descriptor { capability, ..row }
@@ -66,24 +68,19 @@ pub(crate) fn needing(capability: Caps, row: Descriptor) -> Descriptor
 pub(crate) fn on_handlers(tag: u8, fields: Fields, flow: Flow, handling: Handling) -> Descriptor
     ensures tag { result.tag ≡ tag }
     ensures fields { result.fields ≡ fields }
-    ensures effect { result.effect ≡ record {
-      takes = 0;
-      gives = 0;
-      flow = flow;
-      handling = handling;
-    } }
+    ensures takes { result.takes ≡ 0 }
+    ensures gives { result.gives ≡ 0 }
+    ensures flow { result.flow ≡ flow }
+    ensures handling { result.handling ≡ handling }
     ensures capability { result.capability.0 ≡ 0 }
 {
-    let effect = Effect {
+    Descriptor {
+        tag,
+        fields,
         takes: 0,
         gives: 0,
         flow,
         handling,
-    };
-    Descriptor {
-        tag,
-        fields,
-        effect,
         capability: Caps::empty(),
     }
 }

@@ -1,9 +1,13 @@
 //! What an instruction does to the operands and the handlers, and where it leads.
 
 ghost use Rattle.std.specs.Prelude.{◌≡◌};
+ghost use Rattle.grain_program.specs.View.{view_of, chain_of};
+ghost use Rattle.grain_program.specs.Chains.{chain_takes};
 ghost use Rattle.grain_program.specs.Effects.{effect_of};
 
+use crate::code::fields::chain_in;
 use crate::code::instruction_set::Op;
+use crate::code::parts::Parts;
 
 /// Where the machine goes after an instruction.
 #[derive(Clone, Copy, Debug, PartialEq, Eq)]
@@ -34,18 +38,39 @@ pub enum Handling {
 /// of the handlers.
 #[derive(Clone, Copy, Debug, PartialEq, Eq)]
 pub struct Effect {
-    pub takes: u32,
+    pub takes: u64,
     pub gives: u32,
     pub flow: Flow,
     pub handling: Handling,
 }
 
+/// How many operands the chain at the index takes: none if there is no such chain.
+fn chain_takes(parts: &Parts, index: u16) -> u64
+    ensures { result ≡ chain_takes (chain_of (view_of parts.now) index) }
+{
+    match parts.chains.get(index as usize) {
+        Some(chain) => chain.takes(),
+        None => 0,
+    }
+}
+
 impl Effect {
-    /// The effect of the instruction.
-    #[inline(always)]
-    pub fn of(op: Op) -> Effect
-        ensures { result ≡ effect_of op }
+    /// The effect of the instruction in a program of these parts.
+    #[inline]
+    pub fn of(parts: &Parts, op: Op) -> Effect
+        ensures { result ≡ effect_of (view_of parts.now) op }
     {
-        op.descriptor().effect
+        let row = op.descriptor();
+        let own = u64::from(row.takes);
+        let takes = match chain_in(row.fields.as_slice()) {
+            Some(index) => own + chain_takes(parts, index),
+            None => own,
+        };
+        Effect {
+            takes,
+            gives: row.gives,
+            flow: row.flow,
+            handling: row.handling,
+        }
     }
 }

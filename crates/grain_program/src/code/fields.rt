@@ -1,7 +1,7 @@
 //! The operands in an instruction's bytes.
 
 ghost use Rattle.std.specs.Prelude.{◌≡◌, [], ◌∷◌};
-ghost use Rattle.grain_program.specs.Fields.{present};
+ghost use Rattle.grain_program.specs.Fields.{present, chain_in};
 
 use std::marker::Model;
 
@@ -15,6 +15,8 @@ pub enum Field {
     Name(u16),
     /// The index of an op-assignment, in two bytes.
     Assignment(u16),
+    /// The index of a chain, in two bytes. The instruction takes the operands that its chain takes.
+    Chain(u16),
     /// The index of an operator token, in two bytes.
     Token(u16),
     /// A scope entry, counted from the frame's base, in two bytes.
@@ -91,4 +93,16 @@ impl Fields {
     {
         &self.places
     }
+}
+
+/// The index of the first chain among the operands, if there is one.
+pub(crate) fn chain_in(places: &[Option<Field>]) -> Option<u16>
+    ensures { result ≡ chain_in (present places.now) }
+{
+    for place in places {
+        if let Some(Field::Chain(index)) = place {
+            return Some(*index);
+        }
+    }
+    None
 }

@@ -5,7 +5,7 @@ ghost use Rattle.std.specs.Prelude.{◌≡◌, ◌<◌, ◌≤◌, ◌+◌, leng
 ghost use Rattle.grain_program.specs.InstructionSet.{word_of, tag_of, fields_of};
 ghost use Rattle.grain_program.specs.Decoding.{by_tag, width_of};
 ghost use Rattle.grain_program.specs.Spelling.{OpFits};
-ghost use Rattle.grain_program.specs.Effects.{effect_of};
+ghost use Rattle.grain_program.specs.Effects.{own_takes, gives_of, flow_of, handling_of};
 ghost use Rattle.grain_program.specs.Capabilities.{needs};
 
 use crate::code::caps::Caps;
@@ -305,7 +305,10 @@ impl Op {
     pub fn descriptor(self) -> Descriptor
         ensures tag { result.tag ≡ tag_of self }
         ensures fields { result.fields ≡ fields_of self }
-        ensures effect { result.effect ≡ effect_of self }
+        ensures takes { result.takes ≡ own_takes self }
+        ensures gives { result.gives ≡ gives_of self }
+        ensures flow { result.flow ≡ flow_of self }
+        ensures handling { result.handling ≡ handling_of self }
         ensures capability { result.capability.0 ≡ needs self }
         ensures fits { OpFits self }
     {

@@ -2,18 +2,20 @@
 
 ghost use Rattle.std.specs.Prelude.{◌≡◌, ◌<◌, ◌≤◌, ◌^◌, [], length, IfOk, MatchOption};
 ghost use Rattle.std.specs.List.{AllByRecursion};
+ghost use Rattle.grain_program.specs.View.{view_of};
 ghost use Rattle.grain_program.specs.Effects.{leads};
+ghost use Rattle.grain_program.specs.Shapes.{arrivals};
 ghost use Rattle.grain_program.specs.Typing.{nothing_seen, with_lowest, arrive, arrive_all, take_at, analyse_chunk, Gives, Ready, IsAnalysable};
 ghost use Rattle.grain_program.specs.Numbered.{shape_of, state_of};
 
 use crate::code::bytes::decode;
 use crate::code::effects::{Effect, Flow};
-use crate::code::parts::Chunk;
+use crate::code::parts::{Chunk, Parts};
 use crate::verifier::handlers::HandlerLists;
 use crate::verifier::refusals::Refusal;
 use crate::verifier::shapes::{NumberedShape, Shapes};
 use crate::verifier::waiting::Waiting;
-use grain_value::{Blob, OutOfMemory};
+use grain_value::OutOfMemory;
 use std::alloc::Global;
 use std::marker::Model;
 
@@ -73,14 +75,14 @@ impl HeightAnalysis {
         Ok(())
     }
 
-    /// The shape comes wherever the flow leads, to the lower address first.
+    /// The shape, which an instruction leaves, comes wherever the flow leads, to the lower address first.
     fn arrive_by(&mut self, shape: NumberedShape, flow: Flow, next: usize) -> Result<(), Refusal>
         requires within { AllByRecursion (λ b. b < length self.old.shapes) (leads flow next) }
         requires small { shape.height < 2 ^ 16 }
         requires numbered { shape.list ≤ length self.old.lists }
         ensures length_same { length self.new.shapes ≡ length self.old.shapes }
-        ensures exact { Gives (state_of self.new) result (arrive_all (shape_of self.old.lists shape)
-            (leads flow next) (state_of self.old)) }
+        ensures exact { Gives (state_of self.new) result (arrive_all (arrivals flow next
+            (shape_of self.old.lists shape)) (state_of self.old)) }
     {
         match flow {
             Flow::Next => self.arrive(shape, next),
@@ -108,18 +110,18 @@ impl HeightAnalysis {
     }
 
     /// Takes the instruction at the address, in a chunk whose frame may have max operands.
-    fn take(&mut self, code: &Blob, max: u16, address: usize) -> Result<(), Refusal>
-        requires { Ready code.now (state_of self.old).shapes address }
-        ensures { Gives (state_of self.new) result (take_at code.now max address (state_of
+    fn take(&mut self, parts: &Parts, max: u16, address: usize) -> Result<(), Refusal>
+        requires { Ready parts.now.code (state_of self.old).shapes address }
+        ensures { Gives (state_of self.new) result (take_at (view_of parts.now) max address (state_of
             self.old)) }
     {
-        let Some((op, width)) = decode(code, address) else {
+        let Some((op, width)) = decode(&parts.code, address) else {
             unreachable!()
         };
         let Some(shape) = self.shapes.get(address) else {
             unreachable!()
         };
-        let effect = Effect::of(op);
+        let effect = Effect::of(parts, op);
         match self.handlers.shape_after(shape, max, address, effect) {
             Ok(after) => self.arrive_by(after, effect.flow, address + width),
             Err(refusal) => Err(refusal),
@@ -128,17 +130,17 @@ impl HeightAnalysis {
 
     /// Takes the instructions of the chunk from its entry on, the lowest waiting address each time,
     /// until none waits.
-    pub fn analyse_chunk(&mut self, code: &Blob, chunk: Chunk) -> Result<(), Refusal>
-        requires { IsAnalysable code.now chunk (state_of self.old) }
-        ensures exact { Gives (state_of self.new) result (analyse_chunk code.now chunk (state_of
-            self.old)) }
+    pub fn analyse_chunk(&mut self, parts: &Parts, chunk: Chunk) -> Result<(), Refusal>
+        requires { IsAnalysable parts.now.code chunk (state_of self.old) }
+        ensures exact { Gives (state_of self.new) result (analyse_chunk (view_of parts.now) chunk
+            (state_of self.old)) }
         ensures rest { IfOk result (λ _. (self.new.waiting ≡ []) × (length self.new.shapes ≡ length
-            code.now)) }
+            parts.now.code)) }
     {
         let bare = NumberedShape { height: 0, list: 0 };
         self.arrive(bare, chunk.entry as usize)?;
         while let Some(address) = self.lowest() {
-            self.take(code, chunk.max_stack, address)?;
+            self.take(parts, chunk.max_stack, address)?;
         }
         Ok(())
     }

@@ -2,33 +2,13 @@
 //! that its chain has, and there are slots for all steps.
 
 ghost use Rattle.std.specs.Prelude.{◌≡◌, ◌<◌, ◌≤◌, ◌+◌, ◌^◌, length, Some, None, nat_le, if◌then◌else◌};
-ghost use Rattle.grain_program.specs.Chains.{root_slots, steps_slots, chain_slots, most_slots, assigns, is_temporary, has_operands, all_have_operands, is_good_chain, first_bad_chain};
+ghost use Rattle.grain_program.specs.Chains.{root_slots, steps_slots, chain_slots, most_slots, has_operands, all_have_operands, is_good_chain, first_bad_chain};
 
-use crate::code::chains::{Chain, Root, Step, Tail};
+use crate::code::chains::{Chain, Step};
 use crate::verifier::refusals::Refusal;
 
 /// How many slots all chains of a program may have together.
 const MOST_SLOTS: u64 = 4_294_967_295;
-
-/// Whether the chain assigns a value.
-fn assigns(tail: Tail) -> bool
-    ensures { result ≡ assigns tail }
-{
-    match tail {
-        Tail::Read => false,
-        Tail::Assign { .. } => true,
-    }
-}
-
-/// Whether the chain begins at a value that nothing holds.
-fn is_temporary(root: Root) -> bool
-    ensures { result ≡ is_temporary root }
-{
-    match root {
-        Root::Local { .. } => false,
-        Root::Temporary => true,
-    }
-}
 
 /// Whether the step uses one of this number of operands, if it uses any.
 fn has_operands(operands: u32, step: Step) -> bool
@@ -76,7 +56,7 @@ fn slots_of_good(before: u64, chain: &Chain) -> Option<u64>
     ensures exact { result ≡ (if is_good_chain before chain.now
         then Some (before + chain_slots chain.now) else None) }
 {
-    if chain.steps.is_empty() || assigns(chain.tail) && is_temporary(chain.root) {
+    if chain.steps.is_empty() || chain.tail.assigns() && chain.root.is_temporary() {
         return None;
     }
     if !all_have_operands(chain.operands, chain.steps.as_slice()) {

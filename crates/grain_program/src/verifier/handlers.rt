@@ -171,10 +171,11 @@ impl HandlerLists {
         ensures exact { Leaves self.new result (shape_after max address effect (shape_of self.old
             shape)) }
     {
-        if shape.height < effect.takes || self.lacks_handler(effect.handling, shape.list) {
+        let height = u64::from(shape.height);
+        if height < effect.takes || self.lacks_handler(effect.handling, shape.list) {
             return Err(Refusal::Underflow(address));
         }
-        let left = shape.height - effect.takes;
+        let left = (height - effect.takes) as u32;
         if self.is_under(left, shape.list) {
             return Err(Refusal::UnderTry(address));
         }

@@ -14,14 +14,14 @@ use std::alloc::Global;
 /// Whether there is a typing, or where the search for one stops.
 pub fn check_heights(alloc: Global, parts: &Parts, chunks: &[Chunk]) -> Result<(), Refusal>
     requires { IsSplit (view_of parts.now) chunks.now }
-    ensures ok { IfOk result (λ _. HasTyping parts.now.code chunks.now) }
-    ensures err { IfErr result (λ r. (r ≡ Memory) ⊎ StopsWith parts.now.code chunks.now r) }
+    ensures ok { IfOk result (λ _. HasTyping (view_of parts.now) chunks.now) }
+    ensures err { IfErr result (λ r. (r ≡ Memory) ⊎ StopsWith (view_of parts.now) chunks.now r) }
 {
     let Ok(mut analysis) = HeightAnalysis::new(alloc, parts.code.len()) else {
         return Err(Refusal::Memory);
     };
     for chunk in chunks {
-        if let Err(refusal) = analysis.analyse_chunk(&parts.code, *chunk) {
+        if let Err(refusal) = analysis.analyse_chunk(parts, *chunk) {
             return Err(refusal);
         }
     }

@@ -3,10 +3,10 @@
 //! the program has the capability that it needs. No chunk is empty, and the functions' names are
 //! entries of their pool.
 
-ghost use Rattle.std.specs.Prelude.{◌≡◌, ◌==◌, ◌⊎◌, ◌≤◌, ℕ, List, length, slice_get, IfOk, IfErr, Some, None};
+ghost use Rattle.std.specs.Prelude.{◌≡◌, ◌==◌, ◌⊎◌, ◌≤◌, ℕ, List, length, IfOk, IfErr, Some, None};
 ghost use Rattle.grain_program.specs.View.{view_of};
 ghost use Rattle.grain_program.specs.Fields.{every};
-ghost use Rattle.grain_program.specs.Indices.{in_pool, record_named, all_below, below_if, is_named};
+ghost use Rattle.grain_program.specs.Indices.{in_pool, all_below, below_if, is_named};
 ghost use Rattle.grain_program.specs.Decoding.{op_at};
 ghost use Rattle.grain_program.specs.Layout.{chunks_in, layout_fault, most_code};
 ghost use Rattle.grain_program.specs.Rules.{IsSplit, RefusedBeforeChains};
@@ -20,23 +20,10 @@ use crate::code::functions::Function;
 use crate::code::parts::{Chunk, Parts};
 use crate::verifier::layout::misplaced;
 use crate::verifier::owners::{Owner, owners_of};
+use crate::verifier::pool_records::{has_assign_op, has_chain};
 use crate::verifier::refusals::{Refusal, earlier};
 use bitflags::Flags;
 use std::alloc::Global;
-
-/// Whether there is an op-assignment at the index, and its names are in their pool.
-fn has_assign_op(parts: &Parts, index: u16) -> bool
-    ensures { result ≡ record_named (length parts.now.names) (slice_get parts.now.assign_ops
-        index) }
-{
-    match parts.assign_ops.get(index as usize) {
-        Some(record) => {
-            let names = parts.names.len();
-            (record.op_assign_name as usize) < names && (record.op_name as usize) < names
-        }
-        None => false,
-    }
-}
 
 /// Whether the operand, if it is an index, names an entry of its pool.
 fn has_entry(parts: &Parts, field: Field) -> bool
@@ -45,7 +32,8 @@ fn has_entry(parts: &Parts, field: Field) -> bool
     match field {
         Field::Constant(index) => (index as usize) < parts.consts.len(),
         Field::Name(index) => (index as usize) < parts.names.len(),
-        Field::Assignment(index) => has_assign_op(parts, index),
+        Field::Assignment(index) => has_assign_op(parts, u32::from(index)),
+        Field::Chain(index) => has_chain(parts, index),
         Field::Token(index) => (index as usize) < parts.tokens.len(),
         Field::Slot(_) => true,
         Field::Target(_) => true,
@@ -88,6 +76,7 @@ fn lands(owners: &[Owner], end: usize, field: Field) -> bool
         Field::Constant(_) => true,
         Field::Name(_) => true,
         Field::Assignment(_) => true,
+        Field::Chain(_) => true,
         Field::Token(_) => true,
         Field::Slot(_) => true,
         Field::Target(address) => owns(owners, end, address),
@@ -134,14 +123,13 @@ fn instruction_rule(parts: &Parts, owners: &[Owner], end: usize, address: usize)
     };
     let next = address + width;
     let descriptor = op.descriptor();
-    let flow = descriptor.effect.flow;
     if end < next {
         Some(Refusal::Undecodable(address))
     } else if !has_entries(parts, &descriptor.fields) {
         Some(Refusal::PoolIndex(address))
     } else if !has_targets(owners, end, &descriptor.fields) {
         Some(Refusal::JumpTarget(address))
-    } else if !stays(end, next, flow) {
+    } else if !stays(end, next, descriptor.flow) {
         Some(Refusal::FallsOff(address))
     } else if !parts.caps.contains(descriptor.capability) {
         Some(Refusal::Capability(address))

@@ -2,6 +2,7 @@
 use Rattle.std.proofs.Common.{◌≡◌, ◌+◌, ◌<◌, Some, sym, subst, ap, ◌∙◌, length}
 use Rattle.std.specs.List.{AllByRecursion}
 use Rattle.grain_program.specs.declared.code.effects.Effect.{Effect}
+use Rattle.grain_program.specs.View.{view_of}
 use Rattle.grain_program.specs.Decoding.{op_at}
 use Rattle.grain_program.specs.Effects.{leads}
 use Rattle.grain_program.specs.Numbered.{shape_of, Search, state_of}
@@ -11,12 +12,12 @@ use Rattle.grain_program.proofs.verifier.analysis.HeightAnalysis.take.Goals as g
 pub arrive_by-requires-clause-within : goal.arrive_by-requires-clause-within
 arrive_by-requires-clause-within c =
     let next = c.args.address + c.in-Some.width in
-    let read : op_at c.args.code.now c.args.address ≡ Some (c.in-Some.op, c.in-Some.width) =
+    let read : op_at c.args.parts.now.code c.args.address ≡ Some (c.in-Some.op, c.in-Some.width) =
     sym c.decode.ensures.exact ∙ c.in-Some.is in
     let here =
-    subst (λ (x : Effect). AllByRecursion (λ b. b < length c.args.code.now) (leads x.flow next))
+    subst (λ (x : Effect). AllByRecursion (λ b. b < length c.args.parts.now.code) (leads x.flow next))
     (sym c.of-effect.ensures) (c.requires.targets (c.in-Some.op, c.in-Some.width) read) in
-    let long : length c.args.code.now ≡ length c.self.inside.shapes =
+    let long : length c.args.parts.now.code ≡ length c.self.inside.shapes =
     sym c.requires.room ∙ places c.args.self.now
     ∙ ap (λ (f : Search). length f.shapes) (sym c.self.view_is) in
     subst (λ n. AllByRecursion (λ b. b < n) (leads c.of-effect.result.flow next)) long here
@@ -41,7 +42,7 @@ invariant_of-self-in-Err c =
 
 pub returns-in-Ok : goal.returns-in-Ok
 returns-in-Ok c =
-    taken_on c.args.code.now c.args.max c.args.address c.args.self.now c.self.inside.shapes
+    taken_on (view_of c.args.parts.now) c.args.max c.args.address c.args.self.now c.self.inside.shapes
     c.self.inside.waiting c.self.inside.handlers c.shape_after.new.self c.self.view_is c.self.invariant
     c.shape_after.ensures.grown (c.in-Some.op, c.in-Some.width)
     (sym c.decode.ensures.exact ∙ c.in-Some.is) c.in-Some-get.shape (sym c.in-Some-get.ensures)
