@@ -1,6 +1,8 @@
 -- How a call of the program ends.
-use Rattle.std.specs.Prelude.{◌≡◌, ℕ, List, Option, Some, None}
+use Rattle.std.specs.Prelude.{◌≡◌, ◌⊎◌, ℕ, List, Option, Some, None}
 use Rattle.grain_streams.specs.Streams.{Rose, added, PartAdded}
+use Rattle.grain_streams.specs.Puts.{PutWhole, PutPart}
+use Rattle.grain_streams.specs.declared.sinks.Put.{Put}
 use Rattle.grain_addresses.specs.Queries.{queries_of}
 use Rattle.grain_addresses.specs.Replies.{usage_text, status_due, text_due}
 use Rattle.grain_addresses.specs.declared.queries.Query.{Query}
@@ -63,6 +65,43 @@ pub data Ended (words : List (List ℕ)) (source sink errors : Stream) : ℕ →
   -- memory was out while the words were read
   words_unread : sink.now ≡ sink.before → errors.now ≡ errors.before →
       Ended words source sink errors 7
+
+-- What a call with addresses, or with none, puts to the sink, by its status. The source held these
+-- bytes, if it says which they are.
+pub data AnswerHanded {K : Type 0} (puts : K → List ℕ → Put → K → Type 0) (qs : List Query)
+    (input : Option (List ℕ)) (first last : K) : ℕ → Type 0 where
+  -- all of the text that is due, and nothing else
+  whole : {status : ℕ} {text : List ℕ} → IsDue input qs status text →
+      PutWhole puts text first last → AnswerHanded puts qs input first last status
+  -- a part of it: the sink failed
+  part : {status : ℕ} {text : List ℕ} → IsDue input qs status text →
+      PutPart puts text first last → AnswerHanded puts qs input first last 6
+  -- nothing: the source failed, or memory was out
+  nothing : {status : ℕ} → (status ≡ 5) ⊎ (status ≡ 7) → last ≡ first →
+      AnswerHanded puts qs input first last status
+
+-- what a call whose words are no addresses puts to the sink of errors, by its status
+pub data UsageHanded {E : Type 0} (puts : E → List ℕ → Put → E → Type 0) (first last : E) :
+    ℕ → Type 0 where
+  usage_whole : PutWhole puts usage_text first last → UsageHanded puts first last 2
+  usage_part : PutPart puts usage_text first last → UsageHanded puts first last 6
+  usage_unput : last ≡ first → UsageHanded puts first last 7
+
+-- What a call puts to its two sinks, by its words and its status. The puts are told by those of the
+-- sink and by those of the sink of errors.
+pub data Handed {K E : Type 0} (sink_puts : K → List ℕ → Put → K → Type 0)
+    (error_puts : E → List ℕ → Put → E → Type 0) (words : List (List ℕ)) (input : Option (List ℕ))
+    (sink_first sink_last : K) (errors_first errors_last : E) : ℕ → Type 0 where
+  answer_handed : {qs : List Query} {status : ℕ} → queries_of words ≡ Some qs →
+      AnswerHanded sink_puts qs input sink_first sink_last status →
+      errors_last ≡ errors_first →
+      Handed sink_puts error_puts words input sink_first sink_last errors_first errors_last status
+  usage_handed : {status : ℕ} → queries_of words ≡ None →
+      UsageHanded error_puts errors_first errors_last status → sink_last ≡ sink_first →
+      Handed sink_puts error_puts words input sink_first sink_last errors_first errors_last status
+  -- nothing: memory was out while the words were read
+  none_handed : sink_last ≡ sink_first → errors_last ≡ errors_first →
+      Handed sink_puts error_puts words input sink_first sink_last errors_first errors_last 7
 
 -- the program was not given its words, so it reads nothing and writes nothing
 pub record NoCall {S K E : Type 0} (source_before source_now : S) (sink_before sink_now : K)

@@ -3,7 +3,7 @@
 ghost use Rattle.std.specs.Prelude.{◌≡◌, ◌≤◌, None, IfOk, OnErr, map, string_bytes};
 ghost use Rattle.grain_streams.specs.Reads.{ReadInTurn};
 ghost use Rattle.grain_streams.specs.Streams.{Rose, TakenWithin};
-ghost use Rattle.grain_addresses.specs.Calls.{stream, IsDue, Answered, Unanswered, Ended};
+ghost use Rattle.grain_addresses.specs.Calls.{stream, IsDue, Answered, Unanswered, Ended, AnswerHanded, UsageHanded, Handed};
 ghost use Rattle.grain_addresses.specs.Queries.{queries_of};
 
 use crate::answers::explain;
@@ -53,6 +53,8 @@ fn answer_and_write<S: Source, K: Sink>(
         (K.faults sink.new))
         result.number }
     ensures reads { ReadInTurn S.reads 16777217 source.old source.new }
+    ensures handed { AnswerHanded K.puts queries.now (S.left source.old) sink.old sink.new
+        result.number }
 {
     match answer(alloc, queries, source) {
         Err(OutOfMemory) => Status { number: 7 },
@@ -75,6 +77,7 @@ fn write_usage<E: Sink>(alloc: Global, errors: &mut E) -> Status
         (E.faults errors.new))
         result.number }
     ensures counted { E.faults errors.old ≤ E.faults errors.new }
+    ensures handed { UsageHanded E.puts errors.old errors.new result.number }
 {
     match usage(alloc) {
         Err(OutOfMemory) => Status { number: 7 },
@@ -120,8 +123,10 @@ pub fn where_words<S: Source, K: Sink, E: Sink>(
         (stream (E.written errors.old) (E.written errors.new) (E.faults errors.old)
         (E.faults errors.new))
         result.number }
-    // which reads were made
+    // which reads and which puts were made
     ensures reads { ReadInTurn S.reads 16777217 source.old source.new }
+    ensures handed { Handed K.puts E.puts (map string_bytes words.now.items)
+        (S.left source.old) sink.old sink.new errors.old errors.new result.number }
 {
     match queries_of(alloc, words.as_slice()) {
         Err(OutOfMemory) => Status { number: 7 },

@@ -6,7 +6,7 @@ ghost use Rattle.std.specs.Process.{exit_status};
 ghost use Rattle.std.specs.Vec.Iter.{into_iter_items};
 ghost use Rattle.grain_streams.specs.Reads.{ReadInTurn};
 ghost use Rattle.grain_addresses.specs.Queries.{queries_of};
-ghost use Rattle.grain_addresses.specs.Calls.{stream, Ended, NoCall};
+ghost use Rattle.grain_addresses.specs.Calls.{stream, Ended, Handed, NoCall};
 
 use crate::calls::where_words;
 use grain_streams::{
@@ -72,6 +72,10 @@ pub fn where_args<S: Source, K: Sink, E: Sink>(
         queries_of (map string_bytes (drop 1 (into_iter_items all))) ≡ None →
         source.new ≡ source.old) }
     ensures reads { ReadInTurn S.reads 16777217 source.old source.new }
+    ensures handed { IfOk args (λ all.
+        NoCall source.old source.new sink.old sink.new errors.old errors.new result ⊎
+        Handed K.puts E.puts (map string_bytes (drop 1 (into_iter_items all)))
+        (S.left source.old) sink.old sink.new errors.old errors.new result) }
 {
     let Ok(args) = args else {
         return Exit { status: NO_WORDS };

@@ -76,6 +76,13 @@ impl<L: Ledger> Steps<L> {
         self.book.add(&mut self.begun, 1);
     }
 
+    /// This many marks are passed.
+    pub fn mark_all(&mut self, count: u64)
+        ensures { self.new ≡ record self.old { passed = self.old.passed + count } }
+    {
+        self.book.add(&mut self.passed, count);
+    }
+
     /// A mark is passed.
     pub fn mark(&mut self)
         ensures { self.new ≡ record self.old { passed = self.old.passed + 1 } }

@@ -19,6 +19,7 @@ pub mod Causes
 pub mod Leavings
 pub mod CatchBlocks
 pub mod Contained
+pub mod Driving
 pub mod lemmas
 pub use Rattle.grain_value.specs.Operands
 pub use Rattle.grain_fault.specs.CatchValues

@@ -7,3 +7,4 @@ pub mod Roots
 pub mod Stretches
 pub mod Scopes
 pub mod Branches
+pub mod Driving
