@@ -1,5 +1,5 @@
 -- What a native gave, as the frame goes on with it.
-use Rattle.std.proofs.Common.{◌≡◌, ◌≤◌, ◌-◌, ℕ, List, [], ◌∷◌, Option, None, Some, true, false, Result, Ok, Err, length, refl, ap, subst, arith}
+use Rattle.std.proofs.Common.{◌≡◌, ◌≤◌, ◌-◌, ℕ, List, [], ◌∷◌, Option, None, Some, true, false, Result, length, refl, ap, subst, arith}
 use Rattle.grain_value.specs.declared.values.Dynamic.{Dynamic}
 use Rattle.grain_value.specs.declared.values.Held.{Held}
 use Rattle.grain_value.specs.declared.memory.OutOfMemory.{OutOfMemory}
@@ -11,18 +11,18 @@ use Rattle.grain_stack.specs.Views.{StacksView}
 use Rattle.grain_stack.specs.declared.handlers.Handler.{Handler}
 use Rattle.grain_host.specs.Law.{Law}
 use Rattle.grain_global.specs.declared.engines.Engine.{Engine}
-use Rattle.grain_means.specs.Worlds.{Act, Frame, Place, Setup, World}
-use Rattle.grain_means.specs.Rules.{Receiver, call_function, flat_all, instr, is_stop, leave_by_fault, native, operated, position, pushed, raised}
-use Rattle.grain_fault.specs.Problems.{NoMemory, Problem}
-use Rattle.grain_means.specs.Simulation.{Computation, SimulatesExactly, stopped, world}
+use Rattle.grain_means.specs.Worlds.{Frame, Setup, World}
+use Rattle.grain_means.specs.Rules.{call_function, flat_all, instr, is_stop, leave_by_fault, native, operated, position, pushed, raised}
+use Rattle.grain_fault.specs.Problems.{NoMemory}
+use Rattle.grain_means.specs.Simulation.{Computation, SimulatesExactly}
 use Rattle.grain_means.specs.Means.{setup}
 use Rattle.grain_global.specs.StepsView.{StepsView}
-use Rattle.grain_frame.specs.Abstraction.{abstraction, frame_in, is_out, Implements, moment}
+use Rattle.grain_frame.specs.Abstraction.{abstraction, frame_in, Implements, moment}
 use Rattle.grain_frame.specs.declared.activations.Activation.{Activation}
 use Rattle.grain_frame.specs.declared.runs.Progress.{Progress}
 use Rattle.grain_frame.specs.declared.runs.Run.{Run}
 use Rattle.grain_frame.specs.lemmas.Arms.{implements_after}
-use Rattle.grain_frame.specs.lemmas.Failing.{native_stops, push_raises, push_stops, StopsAtMark}
+use Rattle.grain_frame.specs.lemmas.Failing.{push_raises, push_stops}
 use Rattle.grain_frame.specs.Operated.{IsFault, fault_at}
 use Rattle.grain_frame.proofs.Serving.{implements_then, scope_kept}
 

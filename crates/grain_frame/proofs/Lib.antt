@@ -5,6 +5,7 @@ mod Serving
 mod Jumping
 mod Handing
 mod Targeting
+mod Refusing
 mod Sharing
 mod Lending
 mod Handled

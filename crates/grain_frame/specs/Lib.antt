@@ -5,6 +5,7 @@ pub mod Handling
 pub mod Operated
 pub mod Natives
 pub mod Targets
+pub mod Refusals
 pub mod Pointers
 pub mod lemmas
 pub use Rattle.grain_global.specs.StepsView

@@ -5,7 +5,7 @@ ghost use Rattle.grain_value.specs.declared.values.Held.{Held};
 ghost use Rattle.grain_value.specs.Cells.{flat, idle};
 ghost use Rattle.grain_value.specs.Operands.{top};
 ghost use Rattle.grain_program.specs.Indices.{InPools};
-ghost use Rattle.grain_means.specs.Rules.{flag_of_cell, held_at, if_fast, op_assigned, store_outcome};
+ghost use Rattle.grain_means.specs.Rules.{held_at, if_fast, op_assigned, store_outcome};
 ghost use Rattle.grain_ops.specs.Outcomes.{Gave};
 ghost use Rattle.grain_ops.specs.Operators.{assignment};
 ghost use Rattle.grain_frame.specs.Abstraction.{frame_in, Implements, Performs, Ready, setup_of, moment};
@@ -68,24 +68,12 @@ impl<H: Host> Run<H> {
             Performs (setup_of H.law context.entry) (moment frame.old self.old steps.old host)
             (op.AssignLocal slot name) next result (moment frame.new self.new steps.new host) }
     {
-        let index = self.slot_index(frame, slot);
-        let Some(held) = self.scope.get(index) else {
-            return Ok(self.slot_past_scope(context, steps, frame.address, index));
+        let target = match self.target_at(frame, slot) {
+            Ok(target) => target,
+            Err(refusal) => return self.refuse(context, steps, frame.address, name, refusal),
         };
-        let cell = held.value.as_cell();
-        let free = held.value.flat(&self.cells).is_some();
-        let read_only = held.read_only | self.is_constant(cell);
-        if !self.is_readable() {
-            return self.data_race_of(context, steps, frame.address, name);
-        }
-        if read_only {
-            return self.assignment_to_constant(context, steps, frame.address, name);
-        }
-        if !free {
-            return self.data_race_of(context, steps, frame.address, name);
-        }
         let value = self.take_flat()?;
-        self.write(Target { index, cell }, Held::read_write(value));
+        self.write(target, Held::read_write(value));
         steps.mark();
         frame.address = next;
         steps.mark();
@@ -111,42 +99,19 @@ impl<H: Host> Run<H> {
             (moment frame.old self.old steps.old host.old) (op.AssignLocalOp slot name assign_op)
             next result (moment frame.new self.new steps.new host.new) }
     {
-        let index = self.slot_index(frame, slot);
-        let Some(held) = self.scope.get(index) else {
-            return Ok(self.slot_past_scope(context, steps, frame.address, index));
+        let target = match self.target_at(frame, slot) {
+            Ok(target) => target,
+            Err(refusal) => return self.refuse(context, steps, frame.address, name, refusal),
         };
-        let cell = held.value.as_cell();
-        let free = held.value.flat(&self.cells).is_some();
-        let read_only = held.read_only | self.is_constant(cell);
-        if !self.is_readable() {
-            return self.data_race_of(context, steps, frame.address, name);
-        }
-        if read_only {
-            return self.assignment_to_constant(context, steps, frame.address, name);
-        }
-        if !free {
-            return self.data_race_of(context, steps, frame.address, name);
-        }
         let kept = self.kept_operand()?;
         let assignment = Assignment {
-            target: Target { index, cell },
+            target,
             variable: name,
             operator: *context.program.assign_op(u32::from(assign_op)),
             kept,
             next,
         };
         self.op_assign_target(context, host, steps, frame, &assignment)
-    }
-
-    // Whether the content of a cell, if it is one, can only be read.
-    #[inline(always)]
-    fn is_constant(&self, cell: Option<usize>) -> bool
-        ensures { result ≡ flag_of_cell cell self.now.cells }
-    {
-        match cell {
-            Some(cell) => self.cells.is_constant(cell),
-            None => false,
-        }
     }
 
     // A copy of what the last operand's cell holds, if it is a cell. So the operand is read once,

@@ -1,13 +1,20 @@
-//! Where an assignment writes: an entry of the scope, or the cell that it is.
+//! Where an assignment writes: an entry of the scope, or the cell that it is; or why it does not.
 
-ghost use Rattle.std.specs.Prelude.{◌≡◌, length};
+ghost use Rattle.std.specs.Prelude.{◌≡◌, ◌<◌, ◌≤◌, ◌+◌, length};
 ghost use Rattle.grain_value.specs.declared.values.Held.{Held};
+ghost use Rattle.grain_means.specs.Rules.{flag_of_cell};
+ghost use Rattle.grain_frame.specs.Abstraction.{Raises};
 ghost use Rattle.grain_frame.specs.Targets.{CanBeLent, IsLentAt, HoldsAt, content_at, taken_out, put_in};
+ghost use Rattle.grain_frame.specs.Refusals.{FindsAt, refusal_fault};
 
-use crate::runs::Run;
+use crate::activations::Activation;
+use crate::contexts::Context;
+use crate::runs::{Progress, Run};
+use grain_global::Steps;
 use grain_host::Host;
-use grain_value::{Dynamic, Held};
+use grain_value::{Dynamic, Held, OutOfMemory};
 use std::mem;
+use std::sync::ledger::Ledger;
 
 /// An entry of the scope at an index, or the cell that it is.
 #[derive(Clone, Copy, Debug, PartialEq, Eq)]
@@ -18,7 +25,78 @@ pub struct Target {
     pub cell: Option<usize>,
 }
 
+/// Why nothing is assigned to the entry of a slot.
+#[derive(Clone, Copy, Debug, PartialEq, Eq)]
+pub enum Refusal {
+    /// There is no entry at this index.
+    NoEntry(usize),
+    /// The operand, or the entry, is a cell that is lent.
+    Lent,
+    /// The entry can only be read.
+    Constant,
+}
+
 impl<H: Host> Run<H> {
+    // Where an assignment of the last operand to the entry of a slot writes, or why it does not.
+    #[inline(always)]
+    pub(crate) fn target_at(&self, frame: &Activation, slot: u16) -> Result<Target, Refusal>
+        requires inside { frame.now.base ≤ length self.now.scope }
+        requires operand { 0 < length self.now.stacks.operands }
+        ensures { FindsAt self.now (frame.now.base + slot) result }
+    {
+        let index = self.slot_index(frame, slot);
+        let Some(held) = self.scope.get(index) else {
+            return Err(Refusal::NoEntry(index));
+        };
+        let cell = held.value.as_cell();
+        let free = held.value.flat(&self.cells).is_some();
+        let read_only = held.read_only | self.is_constant(cell);
+        if !self.is_readable() {
+            return Err(Refusal::Lent);
+        }
+        if read_only {
+            return Err(Refusal::Constant);
+        }
+        if !free {
+            return Err(Refusal::Lent);
+        }
+        Ok(Target { index, cell })
+    }
+
+    // Raises the fault that nothing is assigned to the variable of this name.
+    #[cold]
+    #[inline(never)]
+    pub(crate) fn refuse<L: Ledger>(
+        &mut self,
+        context: Context<'_>,
+        steps: &mut Steps<L>,
+        address: usize,
+        name: u16,
+        refusal: Refusal,
+    ) -> Result<Progress, OutOfMemory>
+        requires { name < length context.program.now.names }
+        ensures { Raises self.old steps.old
+            (refusal_fault context.entry.program.now (length self.old.scope) address name refusal)
+            result self.new steps.new }
+    {
+        match refusal {
+            Refusal::NoEntry(index) => Ok(self.slot_past_scope(context, steps, address, index)),
+            Refusal::Lent => self.data_race_of(context, steps, address, name),
+            Refusal::Constant => self.assignment_to_constant(context, steps, address, name),
+        }
+    }
+
+    // Whether the content of a cell, if it is one, can only be read.
+    #[inline(always)]
+    pub(crate) fn is_constant(&self, cell: Option<usize>) -> bool
+        ensures { result ≡ flag_of_cell cell self.now.cells }
+    {
+        match cell {
+            Some(cell) => self.cells.is_constant(cell),
+            None => false,
+        }
+    }
+
     // What the target holds.
     #[inline(always)]
     pub(crate) fn content(&self, target: Target) -> &Dynamic

@@ -1,12 +1,11 @@
 -- A comparison and the branch after it: each is what its rule says, and the two turns are one.
-use Rattle.std.proofs.Common.{◌≡◌, ◌<◌, ◌≤◌, ◌+◌, ◌-◌, ℕ, zero, suc, List, [], ◌∷◌, ◌++◌, Bool, true, false, cond, nat_lt, nat_le, inl, inr, Ok, Some, length, take, refl, subst, ap, arith, length-append}
+use Rattle.std.proofs.Common.{◌≡◌, ◌<◌, ◌≤◌, ◌+◌, ◌-◌, ℕ, zero, suc, List, [], ◌∷◌, ◌++◌, Bool, true, false, cond, nat_lt, nat_le, inl, inr, Ok, Some, length, take, refl, ap, arith, length-append}
 use Rattle.std.proofs.lemmas.Bool.Decides.{nat_tests}
 use Rattle.std.proofs.lemmas.List.{length-take-le, take-append-le, take_all}
 use Rattle.grain_value.specs.declared.values.Held.{Held}
 use Rattle.grain_value.specs.declared.values.Dynamic.TheVariants as dynamic
 use Rattle.grain_value.specs.Operands.{top, below, under, arguments, read_write}
 use Rattle.grain_program.specs.declared.code.instruction_set.Op.TheVariants as op
-use Rattle.grain_program.specs.TypedAt.{IsTypedAt}
 use Rattle.grain_program.specs.View.{View}
 use Rattle.grain_host.specs.Law.{Law}
 use Rattle.grain_global.specs.declared.engines.Engine.{Engine}
@@ -14,14 +13,13 @@ use Rattle.grain_ops.specs.Outcomes.{Gave}
 use Rattle.grain_means.specs.Rules.{operated, jump_if, agrees, flat_all}
 use Rattle.grain_global.specs.StepsView.{StepsView}
 use Rattle.grain_means.specs.Means.{setup}
-use Rattle.grain_frame.specs.Abstraction.{frame_in, tries_in, KeepsFrame, Ready, Runs, Implements, Performs, moment}
+use Rattle.grain_frame.specs.Abstraction.{frame_in, KeepsFrame, Ready, Implements, Performs, moment}
 use Rattle.grain_frame.specs.Abstraction.{moved, marked_once, begun_one}
 use Rattle.grain_vm.specs.Following.{judged, without_two}
 use Rattle.grain_frame.specs.declared.activations.Activation.{Activation}
 use Rattle.grain_frame.specs.declared.runs.Progress.TheVariants as progress
 use Rattle.grain_frame.specs.declared.runs.Run.{Run}
 use Rattle.grain_frame.specs.lemmas.Arms.{to_target, to_next}
-use Rattle.grain_vm.proofs.Turns.{next_runs}
 
 -- the last operand, and the others
 pub top_pushed : (xs : List Held) (h : Held) → top (xs ++ h ∷ []) ≡ h

@@ -1,10 +1,7 @@
 -- A call, its body, and what follows it.
-use Rattle.std.proofs.Common.{◌≡◌, ◌<◌, ◌≤◌, ◌+◌, ◌-◌, ◌∙◌, ℕ, zero, suc, List, [], ◌∷◌, ◌++◌, Option, None, Bool, true, false, Result, Ok, Err, length, take, refl, sym, subst, ap, inl, arith, length-append}
-use Rattle.std.proofs.lemmas.List.{length-take}
+use Rattle.std.proofs.Common.{◌≡◌, ◌-◌, ◌∙◌, ℕ, zero, suc, List, [], ◌∷◌, ◌++◌, Option, None, Bool, true, false, Ok, length, refl, sym, subst, ap, arith, length-append}
 use Rattle.std.specs.Prelude.{slice_index_or}
-use Rattle.grain_value.specs.declared.values.Held.{Held}
 use Rattle.grain_value.specs.declared.scopes.Entry.{Entry}
-use Rattle.grain_value.specs.declared.memory.OutOfMemory.{OutOfMemory}
 use Rattle.grain_value.specs.Operands.{under}
 use Rattle.grain_fault.specs.Problems.{NoMemory, problem_of}
 use Rattle.grain_program.specs.declared.code.functions.Function.{Function}
@@ -15,12 +12,11 @@ use Rattle.grain_means.specs.Rules.{leave_by_fault, offered, without, frame_at, 
 use Rattle.grain_means.specs.Simulation.{LocalState, Computation, Simulates, SimulatesExactly, StopPersists, stopped, world}
 use Rattle.grain_means.specs.lemmas.Stretches.{same, compose, continued, alone}
 use Rattle.grain_global.specs.StepsView.{StepsView}
-use Rattle.grain_frame.specs.Abstraction.{abstraction, frame_in, handlers_in, continuation, KeepsFrame, ContinuesAt}
-use Rattle.grain_vm.specs.Calls.{caller_of, call_continuation, CallEntered, CallRefused, EnterResult, CallReturned}
+use Rattle.grain_frame.specs.Abstraction.{abstraction, frame_in, handlers_in, continuation}
+use Rattle.grain_vm.specs.Calls.{caller_of, call_continuation, CallEntered, CallRefused, EnterResult}
 use Rattle.grain_vm.proofs.Offering.{memory_leaves}
 use Rattle.grain_frame.specs.declared.activations.Activation.{Activation}
 use Rattle.grain_frame.specs.declared.runs.Run.{Run}
-use Rattle.grain_frame.specs.declared.runs.Progress.{Progress}
 use Rattle.grain_frame.specs.declared.runs.Progress.TheVariants as progress
 
 module _ {H : Type 0} {m : Setup H} (f : Option Place → Frame) (next : ℕ) (g : Function) where

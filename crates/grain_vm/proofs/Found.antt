@@ -1,5 +1,5 @@
 -- A function that is found, and what follows its call.
-use Rattle.std.proofs.Common.{◌≡◌, ◌<◌, ◌≤◌, ◌+◌, ◌-◌, ◌*◌, ◌∙◌, ℕ, zero, suc, List, [], ◌∷◌, ◌++◌, Option, Some, None, Result, Ok, Err, false, length, map, refl, sym, subst, ap, arith, length-append}
+use Rattle.std.proofs.Common.{◌≡◌, ◌<◌, ◌+◌, ◌-◌, ◌∙◌, ℕ, zero, suc, List, [], ◌∷◌, ◌++◌, Option, Some, None, Result, Ok, Err, false, length, map, refl, sym, subst, ap, arith, length-append}
 use Rattle.std.proofs.lemmas.List.{length-drop, length-map, length-take}
 use Rattle.std.specs.Prelude.{slice_get}
 use Rattle.grain_value.specs.View.{trees, value_of}
@@ -13,7 +13,7 @@ use Rattle.grain_value.specs.declared.values.FnPtr.{FnPtr}
 use Rattle.grain_value.specs.declared.values.Held.{Held}
 use Rattle.grain_program.specs.View.{View}
 use Rattle.grain_program.specs.Effects.{takes_of, gives_of, leads_of}
-use Rattle.grain_program.specs.Lookups.{function_of, function_by_text, Called, CalledByText}
+use Rattle.grain_program.specs.Lookups.{function_by_text, CalledByText}
 use Rattle.grain_program.specs.Typing.{In}
 use Rattle.grain_program.specs.declared.code.functions.Function.{Function}
 use Rattle.grain_program.specs.declared.code.instruction_set.Op.{Op}
@@ -22,7 +22,7 @@ use Rattle.grain_stack.specs.Views.{StacksView}
 use Rattle.grain_host.specs.Law.{Law}
 use Rattle.grain_global.specs.declared.engines.Engine.{Engine}
 use Rattle.grain_means.specs.Worlds.{Setup, Frame, World}
-use Rattle.grain_means.specs.Rules.{function_numbered, function_found, function_by_name, curried_in, operand_under, instr, enter_function, call_function, call_pointer, not_a_pointer}
+use Rattle.grain_means.specs.Rules.{function_numbered, function_by_name, curried_in, operand_under, instr, enter_function, call_function, call_pointer, not_a_pointer}
 use Rattle.grain_means.specs.Simulation.{Simulates, SimulatesExactly}
 use Rattle.grain_means.specs.Means.{setup}
 use Rattle.grain_means.specs.lemmas.Stretches.{same, compose}
@@ -35,7 +35,6 @@ use Rattle.grain_vm.specs.declared.finding.Found.TheVariants as found
 use Rattle.grain_frame.specs.declared.runs.Progress.{Progress}
 use Rattle.grain_frame.specs.declared.runs.Run.{Run}
 use Rattle.grain_frame.specs.lemmas.Arms.{arm, done, lands_on}
-use Rattle.grain_vm.proofs.Measure.{left}
 
 -- a function that is there has a number among them
 within : (fs : List Function) (i : ℕ) (g : Function) → slice_get fs i ≡ Some g → i < length fs

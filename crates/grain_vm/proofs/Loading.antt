@@ -1,6 +1,6 @@
 -- A load of an integer with the instruction behind it: the load is what its rule says, and the state
 -- behind it is one in which the frame runs.
-use Rattle.std.proofs.Common.{◌≡◌, ◌≤◌, ◌+◌, ◌-◌, ℕ, ℤ, List, [], ◌∷◌, ◌++◌, false, inl, inr, Ok, Some, length, refl, sym, subst, arith, length-append}
+use Rattle.std.proofs.Common.{◌≡◌, ◌≤◌, ◌+◌, ◌-◌, ℕ, ℤ, List, [], ◌∷◌, ◌++◌, false, inl, inr, Ok, Some, length, refl, arith, length-append}
 use Rattle.std.proofs.lemmas.List.{length-take-le, take-append-le}
 use Rattle.grain_value.specs.declared.values.Held.{Held}
 use Rattle.grain_value.specs.declared.values.Dynamic.TheVariants as dynamic
@@ -21,13 +21,13 @@ use Rattle.grain_means.specs.Rules.{held_at, op_assigned, operated, flat_all}
 use Rattle.grain_means.specs.lemmas.Scopes.{length_set_held}
 use Rattle.grain_global.specs.StepsView.{StepsView}
 use Rattle.grain_means.specs.Means.{setup}
-use Rattle.grain_frame.specs.Abstraction.{tries_in, KeepsFrame, Ready, Runs, Performs, Stepped, moment}
+use Rattle.grain_frame.specs.Abstraction.{KeepsFrame, Ready, Runs, Performs, Stepped, moment}
 use Rattle.grain_vm.specs.Following.{PerformsOn, loaded}
 use Rattle.grain_frame.specs.Abstraction.{moved, marked_once}
 use Rattle.grain_frame.specs.declared.activations.Activation.{Activation}
 use Rattle.grain_frame.specs.declared.runs.Progress.TheVariants as progress
 use Rattle.grain_frame.specs.declared.runs.Run.{Run}
-use Rattle.grain_vm.proofs.Turns.{next_runs, both}
+use Rattle.grain_vm.proofs.Turns.{both}
 use Rattle.grain_frame.specs.lemmas.Arms.{stepped}
 use Rattle.grain_vm.proofs.Branching.{top_pushed, below_pushed}
 

@@ -1,6 +1,5 @@
 -- A fault is offered to handlers: those that have caught are left.
-use Rattle.std.proofs.Common.{◌≡◌, List, [], ◌∷◌, Option, Some, None, true, false, refl, sym, ap, ◌∙◌}
-use Rattle.grain_fault.specs.Classes.{catchable}
+use Rattle.std.proofs.Common.{◌≡◌, List, [], ◌∷◌, Option, Some, None, refl, sym, ap, ◌∙◌}
 use Rattle.grain_fault.specs.Problems.{Problem, NoMemory, problem_of}
 use Rattle.grain_fault.specs.declared.faults.EvalAltResult.{EvalAltResult}
 use Rattle.grain_program.specs.laws.TypedAt.{uncovered}
@@ -10,7 +9,7 @@ use Rattle.grain_means.specs.Worlds as worlds
 use Rattle.grain_means.specs.Worlds.{Frame, Setup, World, Go, InCatch}
 use Rattle.grain_means.specs.Rules.{if_armed, leave_by_fault, offered_to, thrown_anew}
 use Rattle.grain_frame.specs.Abstraction.{handlers_in, try_in, tries_in}
-use Rattle.grain_vm.specs.Catching.{IsArmed, found, StandsFor}
+use Rattle.grain_vm.specs.Catching.{StandsFor}
 use Rattle.grain_frame.specs.declared.runs.Run.{Run}
 
 -- want of memory is caught by none

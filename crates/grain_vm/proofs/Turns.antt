@@ -1,5 +1,5 @@
 -- One turn of a frame's loop, and how a frame is left.
-use Rattle.std.proofs.Common.{◌≡◌, ◌≤◌, ◌+◌, ℕ, inl, inr, Option, None, [], ◌∷◌, ◌++◌, Bool, true, false, Ok, List, length, ◌∙◌, take, refl, sym, subst, ap, arith}
+use Rattle.std.proofs.Common.{◌≡◌, ◌≤◌, ◌+◌, ℕ, inl, inr, Option, [], ◌∷◌, ◌++◌, Bool, true, false, Ok, List, length, ◌∙◌, take, refl, sym, subst, ap, arith}
 use Rattle.grain_fault.specs.declared.faults.EvalAltResult.{EvalAltResult}
 use Rattle.grain_fault.specs.Problems.{Problem}
 use Rattle.grain_program.specs.Decoding.{op_at}

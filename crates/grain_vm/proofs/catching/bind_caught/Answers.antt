@@ -1,4 +1,4 @@
-use Rattle.std.proofs.Common.{rules, refl, ap, ◌≡◌, ◌∙◌, ℕ, List, Option, None, length, nat_le, false}
+use Rattle.std.proofs.Common.{rules, refl, ap, ◌≡◌, ◌∙◌, ℕ, List, Option, length, nat_le, false}
 use Rattle.grain_fault.specs.Problems.{problem_of}
 use Rattle.grain_fault.specs.CatchValues.{caught_value}
 use Rattle.grain_means.specs.Rules.{leave_by_fault}
