@@ -44,6 +44,10 @@ pub record ChainWalk (S : Type 0) : Type 0 where
 abbrev pub past : {S : Type 0} → World S → World S
 past w = record w { passed = w.passed + 1 }
 
+-- memory is not out at the next mark
+abbrev pub Passes : {S : Type 0} → Setup S → World S → Type 0
+Passes m w = is_stop m.stop w.passed ≡ false
+
 -- what a walk needs is a question to the host, on arguments as they are read
 abbrev pub question_of : {S : Type 0} → Call → Option Receiver → World S → List Held → Question S
 question_of c r w args =
@@ -66,24 +70,24 @@ answered_world m key r args w = record w {
 -- none.
 pub data CallEnds {S : Type 0} (m : Setup S) (c : Call) (r : Option Receiver) (w : World S) :
     Answer → World S → Type 0 where
-  lent : flat_all w.cells (map read_write c.values) ≡ None →
+  lent : flat_all w.cells (map read_write c.values) ≡ None → Passes m w →
       CallEnds m c r w (Failed (Plain (DataRace (race_text [])) c.position)) (past w)
   missing : (args : List Held) → flat_all w.cells (map read_write c.values) ≡ Some args →
-      native_asked m (question_of c r w args) ≡ None →
+      native_asked m (question_of c r w args) ≡ None → Passes m w →
       CallEnds m c r w (Failed (not_found c.name (values_in (given r args)) c.position)) (past w)
   refused : (args : List Held) → flat_all w.cells (map read_write c.values) ≡ Some args →
       (n : Native) → native_asked m (question_of c r w args) ≡ Some n →
-      n.writes && first_is_read_only (given r args) ≡ true →
+      n.writes && first_is_read_only (given r args) ≡ true → Passes m w →
       CallEnds m c r w (Failed (Plain (NonPureCall c.name) c.position)) (past w)
   gave : (args : List Held) → flat_all w.cells (map read_write c.values) ≡ Some args →
       (n : Native) → native_asked m (question_of c r w args) ≡ Some n →
-      IsCalled (question_of c r w args) n → (v : Dynamic) →
+      IsCalled (question_of c r w args) n → Passes m w → Passes m (past w) → (v : Dynamic) →
       reply_to m (question_of c r w args) n.key ≡ reply.Done v →
       CallEnds m c r w (Came v) (answered_world m n.key r args w)
   failed : (args : List Held) → flat_all w.cells (map read_write c.values) ≡ Some args →
       (n : Native) → native_asked m (question_of c r w args) ≡ Some n →
-      IsCalled (question_of c r w args) n → (x : Problem) →
-      reply_to m (question_of c r w args) n.key ≡ reply.Failed x →
+      IsCalled (question_of c r w args) n → Passes m w → Passes m (past w) → (x : Problem) →
+      reply_to m (question_of c r w args) n.key ≡ reply.Failed x → Passes m (past (past w)) →
       CallEnds m c r w (Failed (at_position_if_none c.position x))
       (past (answered_world m n.key r args w))
 
@@ -110,7 +114,7 @@ module _ {S : Type 0} (m : Setup S) (c : ChainWalk S) where
   -- a task in a world comes to this in that world
   pub data WalksTo (t : Task) (v : World S) : Task → World S → Type 0 where
     here : WalksTo t v t v
-    marked : {out go : Task} {w : World S} → is_stop m.stop w.passed ≡ false →
+    marked : {out go : Task} {w : World S} → Passes m w →
         WalksTo t v go (past w) → WalksTo t v (Mark out go) w
     looked : {q : Place} {go : Held → Task} {w : World S} →
         WalksTo t v (go (look w.roots (world_of q))) w → WalksTo t v (Look q go) w
