@@ -1,24 +1,23 @@
 -- Walks by themselves, as they end.
-use Rattle.std.specs.Prelude.{◌≡◌, ℕ, ℤ, pos, negsuc, Bool, true, false, List, [], ◌∷◌, Option, Some, None, refl, codes, slice_index_or}
-use Rattle.grain_value.specs.Tree.{Tree, unit, integer, text, array, pack, dict, pack_fields, cell}
+use Rattle.std.specs.Prelude.{◌≡◌, ℕ, pos, negsuc, true, false, List, [], ◌∷◌, Option, Some, None, refl, codes, slice_index_or}
+use Rattle.grain_value.specs.Tree.{Tree, unit, integer, text, cell}
 use Rattle.grain_value.specs.declared.values.Dynamic.{Dynamic}
 use Rattle.grain_value.specs.declared.values.Dynamic.TheVariants as dynamic
 use Rattle.grain_value.specs.declared.tokens.Token.TheVariants as token
 use Rattle.grain_value.specs.Operands.{read_write}
-use Rattle.grain_value.specs.View.{value_of}
 use Rattle.grain_fault.specs.declared.places.Position.{Position}
 use Rattle.grain_fault.specs.Places.{nowhere}
 use Rattle.grain_global.specs.declared.engines.Engine.{Engine}
 use Rattle.grain_program.specs.View.{View}
 use Rattle.grain_program.specs.declared.code.parts.AssignOp.{AssignOp}
-use Rattle.grain_fault.specs.Problems.{Problem, Plain, ArrayBounds, DataRace, StringBounds, PropertyNotFound, MismatchDataType, DotExpr, IndexingType, NoMemory, FunctionNotFound}
+use Rattle.grain_fault.specs.Problems.{Plain, ArrayBounds, DataRace, MismatchDataType, DotExpr, IndexingType, NoMemory, FunctionNotFound}
 use Rattle.grain_program.specs.declared.code.chains.Step.{Step}
 use Rattle.grain_program.specs.declared.code.chains.Step.TheVariants as step
 use Rattle.grain_program.specs.declared.code.chains.StepFlags.{StepFlags}
 use Rattle.grain_means.specs.Worlds.{Answer, Came, Failed}
 use Rattle.grain_means.specs.Places.{put}
-use Rattle.grain_means.specs.Tasks.{Walked, Well, Ill, Task, Play, Over, Asks, Own, Call, play}
-use Rattle.grain_means.specs.Walks.{Course, whole_walk, index_get, index_set}
+use Rattle.grain_means.specs.Tasks.{Walked, Well, Ill, Play, Over, Asks, play}
+use Rattle.grain_means.specs.Walks.{Course, whole_walk}
 
 abbrev here : Position
 here = nowhere

@@ -20,3 +20,4 @@ pub mod Walking
 pub mod Reading
 pub mod Examples
 pub mod Explaining
+pub mod Rows

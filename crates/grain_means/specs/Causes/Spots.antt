@@ -14,7 +14,7 @@ use Rattle.grain_value.specs.declared.values.locating.Spot.{Spot}
 use Rattle.grain_value.specs.declared.values.value_faults.ValueFault.TheVariants as fault
 use Rattle.grain_fault.specs.Absences.{is_indexing_type}
 use Rattle.grain_fault.specs.Positions.{at_position_if_none}
-use Rattle.grain_fault.specs.Problems.{Problem, Plain, Arithmetic, DataRace, DataTooLarge, MismatchDataType, NonPureCall, PropertyNotFound}
+use Rattle.grain_fault.specs.Problems.{FaultKind, Problem, Plain, InFunctionCall, InModule, SystemError, NoMemory, Arithmetic, ArrayBounds, BitFieldBounds, DataRace, DataTooLarge, MismatchDataType, NonPureCall, PropertyNotFound, StringBounds}
 use Rattle.grain_fault.specs.declared.places.Position.{Position}
 use Rattle.grain_host.specs.Law as reply
 use Rattle.grain_host.specs.Signatures.{not_found}
@@ -271,3 +271,25 @@ module _ {S : Type 0} (m : Setup S) (c : ChainWalk S) where
   WalkRow n x = OutOfBounds n x ⊎ (MistypesIndex n x ⊎ (LacksIndex n x ⊎ (LacksProperty n x ⊎
       (ReadsLentCell n x ⊎ (MistypesPart n x ⊎ (Calculates n x ⊎
       (NativeFails n x ⊎ InsteadFails n x)))))))
+
+  -- why the walk ends in a fault of this kind at this position, if neither the host answered it nor a
+  -- native was not to be had; it ends in no other kind than these
+  abbrev pub KindRow : ℕ → FaultKind → Position → Type 0
+  KindRow n (ArrayBounds size i) q = OutOfBounds n (Plain (ArrayBounds size i) q)
+  KindRow n (StringBounds size i) q = OutOfBounds n (Plain (StringBounds size i) q)
+  KindRow n (BitFieldBounds size i) q = OutOfBounds n (Plain (BitFieldBounds size i) q)
+  KindRow n (MismatchDataType r a) q = MistypesIndex n (Plain (MismatchDataType r a) q)
+      ⊎ MistypesPart n (Plain (MismatchDataType r a) q)
+  KindRow n (PropertyNotFound k) q =
+      LacksIndex n (Plain (PropertyNotFound k) q) ⊎ LacksProperty n (Plain (PropertyNotFound k) q)
+  KindRow n (DataRace s) q = ReadsLentCell n (Plain (DataRace s) q)
+  KindRow n (Arithmetic s) q = Calculates n (Plain (Arithmetic s) q)
+  KindRow n (DataTooLarge s) q = Calculates n (Plain (DataTooLarge s) q)
+  KindRow n k q = ⊥
+
+  abbrev pub OwnRow : ℕ → Problem → Type 0
+  OwnRow n (Plain k q) = KindRow n k q
+  OwnRow n (InFunctionCall f s x q) = ⊥
+  OwnRow n (InModule f x q) = ⊥
+  OwnRow n (SystemError s e) = ⊥
+  OwnRow n NoMemory = ⊥
