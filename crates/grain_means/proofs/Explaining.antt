@@ -88,7 +88,7 @@ module _ {S : Type 0} (m : Setup S) (c : ChainWalk S) where
       by_indexer : (q bracket : Position) (r : Role) (i : Dynamic) →
           From m c (walks.by_indexer c.course.setting n q bracket r i next p done)
       by_indexer q bracket Passes i =
-          let go = walks.into_answer c.course.setting n q (OfIndex i bracket) next p done in
+          let go = walks.into_answer c.course.setting n q false (OfIndex i bracket) next p done in
           asks m c n bracket walks.index_get (Some p) (i ∷ []) done (walks.index_was_got n done go) f
           (f.falls n NoMemory)
           (index_got m c n (call_of m c n bracket walks.index_get (Some p) (i ∷ [])) refl done go f
@@ -101,7 +101,7 @@ module _ {S : Type 0} (m : Setup S) (c : ChainWalk S) where
       by_indexer q bracket (Writes u) i = sets_index m c n bracket p i u dynamic.Unit done f
       by_indexer q bracket (Operates u a) i =
           let over = walks.operating c.course.setting n bracket a u in
-          let go = walks.into_answer c.course.setting n bracket (OfIndex i bracket) over p done in
+          let go = walks.into_answer c.course.setting n bracket false (OfIndex i bracket) over p done in
           asks m c n bracket walks.index_get (Some p) (i ∷ []) done
           (walks.index_was_read n bracket p i u done go) f (f.falls n NoMemory)
           (index_read m c n (call_of m c n bracket walks.index_get (Some p) (i ∷ [])) refl bracket p i u done go f
@@ -111,7 +111,7 @@ module _ {S : Type 0} (m : Setup S) (c : ChainWalk S) where
           From m c (walks.by_accessor c.course.setting n name getter setter q r next p done)
       by_accessor name getter setter q Passes =
           gets_property m c n name getter q p done
-          (walks.into_answer c.course.setting n q (OfProperty name setter q false) next p done) f
+          (walks.into_answer c.course.setting n q false (OfProperty name setter q false) next p done) f
           (into_answer m c n q (OfProperty name setter q false) next on p done f)
       by_accessor name getter setter q Reads =
           gets_property m c n name getter q p done (walks.own_value done) f (own_value m c n done f)
@@ -120,7 +120,7 @@ module _ {S : Type 0} (m : Setup S) (c : ChainWalk S) where
       by_accessor name getter setter q (Operates u a) =
           let over = walks.operating c.course.setting n q a u in
           gets_property m c n name getter q p done
-          (walks.into_answer c.course.setting n q (OfProperty name setter q true) over p done) f
+          (walks.into_answer c.course.setting n q false (OfProperty name setter q true) over p done) f
           (into_answer m c n q (OfProperty name setter q true) over (operates m c n q a u) p done f)
 
     -- the walk further on, after a step

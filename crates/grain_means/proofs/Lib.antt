@@ -18,4 +18,6 @@ pub mod Inside
 pub mod Containing
 pub mod Walking
 pub mod Reading
+pub mod Examples
 pub mod Explaining
+pub mod Rows

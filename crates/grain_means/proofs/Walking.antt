@@ -217,9 +217,13 @@ module _ (N : ℕ) (assigns : Bool) where
       roots o h next on j p done is f =
           (f (Ill n NoMemory) low, on (suc j) (next_root p) (walks.back g n o p done) (ap suc is) (goes_back j o p done is f))
 
+      own_value : (j : ℕ) (done : Rest) → Follows j done → assigns ≡ false → (v : Dynamic) →
+          AllEnds P j (walks.own_value done v)
+      own_value j done f none v = f (Well v false) (λ s. absurd cc)
+
       into_answer : (q : Position) (o : Origin) (next : Next) → Goes next → (j : ℕ)
           (p : Place) (done : Rest) → suc p.root ≡ j → Follows j done → (v : Dynamic) →
-          AllEnds P j (walks.into_answer g n q o next p done v)
+          AllEnds P j (walks.into_answer g n q false o next p done v)
       into_answer q o next on j p done is f v =
           reads j q v done _ f (λ u. roots o (read_write u) next on j p done is f)
 
@@ -230,10 +234,6 @@ module _ (N : ℕ) (assigns : Bool) where
           by (assigning role) j _ _ ((f (Ill n NoMemory) low, on j _ done is f))
           (by g.engine.strict_properties j _ _ (fails j _ done f)
           (roots o (record h { value = dynamic.Unit }) next on j p done is f))
-
-      own_value : (j : ℕ) (done : Rest) → Follows j done → assigns ≡ false → (v : Dynamic) →
-          AllEnds P j (walks.own_value done v)
-      own_value j done f none v = f (Well v false) (λ s. absurd cc)
 
       by_indexer : (q bracket : Position) (role : Role) → Fits role → (i : Dynamic) (next : Next) →
           Goes next → Goes (walks.by_indexer g n q bracket role i next)

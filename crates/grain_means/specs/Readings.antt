@@ -1,5 +1,5 @@
 -- A chain that reads along elements of arrays and keys of maps alone, and asks the host for nothing.
-use Rattle.std.specs.Prelude.{◌≡◌, ℕ, List, [], ◌∷◌, Option, Some, None, Bool, true, false, Result, Ok, Err}
+use Rattle.std.specs.Prelude.{◌≡◌, ℕ, List, [], ◌∷◌, Option, Some, None, true, false, Result, Ok}
 use Rattle.grain_value.specs.Cells.{flat}
 use Rattle.grain_value.specs.Locating.{locate}
 use Rattle.grain_value.specs.Looking.{is_unit}

@@ -52,6 +52,10 @@ pub data Role : Type 0 where
   Writes : Dynamic → Role
   Operates : Dynamic → AssignOp → Role
 
+abbrev pub reads : Role → Bool
+reads Reads = true
+reads r = false
+
 abbrev pub assigning : Role → Bool
 assigning Passes = false
 assigning Reads = false
@@ -103,20 +107,16 @@ module _ (g : Setting) where
       else (if g.engine.strict_properties then failing n (Plain (PropertyNotFound k) q) done
       else rooted g n o (record h { value = dynamic.Unit }) next p done)
 
-  -- an index of a value that has none of its own is for the host's indexers; where the chain reads
-  -- there, the answer is its value
+  -- an index of a value that has none of its own is for the host's indexers
   abbrev pub by_indexer : ℕ → Position → Position → Role → Dynamic → Next → Place → Rest → Task
-  by_indexer n q bracket Passes i next p done =
-      asking n bracket index_get (Some p) (i ∷ []) done
-      (index_was_got n done (into_answer g n q (OfIndex i bracket) next p done))
-  by_indexer n q bracket Reads i next p done =
-      asking n bracket index_get (Some p) (i ∷ []) done
-      (index_was_got n done (own_value done))
   by_indexer n q bracket (Writes v) i next p done =
       set_by_index n bracket p i v dynamic.Unit done
   by_indexer n q bracket (Operates v a) i next p done =
       asking n bracket index_get (Some p) (i ∷ []) done (index_was_read n bracket p i v done
-      (into_answer g n bracket (OfIndex i bracket) (operating g n bracket a v) p done))
+      (into_answer g n bracket false (OfIndex i bracket) (operating g n bracket a v) p done))
+  by_indexer n q bracket role i next p done =
+      asking n bracket index_get (Some p) (i ∷ []) done
+      (index_was_got n done (into_answer g n q (reads role) (OfIndex i bracket) next p done))
 
   -- where an index leads: an operand, and what it is as it is read
   abbrev pub indexed : ℕ → Position → Position → Role → Dynamic → Dynamic → Held → Next → Place →
@@ -146,16 +146,14 @@ module _ (g : Setting) where
 
   -- a property of a value that is no map is for the host's getters and setters
   abbrev pub by_accessor : ℕ → ℕ → ℕ → ℕ → Position → Role → Next → Place → Rest → Task
-  by_accessor n name getter setter q Passes next p done =
-      get_property g n name getter q p done
-      (into_answer g n q (OfProperty name setter q false) next p done)
-  by_accessor n name getter setter q Reads next p done =
-      get_property g n name getter q p done (own_value done)
   by_accessor n name getter setter q (Writes v) next p done =
       set_property g n name setter q true p v dynamic.Unit done
   by_accessor n name getter setter q (Operates v a) next p done =
       get_property g n name getter q p done
-      (into_answer g n q (OfProperty name setter q true) (operating g n q a v) p done)
+      (into_answer g n q false (OfProperty name setter q true) (operating g n q a v) p done)
+  by_accessor n name getter setter q role next p done =
+      get_property g n name getter q p done
+      (into_answer g n q (reads role) (OfProperty name setter q false) next p done)
 
   abbrev pub at_key : ℕ → Position → Role → List ℕ → Held → Next → Place → Rest → Option Tree → Task
   at_key n q role k h next p done (Some t) =

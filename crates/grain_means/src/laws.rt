@@ -1,10 +1,12 @@
 //! Laws of the meaning alone. Each is a function that does nothing, whose contract is the law.
 
-ghost use Rattle.std.specs.Prelude.{◌≡◌, ◌<◌, ◌≤◌, ◌+◌, [], ◌∷◌, false, length, List, ℕ, Bool, Ok, Option, None, Some};
+ghost use Rattle.std.specs.Prelude.{◌≡◌, ◌<◌, ◌≤◌, ◌⊎◌, ◌+◌, [], ◌∷◌, false, length, List, ℕ, Bool, Ok, Option, None, Some};
 ghost use Rattle.grain_means.specs.Worlds.{Act, Answer, World, Setup, Place, Frame, InFrame};
 ghost use Rattle.grain_means.specs.CatchBlocks.{Catches};
 ghost use Rattle.grain_means.specs.Rules.{called};
 ghost use Rattle.grain_means.specs.Causes.{Caused};
+ghost use Rattle.grain_means.specs.Causes.Spots.{ChainWalk, InsteadFails, NativeFails, OwnRow, WalkRow};
+ghost use Rattle.grain_fault.specs.Problems.{Problem};
 ghost use Rattle.grain_means.specs.Comes.{CatchPoint, Comes, ComesToCatch, Stands};
 ghost use Rattle.grain_means.specs.Ends.{Ends};
 ghost use Rattle.grain_means.specs.Leavings.{names, Keeps, Cuts};
@@ -120,4 +122,11 @@ pub fn reads_along()
         (j : ℕ) × (play None cells (whole_walk c steps) (record { roots = h ∷ []; passed = 0 })
         ≡ WalkOver (Well u false) (record { roots = h ∷ []; passed = j }))
         × (at path (tree h.value) ≡ Ok (tree u)) }
+{}
+
+/// Where the walk of a chain ends in a fault, the fault has the row of its kind, or a native was not to
+/// be had, or failed.
+pub fn walk_rows<S>()
+    ensures { (m : Setup S) (c : ChainWalk S) (n : ℕ) (x : Problem) → WalkRow m c n x →
+        OwnRow m c n x ⊎ (NativeFails m c n x ⊎ InsteadFails m c n x) }
 {}

@@ -73,7 +73,7 @@ module _ (clean : Bool) (n : ℕ) where
         out clean n done k f,
         (
           (index, tt),
-          index_got clean n k done (walks.into_answer g k q (OfIndex i bracket) next p done) f
+          index_got clean n k done (walks.into_answer g k q false (OfIndex i bracket) next p done) f
               (into_answer clean n k g q (OfIndex i bracket) index next on p done f),
         ),
       )
@@ -86,7 +86,7 @@ module _ (clean : Bool) (n : ℕ) where
         (
           (index, tt),
           index_read clean n k bracket p i v done
-              (walks.into_answer g k bracket (OfIndex i bracket) (walks.operating g k bracket a v) p
+              (walks.into_answer g k bracket false (OfIndex i bracket) (walks.operating g k bracket a v) p
               done) f index value
               (into_answer clean n k g bracket (OfIndex i bracket) index (walks.operating g k bracket a v)
               (operates clean n k g bracket a v value) p done f),

@@ -274,7 +274,7 @@ module _ (clean : Bool) (n : ℕ) where
 
       pub into_answer : (q : Position) (o : Origin) → OriginNames o → (next : Next) → Goes next →
           (p : Place) (done : Rest) → Follows done →
-          Reading (walks.into_answer g k q o next p done)
+          Reading (walks.into_answer g k q false o next p done)
       into_answer q o from next on p done f v names =
           reads q v done (λ u. walks.rooted g k o (read_write u) next p done) f names
           (λ u plain. roots o from (read_write u) plain next on p done f)

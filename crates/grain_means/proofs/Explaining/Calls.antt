@@ -361,7 +361,7 @@ module _ {S : Type 0} (m : Setup S) (c : ChainWalk S) where
         (join m c come (added here)))
 
     pub into_answer : (q : Position) (o : Origin) (next : Next) → Goes m c next → (p : Place)
-        (done : Rest) → Follows m c done → Answers (walks.into_answer c.course.setting n q o next p done)
+        (done : Rest) → Follows m c done → Answers (walks.into_answer c.course.setting n q false o next p done)
     into_answer q o next on p done f d =
         reads m c n q d done (λ u. walks.rooted c.course.setting n o (read_write u) next p done) f
         (λ v come u e at. roots o (read_write u) next on p done f v at)

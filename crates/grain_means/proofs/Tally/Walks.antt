@@ -15,7 +15,7 @@ use Rattle.grain_means.specs.Rules.{Receiver, answered, at_step, cells_given_bac
 use Rattle.grain_means.specs.Tasks.{Call, Task, Done, Mark, Look, Flatten, Write, Root, Drop, Need, Walked, Well, Ill}
 use Rattle.grain_means.specs.Worlds.{Act, Answer, Came, Failed, Frame, Setup, World}
 use Rattle.grain_means.specs.Causes.Natives.{IsCalled, Question, native_asked, reply_to}
-use Rattle.grain_means.specs.Causes.Spots.{CallEnds, ChainWalk, Falls, WalkRow, answered_world, failed, gave, lent, lent_for, missing, past, question_of, refused, world_of}
+use Rattle.grain_means.specs.Causes.Spots.{CallEnds, ChainWalk, Falls, Passes, WalkRow, answered_world, failed, gave, lent, lent_for, missing, past, question_of, refused, world_of}
 use Rattle.grain_means.proofs.Explaining.Ways.{Why}
 use Rattle.grain_means.proofs.Footing.{by_test}
 use Rattle.grain_means.proofs.Kept.{keeps_given}
@@ -79,10 +79,11 @@ module _ {S : Type 0} {m : Setup S} (walk : Walk m) where
         came v = heard (Came v)
 
         fails_so : (x : Problem) (u : World S) → Kept u →
-            CallEnds m call r w (Failed x) (past u) → Even walk ran (failed_so m heard x u)
+            (Passes m u → CallEnds m call r w (Failed x) (past u)) →
+            Even walk ran (failed_so m heard x u)
         fails_so x u at ends =
             by_test (Even walk ran) (is_stop m.stop u.passed) (out u) (heard (Failed x) (past u))
-            (λ stop. hears.0 u stop at) (λ clear. hears.1 (Failed x) (past u) ends at)
+            (λ stop. hears.0 u stop at) (λ clear. hears.1 (Failed x) (past u) (ends clear) at)
 
         module _ (args : List Held)
             (read : flat_all w.cells (map read_write call.values) ≡ Some args) where
@@ -101,36 +102,37 @@ module _ {S : Type 0} {m : Setup S} (walk : Walk m) where
           )
 
           module _ (n : Native) (found : native_asked m asked ≡ Some n)
-              (called : IsCalled asked n) where
+              (called : IsCalled asked n) (first : Passes m w) (second : Passes m (past w)) where
             replies : (a : Reply) → reply_to m asked n.key ≡ a →
                 Even walk ran
                 (answered m a frame (answered_world m n.key r args w) came (failed_so m heard))
             replies (reply.Done v) is =
                 hears.1 (Came v) (answered_world m n.key r args w)
-                (gave args read n found called v is) (kept_after n.key)
+                (gave args read n found called first second v is) (kept_after n.key)
             replies (reply.Failed x) is =
                 fails_so (at_position_if_none call.position x) (answered_world m n.key r args w)
-                (kept_after n.key) (failed args read n found called x is)
+                (kept_after n.key) (failed args read n found called first second x is)
 
-            calls : Even walk ran
-                (host_called_or m out n.key r args frame w came (failed_so m heard))
-            calls =
-                let back : World S → World S = λ v. record v {
-                  host = m.law.call_after v.host n.key (lent_held r) (trees_in args);
-                  scope = given_back m.law v.host n.key (trees_in args) r v.scope;
-                  cells = cells_given_back m.law v.host n.key (trees_in args) r v.cells;
-                  roots = roots_given_back m.law v.host n.key (trees_in args) r v.roots;
-                } in
-                let answers : World S → World S → Act S = λ v1 v2. answered m
-                (m.law.call_reply v1.host n.key (lent_held r) (trees_in args)) frame v2 came
-                (failed_so m heard) in
-                by_test (Even walk ran) (is_stop m.stop w.passed) (out w)
-                (marked_or m out (back (past w)) (answers (past w)))
-                (λ stop. hears.0 w stop s)
-                (λ clear. by_test (Even walk ran) (is_stop m.stop (w.passed + 1))
-                (out (back (past w))) (answers (past w) (past (back (past w))))
-                (λ stop. hears.0 (back (past w)) stop (kept_after n.key))
-                (λ free. replies (m.law.call_reply w.host n.key (lent_held r) (trees_in args)) refl))
+          calls : (n : Native) → native_asked m asked ≡ Some n → IsCalled asked n →
+              Even walk ran (host_called_or m out n.key r args frame w came (failed_so m heard))
+          calls n found called =
+              let back : World S → World S = λ v. record v {
+                host = m.law.call_after v.host n.key (lent_held r) (trees_in args);
+                scope = given_back m.law v.host n.key (trees_in args) r v.scope;
+                cells = cells_given_back m.law v.host n.key (trees_in args) r v.cells;
+                roots = roots_given_back m.law v.host n.key (trees_in args) r v.roots;
+              } in
+              let answers : World S → World S → Act S = λ v1 v2. answered m
+              (m.law.call_reply v1.host n.key (lent_held r) (trees_in args)) frame v2 came
+              (failed_so m heard) in
+              by_test (Even walk ran) (is_stop m.stop w.passed) (out w)
+              (marked_or m out (back (past w)) (answers (past w)))
+              (λ stop. hears.0 w stop s)
+              (λ first. by_test (Even walk ran) (is_stop m.stop (w.passed + 1))
+              (out (back (past w))) (answers (past w) (past (back (past w))))
+              (λ stop. hears.0 (back (past w)) stop (kept_after n.key))
+              (λ second. replies n found called first second
+              (m.law.call_reply w.host n.key (lent_held r) (trees_in args)) refl))
 
           finds : (found : Option Native) → native_asked m asked ≡ found →
               Even walk ran

@@ -14,7 +14,7 @@ use Rattle.grain_value.specs.declared.values.locating.Spot.{Spot}
 use Rattle.grain_value.specs.declared.values.value_faults.ValueFault.TheVariants as fault
 use Rattle.grain_fault.specs.Absences.{is_indexing_type}
 use Rattle.grain_fault.specs.Positions.{at_position_if_none}
-use Rattle.grain_fault.specs.Problems.{Problem, Plain, Arithmetic, DataRace, DataTooLarge, MismatchDataType, NonPureCall, PropertyNotFound}
+use Rattle.grain_fault.specs.Problems.{FaultKind, Problem, Plain, InFunctionCall, InModule, SystemError, NoMemory, Arithmetic, ArrayBounds, BitFieldBounds, DataRace, DataTooLarge, MismatchDataType, NonPureCall, PropertyNotFound, StringBounds}
 use Rattle.grain_fault.specs.declared.places.Position.{Position}
 use Rattle.grain_host.specs.Law as reply
 use Rattle.grain_host.specs.Signatures.{not_found}
@@ -44,6 +44,10 @@ pub record ChainWalk (S : Type 0) : Type 0 where
 abbrev pub past : {S : Type 0} → World S → World S
 past w = record w { passed = w.passed + 1 }
 
+-- memory is not out at the next mark
+abbrev pub Passes : {S : Type 0} → Setup S → World S → Type 0
+Passes m w = is_stop m.stop w.passed ≡ false
+
 -- what a walk needs is a question to the host, on arguments as they are read
 abbrev pub question_of : {S : Type 0} → Call → Option Receiver → World S → List Held → Question S
 question_of c r w args =
@@ -66,24 +70,24 @@ answered_world m key r args w = record w {
 -- none.
 pub data CallEnds {S : Type 0} (m : Setup S) (c : Call) (r : Option Receiver) (w : World S) :
     Answer → World S → Type 0 where
-  lent : flat_all w.cells (map read_write c.values) ≡ None →
+  lent : flat_all w.cells (map read_write c.values) ≡ None → Passes m w →
       CallEnds m c r w (Failed (Plain (DataRace (race_text [])) c.position)) (past w)
   missing : (args : List Held) → flat_all w.cells (map read_write c.values) ≡ Some args →
-      native_asked m (question_of c r w args) ≡ None →
+      native_asked m (question_of c r w args) ≡ None → Passes m w →
       CallEnds m c r w (Failed (not_found c.name (values_in (given r args)) c.position)) (past w)
   refused : (args : List Held) → flat_all w.cells (map read_write c.values) ≡ Some args →
       (n : Native) → native_asked m (question_of c r w args) ≡ Some n →
-      n.writes && first_is_read_only (given r args) ≡ true →
+      n.writes && first_is_read_only (given r args) ≡ true → Passes m w →
       CallEnds m c r w (Failed (Plain (NonPureCall c.name) c.position)) (past w)
   gave : (args : List Held) → flat_all w.cells (map read_write c.values) ≡ Some args →
       (n : Native) → native_asked m (question_of c r w args) ≡ Some n →
-      IsCalled (question_of c r w args) n → (v : Dynamic) →
+      IsCalled (question_of c r w args) n → Passes m w → Passes m (past w) → (v : Dynamic) →
       reply_to m (question_of c r w args) n.key ≡ reply.Done v →
       CallEnds m c r w (Came v) (answered_world m n.key r args w)
   failed : (args : List Held) → flat_all w.cells (map read_write c.values) ≡ Some args →
       (n : Native) → native_asked m (question_of c r w args) ≡ Some n →
-      IsCalled (question_of c r w args) n → (x : Problem) →
-      reply_to m (question_of c r w args) n.key ≡ reply.Failed x →
+      IsCalled (question_of c r w args) n → Passes m w → Passes m (past w) → (x : Problem) →
+      reply_to m (question_of c r w args) n.key ≡ reply.Failed x → Passes m (past (past w)) →
       CallEnds m c r w (Failed (at_position_if_none c.position x))
       (past (answered_world m n.key r args w))
 
@@ -110,7 +114,7 @@ module _ {S : Type 0} (m : Setup S) (c : ChainWalk S) where
   -- a task in a world comes to this in that world
   pub data WalksTo (t : Task) (v : World S) : Task → World S → Type 0 where
     here : WalksTo t v t v
-    marked : {out go : Task} {w : World S} → is_stop m.stop w.passed ≡ false →
+    marked : {out go : Task} {w : World S} → Passes m w →
         WalksTo t v go (past w) → WalksTo t v (Mark out go) w
     looked : {q : Place} {go : Held → Task} {w : World S} →
         WalksTo t v (go (look w.roots (world_of q))) w → WalksTo t v (Look q go) w
@@ -267,3 +271,25 @@ module _ {S : Type 0} (m : Setup S) (c : ChainWalk S) where
   WalkRow n x = OutOfBounds n x ⊎ (MistypesIndex n x ⊎ (LacksIndex n x ⊎ (LacksProperty n x ⊎
       (ReadsLentCell n x ⊎ (MistypesPart n x ⊎ (Calculates n x ⊎
       (NativeFails n x ⊎ InsteadFails n x)))))))
+
+  -- why the walk ends in a fault of this kind at this position, if neither the host answered it nor a
+  -- native was not to be had; it ends in no other kind than these
+  abbrev pub KindRow : ℕ → FaultKind → Position → Type 0
+  KindRow n (ArrayBounds size i) q = OutOfBounds n (Plain (ArrayBounds size i) q)
+  KindRow n (StringBounds size i) q = OutOfBounds n (Plain (StringBounds size i) q)
+  KindRow n (BitFieldBounds size i) q = OutOfBounds n (Plain (BitFieldBounds size i) q)
+  KindRow n (MismatchDataType r a) q = MistypesIndex n (Plain (MismatchDataType r a) q)
+      ⊎ MistypesPart n (Plain (MismatchDataType r a) q)
+  KindRow n (PropertyNotFound k) q =
+      LacksIndex n (Plain (PropertyNotFound k) q) ⊎ LacksProperty n (Plain (PropertyNotFound k) q)
+  KindRow n (DataRace s) q = ReadsLentCell n (Plain (DataRace s) q)
+  KindRow n (Arithmetic s) q = Calculates n (Plain (Arithmetic s) q)
+  KindRow n (DataTooLarge s) q = Calculates n (Plain (DataTooLarge s) q)
+  KindRow n k q = ⊥
+
+  abbrev pub OwnRow : ℕ → Problem → Type 0
+  OwnRow n (Plain k q) = KindRow n k q
+  OwnRow n (InFunctionCall f s x q) = ⊥
+  OwnRow n (InModule f x q) = ⊥
+  OwnRow n (SystemError s e) = ⊥
+  OwnRow n NoMemory = ⊥

@@ -58,7 +58,9 @@ module _ (g : Setting) where
   abbrev pub rooted : ℕ → Origin → Held → Next → Place → Rest → Task
   rooted n o h next p done = at_mark n done (Root h (next (next_root p) (back n o p done)))
 
-  -- the walk goes on in an answer as it is read
-  abbrev pub into_answer : ℕ → Position → Origin → Next → Place → Rest → Dynamic → Task
-  into_answer n q o next p done v =
-      flattening n q v done (λ u. rooted n o (read_write u) next p done)
+  -- The walk goes on in an answer as it is read, which is a new root. The chain's own value, at its last
+  -- step, is the answer as it is given, which may be a cell, and no root.
+  abbrev pub into_answer : ℕ → Position → Bool → Origin → Next → Place → Rest → Dynamic → Task
+  into_answer n q own o next p done v =
+      if own then own_value done v
+      else flattening n q v done (λ u. rooted n o (read_write u) next p done)
