@@ -4,7 +4,6 @@ use Rattle.grain_value.specs.declared.values.Dynamic.{Dynamic}
 use Rattle.grain_value.specs.declared.values.Dynamic.TheVariants as dynamic
 use Rattle.grain_fault.specs.Problems.{Problem, Plain, Arithmetic, DataTooLarge}
 use Rattle.grain_fault.specs.declared.places.Position.{Position}
-use Rattle.grain_ops.specs.Outcomes.{ArithmeticFault, TooLarge}
 use Rattle.grain_means.specs.Walks.{out_of_bounds}
 use Rattle.grain_means.specs.Worlds.{Setup}
 use Rattle.grain_means.specs.Causes.Spots.{Calculates, ChainWalk, InsteadFails, LacksIndex, LacksProperty, MistypesIndex, MistypesPart, NativeFails, OutOfBounds, OwnRow, ReadsLentCell, WalkRow}

@@ -7,4 +7,5 @@ pub mod Roots
 pub mod Stretches
 pub mod Scopes
 pub mod Branches
+pub mod LentPlaces
 pub mod Driving
