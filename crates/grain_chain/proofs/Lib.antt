@@ -1,0 +1,3 @@
+pub mod Strides
+pub mod Asks
+pub mod Halting

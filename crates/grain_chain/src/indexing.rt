@@ -1,0 +1,305 @@
+//! Index steps.
+
+ghost use Rattle.std.specs.Prelude.{◌≡◌, ◌<◌, ◌+◌, ◌∷◌, [], ℕ, true, false, Some, Ok, Err, IfOk, codes};
+ghost use Rattle.grain_value.specs.View.{tree};
+ghost use Rattle.grain_value.specs.declared.values.value_faults.ValueFault.TheVariants as fault;
+ghost use Rattle.grain_fault.specs.declared.places.Position.{Position as AnyPosition};
+ghost use Rattle.grain_value.specs.Cells.{flat};
+ghost use Rattle.grain_value.specs.Locating.{locate};
+ghost use Rattle.grain_value.specs.declared.values.Dynamic.{Dynamic as AnyValue};
+ghost use Rattle.grain_value.specs.declared.values.Dynamic.TheVariants as dynamic;
+ghost use Rattle.grain_program.specs.View.{View as AnyProgram};
+ghost use Rattle.grain_means.specs.Walks.{at_mark, index_step, indexed, is_indexed, key_of, missing_key, by_indexer, index_was_got, into_answer, asking, index_get, OfIndex, set_by_index};
+ghost use Rattle.grain_chain.specs.Standings.{Stands};
+ghost use Rattle.grain_chain.specs.Walking.{place_of, role_in, origin_of, operand_of, count, steps_left, backs};
+ghost use Rattle.grain_chain.specs.Going.{Goes, Takes, Needs, NeedsOr, setting, rest, next_step, with_value, Asked};
+ghost use Rattle.grain_chain.specs.declared.contexts.Context.{Context as AnyContext};
+
+use crate::asking::{one, two};
+use crate::contexts::Context;
+use crate::faults::{out_of_bounds, wrong_index};
+use crate::origins::{Awaits, Ending, Go, Into, Origin};
+use crate::requests::WalkAnswer;
+use crate::steps::stop;
+use crate::walks::Walk;
+use grain_fault::Position;
+use grain_value::{Dynamic, Held, OutOfMemory, PathStep, Spot, ValueFault};
+use std::mem;
+
+impl Walk {
+    // An index step, with the mark at its start. None says that the walk goes on at the next step.
+    pub(crate) fn index(
+        &mut self,
+        context: Context<'_>,
+        role: Option<Ending>,
+        operand: u32,
+        pos: Position,
+        bracket: Position,
+    ) -> Result<Option<WalkAnswer>, OutOfMemory>
+        requires at { self.old.step < count context.program.now self.old }
+        ensures takes { Takes context.entry self.old
+            (at_mark self.old.step (rest context.entry self.old)
+            (index_step (setting context.entry self.old) self.old.step (operand_of self.old operand)
+            pos bracket (role_in role self.old.value) (next_step context.entry self.old)
+            (place_of self.old) (rest context.entry self.old))) result self.new }
+        ensures needs { NeedsOr context.entry.program.now self.new result
+            (steps_left context.entry.program.now self.old + 3) }
+    {
+        if !is_indexed(self.trail.target()) {
+            let index = self.operand(operand)?;
+            self.pass()?;
+            return stop(self.by_indexer(role, pos, bracket, index));
+        }
+        let index = self.flat_operand(context, operand)?;
+        self.pass()?;
+        match index {
+            Some(index) => self.at_index(context, role, operand, pos, bracket, index),
+            None => stop(self.race(pos)),
+        }
+    }
+
+    // An operand of the chain.
+    fn operand(&self, operand: u32) -> Result<Dynamic, OutOfMemory>
+        ensures { IfOk result (λ value. value ≡ operand_of self.now operand) }
+    {
+        match self.operands.get(operand as usize) {
+            Some(operand) => operand.copy(self.alloc),
+            None => Ok(Dynamic::Unit),
+        }
+    }
+
+    // An operand of the chain, as it is read. None where it is a cell whose content is lent.
+    fn flat_operand(
+        &self,
+        context: Context<'_>,
+        operand: u32,
+    ) -> Result<Option<Dynamic>, OutOfMemory>
+        ensures { IfOk result (λ value. value
+            ≡ flat context.entry.cells.now (operand_of self.now operand)) }
+    {
+        match self.operands.get(operand as usize) {
+            None => Ok(Some(Dynamic::Unit)),
+            Some(operand) => match operand.flat(context.cells) {
+                None => Ok(None),
+                Some(value) => Ok(Some(value.copy(self.alloc)?)),
+            },
+        }
+    }
+
+    // Goes where an index leads in a value that has indices of its own.
+    fn at_index(
+        &mut self,
+        context: Context<'_>,
+        role: Option<Ending>,
+        operand: u32,
+        pos: Position,
+        bracket: Position,
+        index: Dynamic,
+    ) -> Result<Option<WalkAnswer>, OutOfMemory>
+        requires { (v : AnyValue) × Stands self.old.trail v × (is_indexed v ≡ true) }
+        ensures takes { (v : AnyValue) → Stands self.old.trail v → Takes context.entry self.old
+            (indexed (setting context.entry self.old) self.old.step pos bracket
+            (role_in role self.old.value) (operand_of self.old operand) index (with_value self.old v)
+            (next_step context.entry self.old) (place_of self.old) (rest context.entry self.old)
+            (locate v index)) result self.new }
+        ensures needs { (n : ℕ) → NeedsOr context.entry.program.now self.new result n }
+    {
+        let target = self.trail.target();
+        match target.locate(&index) {
+            Ok(spot) => self.at_spot(role, spot, index),
+            Err(ValueFault::Bounds { length, index: place }) => {
+                let fault = out_of_bounds(target, length, place, pos);
+                stop(self.raise(fault))
+            }
+            Err(ValueFault::NoKey) => {
+                self.missing_index(context, role, operand, pos, bracket, index)
+            }
+            Err(ValueFault::WrongType) => {
+                let fault = wrong_index(self.alloc, target, &index, pos)?;
+                stop(self.raise(fault))
+            }
+            Err(_) => unreachable!(),
+        }
+    }
+
+    // Goes to what an index names.
+    fn at_spot(
+        &mut self,
+        role: Option<Ending>,
+        spot: Spot,
+        index: Dynamic,
+    ) -> Result<Option<WalkAnswer>, OutOfMemory>
+        requires { (v : AnyValue) × Stands self.old.trail v × (locate v index ≡ Ok spot) }
+        ensures takes { (x : AnyContext) (v i : AnyValue) (pos bracket : AnyPosition) →
+            Stands self.old.trail v → Takes x self.old
+            (indexed (setting x self.old) self.old.step pos bracket (role_in role self.old.value) i index
+            (with_value self.old v) (next_step x self.old) (place_of self.old) (rest x self.old)
+            (Ok spot)) result self.new }
+        ensures needs { (p : AnyProgram) (n : ℕ) → NeedsOr p self.new result n }
+    {
+        match spot {
+            Spot::Item(item) => self.deeper(PathStep::Index(item))?,
+            Spot::Key => match index {
+                Dynamic::Text(key) => self.deeper(PathStep::Key(key))?,
+                _ => unreachable!(),
+            },
+            _ => {
+                let origin = match role {
+                    Some(Ending::Read) => Origin::Nothing,
+                    _ => Origin::Part(spot),
+                };
+                let value = self.trail.target().part(spot);
+                let read_only = self.trail.is_read_only();
+                self.enter(origin, Held { value, read_only })?;
+            }
+        }
+        Ok(None)
+    }
+
+    // An index of a map, which does not have the key.
+    fn missing_index(
+        &mut self,
+        context: Context<'_>,
+        role: Option<Ending>,
+        operand: u32,
+        pos: Position,
+        bracket: Position,
+        key: Dynamic,
+    ) -> Result<Option<WalkAnswer>, OutOfMemory>
+        requires { (v : AnyValue) × Stands self.old.trail v × (locate v key ≡ Err fault.NoKey) }
+        ensures takes { (v : AnyValue) → Stands self.old.trail v → Takes context.entry self.old
+            (missing_key (setting context.entry self.old) self.old.step pos
+            (OfIndex (operand_of self.old operand) bracket) (role_in role self.old.value) (key_of key)
+            (with_value self.old v) (next_step context.entry self.old) (place_of self.old)
+            (rest context.entry self.old)) result self.new }
+        ensures needs { (n : ℕ) → NeedsOr context.entry.program.now self.new result n }
+    {
+        let Dynamic::Text(key) = key else {
+            unreachable!()
+        };
+        let index = self.operand(operand)?;
+        self.missing_key(context, role, pos, Origin::Index { index, bracket }, key)
+    }
+
+    // The host's indexers, for an index of a value that has none of its own.
+    fn by_indexer(
+        &mut self,
+        role: Option<Ending>,
+        pos: Position,
+        bracket: Position,
+        index: Dynamic,
+    ) -> Result<WalkAnswer, OutOfMemory>
+        ensures goes { (x : AnyContext) → Goes x self.old
+            (by_indexer (setting x self.old) self.old.step pos bracket (role_in role self.old.value)
+            index (next_step x self.old) (place_of self.old) (rest x self.old)) result self.new }
+        ensures needs { (p : AnyProgram) → self.old.step < count p self.old →
+            Needs p self.new result (steps_left p self.old + 3) }
+    {
+        match role {
+            Some(Ending::Write) => self.set_value_by_index(bracket, index),
+            Some(Ending::Operate(op)) => {
+                let kept = index.copy(self.alloc)?;
+                let argument = index.copy(self.alloc)?;
+                let into = Into {
+                    pos: bracket,
+                    own: false,
+                    origin: Origin::Index { index, bracket },
+                    go: Go::Operate(bracket, op),
+                };
+                let awaits = Awaits::IndexRead {
+                    bracket,
+                    index: kept,
+                    into,
+                };
+                self.get_by_index(bracket, argument, awaits)
+            }
+            Some(Ending::Read) => self.get_own_by_index(pos, bracket, index, true),
+            None => self.get_own_by_index(pos, bracket, index, false),
+        }
+    }
+
+    // Asks an indexer for what the walk goes on in, which is the chain's own value or not.
+    fn get_own_by_index(
+        &mut self,
+        pos: Position,
+        bracket: Position,
+        index: Dynamic,
+        own: bool,
+    ) -> Result<WalkAnswer, OutOfMemory>
+        ensures goes { (x : AnyContext) → Goes x self.old
+            (asking self.old.step bracket index_get (Some (place_of self.old)) (index ∷ [])
+            (rest x self.old) (index_was_got self.old.step (rest x self.old)
+            (into_answer (setting x self.old) self.old.step pos own (OfIndex index bracket)
+            (next_step x self.old) (place_of self.old) (rest x self.old)))) result self.new }
+        ensures needs { (p : AnyProgram) → self.old.step < count p self.old →
+            Needs p self.new result (steps_left p self.old + 2) }
+    {
+        let argument = index.copy(self.alloc)?;
+        let into = Into {
+            pos,
+            own,
+            origin: Origin::Index { index, bracket },
+            go: Go::Further,
+        };
+        self.get_by_index(bracket, argument, Awaits::IndexGot(into))
+    }
+
+    // Asks an indexer for what an index names.
+    fn get_by_index(
+        &mut self,
+        bracket: Position,
+        index: Dynamic,
+        awaits: Awaits,
+    ) -> Result<WalkAnswer, OutOfMemory>
+        ensures { Asked self.old bracket (codes "index$get$") (tree index ∷ []) awaits result self.new }
+    {
+        let values = one(self.alloc, index)?;
+        self.ask(bracket, "index$get$", values, awaits)
+    }
+
+    // Asks an indexer to set the chain's value.
+    pub(crate) fn set_value_by_index(
+        &mut self,
+        bracket: Position,
+        index: Dynamic,
+    ) -> Result<WalkAnswer, OutOfMemory>
+        ensures goes { (x : AnyContext) → Goes x self.old
+            (set_by_index self.old.step bracket (place_of self.old) index self.old.value dynamic.Unit
+            (rest x self.old)) result self.new }
+        ensures needs { (p : AnyProgram) → Needs p self.new result (backs self.old + 1) }
+    {
+        let value = mem::replace(&mut self.value, Dynamic::Unit);
+        self.gives = Dynamic::Unit;
+        self.set_by_index(bracket, index, value)
+    }
+
+    // Asks an indexer to set a value.
+    pub(crate) fn set_by_index(
+        &mut self,
+        bracket: Position,
+        index: Dynamic,
+        value: Dynamic,
+    ) -> Result<WalkAnswer, OutOfMemory>
+        ensures goes { (x : AnyContext) → Goes x self.old
+            (set_by_index self.old.step bracket (place_of self.old) index value self.old.gives
+            (rest x self.old)) result self.new }
+        ensures needs { (p : AnyProgram) → Needs p self.new result (backs self.old + 1) }
+    {
+        let values = two(self.alloc, index, value)?;
+        self.ask(bracket, "index$set$", values, Awaits::IndexSet)
+    }
+}
+
+// Whether a value has indices of its own.
+fn is_indexed(value: &Dynamic) -> bool
+    ensures { result ≡ is_indexed value.now }
+{
+    matches!(
+        value,
+        Dynamic::Array(_)
+            | Dynamic::Blob(_)
+            | Dynamic::Text(_)
+            | Dynamic::Int(_)
+            | Dynamic::Map(_)
+    )
+}

@@ -1,0 +1,211 @@
+//! Property steps.
+
+ghost use Rattle.std.specs.Prelude.{◌≡◌, ◌<◌, ◌+◌, ◌∷◌, [], Some, true};
+ghost use Rattle.grain_value.specs.declared.values.Dynamic.TheVariants as dynamic;
+ghost use Rattle.grain_fault.specs.Problems.{problem_of};
+ghost use Rattle.grain_means.specs.Walks.{at_mark, asking, index_get, index_set, property_step, by_accessor, get_property, got_instead, set_instead, set_property, named};
+ghost use Rattle.grain_chain.specs.Walking.{place_of, role_in, into, count, steps_left, backs};
+ghost use Rattle.grain_chain.specs.Going.{Goes, Takes, Needs, NeedsOr, setting, rest, next_step};
+
+use crate::asking::{named, one, two};
+use crate::contexts::{Context, name_at};
+use crate::origins::{Awaits, Ending, Go, Into, Origin};
+use crate::requests::WalkAnswer;
+use crate::steps::stop;
+use crate::walks::Walk;
+use grain_fault::{EvalAltResult, Position};
+use grain_value::{Array, Dynamic, OutOfMemory, PathStep, Text};
+use std::mem;
+
+impl Walk {
+    // A property step, with the mark at its start. None says that the walk goes on at the next step.
+    pub(crate) fn property(
+        &mut self,
+        context: Context<'_>,
+        role: Option<Ending>,
+        name: u32,
+        getter: u32,
+        setter: u32,
+        pos: Position,
+    ) -> Result<Option<WalkAnswer>, OutOfMemory>
+        requires at { self.old.step < count context.program.now self.old }
+        ensures takes { Takes context.entry self.old
+            (at_mark self.old.step (rest context.entry self.old)
+            (property_step (setting context.entry self.old) self.old.step name getter setter pos
+            (role_in role self.old.value) (next_step context.entry self.old) (place_of self.old)
+            (rest context.entry self.old))) result self.new }
+        ensures needs { NeedsOr context.entry.program.now self.new result
+            (steps_left context.entry.program.now self.old + 3) }
+    {
+        let Dynamic::Map(map) = self.trail.target() else {
+            self.pass()?;
+            return stop(self.by_accessor(context, role, name, getter, setter, pos));
+        };
+        let key = name_at(context.program, name);
+        let is_there = map.get(key).is_some();
+        let key = Text::copy_of(self.alloc, key)?;
+        self.pass()?;
+        if is_there {
+            self.deeper(PathStep::Key(key))?;
+            return Ok(None);
+        }
+        self.missing_key(context, role, pos, Origin::Nothing, key)
+    }
+
+    // The host's getters and setters, for a property of a value that is no map.
+    fn by_accessor(
+        &mut self,
+        context: Context<'_>,
+        role: Option<Ending>,
+        name: u32,
+        getter: u32,
+        setter: u32,
+        pos: Position,
+    ) -> Result<WalkAnswer, OutOfMemory>
+        requires at { self.old.step < count context.program.now self.old }
+        ensures goes { Goes context.entry self.old
+            (by_accessor (setting context.entry self.old) self.old.step name getter setter pos
+            (role_in role self.old.value) (next_step context.entry self.old) (place_of self.old)
+            (rest context.entry self.old)) result self.new }
+        ensures needs { Needs context.entry.program.now self.new result
+            (steps_left context.entry.program.now self.old + 3) }
+    {
+        let (own, assigned, go) = match role {
+            Some(Ending::Write) => {
+                return self.set_value(context, name, setter, pos);
+            }
+            Some(Ending::Operate(op)) => (false, true, Go::Operate(pos, op)),
+            Some(Ending::Read) => (true, false, Go::Further),
+            None => (false, false, Go::Further),
+        };
+        let origin = Origin::Property {
+            name,
+            setter,
+            pos,
+            assigned,
+        };
+        let into = Into {
+            pos,
+            own,
+            origin,
+            go,
+        };
+        self.get_property(context, name, getter, pos, into)
+    }
+
+    // Asks a getter for a property.
+    fn get_property(
+        &mut self,
+        context: Context<'_>,
+        name: u32,
+        getter: u32,
+        pos: Position,
+        into: Into,
+    ) -> Result<WalkAnswer, OutOfMemory>
+        requires at { self.old.step < count context.program.now self.old }
+        ensures goes { Goes context.entry self.old
+            (get_property (setting context.entry self.old) self.old.step name getter pos
+            (place_of self.old) (rest context.entry self.old)
+            (into context.entry.engine.now context.entry.program.now self.old into))
+            result self.new }
+        ensures needs { Needs context.entry.program.now self.new result
+            (steps_left context.entry.program.now self.old + 3) }
+    {
+        let getter = name_at(context.program, getter);
+        let values = Array::new(self.alloc);
+        self.ask(pos, getter, values, Awaits::PropertyGot { name, pos, into })
+    }
+
+    // Asks an indexer for a property of which the getter failed.
+    pub(crate) fn get_instead(
+        &mut self,
+        context: Context<'_>,
+        name: u32,
+        pos: Position,
+        fault: EvalAltResult,
+        into: Into,
+    ) -> Result<WalkAnswer, OutOfMemory>
+        requires at { self.old.step < count context.program.now self.old }
+        ensures goes { Goes context.entry self.old
+            (asking self.old.step pos index_get (Some (place_of self.old))
+            (named (setting context.entry self.old) name ∷ []) (rest context.entry self.old)
+            (got_instead self.old.step (problem_of fault) (rest context.entry self.old)
+            (into context.entry.engine.now context.entry.program.now self.old into)))
+            result self.new }
+        ensures needs { Needs context.entry.program.now self.new result
+            (steps_left context.entry.program.now self.old + 2) }
+    {
+        let name = named(self.alloc, context.program, name)?;
+        let values = one(self.alloc, name)?;
+        self.ask(pos, "index$get$", values, Awaits::GotInstead { fault, into })
+    }
+
+    // Asks a setter to set the chain's value.
+    fn set_value(
+        &mut self,
+        context: Context<'_>,
+        name: u32,
+        setter: u32,
+        pos: Position,
+    ) -> Result<WalkAnswer, OutOfMemory>
+        ensures goes { Goes context.entry self.old
+            (set_property (setting context.entry self.old) self.old.step name setter pos true
+            (place_of self.old) self.old.value dynamic.Unit (rest context.entry self.old))
+            result self.new }
+        ensures needs { Needs context.entry.program.now self.new result (backs self.old + 2) }
+    {
+        let value = mem::replace(&mut self.value, Dynamic::Unit);
+        self.gives = Dynamic::Unit;
+        self.set_property(context, name, setter, pos, true, value)
+    }
+
+    // Asks a setter to set a property.
+    pub(crate) fn set_property(
+        &mut self,
+        context: Context<'_>,
+        name: u32,
+        setter: u32,
+        pos: Position,
+        assigned: bool,
+        set: Dynamic,
+    ) -> Result<WalkAnswer, OutOfMemory>
+        ensures goes { Goes context.entry self.old
+            (set_property (setting context.entry self.old) self.old.step name setter pos assigned
+            (place_of self.old) set self.old.gives (rest context.entry self.old))
+            result self.new }
+        ensures needs { Needs context.entry.program.now self.new result (backs self.old + 2) }
+    {
+        let values = one(self.alloc, set.copy(self.alloc)?)?;
+        let setter = name_at(context.program, setter);
+        let awaits = Awaits::PropertySet {
+            name,
+            pos,
+            assigned,
+            set,
+        };
+        self.ask(pos, setter, values, awaits)
+    }
+
+    // Asks an indexer to set a property of which the setter failed.
+    pub(crate) fn set_instead(
+        &mut self,
+        context: Context<'_>,
+        name: u32,
+        pos: Position,
+        set: Dynamic,
+        fault: EvalAltResult,
+        assigned: bool,
+    ) -> Result<WalkAnswer, OutOfMemory>
+        ensures goes { Goes context.entry self.old
+            (asking self.old.step pos index_set (Some (place_of self.old))
+            (named (setting context.entry self.old) name ∷ set ∷ []) (rest context.entry self.old)
+            (set_instead self.old.step (problem_of fault) assigned self.old.gives
+            (rest context.entry self.old))) result self.new }
+        ensures needs { Needs context.entry.program.now self.new result (backs self.old + 1) }
+    {
+        let name = named(self.alloc, context.program, name)?;
+        let values = two(self.alloc, name, set)?;
+        let awaits = Awaits::SetInstead { fault, assigned };
+        self.ask(pos, "index$set$", values, awaits)
+    }
+}

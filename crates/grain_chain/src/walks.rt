@@ -1,0 +1,121 @@
+//! A walk: what it holds, how it begins, how it goes on, and how it ends.
+
+ghost use Rattle.std.specs.Prelude.{◌≡◌, ◌+◌, ◌*◌, [], ◌∷◌};
+ghost use Rattle.grain_means.specs.Walks.{whole_walk};
+ghost use Rattle.grain_program.specs.View.{chain_of};
+ghost use Rattle.grain_chain.specs.Walking.{Did, Waits, Falls, HasOperator, new_course, steps_of, count_of, resumed, outcome_of, with_receiver, still};
+
+use crate::contexts::{Context, ending_of};
+use crate::origins::{Awaits, Ending};
+use crate::requests::WalkAnswer;
+use crate::trails::Trail;
+use grain_fault::{EvalAltResult, Position};
+use grain_global::Engine;
+use grain_program::Program;
+use grain_value::{Array, Dynamic, Held, OutOfMemory, Store};
+use std::alloc::Global;
+use std::mem;
+
+/// A walk along a place, as far as it has come.
+#[derive(Drop)]
+pub struct Walk {
+    pub(crate) trail: Trail,
+    // the number of the step that is taken
+    pub(crate) step: usize,
+    pub(crate) awaits: Awaits,
+    // what the walk gives: it is set where the steps end
+    pub(crate) gives: Dynamic,
+    pub(crate) alloc: Global,
+    pub(crate) chain: u32,
+    pub(crate) operands: Array,
+    pub(crate) ending: Ending,
+    // the value that the chain assigns: unit where it assigns none, or no longer needs it
+    pub(crate) value: Dynamic,
+    // the position of the chain's instruction
+    pub(crate) pos: Position,
+    // how many marks were passed since the last answer
+    pub(crate) marks: u64,
+}
+
+impl Walk {
+    /// A walk from a root, and where it came to.
+    pub fn start(
+        alloc: Global,
+        engine: &Engine,
+        program: &Program,
+        cells: &Store,
+        root: Held,
+        chain: u32,
+        operands: Array,
+        value: Dynamic,
+        pos: Position,
+    ) -> (Walk, WalkAnswer)
+        requires { HasOperator program.now ((chain_of program.now chain).tail) }
+        ensures did { Did engine.now program.now cells.now (root ∷ []) 0
+            (whole_walk (new_course engine.now program.now pos chain operands value)
+            (steps_of program.now chain)) result.0 result.1 }
+        ensures falls { Falls program.now result.0 result.1 (4 * count_of program.now chain + 3) }
+    {
+        let context = Context {
+            engine,
+            program,
+            cells,
+        };
+        let mut walk = Walk {
+            trail: Trail::new(alloc, root),
+            step: 0,
+            awaits: Awaits::IndexSet,
+            gives: Dynamic::Unit,
+            alloc,
+            chain,
+            operands,
+            ending: ending_of(program, chain),
+            value,
+            pos,
+            marks: 0,
+        };
+        let went = walk.advance(context);
+        let answer = walk.settle(went);
+        (walk, answer)
+    }
+
+    /// Goes on with what came of the last request, and the receiver as it was left.
+    pub fn resume(
+        &mut self,
+        engine: &Engine,
+        program: &Program,
+        cells: &Store,
+        outcome: Result<Dynamic, EvalAltResult>,
+        receiver: Option<Held>,
+    ) -> WalkAnswer
+        requires { Waits program.now self.old receiver }
+        ensures did { Did engine.now program.now cells.now (with_receiver self.old receiver) 0
+            (resumed engine.now program.now self.old self.old.awaits (outcome_of outcome))
+            self.new result }
+        ensures falls { Falls program.now self.new result
+            (still program.now self.old self.old.awaits) }
+    {
+        let context = Context {
+            engine,
+            program,
+            cells,
+        };
+        self.marks = 0;
+        if let Some(held) = receiver {
+            self.trail.put(held.value);
+        }
+        let awaits = mem::replace(&mut self.awaits, Awaits::IndexSet);
+        let went = match outcome {
+            Ok(value) => self.came(context, awaits, value),
+            Err(fault) => self.refused(context, awaits, fault),
+        };
+        self.settle(went)
+    }
+
+    /// The root at which the walk began, as it is now.
+    pub fn finish(self) -> Held
+        ensures { result ≡ self.trail.here }
+    {
+        self.trail.into_root()
+    }
+}
