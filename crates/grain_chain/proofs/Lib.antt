@@ -1,3 +1,4 @@
 pub mod Strides
 pub mod Asks
 pub mod Halting
+pub mod Paths

@@ -181,12 +181,25 @@ impl Trail {
         }) {
             Ok(()) => Ok(()),
             Err(refused) => {
-                let Outer { root, path, .. } = refused.value;
-                self.here = root;
-                self.path = path;
+                self.take_back(refused.value);
                 Err(OutOfMemory)
             }
         }
+    }
+
+    // A root that was put aside is the newest again.
+    fn take_back(&mut self, outer: Outer)
+        requires { Leads outer.path (tree outer.root.value) }
+        ensures { self.new ≡ record self.old { here = outer.root; path = outer.path } }
+    {
+        let Outer {
+            root,
+            path,
+            step: _step,
+            origin: _origin,
+        } = outer;
+        self.here = root;
+        self.path = path;
     }
 
     /// The newest root goes, if there is one around it.
@@ -254,12 +267,17 @@ fn further(alloc: Global, path: &Path, key: Text) -> Result<Path, OutOfMemory>
     }
     let mut longer = Path::new(alloc);
     'copy: for step in path.as_slice() {
-        let copy = match step {
-            PathStep::Index(index) => PathStep::Index(*index),
-            PathStep::Key(key) => PathStep::Key(key.copy(alloc)?),
-        };
-        longer.push(copy)?;
+        longer.push(copied(alloc, step)?)?;
     }
     longer.push(PathStep::Key(key))?;
     Ok(longer)
+}
+
+fn copied(alloc: Global, step: &PathStep) -> Result<PathStep, OutOfMemory>
+    ensures { IfOk result (λ copy. copy ≡ step.now) }
+{
+    match step {
+        PathStep::Index(index) => Ok(PathStep::Index(*index)),
+        PathStep::Key(key) => Ok(PathStep::Key(key.copy(alloc)?)),
+    }
 }

@@ -1,0 +1,42 @@
+use Rattle.std.proofs.Common.{◌≡◌, sym, ◌∙◌, subst}
+use Rattle.grain_value.specs.View.{tree}
+use Rattle.grain_value.specs.Paths.{at}
+use Rattle.grain_value.specs.Parts.{with_part}
+use Rattle.grain_value.specs.declared.values.Dynamic.{Dynamic}
+use Rattle.grain_value.specs.declared.values.Dynamic.TheVariants as dynamic
+use Rattle.grain_ops.specs.Answers.{Assigns}
+use Rattle.grain_ops.specs.Operators.{assignment}
+use Rattle.grain_chain.specs.Standings.{Standing, Stands, AssignedThere, PartPut}
+use Rattle.grain_chain.proofs.Paths.{leads_put, leading_twice, put_back, one_value, part_put}
+use Rattle.grain_chain.proofs.trails.Trail.put_part.Goals as goal
+
+pub put_at-requires : goal.put_at-requires
+put_at-requires c =
+    leads_put c.self.inside.path c.self.inside.here.value dynamic.Unit c.take_at-target.new.self
+    c.take_at-target.ensures.left c.self.invariant.leads
+
+pub invariant_of-self : goal.invariant_of-self
+invariant_of-self c =
+    leading_twice c.self.inside.outer.items c.self.inside.here c.self.inside.path dynamic.Unit
+    c.put_part-is_put.new.self c.take_at-target.new.self c.put_at.new.self
+    c.take_at-target.ensures.left c.put_at.ensures.left c.self.invariant
+
+pub returns : goal.returns
+returns c = λ v stands.
+    let s : Standing = record {
+      outer = c.self.inside.outer.items;
+      here = c.self.inside.here;
+      path = c.self.inside.path;
+    } in
+    let t : Standing = record s { here = record s.here { value = c.put_at.new.self } } in
+    let here : Stands s v = subst (λ (u : Standing). Stands u v) (sym c.self.view_is) stands in
+    let same = one_value (at s.path (tree s.here.value)) c.take_at-target.result v
+    c.take_at-target.ensures.taken here in
+    let back = put_back s dynamic.Unit c.put_part-is_put.new.self c.take_at-target.new.self c.put_at.new.self
+    c.self.invariant c.take_at-target.ensures.left c.put_at.ensures.left in
+    subst (λ (u : Standing). PartPut u (with_part v c.args.spot c.args.part.now)
+    c.put_part-is_put.result t) c.self.view_is
+    (rw (← same) (part_put s t c.take_at-target.result c.put_part-is_put.new.self
+    (with_part c.take_at-target.result c.args.spot c.args.part.now) c.put_part-is_put.result
+    c.take_at-target.ensures.taken back c.put_part-is_put.ensures.done c.put_part-is_put.ensures.left
+    c.put_part-is_put.ensures.unchanged))
