@@ -2,3 +2,4 @@ pub mod Strides
 pub mod Asks
 pub mod Halting
 pub mod Paths
+pub mod Keys

@@ -112,13 +112,17 @@ impl Trail {
             IfOk result (λ _. self.new ≡ key_added self.old key value) }
         ensures unchanged { IfErr result (λ _. self.new ≡ self.old) }
     {
-        let mut path = further(alloc, &self.path, key.copy(alloc)?)?;
+        let path = further(alloc, &self.path, key.copy(alloc)?)?;
         let mut map = self.here.value.take_at(&self.path);
         let added = add(&mut map, key);
         discard(self.here.value.put_at(&self.path, map));
-        added?;
-        mem::swap(&mut self.path, &mut path);
-        Ok(())
+        match added {
+            Ok(()) => {
+                self.path = path;
+                Ok(())
+            }
+            Err(OutOfMemory) => Err(OutOfMemory),
+        }
     }
 
     /// Puts a byte, a character or a bit back into what stands where the walk stands, and says whether
