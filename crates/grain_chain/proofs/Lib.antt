@@ -3,3 +3,4 @@ pub mod Asks
 pub mod Halting
 pub mod Paths
 pub mod Keys
+pub mod Roots

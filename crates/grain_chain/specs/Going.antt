@@ -14,13 +14,14 @@ use Rattle.grain_program.specs.declared.code.chains.Step.{Step}
 use Rattle.grain_means.specs.Tasks.{Task, Well, Ill}
 use Rattle.grain_means.specs.Walks.{Setting, Course, Rest, Next}
 use Rattle.grain_chain.specs.OwnWalks.{WalksOn, own}
-use Rattle.grain_chain.specs.Standings.{Stands, oldest, AssignedThere}
+use Rattle.grain_chain.specs.Standings.{Stands, oldest}
 use Rattle.grain_chain.specs.Walking.{roots_of, roots_at, left_to_do, rest_of, place_of, further, setting_of, course_of, steps_of, Falls, lends}
 use Rattle.grain_chain.specs.declared.contexts.Context.{Context}
 use Rattle.grain_value.specs.declared.values.Dynamic.{Dynamic}
 use Rattle.grain_ops.specs.Outcomes.{Outcome, NotBuiltIn, Gave, ArithmeticFault, TooLarge}
-use Rattle.grain_ops.specs.declared.answers.AssignAnswer.{AssignAnswer}
+use Rattle.grain_value.specs.declared.values.paths.PathStep.{PathStep}
 use Rattle.grain_chain.specs.declared.origins.Origin.{Origin}
+use Rattle.grain_chain.specs.declared.origins.Outer.{Outer}
 use Rattle.grain_chain.specs.declared.origins.Awaits.{Awaits}
 use Rattle.grain_chain.specs.declared.requests.Request.{Request}
 use Rattle.grain_chain.specs.declared.requests.What.TheVariants as what
@@ -148,26 +149,30 @@ abbrev pub Settles : Result WalkAnswer OutOfMemory → Walk → WalkAnswer → W
 Settles (Ok a) w b v = (b ≡ a) × (v ≡ w)
 Settles (Err o) w b v = (b ≡ answer.Faulted fault.Memory w.step) × (v ≡ fallen w)
 
--- a walk in a newer root
-abbrev pub WentIn : Walk → Origin → Held → Walk → Type 0
-WentIn w o h v = v ≡ record w {
-  trail = record {
-    outer =
-        w.trail.outer ++ record { root = w.trail.here; path = w.trail.path; step = w.step; origin = o }
-        ∷ [];
-    here = h;
-    path = [];
-  };
+-- a walk one step further down in the same root
+abbrev pub deep : Walk → PathStep → Walk
+deep w s = record w {
+  trail = record w.trail { path = w.trail.path ++ s ∷ [] };
   marks = w.marks + 1;
 }
+
+-- the newest root, put aside for a newer one
+abbrev pub aside : Walk → Origin → Outer
+aside w o = record { root = w.trail.here; path = w.trail.path; step = w.step; origin = o }
+
+-- a walk in a newer root
+abbrev pub in_root : Walk → Origin → Held → Walk
+in_root w o h = record w {
+  trail = record { outer = w.trail.outer ++ aside w o ∷ []; here = h; path = [] };
+  marks = w.marks + 1;
+}
+
+abbrev pub WentIn : Walk → Origin → Held → Walk → Type 0
+WentIn w o h v = v ≡ in_root w o h
 
 -- what is held where the walk stands, with this value
 abbrev pub with_value : Walk → Dynamic → Held
 with_value w v = record w.trail.here { value = v }
-
--- an op-assignment was done where the walk stands, or nothing changed
-abbrev pub AssignsThere : Walk → AssignAnswer → Outcome → Walk → Type 0
-AssignsThere w a o v = AssignedThere w.trail a o v.trail × (v ≡ record w { trail = v.trail })
 
 -- an op-assignment's fault at a position, or want of memory
 abbrev pub FailsAt : Position → Result EvalAltResult OutOfMemory → Outcome → Type 0

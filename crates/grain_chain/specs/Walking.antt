@@ -144,8 +144,9 @@ module _ (e : Engine) (p : View) where
   next_of w go.Further = further w
   next_of w (go.Operate q a) = operating (setting_of e p w.pos) w.step q a w.value
 
-  abbrev pub into : Walk → Into → Dynamic → Task
-  into w i v =
+  -- the walk goes on in an answer
+  abbrev pub gone_into : Walk → Into → Dynamic → Task
+  gone_into w i v =
       into_answer (setting_of e p w.pos) w.step i.pos i.own (origin_of i.origin) (next_of w i.go)
       (place_of w) (rest_of w) v
 
@@ -158,12 +159,12 @@ module _ (e : Engine) (p : View) where
   resumed w (awaits.SetInstead x assigned) =
       set_instead w.step (problem_of x) assigned w.gives (rest_of w)
   resumed w (awaits.PropertyGot name q i) =
-      property_was_got w.step (named (setting_of e p w.pos) name) q (place_of w) (rest_of w) (into w i)
+      property_was_got w.step (named (setting_of e p w.pos) name) q (place_of w) (rest_of w) (gone_into w i)
   resumed w (awaits.GotInstead x i) =
-      got_instead w.step (problem_of x) (rest_of w) (into w i)
-  resumed w (awaits.IndexGot i) = index_was_got w.step (rest_of w) (into w i)
+      got_instead w.step (problem_of x) (rest_of w) (gone_into w i)
+  resumed w (awaits.IndexGot i) = index_was_got w.step (rest_of w) (gone_into w i)
   resumed w (awaits.IndexRead q i n) =
-      index_was_read w.step q (place_of w) i w.value (rest_of w) (into w n)
+      index_was_read w.step q (place_of w) i w.value (rest_of w) (gone_into w n)
   resumed w (awaits.OpAssigned q a) =
       was_op_assigned (setting_of e p w.pos) w.step q a w.value (place_of w) (rest_of w)
   resumed w (awaits.Operator q) = operator_answered w.step q (place_of w) (rest_of w)

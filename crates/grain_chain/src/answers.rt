@@ -8,7 +8,7 @@ ghost use Rattle.grain_program.specs.View.{name_of};
 ghost use Rattle.grain_means.specs.Worlds.{Came, Failed};
 ghost use Rattle.grain_value.specs.Operands.{read_write};
 ghost use Rattle.grain_means.specs.Walks.{rooted, set_instead};
-ghost use Rattle.grain_chain.specs.Walking.{resumed, into, next_of, origin_of, place_of, still, IsAtStep, count, steps_left, backs};
+ghost use Rattle.grain_chain.specs.Walking.{resumed, gone_into, next_of, origin_of, place_of, still, IsAtStep, count, steps_left, backs};
 ghost use Rattle.grain_chain.specs.Going.{Goes, Needs, setting, rest};
 
 use crate::asking::flat_copy;
@@ -62,7 +62,7 @@ impl Walk {
     ) -> Result<WalkAnswer, OutOfMemory>
         requires at { self.old.step < count context.program.now self.old }
         ensures goes { Goes context.entry self.old
-            (into context.entry.engine.now context.entry.program.now self.old into value)
+            (gone_into context.entry.engine.now context.entry.program.now self.old into value)
             result self.new }
         ensures needs { Needs context.entry.program.now self.new result
             (steps_left context.entry.program.now self.old + 1) }

@@ -1,15 +1,15 @@
 //! Marks, and what a walk asks for at them.
 
-ghost use Rattle.std.specs.Prelude.{◌≡◌, ◌+◌, ◌∷◌, [], IfOk, IfErr};
+ghost use Rattle.std.specs.Prelude.{◌≡◌, ◌+◌, ◌∷◌, [], ℕ, IfOk, IfErr};
 ghost use Rattle.grain_value.specs.View.{tree};
 ghost use Rattle.grain_value.specs.Cells.{flat};
 ghost use Rattle.grain_value.specs.declared.values.Dynamic.TheVariants as dynamic;
 ghost use Rattle.grain_fault.specs.Problems.{problem_of};
-ghost use Rattle.grain_program.specs.View.{name_of};
+ghost use Rattle.grain_program.specs.View.{View as AnyProgram, name_of};
 ghost use Rattle.grain_means.specs.Walks.{failing};
-ghost use Rattle.grain_chain.specs.Walking.{lends, rest_of};
-ghost use Rattle.grain_chain.specs.Going.{Goes, Asked, IsRequest, Lends, fallen, Settles};
-ghost use Rattle.grain_chain.specs.declared.contexts.Context.{Context as TheContext};
+ghost use Rattle.grain_chain.specs.Walking.{lends};
+ghost use Rattle.grain_chain.specs.Going.{Goes, Needs, rest, Asked, IsRequest, Lends, fallen, Settles};
+ghost use Rattle.grain_chain.specs.declared.contexts.Context.{Context as AnyContext};
 ghost use Rattle.grain_chain.specs.declared.requests.WalkAnswer.TheVariants as answer;
 
 use crate::contexts::name_at;
@@ -52,9 +52,9 @@ impl Walk {
 
     // A fault that is raised, at a mark.
     pub(crate) fn raise(&mut self, fault: EvalAltResult) -> Result<WalkAnswer, OutOfMemory>
-        ensures { (x : TheContext) → Goes x self.old
-            (failing self.old.step (problem_of fault)
-            (rest_of x.engine.now x.program.now self.old)) result self.new }
+        ensures goes { (x : AnyContext) → Goes x self.old
+            (failing self.old.step (problem_of fault) (rest x self.old)) result self.new }
+        ensures needs { (p : AnyProgram) (n : ℕ) → Needs p self.new result n }
     {
         self.pass()?;
         Ok(self.failed(fault))

@@ -1,15 +1,15 @@
 //! The faults that a walk raises itself.
 
-ghost use Rattle.std.specs.Prelude.{◌≡◌, IfOk, codes};
+ghost use Rattle.std.specs.Prelude.{◌≡◌, ℕ, IfOk, codes};
 ghost use Rattle.grain_value.specs.Writing.{type_name_of};
 ghost use Rattle.grain_value.specs.Parts.{part_type};
 ghost use Rattle.grain_fault.specs.Problems.{problem_of, Plain, MismatchDataType, DataRace};
 ghost use Rattle.grain_means.specs.Walks.{out_of_bounds, index_type, failing};
-ghost use Rattle.grain_chain.specs.Walking.{rest_of};
+ghost use Rattle.grain_program.specs.View.{View as AnyProgram};
 ghost use Rattle.grain_ops.specs.Outcomes.{Outcome as AnyOutcome};
 ghost use Rattle.grain_ops.specs.Answers.{FailsSo};
-ghost use Rattle.grain_chain.specs.Going.{Goes, FailsAt};
-ghost use Rattle.grain_chain.specs.declared.contexts.Context.{Context as TheContext};
+ghost use Rattle.grain_chain.specs.Going.{Goes, Needs, rest, FailsAt};
+ghost use Rattle.grain_chain.specs.declared.contexts.Context.{Context as AnyContext};
 
 use crate::requests::WalkAnswer;
 use crate::walks::Walk;
@@ -20,9 +20,10 @@ use std::alloc::Global;
 impl Walk {
     // The fault that a value is a cell whose content is lent.
     pub(crate) fn race(&mut self, pos: Position) -> Result<WalkAnswer, OutOfMemory>
-        ensures { (x : TheContext) → Goes x self.old
-            (failing self.old.step (Plain (DataRace (codes "variable ''")) pos)
-            (rest_of x.engine.now x.program.now self.old)) result self.new }
+        ensures goes { (x : AnyContext) → Goes x self.old
+            (failing self.old.step (Plain (DataRace (codes "variable ''")) pos) (rest x self.old))
+            result self.new }
+        ensures needs { (p : AnyProgram) (n : ℕ) → Needs p self.new result n }
     {
         let text = Text::copy_of(self.alloc, "variable ''")?;
         self.raise(EvalAltResult::ErrorDataRace(text, pos))

@@ -4,7 +4,7 @@ ghost use Rattle.std.specs.Prelude.{◌≡◌, ◌<◌, ◌+◌, ◌∷◌, [], 
 ghost use Rattle.grain_value.specs.declared.values.Dynamic.TheVariants as dynamic;
 ghost use Rattle.grain_fault.specs.Problems.{problem_of};
 ghost use Rattle.grain_means.specs.Walks.{at_mark, asking, index_get, index_set, property_step, by_accessor, get_property, got_instead, set_instead, set_property, named};
-ghost use Rattle.grain_chain.specs.Walking.{place_of, role_in, into, count, steps_left, backs};
+ghost use Rattle.grain_chain.specs.Walking.{place_of, role_in, gone_into, count, steps_left, backs};
 ghost use Rattle.grain_chain.specs.Going.{Goes, Takes, Needs, NeedsOr, setting, rest, next_step};
 
 use crate::asking::{named, one, two};
@@ -106,7 +106,7 @@ impl Walk {
         ensures goes { Goes context.entry self.old
             (get_property (setting context.entry self.old) self.old.step name getter pos
             (place_of self.old) (rest context.entry self.old)
-            (into context.entry.engine.now context.entry.program.now self.old into))
+            (gone_into context.entry.engine.now context.entry.program.now self.old into))
             result self.new }
         ensures needs { Needs context.entry.program.now self.new result
             (steps_left context.entry.program.now self.old + 3) }
@@ -130,7 +130,7 @@ impl Walk {
             (asking self.old.step pos index_get (Some (place_of self.old))
             (named (setting context.entry self.old) name ∷ []) (rest context.entry self.old)
             (got_instead self.old.step (problem_of fault) (rest context.entry self.old)
-            (into context.entry.engine.now context.entry.program.now self.old into)))
+            (gone_into context.entry.engine.now context.entry.program.now self.old into)))
             result self.new }
         ensures needs { Needs context.entry.program.now self.new result
             (steps_left context.entry.program.now self.old + 2) }

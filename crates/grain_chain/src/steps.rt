@@ -1,7 +1,10 @@
 //! The steps of a walk.
 
-ghost use Rattle.std.specs.Prelude.{◌≡◌, ◌+◌, ◌<◌, drop};
+ghost use Rattle.std.specs.Prelude.{◌≡◌, ◌+◌, ◌<◌, ◌&&◌, drop, false};
 ghost use Rattle.grain_value.specs.declared.values.Dynamic.TheVariants as dynamic;
+ghost use Rattle.grain_value.specs.Looking.{is_unit};
+ghost use Rattle.grain_value.specs.declared.values.Dynamic.{Dynamic as AnyValue};
+ghost use Rattle.grain_chain.specs.Standings.{Stands};
 ghost use Rattle.grain_means.specs.Tasks.{Well};
 ghost use Rattle.grain_means.specs.Walks.{walked, taken, role_before, at_mark, skips};
 ghost use Rattle.grain_chain.specs.Walking.{place_of, role_in, count, steps_left, backs};
@@ -30,7 +33,7 @@ impl Walk {
                 return self.end(context);
             }
             let step = step_at(context.program, self.chain, self.step);
-            if skips(step) && self.trail.target().is_unit() {
+            if self.ends_before(step) {
                 return self.skip(context);
             }
             match self.take(context, step)? {
@@ -38,6 +41,13 @@ impl Walk {
                 Some(answer) => return Ok(answer),
             }
         }
+    }
+
+    // Whether the chain ends before a step, since unit stands there.
+    fn ends_before(&self, step: Step) -> bool
+        ensures { (v : AnyValue) × (Stands self.now.trail v × (result ≡ (skips step && is_unit v))) }
+    {
+        skips(step) && self.trail.target().is_unit()
     }
 
     // The chain ends before a step, with unit.

@@ -1,16 +1,12 @@
 //! What a walk does where its steps end.
 
-ghost use Rattle.std.specs.Prelude.{◌≡◌, ◌+◌, ◌-◌, IfOk, if◌then◌else◌};
-ghost use Rattle.grain_value.specs.declared.values.Dynamic.{Dynamic as AnyValue};
+ghost use Rattle.std.specs.Prelude.{◌≡◌, ◌+◌, ◌-◌, true, false};
 ghost use Rattle.grain_value.specs.declared.values.Dynamic.TheVariants as dynamic;
 ghost use Rattle.grain_means.specs.Worlds.{Came};
-ghost use Rattle.grain_means.specs.Tasks.{Write, Well};
+ghost use Rattle.grain_means.specs.Tasks.{Look, Write, Well};
 ghost use Rattle.grain_means.specs.Walks.{at_mark, ended, last_role, operating, native_stored, operator_asked, operator_answered};
-ghost use Rattle.grain_ops.specs.Outcomes.{NotBuiltIn};
-ghost use Rattle.grain_ops.specs.Operators.{assignment};
-ghost use Rattle.grain_chain.specs.Standings.{Stands};
 ghost use Rattle.grain_chain.specs.Walking.{place_of, backs};
-ghost use Rattle.grain_chain.specs.Going.{Goes, Needs, AssignsThere, setting, course, rest};
+ghost use Rattle.grain_chain.specs.Going.{Goes, Needs, setting, course, rest};
 
 use crate::asking::{flat_copy, one, two};
 use crate::contexts::{Context, name_at};
@@ -46,9 +42,10 @@ impl Walk {
 
     // Gives a copy of what stands where the walk stands.
     fn read(&mut self, context: Context<'_>) -> Result<WalkAnswer, OutOfMemory>
-        ensures goes { (v : AnyValue) → Stands self.old.trail v → Goes context.entry self.old
+        ensures goes { Goes context.entry self.old
             (at_mark self.old.step (rest context.entry self.old)
-            (rest context.entry self.old (Well v false))) result self.new }
+            (Look (place_of self.old) (λ h. rest context.entry self.old (Well h.value false))))
+            result self.new }
         ensures needs { Needs context.entry.program.now self.new result (backs self.old) }
     {
         let value = self.trail.target().copy(self.alloc)?;
@@ -83,8 +80,15 @@ impl Walk {
             (place_of self.old) (rest context.entry self.old)) result self.new }
         ensures needs { Needs context.entry.program.now self.new result (backs self.old + 2) }
     {
+        if !context.engine.fast_operators {
+            return self.ask_op_assign(context, pos, op);
+        }
         let marks = self.next_mark()?;
-        match self.assign(context, op) {
+        let limits = &context.engine.limits;
+        match self
+            .trail
+            .assign(self.alloc, op.op_assign, &self.value, limits)
+        {
             AssignAnswer::NotBuiltIn => self.ask_op_assign(context, pos, op),
             AssignAnswer::Done => {
                 self.marks = marks;
@@ -96,21 +100,6 @@ impl Walk {
                 self.raise(fault)
             }
         }
-    }
-
-    // The op-assignment that is built in, where operators are fast.
-    fn assign(&mut self, context: Context<'_>, op: AssignOp) -> AssignAnswer
-        ensures { (v : AnyValue) → Stands self.old.trail v → AssignsThere self.old result
-            (if context.entry.engine.now.fast_operators
-            then assignment context.entry.engine.now.limits op.op_assign v self.old.value
-            else NotBuiltIn) self.new }
-    {
-        if !context.engine.fast_operators {
-            return AssignAnswer::NotBuiltIn;
-        }
-        let limits = &context.engine.limits;
-        self.trail
-            .assign(self.alloc, op.op_assign, &self.value, limits)
     }
 
     // Asks for the host's op-assignment.

@@ -133,8 +133,8 @@ impl Trail {
         spot: Spot,
         part: &Dynamic,
     ) -> Result<bool, OutOfMemory>
-        ensures { (value : AnyValue) → Stands self.old value →
-            PartPut self.old (with_part value spot part.now) result self.new }
+        ensures { (value : AnyValue) × (Stands self.old value
+            × PartPut self.old (with_part value spot part.now) result self.new) }
     {
         let mut target = self.here.value.take_at(&self.path);
         let is_put = target.put_part(alloc, spot, part);
@@ -150,8 +150,8 @@ impl Trail {
         value: &Dynamic,
         limits: &Limits,
     ) -> AssignAnswer
-        ensures { (target : AnyValue) → Stands self.old target →
-            AssignedThere self.old result (assignment limits.now token target value.now) self.new }
+        ensures { (target : AnyValue) × (Stands self.old target
+            × AssignedThere self.old result (assignment limits.now token target value.now) self.new) }
     {
         let mut target = self.here.value.take_at(&self.path);
         let answer = assign(alloc, token, &mut target, value, limits);

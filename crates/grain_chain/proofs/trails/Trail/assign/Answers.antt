@@ -22,22 +22,19 @@ invariant_of-self c =
     c.take_at-target.ensures.left c.put_at.ensures.left c.self.invariant
 
 pub returns : goal.returns
-returns c = λ v stands.
+returns c =
     let s : Standing = record {
       outer = c.self.inside.outer.items;
       here = c.self.inside.here;
       path = c.self.inside.path;
     } in
     let t : Standing = record s { here = record s.here { value = c.put_at.new.self } } in
-    let here : Stands s v = subst (λ (u : Standing). Stands u v) (sym c.self.view_is) stands in
-    let same = one_value (at s.path (tree s.here.value)) c.take_at-target.result v
-    c.take_at-target.ensures.taken here in
-    let back = put_back s dynamic.Unit c.assign-answer.new.target c.take_at-target.new.self c.put_at.new.self
-    c.self.invariant c.take_at-target.ensures.left c.put_at.ensures.left in
-    subst (λ (u : Standing). AssignedThere u c.assign-answer.result
-    (assignment c.args.limits.now c.args.token v c.args.value.now) t) c.self.view_is
-    (assigned_there s t v c.assign-answer.new.target c.assign-answer.result
-    (assignment c.args.limits.now c.args.token v c.args.value.now) here back
-    (subst (λ (d : Dynamic). Assigns c.assign-answer.result
-    (assignment c.args.limits.now c.args.token d c.args.value.now) d c.assign-answer.new.target) same
-    c.assign-answer.ensures))
+    let back = put_back s dynamic.Unit c.assign-answer.new.target c.take_at-target.new.self
+    c.put_at.new.self c.self.invariant c.take_at-target.ensures.left c.put_at.ensures.left in
+    let o = assignment c.args.limits.now c.args.token c.take_at-target.result c.args.value.now in
+    (c.take_at-target.result,
+    subst (λ (u : Standing). Stands u c.take_at-target.result × AssignedThere u c.assign-answer.result o t)
+    c.self.view_is
+    (c.take_at-target.ensures.taken,
+    assigned_there s t c.take_at-target.result c.assign-answer.new.target c.assign-answer.result o
+    c.take_at-target.ensures.taken back c.assign-answer.ensures))

@@ -22,21 +22,20 @@ invariant_of-self c =
     c.take_at-target.ensures.left c.put_at.ensures.left c.self.invariant
 
 pub returns : goal.returns
-returns c = λ v stands.
+returns c =
     let s : Standing = record {
       outer = c.self.inside.outer.items;
       here = c.self.inside.here;
       path = c.self.inside.path;
     } in
     let t : Standing = record s { here = record s.here { value = c.put_at.new.self } } in
-    let here : Stands s v = subst (λ (u : Standing). Stands u v) (sym c.self.view_is) stands in
-    let same = one_value (at s.path (tree s.here.value)) c.take_at-target.result v
-    c.take_at-target.ensures.taken here in
-    let back = put_back s dynamic.Unit c.put_part-is_put.new.self c.take_at-target.new.self c.put_at.new.self
-    c.self.invariant c.take_at-target.ensures.left c.put_at.ensures.left in
-    subst (λ (u : Standing). PartPut u (with_part v c.args.spot c.args.part.now)
-    c.put_part-is_put.result t) c.self.view_is
-    (rw (← same) (part_put s t c.take_at-target.result c.put_part-is_put.new.self
-    (with_part c.take_at-target.result c.args.spot c.args.part.now) c.put_part-is_put.result
+    let back = put_back s dynamic.Unit c.put_part-is_put.new.self c.take_at-target.new.self
+    c.put_at.new.self c.self.invariant c.take_at-target.ensures.left c.put_at.ensures.left in
+    let o = with_part c.take_at-target.result c.args.spot c.args.part.now in
+    (c.take_at-target.result,
+    subst (λ (u : Standing). Stands u c.take_at-target.result × PartPut u o c.put_part-is_put.result t)
+    c.self.view_is
+    (c.take_at-target.ensures.taken,
+    part_put s t c.take_at-target.result c.put_part-is_put.new.self o c.put_part-is_put.result
     c.take_at-target.ensures.taken back c.put_part-is_put.ensures.done c.put_part-is_put.ensures.left
     c.put_part-is_put.ensures.unchanged))
