@@ -14,6 +14,7 @@ use Rattle.grain_means.specs.Worlds.{Answer}
 use Rattle.grain_means.specs.Tasks.{Task, Call, Need, play}
 use Rattle.grain_means.specs.Walks.{asking, at_mark}
 use Rattle.grain_means.specs.lemmas.PlaceLaws.{ok-along, put-along}
+use Rattle.grain_value.specs.laws.Same.{value_of-tree}
 use Rattle.grain_chain.specs.OwnWalks.{WalksOn, own}
 use Rattle.grain_chain.specs.Standings.{Stands}
 use Rattle.grain_chain.specs.Walking.{roots, roots_of, place_of, roots_at, with_receiver, left_to_do, call_of, resumed, lends, IsAtStep, still, Waits, Falls}
@@ -146,3 +147,28 @@ asks_less p w v q name args s (Ok (answer.Need r)) n h at less =
 asks_less p w v q name args s (Ok (answer.Ended u changed)) n h at less = absurd h
 asks_less p w v q name args s (Ok (answer.Faulted y k)) n h at less = absurd h
 asks_less p w v q name args s (Err o) n h at less = tt
+
+-- the arguments of a request
+pub one_of : (args : List Tree) (i : Dynamic) → args ≡ tree i ∷ [] → map value_of args ≡ i ∷ []
+one_of args i e = ap (map value_of) e ∙ ap (λ (d : Dynamic). d ∷ []) (value_of-tree i)
+
+pub two_of : (args : List Tree) (i d : Dynamic) → args ≡ tree i ∷ tree d ∷ [] →
+    map value_of args ≡ i ∷ d ∷ []
+two_of args i d e =
+    ap (map value_of) e ∙ ap (λ (a : Dynamic). a ∷ value_of (tree d) ∷ []) (value_of-tree i)
+    ∙ ap (λ (a : Dynamic). i ∷ a ∷ []) (value_of-tree d)
+
+pub none_of : (args : List Tree) → args ≡ [] → map value_of args ≡ []
+none_of args e = ap (map value_of) e
+
+-- a request of this name and with these arguments
+pub asks_with : (x : Context) (w v : Walk) (q : Position) (n name : List ℕ) (args : List Tree)
+    (values : List Dynamic) (s : Awaits) (r : Result WalkAnswer OutOfMemory) → n ≡ name →
+    map value_of args ≡ values → Asked w q n args s r v →
+    Goes x w (asking w.step q name (lent_place w (lends s)) values (rest x w)
+    (resumed x.engine.now x.program.now w s)) r v
+asks_with x w v q n name args values s r e f h =
+    subst (λ (l : List Dynamic). Goes x w (asking w.step q name (lent_place w (lends s)) l (rest x w)
+    (resumed x.engine.now x.program.now w s)) r v) f
+    (subst (λ (m : List ℕ). Goes x w (asking w.step q m (lent_place w (lends s)) (map value_of args)
+    (rest x w) (resumed x.engine.now x.program.now w s)) r v) e (asks x w v q n args s r h))

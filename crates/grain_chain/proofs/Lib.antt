@@ -4,3 +4,4 @@ pub mod Halting
 pub mod Paths
 pub mod Keys
 pub mod Roots
+pub mod Stepping

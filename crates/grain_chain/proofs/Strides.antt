@@ -8,13 +8,13 @@ use Rattle.grain_value.specs.declared.values.Held.{Held}
 use Rattle.grain_fault.specs.Problems.{Problem, problem_of, NoMemory}
 use Rattle.grain_fault.specs.declared.faults.EvalAltResult.{EvalAltResult}
 use Rattle.grain_means.specs.Worlds.{Place}
-use Rattle.grain_means.specs.Tasks.{Task, Done, Look, Flatten, Write, Ill, play}
+use Rattle.grain_means.specs.Tasks.{Task, Own, Done, Look, Flatten, Write, Ill, play}
 use Rattle.grain_means.specs.Walks.{at_mark, failing}
 use Rattle.grain_chain.specs.OwnWalks.{WalksOn, own}
 use Rattle.grain_chain.specs.Standings.{Stands, put_there}
 use Rattle.grain_chain.specs.Walking.{roots_of, place_of, setting_of, Did, is_out}
 use Rattle.grain_chain.specs.Going.{Reaches, Goes, GoesBack, Takes, Settles, Went, CameBack, stopped, fallen, given_up, rest, with_value}
-use Rattle.grain_chain.specs.laws.Joining.{go_on, by_play, passed_by, halted, any}
+use Rattle.grain_chain.specs.laws.Joining.{go_on, as_is, by_play, passed_by, halted, any}
 use Rattle.grain_chain.specs.laws.Ways.{look-here, put-here, fell}
 use Rattle.grain_chain.specs.declared.contexts.Context.{Context}
 use Rattle.grain_chain.specs.declared.requests.WalkAnswer.{WalkAnswer}
@@ -36,6 +36,15 @@ module _ (x : Context) where
       Reaches x w t false (roots_of w1) w1.marks t1 → Goes x w1 t1 r v → Goes x w t r v
   then_goes w w1 v t t1 (Ok a) h g = λ k. go_on (h k) (g k) tt
   then_goes w w1 v t t1 (Err o) h g = λ k. go_on (h k) (g k) tt
+
+  -- from a walk that has the same roots and marks
+  pub from_same : (w w1 v : Walk) (t : Task) (r : Result WalkAnswer OutOfMemory) →
+      ((k : ℕ) → own (roots_of w1) (k + w1.marks) ≡ own (roots_of w) (k + w.marks)) →
+      Goes x w1 t r v → Goes x w t r v
+  from_same w w1 v t r same g =
+      then_goes w w1 v t t r (λ k.
+      subst (λ (o : Own). WalksOn x.cells.now (own (roots_of w) (k + w.marks)) t false o t)
+      (sym (same k)) (as_is refl)) g
 
   -- the same from where the walk stands
   pub then_takes : (w v : Walk) (t t1 : Task) (r : Result (Option WalkAnswer) OutOfMemory) →

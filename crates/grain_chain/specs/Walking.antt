@@ -28,6 +28,8 @@ use Rattle.grain_chain.specs.declared.origins.Origin.TheVariants as origin
 use Rattle.grain_chain.specs.declared.origins.Outer.{Outer}
 use Rattle.grain_chain.specs.declared.origins.Ending.{Ending}
 use Rattle.grain_chain.specs.declared.origins.Ending.TheVariants as ending
+use Rattle.grain_chain.specs.declared.origins.Role.{Role as CodeRole}
+use Rattle.grain_chain.specs.declared.origins.Role.TheVariants as role
 use Rattle.grain_chain.specs.declared.origins.Go.{Go}
 use Rattle.grain_chain.specs.declared.origins.Go.TheVariants as go
 use Rattle.grain_chain.specs.declared.origins.Into.{Into}
@@ -77,12 +79,12 @@ operator_of ending.Read = None
 operator_of ending.Write = None
 operator_of (ending.Operate a) = Some a
 
--- the role of a step, which may be the last
-abbrev pub role_in : Option Ending → Dynamic → Role
-role_in None v = Passes
-role_in (Some ending.Read) v = Reads
-role_in (Some ending.Write) v = Writes v
-role_in (Some (ending.Operate a)) v = Operates v a
+-- what a step does besides leading on
+abbrev pub role_in : CodeRole → Dynamic → Role
+role_in role.Passes v = Passes
+role_in role.Reads v = Reads
+role_in role.Writes v = Writes v
+role_in (role.Operates a) v = Operates v a
 
 -- on what the walk runs
 abbrev pub setting_of : Engine → View → Position → Setting
@@ -146,9 +148,9 @@ module _ (e : Engine) (p : View) where
 
   -- the walk goes on in an answer
   abbrev pub gone_into : Walk → Into → Dynamic → Task
-  gone_into w i v =
+  gone_into w i =
       into_answer (setting_of e p w.pos) w.step i.pos i.own (origin_of i.origin) (next_of w i.go)
-      (place_of w) (rest_of w) v
+      (place_of w) (rest_of w)
 
   -- what is done with an answer
   abbrev pub resumed : Walk → Awaits → Answer → Task

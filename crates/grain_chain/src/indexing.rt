@@ -9,7 +9,7 @@ ghost use Rattle.grain_value.specs.Locating.{locate};
 ghost use Rattle.grain_value.specs.declared.values.Dynamic.{Dynamic as AnyValue};
 ghost use Rattle.grain_value.specs.declared.values.Dynamic.TheVariants as dynamic;
 ghost use Rattle.grain_program.specs.View.{View as AnyProgram};
-ghost use Rattle.grain_means.specs.Walks.{at_mark, index_step, indexed, is_indexed, key_of, missing_key, by_indexer, index_was_got, into_answer, asking, index_get, OfIndex, set_by_index};
+ghost use Rattle.grain_means.specs.Walks.{at_mark, index_step, indexed, is_indexed, origin_of_part, key_of, missing_key, by_indexer, index_was_got, into_answer, asking, index_get, OfIndex, set_by_index};
 ghost use Rattle.grain_chain.specs.Standings.{Stands};
 ghost use Rattle.grain_chain.specs.Walking.{place_of, role_in, origin_of, operand_of, count, steps_left, backs};
 ghost use Rattle.grain_chain.specs.Going.{Goes, Takes, Needs, NeedsOr, setting, rest, next_step, with_value, Asked};
@@ -18,7 +18,7 @@ ghost use Rattle.grain_chain.specs.declared.contexts.Context.{Context as AnyCont
 use crate::asking::{one, two};
 use crate::contexts::Context;
 use crate::faults::{out_of_bounds, wrong_index};
-use crate::origins::{Awaits, Ending, Go, Into, Origin};
+use crate::origins::{Awaits, Go, Into, Origin, Role};
 use crate::requests::WalkAnswer;
 use crate::steps::stop;
 use crate::walks::Walk;
@@ -31,7 +31,7 @@ impl Walk {
     pub(crate) fn index(
         &mut self,
         context: Context<'_>,
-        role: Option<Ending>,
+        role: Role,
         operand: u32,
         pos: Position,
         bracket: Position,
@@ -90,7 +90,7 @@ impl Walk {
     fn at_index(
         &mut self,
         context: Context<'_>,
-        role: Option<Ending>,
+        role: Role,
         operand: u32,
         pos: Position,
         bracket: Position,
@@ -125,7 +125,7 @@ impl Walk {
     // Goes to what an index names.
     fn at_spot(
         &mut self,
-        role: Option<Ending>,
+        role: Role,
         spot: Spot,
         index: Dynamic,
     ) -> Result<Option<WalkAnswer>, OutOfMemory>
@@ -144,10 +144,7 @@ impl Walk {
                 _ => unreachable!(),
             },
             _ => {
-                let origin = match role {
-                    Some(Ending::Read) => Origin::Nothing,
-                    _ => Origin::Part(spot),
-                };
+                let origin = origin_of_part(role, spot);
                 let value = self.trail.target().part(spot);
                 let read_only = self.trail.is_read_only();
                 self.enter(origin, Held { value, read_only })?;
@@ -160,7 +157,7 @@ impl Walk {
     fn missing_index(
         &mut self,
         context: Context<'_>,
-        role: Option<Ending>,
+        role: Role,
         operand: u32,
         pos: Position,
         bracket: Position,
@@ -184,7 +181,7 @@ impl Walk {
     // The host's indexers, for an index of a value that has none of its own.
     fn by_indexer(
         &mut self,
-        role: Option<Ending>,
+        role: Role,
         pos: Position,
         bracket: Position,
         index: Dynamic,
@@ -196,8 +193,8 @@ impl Walk {
             Needs p self.new result (steps_left p self.old + 3) }
     {
         match role {
-            Some(Ending::Write) => self.set_value_by_index(bracket, index),
-            Some(Ending::Operate(op)) => {
+            Role::Writes => self.set_value_by_index(bracket, index),
+            Role::Operates(op) => {
                 let kept = index.copy(self.alloc)?;
                 let argument = index.copy(self.alloc)?;
                 let into = Into {
@@ -213,8 +210,8 @@ impl Walk {
                 };
                 self.get_by_index(bracket, argument, awaits)
             }
-            Some(Ending::Read) => self.get_own_by_index(pos, bracket, index, true),
-            None => self.get_own_by_index(pos, bracket, index, false),
+            Role::Reads => self.get_own_by_index(pos, bracket, index, true),
+            Role::Passes => self.get_own_by_index(pos, bracket, index, false),
         }
     }
 
@@ -287,6 +284,16 @@ impl Walk {
     {
         let values = two(self.alloc, index, value)?;
         self.ask(bracket, "index$set$", values, Awaits::IndexSet)
+    }
+}
+
+// What a byte, a character or a bit is as a newer root: what is only read is not put back.
+fn origin_of_part(role: Role, spot: Spot) -> Origin
+    ensures { (v : AnyValue) → origin_of result ≡ origin_of_part (role_in role v) spot }
+{
+    match role {
+        Role::Reads => Origin::Nothing,
+        _ => Origin::Part(spot),
     }
 }
 

@@ -12,7 +12,7 @@ ghost use Rattle.grain_chain.specs.Walking.{place_of, role_in, origin_of};
 ghost use Rattle.grain_chain.specs.Going.{Takes, NeedsOr, WentIn, setting, rest, next_step, with_value};
 
 use crate::contexts::Context;
-use crate::origins::{Ending, Origin};
+use crate::origins::{Origin, Role};
 use crate::requests::WalkAnswer;
 use crate::steps::stop;
 use crate::walks::Walk;
@@ -51,7 +51,7 @@ impl Walk {
     pub(crate) fn missing_key(
         &mut self,
         context: Context<'_>,
-        role: Option<Ending>,
+        role: Role,
         pos: Position,
         origin: Origin,
         key: Text,
@@ -95,11 +95,11 @@ impl Walk {
 }
 
 // Whether a chain assigns at a step.
-fn assigns(role: Option<Ending>) -> bool
+fn assigns(role: Role) -> bool
     ensures { (v : AnyValue) → result ≡ assigning (role_in role v) }
 {
     match role {
-        None | Some(Ending::Read) => false,
-        Some(Ending::Write) | Some(Ending::Operate(_)) => true,
+        Role::Passes | Role::Reads => false,
+        Role::Writes | Role::Operates(_) => true,
     }
 }

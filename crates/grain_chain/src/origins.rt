@@ -47,6 +47,19 @@ pub(crate) enum Ending {
     Operate(AssignOp),
 }
 
+/// What a step does besides leading on.
+#[derive(Clone, Copy, PartialEq, Eq)]
+pub(crate) enum Role {
+    /// It passes on.
+    Passes,
+    /// It is the last one, and the chain reads there.
+    Reads,
+    /// It is the last one, and the chain writes its value there.
+    Writes,
+    /// It is the last one, and the chain assigns its value there by an op-assignment.
+    Operates(AssignOp),
+}
+
 /// What is done in a new root.
 #[derive(Drop)]
 pub(crate) enum Go {

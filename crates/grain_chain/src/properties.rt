@@ -1,15 +1,15 @@
 //! Property steps.
 
-ghost use Rattle.std.specs.Prelude.{◌≡◌, ◌<◌, ◌+◌, ◌∷◌, [], Some, true};
+ghost use Rattle.std.specs.Prelude.{◌≡◌, ◌<◌, ◌+◌, ◌∷◌, [], Some, true, false};
 ghost use Rattle.grain_value.specs.declared.values.Dynamic.TheVariants as dynamic;
 ghost use Rattle.grain_fault.specs.Problems.{problem_of};
-ghost use Rattle.grain_means.specs.Walks.{at_mark, asking, index_get, index_set, property_step, by_accessor, get_property, got_instead, set_instead, set_property, named};
+ghost use Rattle.grain_means.specs.Walks.{at_mark, asking, index_get, index_set, property_step, by_accessor, get_property, got_instead, set_instead, set_property, into_answer, OfProperty, named};
 ghost use Rattle.grain_chain.specs.Walking.{place_of, role_in, gone_into, count, steps_left, backs};
 ghost use Rattle.grain_chain.specs.Going.{Goes, Takes, Needs, NeedsOr, setting, rest, next_step};
 
 use crate::asking::{named, one, two};
 use crate::contexts::{Context, name_at};
-use crate::origins::{Awaits, Ending, Go, Into, Origin};
+use crate::origins::{Awaits, Go, Into, Origin, Role};
 use crate::requests::WalkAnswer;
 use crate::steps::stop;
 use crate::walks::Walk;
@@ -22,7 +22,7 @@ impl Walk {
     pub(crate) fn property(
         &mut self,
         context: Context<'_>,
-        role: Option<Ending>,
+        role: Role,
         name: u32,
         getter: u32,
         setter: u32,
@@ -56,7 +56,7 @@ impl Walk {
     fn by_accessor(
         &mut self,
         context: Context<'_>,
-        role: Option<Ending>,
+        role: Role,
         name: u32,
         getter: u32,
         setter: u32,
@@ -70,25 +70,57 @@ impl Walk {
         ensures needs { Needs context.entry.program.now self.new result
             (steps_left context.entry.program.now self.old + 3) }
     {
-        let (own, assigned, go) = match role {
-            Some(Ending::Write) => {
-                return self.set_value(context, name, setter, pos);
+        match role {
+            Role::Writes => self.set_value(context, name, setter, pos),
+            Role::Operates(op) => {
+                let into = Into {
+                    pos,
+                    own: false,
+                    origin: Origin::Property {
+                        name,
+                        setter,
+                        pos,
+                        assigned: true,
+                    },
+                    go: Go::Operate(pos, op),
+                };
+                self.get_property(context, name, getter, pos, into)
             }
-            Some(Ending::Operate(op)) => (false, true, Go::Operate(pos, op)),
-            Some(Ending::Read) => (true, false, Go::Further),
-            None => (false, false, Go::Further),
-        };
-        let origin = Origin::Property {
-            name,
-            setter,
-            pos,
-            assigned,
-        };
+            Role::Reads => self.get_own_property(context, name, getter, setter, pos, true),
+            Role::Passes => self.get_own_property(context, name, getter, setter, pos, false),
+        }
+    }
+
+    // Asks a getter for what the walk goes on in, which is the chain's own value or not.
+    fn get_own_property(
+        &mut self,
+        context: Context<'_>,
+        name: u32,
+        getter: u32,
+        setter: u32,
+        pos: Position,
+        own: bool,
+    ) -> Result<WalkAnswer, OutOfMemory>
+        requires at { self.old.step < count context.program.now self.old }
+        ensures goes { Goes context.entry self.old
+            (get_property (setting context.entry self.old) self.old.step name getter pos
+            (place_of self.old) (rest context.entry self.old)
+            (into_answer (setting context.entry self.old) self.old.step pos own
+            (OfProperty name setter pos false) (next_step context.entry self.old) (place_of self.old)
+            (rest context.entry self.old))) result self.new }
+        ensures needs { Needs context.entry.program.now self.new result
+            (steps_left context.entry.program.now self.old + 3) }
+    {
         let into = Into {
             pos,
             own,
-            origin,
-            go,
+            origin: Origin::Property {
+                name,
+                setter,
+                pos,
+                assigned: false,
+            },
+            go: Go::Further,
         };
         self.get_property(context, name, getter, pos, into)
     }

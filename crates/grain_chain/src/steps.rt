@@ -11,7 +11,7 @@ ghost use Rattle.grain_chain.specs.Walking.{place_of, role_in, count, steps_left
 ghost use Rattle.grain_chain.specs.Going.{Goes, Takes, Needs, NeedsOr, stopped, course, steps, rest, next_step};
 
 use crate::contexts::{Context, count_of_steps, step_at};
-use crate::origins::Ending;
+use crate::origins::{Ending, Role};
 use crate::requests::WalkAnswer;
 use crate::walks::Walk;
 use bitflags::Flags;
@@ -97,16 +97,19 @@ impl Walk {
         }
     }
 
-    // What the chain does at the step that is taken, if it is the last one.
-    fn role(&self, context: Context<'_>) -> Option<Ending>
+    // What the step that is taken does besides leading on.
+    fn role(&self, context: Context<'_>) -> Role
         ensures { role_in result self.now.value ≡ role_before (course context.entry self.now)
             (drop (self.now.step + 1) (steps context.entry self.now)) }
     {
         let count = count_of_steps(context.program, self.chain);
-        if count - self.step > 1 {
-            None
-        } else {
-            Some(self.ending)
+        if count.saturating_sub(self.step) > 1 {
+            return Role::Passes;
+        }
+        match self.ending {
+            Ending::Read => Role::Reads,
+            Ending::Write => Role::Writes,
+            Ending::Operate(op) => Role::Operates(op),
         }
     }
 }
