@@ -5,3 +5,6 @@ pub mod Paths
 pub mod Keys
 pub mod Roots
 pub mod Stepping
+pub mod Spots
+pub mod Missing
+pub mod Named

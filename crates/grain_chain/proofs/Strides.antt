@@ -74,7 +74,7 @@ module _ (x : Context) where
       (subst (λ (t : Task). Goes x (marked w) t r v) same
       (subst (λ (u : Walk). Goes x u (f u) r v) is g))
 
-  marked_takes : (w v : Walk) (t : Task) (r : Result (Option WalkAnswer) OutOfMemory) →
+  pub marked_takes : (w v : Walk) (t : Task) (r : Result (Option WalkAnswer) OutOfMemory) →
       Takes x (marked w) t r v → Takes x w (at_mark w.step (rest x w) t) r v
   marked_takes w v t (Ok (Some a)) g = λ k. go_on (passes w t k) (g k) tt
   marked_takes w v t (Ok None) g =
@@ -89,7 +89,7 @@ module _ (x : Context) where
       (subst (λ (t : Task). Takes x (marked w) t r v) same
       (subst (λ (u : Walk). Takes x u (f u) r v) is g))
 
-  marked_back : (w v : Walk) (t : Task) (changed : Bool)
+  pub marked_back : (w v : Walk) (t : Task) (changed : Bool)
       (r : Result (Option WalkAnswer) OutOfMemory) → GoesBack x (marked w) t changed r v →
       GoesBack x w (at_mark w.step (rest x w) t) changed r v
   marked_back w v t changed (Ok (Some a)) g = λ k. go_on (passes w t k) (g k) tt

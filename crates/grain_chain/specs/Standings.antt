@@ -1,9 +1,11 @@
 -- The roots of a walk of the code, and where it stands in the newest of them.
-use Rattle.std.specs.Prelude.{◌≡◌, ℕ, List, [], ◌∷◌, ◌++◌, Option, Some, None, Bool, true, false, Result, Ok, Err}
+use Rattle.std.specs.Prelude.{◌≡◌, ℕ, List, [], ◌∷◌, ◌++◌, Option, Some, None, Bool, true, false, Result, Ok, Err, is_some}
 use Rattle.grain_value.specs.Tree.{Tree}
 use Rattle.grain_value.specs.View.{tree}
 use Rattle.grain_value.specs.Paths.{at, Leads}
+use Rattle.grain_value.specs.Maps.{entry_at}
 use Rattle.grain_value.specs.declared.values.Dynamic.{Dynamic}
+use Rattle.grain_value.specs.declared.values.Dynamic.TheVariants as dynamic
 use Rattle.grain_value.specs.declared.values.Held.{Held}
 use Rattle.grain_value.specs.declared.values.paths.PathStep.{PathStep}
 use Rattle.grain_value.specs.declared.values.paths.PathStep.TheVariants.{Key}
@@ -71,3 +73,8 @@ abbrev pub AssignedThere : Standing → AssignAnswer → Outcome → Standing �
 AssignedThere s assigned.NotBuiltIn o t = (o ≡ NotBuiltIn) × (t ≡ s)
 AssignedThere s assigned.Done o t = (r : Dynamic) × (o ≡ Gave r) × (t ≡ put_there s r)
 AssignedThere s (assigned.Failed x) o t = FailsSo x o × (t ≡ s)
+
+-- whether a map has a key
+abbrev pub has_key : Dynamic → List ℕ → Option Bool
+has_key (dynamic.Map es) k = Some (is_some (entry_at k es))
+has_key v k = None

@@ -2,14 +2,14 @@
 
 ghost use Rattle.std.specs.Prelude.{◌≡◌, ◌<◌, ◌+◌, ◌∷◌, [], ℕ, true, false, Some, Ok, Err, IfOk, codes};
 ghost use Rattle.grain_value.specs.View.{tree};
-ghost use Rattle.grain_value.specs.declared.values.value_faults.ValueFault.TheVariants as fault;
 ghost use Rattle.grain_fault.specs.declared.places.Position.{Position as AnyPosition};
 ghost use Rattle.grain_value.specs.Cells.{flat};
 ghost use Rattle.grain_value.specs.Locating.{locate};
+ghost use Rattle.grain_value.specs.Maps.{Entries};
 ghost use Rattle.grain_value.specs.declared.values.Dynamic.{Dynamic as AnyValue};
 ghost use Rattle.grain_value.specs.declared.values.Dynamic.TheVariants as dynamic;
 ghost use Rattle.grain_program.specs.View.{View as AnyProgram};
-ghost use Rattle.grain_means.specs.Walks.{at_mark, index_step, indexed, is_indexed, origin_of_part, key_of, missing_key, by_indexer, index_was_got, into_answer, asking, index_get, OfIndex, set_by_index};
+ghost use Rattle.grain_means.specs.Walks.{at_mark, index_step, indexed, is_indexed, origin_of_part, key_of, missing_key, by_indexer, Operates, index_was_got, into_answer, asking, index_get, OfIndex, set_by_index};
 ghost use Rattle.grain_chain.specs.Standings.{Stands};
 ghost use Rattle.grain_chain.specs.Walking.{place_of, role_in, origin_of, operand_of, count, steps_left, backs};
 ghost use Rattle.grain_chain.specs.Going.{Goes, Takes, Needs, NeedsOr, setting, rest, next_step, with_value, Asked};
@@ -23,7 +23,9 @@ use crate::requests::WalkAnswer;
 use crate::steps::stop;
 use crate::walks::Walk;
 use grain_fault::Position;
-use grain_value::{Dynamic, Held, OutOfMemory, PathStep, Spot, ValueFault};
+use grain_program::AssignOp;
+use grain_value::{Dynamic, Held, OutOfMemory, PathStep, Spot, Text, ValueFault};
+use std::alloc::Global;
 use std::mem;
 
 impl Walk {
@@ -45,11 +47,55 @@ impl Walk {
         ensures needs { NeedsOr context.entry.program.now self.new result
             (steps_left context.entry.program.now self.old + 3) }
     {
-        if !is_indexed(self.trail.target()) {
-            let index = self.operand(operand)?;
-            self.pass()?;
-            return stop(self.by_indexer(role, pos, bracket, index));
+        if is_indexed(self.trail.target()) {
+            self.index_by_value(context, role, operand, pos, bracket)
+        } else {
+            self.index_by_host(context, role, operand, pos, bracket)
         }
+    }
+
+    // An index step at a value that has no indices of its own, with the mark at its start.
+    fn index_by_host(
+        &mut self,
+        context: Context<'_>,
+        role: Role,
+        operand: u32,
+        pos: Position,
+        bracket: Position,
+    ) -> Result<Option<WalkAnswer>, OutOfMemory>
+        requires at { self.old.step < count context.program.now self.old }
+        requires host { (v : AnyValue) × (Stands self.old.trail v × (is_indexed v ≡ false)) }
+        ensures takes { Takes context.entry self.old
+            (at_mark self.old.step (rest context.entry self.old)
+            (index_step (setting context.entry self.old) self.old.step (operand_of self.old operand)
+            pos bracket (role_in role self.old.value) (next_step context.entry self.old)
+            (place_of self.old) (rest context.entry self.old))) result self.new }
+        ensures needs { NeedsOr context.entry.program.now self.new result
+            (steps_left context.entry.program.now self.old + 3) }
+    {
+        let _ = context;
+        let index = self.operand(operand)?;
+        self.pass()?;
+        stop(self.by_indexer(role, pos, bracket, index))
+    }
+
+    // An index step at a value that has indices of its own, with the mark at its start.
+    fn index_by_value(
+        &mut self,
+        context: Context<'_>,
+        role: Role,
+        operand: u32,
+        pos: Position,
+        bracket: Position,
+    ) -> Result<Option<WalkAnswer>, OutOfMemory>
+        requires { (v : AnyValue) × (Stands self.old.trail v × (is_indexed v ≡ true)) }
+        ensures takes { Takes context.entry self.old
+            (at_mark self.old.step (rest context.entry self.old)
+            (index_step (setting context.entry self.old) self.old.step (operand_of self.old operand)
+            pos bracket (role_in role self.old.value) (next_step context.entry self.old)
+            (place_of self.old) (rest context.entry self.old))) result self.new }
+        ensures needs { (n : ℕ) → NeedsOr context.entry.program.now self.new result n }
+    {
         let index = self.flat_operand(context, operand)?;
         self.pass()?;
         match index {
@@ -96,7 +142,7 @@ impl Walk {
         bracket: Position,
         index: Dynamic,
     ) -> Result<Option<WalkAnswer>, OutOfMemory>
-        requires { (v : AnyValue) × Stands self.old.trail v × (is_indexed v ≡ true) }
+        requires { (v : AnyValue) × (Stands self.old.trail v × (is_indexed v ≡ true)) }
         ensures takes { (v : AnyValue) → Stands self.old.trail v → Takes context.entry self.old
             (indexed (setting context.entry self.old) self.old.step pos bracket
             (role_in role self.old.value) (operand_of self.old operand) index (with_value self.old v)
@@ -104,21 +150,49 @@ impl Walk {
             (locate v index)) result self.new }
         ensures needs { (n : ℕ) → NeedsOr context.entry.program.now self.new result n }
     {
-        let target = self.trail.target();
-        match target.locate(&index) {
+        match self.trail.target().locate(&index) {
             Ok(spot) => self.at_spot(role, spot, index),
-            Err(ValueFault::Bounds { length, index: place }) => {
-                let fault = out_of_bounds(target, length, place, pos);
+            Err(fault) => self.not_there(context, role, operand, pos, bracket, index, fault),
+        }
+    }
+
+    // An index that names nothing in a value that has indices of its own.
+    fn not_there(
+        &mut self,
+        context: Context<'_>,
+        role: Role,
+        operand: u32,
+        pos: Position,
+        bracket: Position,
+        index: Dynamic,
+        fault: ValueFault,
+    ) -> Result<Option<WalkAnswer>, OutOfMemory>
+        requires { (v : AnyValue) × (Stands self.old.trail v × (is_indexed v ≡ true)
+            × (locate v index ≡ Err fault)) }
+        ensures takes { (v : AnyValue) → Stands self.old.trail v → Takes context.entry self.old
+            (indexed (setting context.entry self.old) self.old.step pos bracket
+            (role_in role self.old.value) (operand_of self.old operand) index (with_value self.old v)
+            (next_step context.entry self.old) (place_of self.old) (rest context.entry self.old)
+            (Err fault)) result self.new }
+        ensures needs { (n : ℕ) → NeedsOr context.entry.program.now self.new result n }
+    {
+        match fault {
+            ValueFault::Bounds {
+                length,
+                index: place,
+            } => {
+                let fault = out_of_bounds(self.trail.target(), length, place, pos);
                 stop(self.raise(fault))
             }
-            Err(ValueFault::NoKey) => {
-                self.missing_index(context, role, operand, pos, bracket, index)
+            ValueFault::NoKey => {
+                let key = key_of(self.alloc, index);
+                self.missing_index(context, role, operand, pos, bracket, key)
             }
-            Err(ValueFault::WrongType) => {
-                let fault = wrong_index(self.alloc, target, &index, pos)?;
+            ValueFault::WrongType => {
+                let fault = wrong_index(self.alloc, self.trail.target(), &index, pos)?;
                 stop(self.raise(fault))
             }
-            Err(_) => unreachable!(),
+            _ => unreachable!(),
         }
     }
 
@@ -129,7 +203,7 @@ impl Walk {
         spot: Spot,
         index: Dynamic,
     ) -> Result<Option<WalkAnswer>, OutOfMemory>
-        requires { (v : AnyValue) × Stands self.old.trail v × (locate v index ≡ Ok spot) }
+        requires { (v : AnyValue) × (Stands self.old.trail v × (locate v index ≡ Ok spot)) }
         ensures takes { (x : AnyContext) (v i : AnyValue) (pos bracket : AnyPosition) →
             Stands self.old.trail v → Takes x self.old
             (indexed (setting x self.old) self.old.step pos bracket (role_in role self.old.value) i index
@@ -139,10 +213,10 @@ impl Walk {
     {
         match spot {
             Spot::Item(item) => self.deeper(PathStep::Index(item))?,
-            Spot::Key => match index {
-                Dynamic::Text(key) => self.deeper(PathStep::Key(key))?,
-                _ => unreachable!(),
-            },
+            Spot::Key => {
+                let key = key_of(self.alloc, index);
+                self.deeper(PathStep::Key(key))?;
+            }
             _ => {
                 let origin = origin_of_part(role, spot);
                 let value = self.trail.target().part(spot);
@@ -161,19 +235,16 @@ impl Walk {
         operand: u32,
         pos: Position,
         bracket: Position,
-        key: Dynamic,
+        key: Text,
     ) -> Result<Option<WalkAnswer>, OutOfMemory>
-        requires { (v : AnyValue) × Stands self.old.trail v × (locate v key ≡ Err fault.NoKey) }
+        requires { (entries : Entries) × Stands self.old.trail (dynamic.Map entries) }
         ensures takes { (v : AnyValue) → Stands self.old.trail v → Takes context.entry self.old
             (missing_key (setting context.entry self.old) self.old.step pos
-            (OfIndex (operand_of self.old operand) bracket) (role_in role self.old.value) (key_of key)
+            (OfIndex (operand_of self.old operand) bracket) (role_in role self.old.value) key
             (with_value self.old v) (next_step context.entry self.old) (place_of self.old)
             (rest context.entry self.old)) result self.new }
         ensures needs { (n : ℕ) → NeedsOr context.entry.program.now self.new result n }
     {
-        let Dynamic::Text(key) = key else {
-            unreachable!()
-        };
         let index = self.operand(operand)?;
         self.missing_key(context, role, pos, Origin::Index { index, bracket }, key)
     }
@@ -194,22 +265,7 @@ impl Walk {
     {
         match role {
             Role::Writes => self.set_value_by_index(bracket, index),
-            Role::Operates(op) => {
-                let kept = index.copy(self.alloc)?;
-                let argument = index.copy(self.alloc)?;
-                let into = Into {
-                    pos: bracket,
-                    own: false,
-                    origin: Origin::Index { index, bracket },
-                    go: Go::Operate(bracket, op),
-                };
-                let awaits = Awaits::IndexRead {
-                    bracket,
-                    index: kept,
-                    into,
-                };
-                self.get_by_index(bracket, argument, awaits)
-            }
+            Role::Operates(op) => self.read_by_index(bracket, index, op),
             Role::Reads => self.get_own_by_index(pos, bracket, index, true),
             Role::Passes => self.get_own_by_index(pos, bracket, index, false),
         }
@@ -239,6 +295,36 @@ impl Walk {
             go: Go::Further,
         };
         self.get_by_index(bracket, argument, Awaits::IndexGot(into))
+    }
+
+    // Asks an indexer for what an op-assignment changes.
+    fn read_by_index(
+        &mut self,
+        bracket: Position,
+        index: Dynamic,
+        op: AssignOp,
+    ) -> Result<WalkAnswer, OutOfMemory>
+        ensures goes { (x : AnyContext) → Goes x self.old
+            (by_indexer (setting x self.old) self.old.step bracket bracket
+            (Operates self.old.value op) index (next_step x self.old) (place_of self.old)
+            (rest x self.old)) result self.new }
+        ensures needs { (p : AnyProgram) → self.old.step < count p self.old →
+            Needs p self.new result (steps_left p self.old + 3) }
+    {
+        let kept = index.copy(self.alloc)?;
+        let argument = index.copy(self.alloc)?;
+        let into = Into {
+            pos: bracket,
+            own: false,
+            origin: Origin::Index { index, bracket },
+            go: Go::Operate(bracket, op),
+        };
+        let awaits = Awaits::IndexRead {
+            bracket,
+            index: kept,
+            into,
+        };
+        self.get_by_index(bracket, argument, awaits)
     }
 
     // Asks an indexer for what an index names.
@@ -294,6 +380,16 @@ fn origin_of_part(role: Role, spot: Spot) -> Origin
     match role {
         Role::Reads => Origin::Nothing,
         _ => Origin::Part(spot),
+    }
+}
+
+// The key that an index of a map is, empty if it is no text.
+fn key_of(alloc: Global, index: Dynamic) -> Text
+    ensures { result ≡ key_of index }
+{
+    match index {
+        Dynamic::Text(key) => key,
+        _ => Text::new(alloc),
     }
 }
 

@@ -1,6 +1,9 @@
 //! Property steps.
 
-ghost use Rattle.std.specs.Prelude.{◌≡◌, ◌<◌, ◌+◌, ◌∷◌, [], Some, true, false};
+ghost use Rattle.std.specs.Prelude.{◌≡◌, ◌<◌, ◌+◌, ◌∷◌, [], ℕ, Some, None, true, false};
+ghost use Rattle.grain_value.specs.declared.values.Dynamic.{Dynamic as AnyValue};
+ghost use Rattle.grain_program.specs.View.{name_of};
+ghost use Rattle.grain_chain.specs.Standings.{Stands, has_key};
 ghost use Rattle.grain_value.specs.declared.values.Dynamic.TheVariants as dynamic;
 ghost use Rattle.grain_fault.specs.Problems.{problem_of};
 ghost use Rattle.grain_means.specs.Walks.{at_mark, asking, index_get, index_set, property_step, by_accessor, get_property, got_instead, set_instead, set_property, into_answer, OfProperty, named};
@@ -37,19 +40,63 @@ impl Walk {
         ensures needs { NeedsOr context.entry.program.now self.new result
             (steps_left context.entry.program.now self.old + 3) }
     {
-        let Dynamic::Map(map) = self.trail.target() else {
-            self.pass()?;
-            return stop(self.by_accessor(context, role, name, getter, setter, pos));
-        };
         let key = name_at(context.program, name);
-        let is_there = map.get(key).is_some();
-        let key = Text::copy_of(self.alloc, key)?;
+        match has_key(self.trail.target(), key) {
+            Some(is_there) => self.property_by_key(context, role, name, pos, is_there),
+            None => self.property_by_host(context, role, name, getter, setter, pos),
+        }
+    }
+
+    // A property step at a map, with the mark at its start.
+    fn property_by_key(
+        &mut self,
+        context: Context<'_>,
+        role: Role,
+        name: u32,
+        pos: Position,
+        is_there: bool,
+    ) -> Result<Option<WalkAnswer>, OutOfMemory>
+        requires { (v : AnyValue) × (Stands self.old.trail v
+            × (has_key v (name_of context.program.now name) ≡ Some is_there)) }
+        ensures takes { (getter setter : ℕ) → Takes context.entry self.old
+            (at_mark self.old.step (rest context.entry self.old)
+            (property_step (setting context.entry self.old) self.old.step name getter setter pos
+            (role_in role self.old.value) (next_step context.entry self.old) (place_of self.old)
+            (rest context.entry self.old))) result self.new }
+        ensures needs { (n : ℕ) → NeedsOr context.entry.program.now self.new result n }
+    {
+        let key = Text::copy_of(self.alloc, name_at(context.program, name))?;
         self.pass()?;
         if is_there {
             self.deeper(PathStep::Key(key))?;
             return Ok(None);
         }
         self.missing_key(context, role, pos, Origin::Nothing, key)
+    }
+
+    // A property step at a value that is no map, with the mark at its start.
+    fn property_by_host(
+        &mut self,
+        context: Context<'_>,
+        role: Role,
+        name: u32,
+        getter: u32,
+        setter: u32,
+        pos: Position,
+    ) -> Result<Option<WalkAnswer>, OutOfMemory>
+        requires at { self.old.step < count context.program.now self.old }
+        requires host { (v : AnyValue) × (Stands self.old.trail v
+            × (has_key v (name_of context.program.now name) ≡ None)) }
+        ensures takes { Takes context.entry self.old
+            (at_mark self.old.step (rest context.entry self.old)
+            (property_step (setting context.entry self.old) self.old.step name getter setter pos
+            (role_in role self.old.value) (next_step context.entry self.old) (place_of self.old)
+            (rest context.entry self.old))) result self.new }
+        ensures needs { NeedsOr context.entry.program.now self.new result
+            (steps_left context.entry.program.now self.old + 3) }
+    {
+        self.pass()?;
+        stop(self.by_accessor(context, role, name, getter, setter, pos))
     }
 
     // The host's getters and setters, for a property of a value that is no map.
@@ -239,5 +286,15 @@ impl Walk {
         let values = two(self.alloc, name, set)?;
         let awaits = Awaits::SetInstead { fault, assigned };
         self.ask(pos, "index$set$", values, awaits)
+    }
+}
+
+// Whether a map has a key. None where the value is no map.
+fn has_key(value: &Dynamic, key: &str) -> Option<bool>
+    ensures { result ≡ has_key value.now key.now }
+{
+    match value {
+        Dynamic::Map(map) => Some(map.get(key).is_some()),
+        _ => None,
     }
 }

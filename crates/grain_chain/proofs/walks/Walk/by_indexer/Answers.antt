@@ -33,38 +33,13 @@ returns-in-Writes-clause-needs c = λ p at.
     needs_more p c.set_value_by_index.new.self c.set_value_by_index.result _ _
     (c.set_value_by_index.ensures.needs p) (omega arith)
 
-pub returns-clause-goes : goal.returns-clause-goes
-returns-clause-goes c = λ x.
-    let w = c.args.self.now in
-    let made : Into = record {
-      pos = c.args.bracket;
-      own = false;
-      origin = origin.Index c.args.index c.args.bracket;
-      go = go.Operate c.args.bracket c.in-Operates.op;
-    } in
-    let asked = asks_with x w c.get_by_index.new.self c.args.bracket (codes "index$get$")
-    (codes "index$get$") (tree c.in_ok-argument.argument ∷ []) (c.args.index ∷ [])
-    (awaits.IndexRead c.args.bracket c.in_ok-kept.kept made) c.get_by_index.result refl
-    (one_of (tree c.in_ok-argument.argument ∷ []) c.args.index
-    (ap (λ (d : Dynamic). tree d ∷ []) c.in_ok-argument.ensures)) c.get_by_index.ensures in
+pub returns-in-Operates-clause-goes : goal.returns-in-Operates-clause-goes
+returns-in-Operates-clause-goes c = λ x.
     subst (λ (o : Role). Goes x c.args.self.now (Walks.by_indexer (setting x c.args.self.now)
     c.args.self.now.step c.args.pos c.args.bracket (role_in o c.args.self.now.value) c.args.index
-    (next_step x c.args.self.now) (place_of c.args.self.now) (rest x c.args.self.now)) c.get_by_index.result
-    c.get_by_index.new.self) (sym c.in-Operates.is)
-    (subst (λ (d : Dynamic). Goes x w (Walks.asking w.step c.args.bracket Walks.index_get
-    (Some (place_of w)) (c.args.index ∷ []) (rest x w) (Walks.index_was_read w.step c.args.bracket
-    (place_of w) d w.value (rest x w) (gone_into x.engine.now x.program.now w made)))
-    c.get_by_index.result c.get_by_index.new.self) c.in_ok-kept.ensures asked)
-
-pub returns-clause-needs : goal.returns-clause-needs
-returns-clause-needs c = λ p at.
-    asks_less p c.args.self.now c.get_by_index.new.self c.args.bracket (codes "index$get$")
-    (tree c.in_ok-argument.argument ∷ []) (awaits.IndexRead c.args.bracket c.in_ok-kept.kept (record {
-      pos = c.args.bracket;
-      own = false;
-      origin = origin.Index c.args.index c.args.bracket;
-      go = go.Operate c.args.bracket c.in-Operates.op;
-    })) c.get_by_index.result _ c.get_by_index.ensures at (omega arith)
+    (next_step x c.args.self.now) (place_of c.args.self.now) (rest x c.args.self.now))
+    c.read_by_index.result c.read_by_index.new.self) (sym c.in-Operates.is)
+    (c.read_by_index.ensures.goes x)
 
 pub returns-in-Reads-clause-goes : goal.returns-in-Reads-clause-goes
 returns-in-Reads-clause-goes c = λ x.
