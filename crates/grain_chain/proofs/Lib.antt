@@ -8,3 +8,6 @@ pub mod Stepping
 pub mod Spots
 pub mod Missing
 pub mod Named
+pub mod Backs
+pub mod Operands
+pub mod Tails

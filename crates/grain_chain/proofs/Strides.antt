@@ -1,5 +1,5 @@
 -- Stretches of a walk, one after the other.
-use Rattle.std.proofs.Common.{◌≡◌, ℕ, ◌+◌, List, [], ◌∷◌, Bool, true, false, Option, Some, None, Result, Ok, Err, refl, sym, ap, ◌∙◌, subst, arith}
+use Rattle.std.proofs.Common.{◌≡◌, ℕ, ◌+◌, List, [], ◌∷◌, Bool, true, false, Option, Some, None, Result, Ok, Err, is_ok, refl, sym, ap, ◌∙◌, subst, arith}
 use Rattle.grain_value.specs.Cells.{flat}
 use Rattle.grain_value.specs.declared.memory.OutOfMemory.{OutOfMemory}
 use Rattle.grain_value.specs.declared.stores.Cell.{Cell}
@@ -8,6 +8,7 @@ use Rattle.grain_value.specs.declared.values.Held.{Held}
 use Rattle.grain_fault.specs.Problems.{Problem, problem_of, NoMemory}
 use Rattle.grain_fault.specs.declared.faults.EvalAltResult.{EvalAltResult}
 use Rattle.grain_means.specs.Worlds.{Place}
+use Rattle.grain_means.specs.Places.{look}
 use Rattle.grain_means.specs.Tasks.{Task, Own, Done, Look, Flatten, Write, Ill, play}
 use Rattle.grain_means.specs.Walks.{at_mark, failing}
 use Rattle.grain_chain.specs.OwnWalks.{WalksOn, own}
@@ -113,6 +114,10 @@ module _ (x : Context) where
       ap (λ (h : Held). play stop x.cells.now (f h) (own (roots_of w) (k + w.marks)))
       (look-here w.trail.outer w.trail.here d w.trail.path e)) refl
 
+  pub looked : (w : Walk) (p : Place) (f : Held → Task) →
+      Reaches x w (Look p f) false (roots_of w) w.marks (f (look (roots_of w) p))
+  looked w p f = λ k. by_play (λ stop. refl) refl
+
   -- a value is read
   pub flattens : (w : Walk) (v : Dynamic) (f : Option Dynamic → Task) →
       Reaches x w (Flatten v f) false (roots_of w) w.marks (f (flat x.cells.now v))
@@ -155,3 +160,14 @@ module _ (x : Context) where
       subst (λ (b : WalkAnswer). Goes x w (rest x w (Ill w.step (problem_of y))) (Ok b) v) (sym is)
       (subst (λ (u : Walk). Goes x w (rest x w (Ill w.step (problem_of y))) (Ok (answer.Faulted y w.step)) u)
       (sym left) (fell_down w w.step (problem_of y)))
+
+  -- want of memory, wherever it was found
+  pub gives_up : (w v : Walk) (t : Task) (r : Result WalkAnswer OutOfMemory) → is_ok r ≡ false →
+      Reaches x w t true (roots_of v) v.marks (given_up x v) → Goes x w t r v
+  gives_up w v t (Ok a) e h = cc
+  gives_up w v t (Err o) e h = h
+
+  pub gives_up_step : (w v : Walk) (t : Task) (r : Result (Option WalkAnswer) OutOfMemory) →
+      is_ok r ≡ false → Reaches x w t true (roots_of v) v.marks (given_up x v) → Takes x w t r v
+  gives_up_step w v t (Ok a) e h = cc
+  gives_up_step w v t (Err o) e h = h

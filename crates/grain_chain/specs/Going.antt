@@ -14,7 +14,7 @@ use Rattle.grain_program.specs.declared.code.chains.Step.{Step}
 use Rattle.grain_means.specs.Tasks.{Task, Well, Ill}
 use Rattle.grain_means.specs.Walks.{Setting, Course, Rest, Next}
 use Rattle.grain_chain.specs.OwnWalks.{WalksOn, own}
-use Rattle.grain_chain.specs.Standings.{Stands, oldest}
+use Rattle.grain_chain.specs.Standings.{Stands, oldest, put_there}
 use Rattle.grain_chain.specs.Walking.{roots_of, roots_at, left_to_do, rest_of, place_of, further, setting_of, course_of, steps_of, Falls, lends}
 use Rattle.grain_chain.specs.declared.contexts.Context.{Context}
 use Rattle.grain_value.specs.declared.values.Dynamic.{Dynamic}
@@ -181,3 +181,9 @@ FailsAt q (Ok y) (Gave v) = ⊥
 FailsAt q (Ok y) (ArithmeticFault text) = problem_of y ≡ Plain (Arithmetic text) q
 FailsAt q (Ok y) (TooLarge what) = problem_of y ≡ Plain (DataTooLarge what) q
 FailsAt q (Err e) o = Unit {0}
+
+-- a byte, a character or a bit was written where the walk stands, if the value with it is one
+abbrev pub WrotePart : Walk → Option Dynamic → Bool → Walk → Type 0
+WrotePart w (Some d) b v =
+    (b ≡ true) × (v ≡ record w { trail = put_there w.trail d; marks = w.marks + 1 })
+WrotePart w None b v = (b ≡ false) × (v ≡ w)

@@ -218,6 +218,16 @@ is_out (answer.Need r) = false
 is_out (answer.Ended v changed) = false
 is_out (answer.Faulted x n) = no_memory (problem_of x)
 
+-- the first root is read-only, or not
+abbrev pub Rooted : Bool → List Held → Type 0
+Rooted b [] = ⊥
+Rooted b (r ∷ rs) = r.read_only ≡ b
+
+-- an outcome is want of memory
+abbrev pub is_want : Result Dynamic EvalAltResult → Bool
+is_want (Ok v) = false
+is_want (Err x) = no_memory (problem_of x)
+
 abbrev pub outcome_of : Result Dynamic EvalAltResult → Answer
 outcome_of (Ok v) = Came v
 outcome_of (Err x) = Failed (problem_of x)

@@ -2,3 +2,4 @@
 -- calls of a walk lead.
 pub mod Joining
 pub mod Ways
+pub mod Told

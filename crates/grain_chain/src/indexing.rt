@@ -5,11 +5,12 @@ ghost use Rattle.grain_value.specs.View.{tree};
 ghost use Rattle.grain_fault.specs.declared.places.Position.{Position as AnyPosition};
 ghost use Rattle.grain_value.specs.Cells.{flat};
 ghost use Rattle.grain_value.specs.Locating.{locate};
+ghost use Rattle.grain_value.specs.Parts.{part};
 ghost use Rattle.grain_value.specs.Maps.{Entries};
 ghost use Rattle.grain_value.specs.declared.values.Dynamic.{Dynamic as AnyValue};
 ghost use Rattle.grain_value.specs.declared.values.Dynamic.TheVariants as dynamic;
 ghost use Rattle.grain_program.specs.View.{View as AnyProgram};
-ghost use Rattle.grain_means.specs.Walks.{at_mark, index_step, indexed, is_indexed, origin_of_part, key_of, missing_key, by_indexer, Operates, index_was_got, into_answer, asking, index_get, OfIndex, set_by_index};
+ghost use Rattle.grain_means.specs.Walks.{at_mark, index_step, indexed, is_indexed, origin_of_part, rooted, key_of, missing_key, by_indexer, Operates, index_was_got, into_answer, asking, index_get, OfIndex, set_by_index};
 ghost use Rattle.grain_chain.specs.Standings.{Stands};
 ghost use Rattle.grain_chain.specs.Walking.{place_of, role_in, origin_of, operand_of, count, steps_left, backs};
 ghost use Rattle.grain_chain.specs.Going.{Goes, Takes, Needs, NeedsOr, setting, rest, next_step, with_value, Asked};
@@ -212,18 +213,34 @@ impl Walk {
         ensures needs { (p : AnyProgram) (n : ℕ) → NeedsOr p self.new result n }
     {
         match spot {
-            Spot::Item(item) => self.deeper(PathStep::Index(item))?,
+            Spot::Item(item) => {
+                self.deeper(PathStep::Index(item))?;
+                Ok(None)
+            }
             Spot::Key => {
                 let key = key_of(self.alloc, index);
                 self.deeper(PathStep::Key(key))?;
+                Ok(None)
             }
-            _ => {
-                let origin = origin_of_part(role, spot);
-                let value = self.trail.target().part(spot);
-                let read_only = self.trail.is_read_only();
-                self.enter(origin, Held { value, read_only })?;
-            }
+            Spot::Byte(_) => self.at_part(role, spot),
+            Spot::Character(_) => self.at_part(role, spot),
+            Spot::Bit(_) => self.at_part(role, spot),
         }
+    }
+
+    // Goes to a byte, a character or a bit, which is a newer root.
+    fn at_part(&mut self, role: Role, spot: Spot) -> Result<Option<WalkAnswer>, OutOfMemory>
+        ensures takes { (x : AnyContext) (v : AnyValue) → Stands self.old.trail v → Takes x self.old
+            (rooted (setting x self.old) self.old.step
+            (origin_of_part (role_in role self.old.value) spot)
+            (record (with_value self.old v) { value = part v spot }) (next_step x self.old)
+            (place_of self.old) (rest x self.old)) result self.new }
+        ensures needs { (p : AnyProgram) (n : ℕ) → NeedsOr p self.new result n }
+    {
+        let origin = origin_of_part(role, spot);
+        let value = self.trail.target().part(spot);
+        let read_only = self.trail.is_read_only();
+        self.enter(origin, Held { value, read_only })?;
         Ok(None)
     }
 

@@ -37,7 +37,7 @@ impl Walk {
                 return self.skip(context);
             }
             match self.take(context, step)? {
-                None => self.step += 1,
+                None => self.step_on(context),
                 Some(answer) => return Ok(answer),
             }
         }
@@ -48,6 +48,17 @@ impl Walk {
         ensures { (v : AnyValue) × (Stands self.now.trail v × (result ≡ (skips step && is_unit v))) }
     {
         skips(step) && self.trail.target().is_unit()
+    }
+
+    // The next step is the one that is taken.
+    pub(crate) fn step_on(&mut self, context: Context<'_>)
+        requires { self.old.step < count context.program.now self.old }
+        ensures { self.new ≡ record self.old { step = self.old.step + 1 } }
+    {
+        let count = count_of_steps(context.program, self.chain);
+        if self.step < count {
+            self.step += 1;
+        }
     }
 
     // The chain ends before a step, with unit.

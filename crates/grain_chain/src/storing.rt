@@ -83,7 +83,9 @@ impl Walk {
         if !context.engine.fast_operators {
             return self.ask_op_assign(context, pos, op);
         }
-        let marks = self.next_mark()?;
+        let Ok(marks) = self.next_mark() else {
+            return Err(OutOfMemory);
+        };
         let limits = &context.engine.limits;
         match self
             .trail
@@ -95,10 +97,10 @@ impl Walk {
                 self.gives = Dynamic::Unit;
                 self.well(context, true)
             }
-            AssignAnswer::Failed(fault) => {
-                let fault = placed(fault, pos)?;
-                self.raise(fault)
-            }
+            AssignAnswer::Failed(fault) => match placed(fault, pos) {
+                Ok(fault) => self.raise(fault),
+                Err(OutOfMemory) => Err(OutOfMemory),
+            },
         }
     }
 
@@ -150,7 +152,10 @@ impl Walk {
             (Came value)) result self.new }
         ensures needs { Needs context.entry.program.now self.new result (backs self.old) }
     {
-        match flat_copy(self.alloc, context.cells, value)? {
+        let Ok(content) = flat_copy(self.alloc, context.cells, value) else {
+            return Err(OutOfMemory);
+        };
+        match content {
             Some(content) => self.write(context, content),
             None => self.race(pos),
         }

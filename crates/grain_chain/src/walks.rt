@@ -1,9 +1,10 @@
 //! A walk: what it holds, how it begins, how it goes on, and how it ends.
 
-ghost use Rattle.std.specs.Prelude.{◌≡◌, ◌+◌, ◌*◌, [], ◌∷◌};
+ghost use Rattle.std.specs.Prelude.{◌≡◌, ◌+◌, ◌*◌, [], ◌∷◌, Bool};
 ghost use Rattle.grain_means.specs.Walks.{whole_walk};
 ghost use Rattle.grain_program.specs.View.{chain_of};
-ghost use Rattle.grain_chain.specs.Walking.{Did, Waits, Falls, HasOperator, new_course, steps_of, count_of, resumed, outcome_of, with_receiver, still};
+ghost use Rattle.grain_chain.specs.OwnWalks.{StopPersists};
+ghost use Rattle.grain_chain.specs.Walking.{Rooted, is_want, is_out, roots_of, roots_at, Did, Waits, Falls, HasOperator, new_course, steps_of, count_of, resumed, outcome_of, with_receiver, still};
 
 use crate::contexts::{Context, ending_of};
 use crate::origins::{Awaits, Ending};
@@ -55,6 +56,8 @@ impl Walk {
             (whole_walk (new_course engine.now program.now pos chain operands value)
             (steps_of program.now chain)) result.0 result.1 }
         ensures falls { Falls program.now result.0 result.1 (4 * count_of program.now chain + 3) }
+        // The first root stays read-only, or not.
+        ensures rooted { Rooted root.read_only (roots_at result.0 result.1) }
     {
         let context = Context {
             engine,
@@ -94,6 +97,9 @@ impl Walk {
             self.new result }
         ensures falls { Falls program.now self.new result
             (still program.now self.old self.old.awaits) }
+        // Want of memory is handed on.
+        ensures carries { StopPersists (is_want outcome) 0 (is_out result) self.new.marks }
+        ensures rooted { (b : Bool) → Rooted b (roots_of self.old) → Rooted b (roots_at self.new result) }
     {
         let context = Context {
             engine,
@@ -110,6 +116,13 @@ impl Walk {
             Err(fault) => self.refused(context, awaits, fault),
         };
         self.settle(went)
+    }
+
+    /// How many marks were passed since the last answer.
+    pub fn marks(&self) -> u64
+        ensures { result ≡ self.now.marks }
+    {
+        self.marks
     }
 
     /// The root at which the walk began, as it is now.

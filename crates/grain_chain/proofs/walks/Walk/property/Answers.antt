@@ -1,4 +1,4 @@
-use Rattle.std.proofs.Common.{◌≡◌, ◌+◌, ◌<◌, ◌∷◌, [], ℕ, List, Bool, true, false, Option, Some, None, Result, Ok, Err, codes, refl, sym, ap, ◌∙◌, subst, arith}
+use Rattle.std.proofs.Common.{◌≡◌, ◌+◌, ◌<◌, ◌++◌, ◌∷◌, [], ℕ, List, Bool, true, false, Option, Some, None, Result, Ok, Err, codes, refl, sym, ap, ◌∙◌, subst, arith}
 use Rattle.grain_value.specs.Tree.{Tree}
 use Rattle.grain_value.specs.View.{tree, value_of}
 use Rattle.grain_value.specs.declared.values.Dynamic.{Dynamic}
@@ -34,3 +34,6 @@ pub property_by_host-requires-clause-host : goal.property_by_host-requires-claus
 property_by_host-requires-clause-host c =
     (c.target.result.now, (c.target.ensures,
     ap (has_key c.target.result.now) (sym c.name_at-key.ensures) ∙ sym c.has_key.ensures ∙ c.in-None.is))
+
+pub returns-in-Some-clause-takes : goal.returns-in-Some-clause-takes
+returns-in-Some-clause-takes c = c.property_by_key.ensures.takes c.args.getter c.args.setter

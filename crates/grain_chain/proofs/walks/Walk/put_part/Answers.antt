@@ -1,0 +1,47 @@
+use Rattle.std.proofs.Common.{◌≡◌, ◌+◌, ◌<◌, ◌++◌, ◌∷◌, [], ℕ, List, Bool, true, false, Option, Some, None, Result, Ok, Err, codes, refl, sym, ap, ◌∙◌, subst, arith}
+use Rattle.grain_value.specs.Tree.{Tree}
+use Rattle.grain_value.specs.View.{tree, value_of}
+use Rattle.grain_value.specs.declared.values.Dynamic.{Dynamic}
+use Rattle.grain_value.specs.declared.values.Dynamic.TheVariants as dynamic
+use Rattle.grain_fault.specs.Problems.{problem_of}
+use Rattle.grain_program.specs.View.{name_of}
+use Rattle.grain_means.specs.Walks
+use Rattle.grain_chain.specs.Walking.{place_of, roots_of, gone_into, further, role_in}
+use Rattle.grain_chain.specs.Going.{Goes, Takes, GoesBack, Needs, NeedsOr, Asked, rest, setting, next_step, with_value}
+use Rattle.grain_chain.specs.declared.walks.Walk.{Walk}
+use Rattle.grain_chain.specs.declared.origins.Awaits.TheVariants as awaits
+use Rattle.grain_chain.specs.declared.origins.Go.TheVariants as go
+use Rattle.grain_chain.specs.declared.origins.Origin.TheVariants as origin
+use Rattle.grain_chain.specs.declared.origins.Into.{Into}
+use Rattle.grain_chain.specs.declared.origins.Role.{Role}
+use Rattle.grain_chain.proofs.Strides.{from_same, then_goes, then_takes, passes_goes, passes_takes, looks, writes, stops_takes, marked}
+use Rattle.grain_chain.proofs.Asks.{asks_with, asks_less, one_of, two_of, none_of}
+use Rattle.grain_chain.proofs.Roots.{dives, adds, roots_in, stops_need}
+use Rattle.grain_chain.proofs.Stepping.{needs_more, needs_or_more}
+use Rattle.grain_chain.specs.Standings.{Stands, has_key}
+use Rattle.grain_chain.specs.declared.origins.Origin.{Origin as CodeOrigin}
+use Rattle.grain_chain.specs.Walking.{operand_of, origin_of}
+use Rattle.grain_chain.proofs.Named.{same_target, indexed_at, index_by_host, index_by_value, property_takes, property_by_host, at_there, at_missing, leads_there, is_map, host_index, own_index, host_property}
+use Rattle.grain_chain.proofs.Spots.{item_leads, key_leads, index_missed, no_key_of}
+use Rattle.grain_chain.proofs.Backs.{as_it_was, unchanged_back, changed_back, part_gives_up, part_done, part_fails}
+use Rattle.grain_chain.proofs.Strides.{stops_back}
+use Rattle.grain_value.specs.Parts.{with_part}
+use Rattle.grain_chain.specs.Going.{WrotePart}
+use Rattle.grain_chain.proofs.walks.Walk.put_part.Goals as goal
+
+pub returns-then-is_put-clause-goes : goal.returns-then-is_put-clause-goes
+returns-then-is_put-clause-goes c = λ x changed.
+    let h = c.in-Ok.ensures.wrote in
+    part_done x c.args.self.now c.args.spot c.args.part changed c.pass.new.self c.write_part.new.self
+    h.0 c.in_ok-pass.ensures.passed h.1.0
+    (subst (λ (b : Bool). WrotePart c.pass.new.self (with_part h.0 c.args.spot c.args.part) b
+    c.write_part.new.self) c.if-is_put.true h.1.1)
+
+pub returns-clause-goes : goal.returns-clause-goes
+returns-clause-goes c = λ x changed.
+    let h = c.in-Ok.ensures.wrote in
+    part_fails x c.args.self.now c.args.spot c.args.part changed c.pass.new.self c.write_part.new.self
+    c.refuse_part.new.self h.0 c.refuse_part.result c.in_ok-pass.ensures.passed h.1.0
+    (subst (λ (b : Bool). WrotePart c.pass.new.self (with_part h.0 c.args.spot c.args.part) b
+    c.write_part.new.self) c.if-is_put.false h.1.1)
+    (c.refuse_part.ensures.goes x changed)
