@@ -11,3 +11,5 @@ pub mod Named
 pub mod Backs
 pub mod Operands
 pub mod Tails
+pub mod Loops
+pub mod Ends

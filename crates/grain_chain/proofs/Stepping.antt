@@ -11,11 +11,11 @@ use Rattle.grain_program.specs.View.{View}
 use Rattle.grain_program.specs.declared.code.chains.Step.{Step}
 use Rattle.grain_means.specs.Worlds.{is_stop}
 use Rattle.grain_means.specs.Tasks.{Task, Play, Well, Ill, play}
-use Rattle.grain_means.specs.Walks.{at_mark, unless_unit, skips, taken, walked, role_before}
+use Rattle.grain_means.specs.Walks.{at_mark, unless_unit, skips, taken, walked, role_before, ended, last_role}
 use Rattle.grain_chain.specs.OwnWalks.{own}
 use Rattle.grain_chain.specs.Standings.{Stands}
 use Rattle.grain_chain.specs.Walking.{roots_of, place_of, steps_left, backs, count, Falls}
-use Rattle.grain_chain.specs.Going.{Reaches, Goes, Takes, Went, Needs, NeedsOr, course, steps, rest, next_step}
+use Rattle.grain_chain.specs.Going.{Reaches, Goes, Takes, Went, Needs, NeedsOr, course, steps, setting, rest, next_step}
 use Rattle.grain_chain.specs.laws.Joining.{go_on, by_play}
 use Rattle.grain_chain.specs.laws.Ways.{look-here}
 use Rattle.grain_chain.specs.declared.contexts.Context.{Context}
@@ -31,6 +31,12 @@ cut (x ∷ xs) (suc n) s h = cut xs n s h
 -- at the next step
 abbrev pub stepped : Walk → Walk
 stepped w = record w { step = w.step + 1 }
+
+all_gone : (xs : List Step) (n : ℕ) → length xs ≤ n → drop n xs ≡ []
+all_gone [] zero h = refl
+all_gone [] (suc n) h = refl
+all_gone (s ∷ xs) zero h = absurd (omega (arith, h))
+all_gone (s ∷ xs) (suc n) h = all_gone xs n (omega (arith, h))
 
 module _ (x : Context) where
   -- the steps that are left from where the walk stands
@@ -48,6 +54,13 @@ module _ (x : Context) where
   begins w s h =
       ap (λ (ss : List Step). walked (course x w) ss w.step (place_of w) (rest x w))
       (cut (steps x w) w.step s h ∙ ap (λ (n : ℕ). s ∷ drop n (steps x w)) (sym (add-one w.step)))
+
+  -- no step is left
+  pub no_steps : (w : Walk) → length (steps x w) ≤ w.step →
+      ahead w ≡ ended (setting x w) (last_role (course x w)) (w.step - 1) (place_of w) (rest x w)
+  no_steps w h =
+      ap (λ (ss : List Step). walked (course x w) ss w.step (place_of w) (rest x w))
+      (all_gone (steps x w) w.step h)
 
   -- after the same mark
   under : (w : Walk) (t u : Task) →

@@ -45,6 +45,11 @@ fallen w = record w {
   trail = record { outer = []; here = oldest w.trail.outer w.trail.here; path = [] };
 }
 
+-- the walk with a receiver back in its place, and no mark passed
+abbrev pub received : Walk → Option Held → Walk
+received w None = record w { marks = 0 }
+received w (Some h) = record w { trail = put_there w.trail h.value; marks = 0 }
+
 module _ (x : Context) where
   abbrev pub setting : Walk → Setting
   setting w = setting_of x.engine.now x.program.now w.pos

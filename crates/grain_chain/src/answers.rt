@@ -104,7 +104,11 @@ impl Walk {
         ensures needs { Needs context.entry.program.now self.new result
             (steps_left context.entry.program.now self.old + 1) }
     {
-        self.enter(origin, Held::read_write(value))?;
+        let root = Held {
+            value,
+            read_only: false,
+        };
+        self.enter(origin, root)?;
         match go {
             Go::Further => {
                 self.step_on(context);

@@ -47,7 +47,8 @@ impl Walk {
     fn ends_before(&self, step: Step) -> bool
         ensures { (v : AnyValue) × (Stands self.now.trail v × (result ≡ (skips step && is_unit v))) }
     {
-        skips(step) && self.trail.target().is_unit()
+        let target = self.trail.target();
+        skips(step) && target.is_unit()
     }
 
     // The next step is the one that is taken.

@@ -4,7 +4,8 @@ ghost use Rattle.std.specs.Prelude.{◌≡◌, ◌+◌, ◌*◌, [], ◌∷◌, 
 ghost use Rattle.grain_means.specs.Walks.{whole_walk};
 ghost use Rattle.grain_program.specs.View.{chain_of};
 ghost use Rattle.grain_chain.specs.OwnWalks.{StopPersists};
-ghost use Rattle.grain_chain.specs.Walking.{Rooted, is_want, is_out, roots_of, roots_at, Did, Waits, Falls, HasOperator, new_course, steps_of, count_of, resumed, outcome_of, with_receiver, still};
+ghost use Rattle.grain_chain.specs.Walking.{Rooted, is_want, is_out, roots_of, roots_at, Did, Waits, Falls, HasOperator, new_course, steps_of, count_of, resumed, outcome_of, with_receiver, still, IsAtStep};
+ghost use Rattle.grain_chain.specs.Going.{Goes, Needs, received};
 
 use crate::contexts::{Context, ending_of};
 use crate::origins::{Awaits, Ending};
@@ -106,16 +107,41 @@ impl Walk {
             program,
             cells,
         };
-        self.marks = 0;
-        if let Some(held) = receiver {
-            self.trail.put(held.value);
-        }
+        self.take_back(receiver);
         let awaits = mem::replace(&mut self.awaits, Awaits::IndexSet);
-        let went = match outcome {
+        let went = self.hear(context, awaits, outcome);
+        self.settle(went)
+    }
+
+    // A receiver is back in its place, and no mark was passed since.
+    fn take_back(&mut self, receiver: Option<Held>)
+        ensures { self.new ≡ received self.old receiver }
+    {
+        self.marks = 0;
+        match receiver {
+            None => {}
+            Some(held) => self.trail.put(held.value),
+        }
+    }
+
+    // Goes on with an outcome.
+    fn hear(
+        &mut self,
+        context: Context<'_>,
+        awaits: Awaits,
+        outcome: Result<Dynamic, EvalAltResult>,
+    ) -> Result<WalkAnswer, OutOfMemory>
+        requires { IsAtStep context.program.now self.old awaits }
+        ensures goes { Goes context.entry self.old
+            (resumed context.entry.engine.now context.entry.program.now self.old awaits
+            (outcome_of outcome)) result self.new }
+        ensures needs { Needs context.entry.program.now self.new result
+            (still context.entry.program.now self.old awaits) }
+    {
+        match outcome {
             Ok(value) => self.came(context, awaits, value),
             Err(fault) => self.refused(context, awaits, fault),
-        };
-        self.settle(went)
+        }
     }
 
     /// How many marks were passed since the last answer.

@@ -1,0 +1,168 @@
+use Rattle.std.proofs.Common.{◌≡◌, ◌+◌, ◌<◌, ◌++◌, ◌∷◌, [], ℕ, List, Bool, true, false, Option, Some, None, Result, Ok, Err, codes, refl, sym, ap, ◌∙◌, subst, arith}
+use Rattle.grain_value.specs.Tree.{Tree}
+use Rattle.grain_value.specs.View.{tree, value_of}
+use Rattle.grain_value.specs.declared.values.Dynamic.{Dynamic}
+use Rattle.grain_value.specs.declared.values.Dynamic.TheVariants as dynamic
+use Rattle.grain_fault.specs.Problems.{problem_of}
+use Rattle.grain_program.specs.View.{name_of}
+use Rattle.grain_means.specs.Walks
+use Rattle.grain_chain.specs.Walking.{place_of, roots_of, gone_into, further, role_in}
+use Rattle.grain_chain.specs.Going.{Goes, Takes, GoesBack, Needs, NeedsOr, Asked, rest, setting, next_step, with_value}
+use Rattle.grain_chain.specs.declared.walks.Walk.{Walk}
+use Rattle.grain_chain.specs.declared.origins.Awaits.TheVariants as awaits
+use Rattle.grain_chain.specs.declared.origins.Go.TheVariants as go
+use Rattle.grain_chain.specs.declared.origins.Origin.TheVariants as origin
+use Rattle.grain_chain.specs.declared.origins.Into.{Into}
+use Rattle.grain_chain.specs.declared.origins.Role.{Role}
+use Rattle.grain_chain.proofs.Strides.{from_same, then_goes, then_takes, passes_goes, passes_takes, looks, writes, stops_takes, marked}
+use Rattle.grain_chain.proofs.Asks.{asks_with, asks_less, one_of, two_of, none_of}
+use Rattle.grain_chain.proofs.Roots.{dives, adds, roots_in, stops_need}
+use Rattle.grain_chain.proofs.Stepping.{needs_more, needs_or_more}
+use Rattle.grain_chain.specs.Standings.{Stands, has_key}
+use Rattle.grain_chain.specs.declared.origins.Origin.{Origin as CodeOrigin}
+use Rattle.grain_chain.specs.Walking.{operand_of, origin_of}
+use Rattle.grain_chain.proofs.Named.{same_target, indexed_at, index_by_host, index_by_value, property_takes, property_by_host, at_there, at_missing, leads_there, is_map, host_index, own_index, host_property}
+use Rattle.grain_chain.proofs.Spots.{item_leads, key_leads, index_missed, no_key_of}
+use Rattle.grain_means.specs.Tasks.{Task, Well, Write, Look}
+use Rattle.grain_means.specs.Worlds.{Came, Failed}
+use Rattle.grain_value.specs.Operands.{read_write}
+use Rattle.grain_chain.specs.Standings.{Standing, put_there, AssignedThere, WentBack}
+use Rattle.grain_chain.specs.Walking.{resumed, count, backs, steps_left, still, IsAtStep, next_of, assigned_by, operator_of, ending_in}
+use Rattle.grain_chain.specs.Going.{course, steps, in_root, FailsAt, Went, CameBack, received}
+use Rattle.grain_chain.specs.declared.origins.Ending.{Ending}
+use Rattle.grain_chain.specs.declared.origins.Go.{Go}
+use Rattle.grain_chain.specs.declared.origins.Awaits.{Awaits}
+use Rattle.grain_program.specs.declared.code.chains.Step.{Step}
+use Rattle.grain_chain.proofs.Strides.{gives_up, fails, passes, halts}
+use Rattle.grain_chain.proofs.Tails.{pick_true, pick_false, goes_written, goes_read, operates_slow, operates_fast, operating_halts, stored_fault, goes_flat, written, giving, one_more, no_more}
+use Rattle.grain_chain.proofs.Halting.{flattening_halts}
+use Rattle.grain_chain.proofs.Roots.{enters, left_root}
+use Rattle.grain_chain.proofs.Stepping.{ahead, stepped, takes_next, skips_next, turns_less, take_on, then_reaches, falls_more}
+use Rattle.grain_chain.proofs.Loops.{Led, step_answers, step_gives_up, step_turns, back_answers, back_gives_up, back_turns, back_home, fewer, answers_less}
+use Rattle.grain_chain.proofs.Ends.{settled, settled_needs, resumes, taken_up, same_step, same_still}
+use Rattle.grain_chain.proofs.walks.Walk.came.Goals as goal
+
+pub returns-in-IndexSet-clause-goes : goal.returns-in-IndexSet-clause-goes
+returns-in-IndexSet-clause-goes c =
+    let x = c.args.context in
+    subst (λ (s : Awaits). Goes x c.args.self.now (resumed x.engine.now x.program.now c.args.self.now s
+    (Came c.args.value)) c.well.result c.well.new.self) (sym c.in-IndexSet.is) c.well.ensures.goes
+
+pub returns-in-IndexSet-clause-needs : goal.returns-in-IndexSet-clause-needs
+returns-in-IndexSet-clause-needs c =
+    let p = c.args.context.program.now in
+    subst (λ (s : Awaits). Needs p c.well.new.self c.well.result (still p c.args.self.now s))
+    (sym c.in-IndexSet.is) (needs_more p c.well.new.self c.well.result _ _ c.well.ensures.needs (omega arith))
+
+pub returns-in-PropertySet-clause-goes : goal.returns-in-PropertySet-clause-goes
+returns-in-PropertySet-clause-goes c =
+    let x = c.args.context in
+    subst (λ (s : Awaits). Goes x c.args.self.now (resumed x.engine.now x.program.now c.args.self.now s
+    (Came c.args.value)) c.well-in-PropertySet.result c.well-in-PropertySet.new.self) (sym c.in-PropertySet.is) c.well-in-PropertySet.ensures.goes
+
+pub returns-in-PropertySet-clause-needs : goal.returns-in-PropertySet-clause-needs
+returns-in-PropertySet-clause-needs c =
+    let p = c.args.context.program.now in
+    subst (λ (s : Awaits). Needs p c.well-in-PropertySet.new.self c.well-in-PropertySet.result (still p c.args.self.now s))
+    (sym c.in-PropertySet.is) (needs_more p c.well-in-PropertySet.new.self c.well-in-PropertySet.result _ _ c.well-in-PropertySet.ensures.needs (omega arith))
+
+pub returns-in-SetInstead-clause-goes : goal.returns-in-SetInstead-clause-goes
+returns-in-SetInstead-clause-goes c =
+    let x = c.args.context in
+    subst (λ (s : Awaits). Goes x c.args.self.now (resumed x.engine.now x.program.now c.args.self.now s
+    (Came c.args.value)) c.well-in-SetInstead.result c.well-in-SetInstead.new.self) (sym c.in-SetInstead.is) c.well-in-SetInstead.ensures.goes
+
+pub returns-in-SetInstead-clause-needs : goal.returns-in-SetInstead-clause-needs
+returns-in-SetInstead-clause-needs c =
+    let p = c.args.context.program.now in
+    subst (λ (s : Awaits). Needs p c.well-in-SetInstead.new.self c.well-in-SetInstead.result (still p c.args.self.now s))
+    (sym c.in-SetInstead.is) (needs_more p c.well-in-SetInstead.new.self c.well-in-SetInstead.result _ _ c.well-in-SetInstead.ensures.needs (omega arith))
+
+pub returns-in-PropertyGot-clause-goes : goal.returns-in-PropertyGot-clause-goes
+returns-in-PropertyGot-clause-goes c =
+    let x = c.args.context in
+    subst (λ (s : Awaits). Goes x c.args.self.now (resumed x.engine.now x.program.now c.args.self.now s
+    (Came c.args.value)) c.go_in.result c.go_in.new.self) (sym c.in-PropertyGot.is) c.go_in.ensures.goes
+
+pub returns-in-PropertyGot-clause-needs : goal.returns-in-PropertyGot-clause-needs
+returns-in-PropertyGot-clause-needs c =
+    let p = c.args.context.program.now in
+    subst (λ (s : Awaits). Needs p c.go_in.new.self c.go_in.result (still p c.args.self.now s))
+    (sym c.in-PropertyGot.is) (needs_more p c.go_in.new.self c.go_in.result _ _ c.go_in.ensures.needs (omega arith))
+
+pub returns-in-GotInstead-clause-goes : goal.returns-in-GotInstead-clause-goes
+returns-in-GotInstead-clause-goes c =
+    let x = c.args.context in
+    subst (λ (s : Awaits). Goes x c.args.self.now (resumed x.engine.now x.program.now c.args.self.now s
+    (Came c.args.value)) c.go_in-in-GotInstead.result c.go_in-in-GotInstead.new.self) (sym c.in-GotInstead.is) c.go_in-in-GotInstead.ensures.goes
+
+pub returns-in-GotInstead-clause-needs : goal.returns-in-GotInstead-clause-needs
+returns-in-GotInstead-clause-needs c =
+    let p = c.args.context.program.now in
+    subst (λ (s : Awaits). Needs p c.go_in-in-GotInstead.new.self c.go_in-in-GotInstead.result (still p c.args.self.now s))
+    (sym c.in-GotInstead.is) (needs_more p c.go_in-in-GotInstead.new.self c.go_in-in-GotInstead.result _ _ c.go_in-in-GotInstead.ensures.needs (omega arith))
+
+pub returns-in-IndexGot-clause-goes : goal.returns-in-IndexGot-clause-goes
+returns-in-IndexGot-clause-goes c =
+    let x = c.args.context in
+    subst (λ (s : Awaits). Goes x c.args.self.now (resumed x.engine.now x.program.now c.args.self.now s
+    (Came c.args.value)) c.go_in-in-IndexGot.result c.go_in-in-IndexGot.new.self) (sym c.in-IndexGot.is) c.go_in-in-IndexGot.ensures.goes
+
+pub returns-in-IndexGot-clause-needs : goal.returns-in-IndexGot-clause-needs
+returns-in-IndexGot-clause-needs c =
+    let p = c.args.context.program.now in
+    subst (λ (s : Awaits). Needs p c.go_in-in-IndexGot.new.self c.go_in-in-IndexGot.result (still p c.args.self.now s))
+    (sym c.in-IndexGot.is) (needs_more p c.go_in-in-IndexGot.new.self c.go_in-in-IndexGot.result _ _ c.go_in-in-IndexGot.ensures.needs (omega arith))
+
+pub returns-in-IndexRead-clause-goes : goal.returns-in-IndexRead-clause-goes
+returns-in-IndexRead-clause-goes c =
+    let x = c.args.context in
+    subst (λ (s : Awaits). Goes x c.args.self.now (resumed x.engine.now x.program.now c.args.self.now s
+    (Came c.args.value)) c.go_in-in-IndexRead.result c.go_in-in-IndexRead.new.self) (sym c.in-IndexRead.is) c.go_in-in-IndexRead.ensures.goes
+
+pub returns-in-IndexRead-clause-needs : goal.returns-in-IndexRead-clause-needs
+returns-in-IndexRead-clause-needs c =
+    let p = c.args.context.program.now in
+    subst (λ (s : Awaits). Needs p c.go_in-in-IndexRead.new.self c.go_in-in-IndexRead.result (still p c.args.self.now s))
+    (sym c.in-IndexRead.is) (needs_more p c.go_in-in-IndexRead.new.self c.go_in-in-IndexRead.result _ _ c.go_in-in-IndexRead.ensures.needs (omega arith))
+
+pub returns-in-OpAssigned-clause-goes : goal.returns-in-OpAssigned-clause-goes
+returns-in-OpAssigned-clause-goes c =
+    let x = c.args.context in
+    subst (λ (s : Awaits). Goes x c.args.self.now (resumed x.engine.now x.program.now c.args.self.now s
+    (Came c.args.value)) c.well-in-OpAssigned.result c.well-in-OpAssigned.new.self) (sym c.in-OpAssigned.is) c.well-in-OpAssigned.ensures.goes
+
+pub returns-in-OpAssigned-clause-needs : goal.returns-in-OpAssigned-clause-needs
+returns-in-OpAssigned-clause-needs c =
+    let p = c.args.context.program.now in
+    subst (λ (s : Awaits). Needs p c.well-in-OpAssigned.new.self c.well-in-OpAssigned.result (still p c.args.self.now s))
+    (sym c.in-OpAssigned.is) (needs_more p c.well-in-OpAssigned.new.self c.well-in-OpAssigned.result _ _ c.well-in-OpAssigned.ensures.needs (omega arith))
+
+pub returns-in-Operator-clause-goes : goal.returns-in-Operator-clause-goes
+returns-in-Operator-clause-goes c =
+    let x = c.args.context in
+    subst (λ (s : Awaits). Goes x c.args.self.now (resumed x.engine.now x.program.now c.args.self.now s
+    (Came c.args.value)) c.store_answer.result c.store_answer.new.self) (sym c.in-Operator.is) c.store_answer.ensures.goes
+
+pub returns-in-Operator-clause-needs : goal.returns-in-Operator-clause-needs
+returns-in-Operator-clause-needs c =
+    let p = c.args.context.program.now in
+    subst (λ (s : Awaits). Needs p c.store_answer.new.self c.store_answer.result (still p c.args.self.now s))
+    (sym c.in-Operator.is) (needs_more p c.store_answer.new.self c.store_answer.result _ _ c.store_answer.ensures.needs (omega arith))
+
+pub go_in-requires : goal.go_in-requires
+go_in-requires c =
+    subst (λ (s : Awaits). IsAtStep c.args.context.program.now c.args.self.now s) c.in-PropertyGot.is c.requires.at
+
+pub go_in-requires-in-GotInstead : goal.go_in-requires-in-GotInstead
+go_in-requires-in-GotInstead c =
+    subst (λ (s : Awaits). IsAtStep c.args.context.program.now c.args.self.now s) c.in-GotInstead.is c.requires.at
+
+pub go_in-requires-in-IndexGot : goal.go_in-requires-in-IndexGot
+go_in-requires-in-IndexGot c =
+    subst (λ (s : Awaits). IsAtStep c.args.context.program.now c.args.self.now s) c.in-IndexGot.is c.requires.at
+
+pub go_in-requires-in-IndexRead : goal.go_in-requires-in-IndexRead
+go_in-requires-in-IndexRead c =
+    subst (λ (s : Awaits). IsAtStep c.args.context.program.now c.args.self.now s) c.in-IndexRead.is c.requires.at
+
