@@ -13,3 +13,4 @@ pub mod Operands
 pub mod Tails
 pub mod Loops
 pub mod Ends
+pub mod Pools

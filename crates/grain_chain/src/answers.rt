@@ -147,9 +147,16 @@ impl Walk {
             Awaits::PropertyGot { name, pos, into } => {
                 self.property_not_got(context, name, pos, into, fault)
             }
-            Awaits::GotInstead { fault: first, .. } => self.not_got_instead(first, fault),
+            Awaits::GotInstead {
+                fault: first,
+                into: _into,
+            } => self.not_got_instead(first, fault),
             Awaits::IndexGot(_) => Ok(self.failed(fault)),
-            Awaits::IndexRead { bracket, index, .. } => self.not_read(bracket, index, fault),
+            Awaits::IndexRead {
+                bracket,
+                index,
+                into: _into,
+            } => self.not_read(bracket, index, fault),
             Awaits::OpAssigned(pos, op) => self.not_assigned(context, pos, op, fault),
             Awaits::Operator(_) => Ok(self.failed(fault)),
         }

@@ -48,18 +48,26 @@ pub(crate) fn step_at(program: &Program, chain: u32, number: usize) -> Step
     }
 }
 
-/// What the chain of the index does where its steps end. It reads there if there is no such chain.
+/// The tail of the chain of the index. It reads if there is no such chain.
+fn tail_of(program: &Program, chain: u32) -> Tail
+    ensures { result ≡ (chain_of program.now chain).tail }
+{
+    match program.chains().get(chain as usize) {
+        Some(chain) => chain.tail,
+        None => Tail::Read,
+    }
+}
+
+/// What the chain of the index does where its steps end.
 pub(crate) fn ending_of(program: &Program, chain: u32) -> Ending
     requires { HasOperator program.now ((chain_of program.now chain).tail) }
     ensures { result ≡ ending_in program.now ((chain_of program.now chain).tail) }
 {
-    let tail = match program.chains().get(chain as usize) {
-        Some(chain) => chain.tail,
-        None => Tail::Read,
-    };
-    match tail {
+    match tail_of(program, chain) {
         Tail::Read => Ending::Read,
-        Tail::Assign { op: None } => Ending::Write,
-        Tail::Assign { op: Some(op) } => Ending::Operate(*program.assign_op(op)),
+        Tail::Assign { op } => match op {
+            None => Ending::Write,
+            Some(op) => Ending::Operate(*program.assign_op(op)),
+        },
     }
 }

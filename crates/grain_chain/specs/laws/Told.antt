@@ -2,6 +2,7 @@
 -- that it is given is its answer.
 use Rattle.std.proofs.Common.{◌≡◌, ◌<◌, ℕ, zero, suc, ◌+◌, List, [], ◌∷◌, ◌++◌, Bool, true, false, Option, Some, None, Result, Ok, Err, take, refl, sym, ap, ◌∙◌, subst, arith}
 use Rattle.std.specs.Prelude.{nat_eq, slice_get, slice_set, if◌then◌else◌}
+use Rattle.std.proofs.lemmas.Bool.Decides.{nat_tests}
 use Rattle.grain_value.specs.declared.stores.Cell.{Cell}
 use Rattle.grain_value.specs.declared.values.Dynamic.{Dynamic}
 use Rattle.grain_value.specs.declared.values.Held.{Held}
@@ -29,13 +30,10 @@ stop_at false m = None
 stop_at true m = Some m
 
 itself : (m : ℕ) → nat_eq m m ≡ true
-itself zero = refl
-itself (suc m) = itself m
+itself m = grind (arith, nat_tests)
 
 other : (m k : ℕ) → k < m → nat_eq m k ≡ false
-other zero k h = absurd (omega (arith, h))
-other (suc m) zero h = refl
-other (suc m) (suc k) h = other m k (omega (arith, h))
+other m k h = grind (arith, nat_tests)
 
 none_within : (out : Bool) (a b : ℕ) → NoStopWithin (stop_at out b) a b
 none_within false a b = λ k l m. refl

@@ -1,18 +1,16 @@
-use Rattle.std.proofs.Common.{◌≡◌, ℕ, zero, suc, List, [], ◌∷◌, Option, None, length, slice_index_or, refl, subst, ap}
+use Rattle.std.proofs.Common.{◌≡◌, ◌<◌, ℕ, List, Option, Some, None, length, slice_index_or, refl, subst, ap, sym, ◌∙◌, arith}
 use Rattle.std.specs.Prelude.{slice_get}
-use Rattle.grain_program.specs.View.{no_chain}
+use Rattle.grain_program.specs.View.{no_chain, chain_of}
 use Rattle.grain_program.specs.declared.code.chains.Chain.{Chain}
+use Rattle.grain_program.specs.declared.code.chains.Step.{Step}
+use Rattle.grain_program.specs.declared.code.chains.Tail.{Tail}
+use Rattle.grain_program.specs.declared.code.chains.Tail.TheVariants as tail
+use Rattle.grain_chain.specs.Walking.{ending_in, HasOperator, count_of, steps_of}
+use Rattle.grain_chain.proofs.Pools.{past, entry}
 use Rattle.grain_chain.proofs.contexts.count_of_steps.Goals as goal
-
--- past the end of a list
-missing : {A : Type 0} (xs : List A) (i : ℕ) (d : A) → None ≡ slice_get xs i →
-    d ≡ slice_index_or xs i d
-missing [] i d h = refl
-missing (x ∷ xs) zero d h = cc
-missing (x ∷ xs) (suc i) d h = missing xs i d h
 
 pub returns-in-None : goal.returns-in-None
 returns-in-None c =
     subst (λ (cs : List Chain). 0 ≡ length ((slice_index_or cs c.args.chain no_chain).steps))
     c.chains.ensures
-    (ap (λ (k : Chain). length k.steps) (missing c.chains.result.now c.args.chain no_chain c.in-None.ensures))
+    (ap (λ (k : Chain). length k.steps) (past c.chains.result.now c.args.chain no_chain c.in-None.ensures))

@@ -112,9 +112,9 @@ returns-in_err-take-clause-goes c =
     (Walks.at_mark w.step (rest x w) (take_on x w c.step_at-step.result)) inv.walks
     (takes_next x w c.step_at-step.result unit.0 c.step_at-step.ensures unit.1.0
     (sym unit.1.1 ∙ c.if-ends_before.false)) in
-    let out : is_ok c.from_residual-in_err-take.result ≡ false = search rules in
+    let out : is_ok c.from_residual.result ≡ false = search rules in
     let none : is_ok c.take.result ≡ false = search rules in
-    step_gives_up x w0 (ahead x w0) w c.take.new.self _ c.take.result c.from_residual-in_err-take.result
+    step_gives_up x w0 (ahead x w0) w c.take.new.self _ c.take.result c.from_residual.result
     led none out c.take.ensures.takes
 
 pub step_on-requires : goal.step_on-requires

@@ -138,31 +138,30 @@ returns-in-OpAssigned-clause-needs c =
     subst (λ (s : Awaits). Needs p c.well-in-OpAssigned.new.self c.well-in-OpAssigned.result (still p c.args.self.now s))
     (sym c.in-OpAssigned.is) (needs_more p c.well-in-OpAssigned.new.self c.well-in-OpAssigned.result _ _ c.well-in-OpAssigned.ensures.needs (omega arith))
 
-pub returns-in-Operator-clause-goes : goal.returns-in-Operator-clause-goes
-returns-in-Operator-clause-goes c =
+pub returns-clause-goes : goal.returns-clause-goes
+returns-clause-goes c =
     let x = c.args.context in
     subst (λ (s : Awaits). Goes x c.args.self.now (resumed x.engine.now x.program.now c.args.self.now s
     (Came c.args.value)) c.store_answer.result c.store_answer.new.self) (sym c.in-Operator.is) c.store_answer.ensures.goes
 
-pub returns-in-Operator-clause-needs : goal.returns-in-Operator-clause-needs
-returns-in-Operator-clause-needs c =
+pub returns-clause-needs : goal.returns-clause-needs
+returns-clause-needs c =
     let p = c.args.context.program.now in
     subst (λ (s : Awaits). Needs p c.store_answer.new.self c.store_answer.result (still p c.args.self.now s))
     (sym c.in-Operator.is) (needs_more p c.store_answer.new.self c.store_answer.result _ _ c.store_answer.ensures.needs (omega arith))
 
 pub go_in-requires : goal.go_in-requires
-go_in-requires c =
-    subst (λ (s : Awaits). IsAtStep c.args.context.program.now c.args.self.now s) c.in-PropertyGot.is c.requires.at
+go_in-requires c = record { at =
+    subst (λ (s : Awaits). IsAtStep c.args.context.program.now c.args.self.now s) c.in-PropertyGot.is c.requires.at }
 
 pub go_in-requires-in-GotInstead : goal.go_in-requires-in-GotInstead
-go_in-requires-in-GotInstead c =
-    subst (λ (s : Awaits). IsAtStep c.args.context.program.now c.args.self.now s) c.in-GotInstead.is c.requires.at
+go_in-requires-in-GotInstead c = record { at =
+    subst (λ (s : Awaits). IsAtStep c.args.context.program.now c.args.self.now s) c.in-GotInstead.is c.requires.at }
 
 pub go_in-requires-in-IndexGot : goal.go_in-requires-in-IndexGot
-go_in-requires-in-IndexGot c =
-    subst (λ (s : Awaits). IsAtStep c.args.context.program.now c.args.self.now s) c.in-IndexGot.is c.requires.at
+go_in-requires-in-IndexGot c = record { at =
+    subst (λ (s : Awaits). IsAtStep c.args.context.program.now c.args.self.now s) c.in-IndexGot.is c.requires.at }
 
 pub go_in-requires-in-IndexRead : goal.go_in-requires-in-IndexRead
-go_in-requires-in-IndexRead c =
-    subst (λ (s : Awaits). IsAtStep c.args.context.program.now c.args.self.now s) c.in-IndexRead.is c.requires.at
-
+go_in-requires-in-IndexRead c = record { at =
+    subst (λ (s : Awaits). IsAtStep c.args.context.program.now c.args.self.now s) c.in-IndexRead.is c.requires.at }

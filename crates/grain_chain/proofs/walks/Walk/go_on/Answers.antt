@@ -50,7 +50,7 @@ step_on-requires c =
     let x = c.args.context in
     let i = in_root w c.args.origin (read_write c.args.value) in
     let e : c.enter.new.self ≡ i = c.in_ok-enter.ensures.entered in
-    subst (λ (u : Walk). u.step < count x.program.now u) (sym e) c.requires
+    subst (λ (u : Walk). u.step < count x.program.now u) (sym e) c.requires.at
 
 pub returns-in-Further-clause-goes : goal.returns-in-Further-clause-goes
 returns-in-Further-clause-goes c =

@@ -94,7 +94,8 @@ pub returns-in-GotInstead-clause-goes : goal.returns-in-GotInstead-clause-goes
 returns-in-GotInstead-clause-goes c =
     let x = c.args.context in
     subst (λ (s : Awaits). Goes x c.args.self.now (resumed x.engine.now x.program.now c.args.self.now s
-    (Failed (problem_of c.args.fault))) c.not_got_instead.result c.not_got_instead.new.self) (sym c.in-GotInstead.is) (c.not_got_instead.ensures.goes x _)
+    (Failed (problem_of c.args.fault))) c.not_got_instead.result c.not_got_instead.new.self) (sym c.in-GotInstead.is) (c.not_got_instead.ensures.goes x
+    (gone_into x.engine.now x.program.now c.args.self.now c.in-GotInstead._into))
 
 pub returns-in-GotInstead-clause-needs : goal.returns-in-GotInstead-clause-needs
 returns-in-GotInstead-clause-needs c =
@@ -106,7 +107,8 @@ pub returns-in-IndexRead-clause-goes : goal.returns-in-IndexRead-clause-goes
 returns-in-IndexRead-clause-goes c =
     let x = c.args.context in
     subst (λ (s : Awaits). Goes x c.args.self.now (resumed x.engine.now x.program.now c.args.self.now s
-    (Failed (problem_of c.args.fault))) c.not_read.result c.not_read.new.self) (sym c.in-IndexRead.is) (c.not_read.ensures.goes x _)
+    (Failed (problem_of c.args.fault))) c.not_read.result c.not_read.new.self) (sym c.in-IndexRead.is) (c.not_read.ensures.goes x
+    (gone_into x.engine.now x.program.now c.args.self.now c.in-IndexRead._into))
 
 pub returns-in-IndexRead-clause-needs : goal.returns-in-IndexRead-clause-needs
 returns-in-IndexRead-clause-needs c =
@@ -134,8 +136,8 @@ returns-in-IndexGot-clause-goes c =
     (fails x c.args.self.now c.failed.new.self c.args.fault c.failed.result c.failed.ensures.answer
     c.failed.ensures.left)
 
-pub returns-in-Operator-clause-goes : goal.returns-in-Operator-clause-goes
-returns-in-Operator-clause-goes c =
+pub returns-clause-goes : goal.returns-clause-goes
+returns-clause-goes c =
     let x = c.args.context in
     subst (λ (s : Awaits). Goes x c.args.self.now (resumed x.engine.now x.program.now c.args.self.now s
     (Failed (problem_of c.args.fault))) (Ok c.failed-in-Operator.result) c.failed-in-Operator.new.self) (sym c.in-Operator.is)
@@ -143,6 +145,6 @@ returns-in-Operator-clause-goes c =
     c.failed-in-Operator.ensures.left)
 
 pub property_not_got-requires : goal.property_not_got-requires
-property_not_got-requires c =
+property_not_got-requires c = record { at =
     subst (λ (s : Awaits). IsAtStep c.args.context.program.now c.args.self.now s) c.in-PropertyGot.is
-    c.requires.at
+    c.requires.at }

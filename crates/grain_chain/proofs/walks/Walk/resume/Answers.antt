@@ -49,8 +49,8 @@ use Rattle.grain_chain.specs.Walking.{outcome_of, with_receiver}
 use Rattle.grain_chain.proofs.Ends.{same_awaits}
 use Rattle.grain_chain.proofs.walks.Walk.resume.Goals as goal
 
-pub hear-requires : goal.hear-requires
-hear-requires c =
+pub hear-went-requires : goal.hear-went-requires
+hear-went-requires c =
     let x : Context = record { engine = c.args.engine; program = c.args.program; cells = c.args.cells } in
     let p = c.args.program.now in
     let w = c.args.self.now in
