@@ -12,4 +12,4 @@ returns-in-None c =
     (past c.names.result.now c.args.name [] c.in-None.ensures) in
     c.says_missing-in-None-2.ensures
     ∙ ap (λ (n : List ℕ). says_missing n (problem_of c.args.fault.now))
-    (c.says_missing-in-None.view_is ∙ c.new.ensures ∙ none)
+    (c.new.ensures ∙ none)

@@ -6,6 +6,7 @@ use Rattle.grain_program.specs.declared.code.chains.Step.{Step}
 use Rattle.grain_program.specs.declared.code.chains.Tail.{Tail}
 use Rattle.grain_program.specs.declared.code.chains.Tail.TheVariants as tail
 use Rattle.grain_chain.specs.Walking.{ending_in, HasOperator, count_of, steps_of}
+use Rattle.grain_chain.specs.declared.origins.Ending.TheVariants as ending
 use Rattle.grain_chain.proofs.Pools.{past, entry}
 use Rattle.grain_chain.proofs.contexts.ending_of.Goals as goal
 
@@ -24,4 +25,7 @@ returns-in-None c =
     (sym (sym c.tail_of.ensures ∙ c.in-Assign.is ∙ ap (λ (o : Option ℕ). tail.Assign o) c.in-None.is))
 
 pub returns-in-Some : goal.returns-in-Some
-returns-in-Some c = ?
+returns-in-Some c =
+    ap ending.Operate c.assign_op.ensures
+    ∙ ap (ending_in c.args.program.now)
+    (sym (sym c.tail_of.ensures ∙ c.in-Assign.is ∙ ap (λ (o : Option ℕ). tail.Assign o) c.in-Some.is))

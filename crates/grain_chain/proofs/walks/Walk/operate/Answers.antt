@@ -81,10 +81,10 @@ returns-in-Done-clause-goes c =
     let h = subst (λ (a : AssignAnswer). AssignedThere w.trail a o c.assign.new.self) c.in-Done.is v0.1.1 in
     operates_fast x w c.well.new.self c.args.pos c.args.op c.well.result v0.0 v0.1.0 c.if-not-context.false
     (subst (λ (p : Outcome). Goes x w (Walks.stored (setting x w) w.step c.args.pos c.args.op w.value
-    (place_of w) (rest x w) p) c.well.result c.well.new.self) (sym h.1.0)
+    (place_of w) (rest x w) p) c.well.result c.well.new.self) (sym h.1)
     (goes_written x w c.well.new.self h.0 c.well.result
     (subst (λ (t : Standing). Goes x (written w t) (rest x (written w t) (Well dynamic.Unit true))
-    c.well.result c.well.new.self) h.1.1
+    c.well.result c.well.new.self) h.2
     (subst (λ (m : ℕ). let w1 : Walk = record w { trail = c.assign.new.self; gives = dynamic.Unit; marks = m } in
     Goes x w1 (rest x w1 (Well dynamic.Unit true)) c.well.result c.well.new.self) c.in-Ok.ensures
     c.well.ensures.goes))))
