@@ -59,7 +59,7 @@ operator_raises m n count token next f w args is fault =
 pub operator_wants : {S : Type 0} (m : Setup S) (n count token next : ℕ) (f : Frame) (w : World S)
     (args : List Held) → flat_all w.cells (arguments count f.operands) ≡ Some args →
     is_stop m.stop w.passed ≡ true →
-    instr m (op.CallOp n count token) next f w ≡ leave_by_fault m None f NoMemory w
+    instr m (op.CallOp n count token) next f w ≡ leave_by_fault m f NoMemory w
 operator_wants m n count token next f w args is halts =
     rw is (push_stops m (operated m.program m.engine token args) (name_of m.program n) args next
     (under count f.operands) f w halts)

@@ -21,7 +21,7 @@ use Rattle.grain_host.specs.declared.host_answers.HostAnswer.{HostAnswer}
 use Rattle.grain_global.specs.declared.engines.Engine.{Engine}
 use Rattle.grain_ops.specs.Outcomes.{Outcome, Gave, NotBuiltIn}
 use Rattle.grain_means.specs.Worlds.{Frame, Place, Setup, World}
-use Rattle.grain_means.specs.Rules.{back_in_cell, back_in_entry, flattened, marked, native, native_assigned, onward, op_assign_failed, operator_assigned, raised, stepped, store_outcome, write_entry}
+use Rattle.grain_means.specs.Rules.{InScope, back_in_cell, back_in_entry, flattened, marked, native, native_assigned, onward, op_assign_failed, operator_assigned, raised, stepped, store_outcome, write_entry}
 use Rattle.grain_means.specs.Simulation.{Computation, Environment, SimulatesExactly, stopped, world}
 use Rattle.grain_means.specs.Means.{setup}
 use Rattle.grain_means.specs.lemmas.Stretches.{then_exactly}
@@ -55,12 +55,12 @@ lent_at m a h u v slot n next t f w at is plain =
     (op_assign_failed m a h v slot n next f)) plain
     (subst (λ (c : Option ℕ). native_assigned m a h u v slot n next f w
     ≡ native m (name_of m.program a.op_assign_name)
-    (Some (record { index = t.index; cell = c; held = record h { value = u } })) (v ∷ [])
+    (Some (record { home = InScope t.index c; held = record h { value = u } })) (v ∷ [])
     f w (λ r w1. onward m f (stepped f next (below f.operands)) w1)
     (op_assign_failed m a h v slot n next f)) is
     (subst (λ (i : ℕ). native_assigned m a h u v slot n next f w
     ≡ native m (name_of m.program a.op_assign_name)
-    (Some (record { index = i; cell = cell_of h.value; held = record h { value = u } })) (v ∷ [])
+    (Some (record { home = InScope i (cell_of h.value); held = record h { value = u } })) (v ∷ [])
     f w (λ r w1. onward m f (stepped f next (below f.operands)) w1)
     (op_assign_failed m a h v slot n next f)) at refl))
 

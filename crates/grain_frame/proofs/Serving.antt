@@ -10,13 +10,13 @@ use Rattle.grain_value.specs.Operands.{values_in}
 use Rattle.grain_fault.specs.declared.places.Position.{Position}
 use Rattle.grain_fault.specs.declared.faults.EvalAltResult.{EvalAltResult}
 use Rattle.grain_fault.specs.Problems.{Problem, problem_of}
-use Rattle.grain_program.specs.View.{View, position_of}
+use Rattle.grain_program.specs.View.{View}
 use Rattle.grain_stack.specs.Views.{StacksView}
 use Rattle.grain_host.specs.Law.{Law, native_of}
 use Rattle.grain_global.specs.declared.engines.Engine.{Engine}
 use Rattle.grain_stack.specs.declared.handlers.Handler.{Handler}
 use Rattle.grain_means.specs.Worlds.{Act, Frame, Place, Setup, World}
-use Rattle.grain_means.specs.Rules.{Receiver, native, kinds_in, trees_in, raised}
+use Rattle.grain_means.specs.Rules.{InScope, Receiver, native, kinds_in, trees_in, raised}
 use Rattle.grain_host.specs.Signatures.{not_found}
 use Rattle.grain_value.specs.View.{value_of}
 use Rattle.grain_value.specs.laws.Same.{value_of-tree}
@@ -26,7 +26,7 @@ use Rattle.grain_means.specs.Means.{setup}
 use Rattle.grain_means.specs.lemmas.Stretches.{then_exactly}
 use Rattle.grain_global.specs.StepsView.{StepsView}
 use Rattle.grain_frame.specs.Abstraction.{abstraction, frame_in, is_out, continuation, native_continuation, KeepsFrame, ContinuesAt, Progresses, Implements, moment}
-use Rattle.grain_frame.specs.Natives.{Describes, Seeks, Serves}
+use Rattle.grain_frame.specs.Natives.{Describes, IsAt, KeepsRoots, Seeks, Serves}
 use Rattle.grain_frame.specs.declared.activations.Activation.{Activation}
 use Rattle.grain_frame.specs.declared.native_calls.NativeEnd.{NativeEnd}
 use Rattle.grain_frame.specs.declared.native_calls.NativeEnd.TheVariants as native_end
@@ -60,7 +60,7 @@ pub lent_none : {H : Type 0} (law : Law H) (host : H) (name word : List ℕ) (in
     kinds ≡ kinds_in (h ∷ v ∷ []) → values ≡ trees_in (h ∷ v ∷ []) →
     native_of law host word kinds ≡ None → word ≡ name →
     problem_of x ≡ not_found name (map value_of values) q →
-    Seeks law host name (Some (record { index = index; cell = cell; held = h })) (v ∷ []) q
+    Seeks law host name (Some (record { home = InScope index cell; held = h })) (v ∷ []) q
     (sought.Fault x)
 lent_none law host name word index cell h v kinds values q x kinds_are trees_are none same is = inl (
   subst (λ (w : List ℕ). native_of law host w (kinds_in (h ∷ v ∷ [])) ≡ None) same
@@ -73,7 +73,7 @@ module _ {H : Type 0} (law : Law H) (s : Run H) (n : StepsView) (host : H) (q : 
     (m : Setup H) (name : List ℕ) (lend : Option Receiver) (args : List Held)
     (f : Option Place → Frame) (go : Setup H → Option Place → Dynamic → World H → Act H)
     (fails : Setup H → Option Place → Problem → World H → Act H) (own : m.law ≡ law)
-    (at : (place : Option Place) → position_of m.program (f place).address ≡ q) where
+    (at : IsAt m f q) where
   -- what the code says of a native that it was to call
   abbrev pub Calls : Result NativeEnd OutOfMemory → Run H → StepsView → H → Type 0
   Calls r s' n' host' = SimulatesExactly m (abstraction s n host)
@@ -95,10 +95,10 @@ module _ {H : Type 0} (law : Law H) (s : Run H) (n : StepsView) (host : H) (q : 
   }
 
   -- it is called
-  pub serves : (key : ℕ) (values : List Tree) (r : Result NativeEnd OutOfMemory) (s' : Run H)
+  pub serves : KeepsRoots law lend → (key : ℕ) (values : List Tree) (r : Result NativeEnd OutOfMemory) (s' : Run H)
       (n' : StepsView) (host' : H) → Seeks law host name lend args q (sought.Native key values) →
       Serves law s n host key lend values q r s' n' host' → Calls r s' n' host'
-  serves key values r s' n' host' seeks did =
+  serves still key values r s' n' host' seeks did =
       called r (subst (λ (ts : List Tree). Serves law s n host seeks.0.key lend ts q r s' n' host')
       seeks.4
       (subst (λ (k : ℕ). Serves law s n host k lend values q r s' n' host') seeks.3 did)) where
@@ -114,6 +114,7 @@ module _ {H : Type 0} (law : Law H) (s : Run H) (n : StepsView) (host : H) (q : 
             seeks.2,
             clear n.passed (omega arith) (omega arith),
             clear (n.passed + 1) (omega arith) (omega arith),
+            still host seeks.0.key (trees_in args) u.roots,
             ← did.0,
           ) refl;
         })
@@ -126,6 +127,7 @@ module _ {H : Type 0} (law : Law H) (s : Run H) (n : StepsView) (host : H) (q : 
             seeks.2,
             clear n.passed (omega arith) (omega arith),
             clear (n.passed + 1) (omega arith) (omega arith),
+            still host seeks.0.key (trees_in args) u.roots,
             ← did.1,
             did.3,
             at place,

@@ -70,7 +70,8 @@ tries_in hs = map try_in hs
 abbrev pub Above : ℕ → List Handler → Type 0
 Above base hs = AllByRecursion (λ h. base ≤ h.scope) hs
 
--- the frame of the meaning, by the place of its `this`
+-- the frame of the meaning, by the place of its `this`; a position in place of its instruction's is
+-- given to who needs it
 abbrev pub frame_in : {H : Type 0} → Activation → Run H → Option Place → Frame
 frame_in a s place =
     record {
@@ -80,6 +81,8 @@ frame_in a s place =
       base = a.base;
       floor = a.floor;
       this = place;
+      slot = a.slot;
+      position = None;
     }
 
 -- memory is out
@@ -94,7 +97,7 @@ abbrev pub continuation : {H : Type 0} → Result Progress OutOfMemory → EvalA
 continuation (Ok progress.Continues) x f m place w = Go (InFrame (f place)) w
 continuation (Ok progress.Returned) x f m place w = End (Came (top (f place).operands).value) w
 continuation (Ok progress.Failed) x f m place w = offered m (f place) (problem_of x) w
-continuation (Err e) x f m place w = leave_by_fault m None (f place) NoMemory w
+continuation (Err e) x f m place w = leave_by_fault m (f place) NoMemory w
 
 -- the instruction at which a frame stands
 abbrev pub instruction_here : {H : Type 0} → (Option Place → Frame) → Computation H
@@ -222,7 +225,7 @@ abbrev pub charge_continuation : {H : Type 0} → Result Bool OutOfMemory → Ev
     (Setup H → Option Place → Problem → World H → Act H) → Computation H
 charge_continuation (Ok true) x f go fails m place w = go m place w
 charge_continuation (Ok false) x f go fails m place w = fails m place (problem_of x) w
-charge_continuation (Err e) x f go fails m place w = leave_by_fault m None (f place) NoMemory w
+charge_continuation (Err e) x f go fails m place w = leave_by_fault m (f place) NoMemory w
 
 -- an operation is taken if the frame goes on; else a fault lies in the run, and perhaps an
 -- operation is taken
@@ -240,7 +243,7 @@ abbrev pub native_continuation : {H : Type 0} → Result NativeEnd OutOfMemory �
     (Setup H → Option Place → Problem → World H → Act H) → Computation H
 native_continuation (Ok (native_end.Value v)) f go fails m place w = go m place v w
 native_continuation (Ok (native_end.Fault x)) f go fails m place w = fails m place (problem_of x) w
-native_continuation (Err e) f go fails m place w = leave_by_fault m None (f place) NoMemory w
+native_continuation (Err e) f go fails m place w = leave_by_fault m (f place) NoMemory w
 
 -- One instruction of a frame, or some in a row: the code did them from one moment to another, the
 -- frames around it are as they were, and if the frame goes on, it stands where the typing knows it.
@@ -254,7 +257,7 @@ pub record Stepped {H : Type 0} (m : Setup H) (a : Moment H)
   pub stays : StaysTyped m.program m.engine a.run a.frame b.run b.frame result
   pub before : b.counts.before ≡ a.counts.before
 
--- the frame stands at this instruction, behind which is this address
+-- the frame stands at this instruction, after which is this address
 pub record StandsAt {H : Type 0} (program : View) (f : Activation) (s : Run H) (o : Op) (next : ℕ) :
     Type 0 where
   pub width : ℕ

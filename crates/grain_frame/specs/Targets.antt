@@ -7,7 +7,7 @@ use Rattle.grain_value.specs.Scopes.{set_held}
 use Rattle.grain_value.specs.Looking.{cell_of}
 use Rattle.grain_value.specs.Operands.{read_write, top}
 use Rattle.grain_value.specs.Cells.{idle, lent, is_busy, standing}
-use Rattle.grain_means.specs.Rules.{Receiver, flag_of_cell, held_at}
+use Rattle.grain_means.specs.Rules.{InScope, Receiver, flag_of_cell, held_at}
 use Rattle.grain_ops.specs.Outcomes.{Outcome, NotBuiltIn, Gave}
 use Rattle.grain_frame.specs.declared.activations.Activation.{Activation}
 use Rattle.grain_program.specs.View.{View}
@@ -76,7 +76,7 @@ put_in s t h = put_by s t.index t.cell h
 
 -- what the target holds, as a native is lent it
 abbrev pub receiver_at : Target → Held → Receiver
-receiver_at t h = record { index = t.index; cell = t.cell; held = h }
+receiver_at t h = record { home = InScope t.index t.cell; held = h }
 
 -- the last operand as it was read: the content of its cell that was kept, or the operand itself
 abbrev pub kept_value : Option Dynamic → Dynamic → Dynamic

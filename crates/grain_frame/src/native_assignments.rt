@@ -8,12 +8,12 @@ ghost use Rattle.grain_value.specs.Operands.{read_write};
 ghost use Rattle.grain_value.specs.View.{tree};
 ghost use Rattle.grain_value.specs.Writing.{kind_of};
 ghost use Rattle.grain_fault.specs.Problems.{Problem, problem_of};
-ghost use Rattle.grain_program.specs.View.{name_of, position_of};
+ghost use Rattle.grain_program.specs.View.{name_of};
 ghost use Rattle.grain_means.specs.Worlds.{Setup, Frame, Place, World, Act};
 ghost use Rattle.grain_means.specs.Rules.{flattened, native, native_assigned, op_assign_failed, operator_assigned, write_entry};
 ghost use Rattle.grain_means.specs.Simulation.{SimulatesExactly};
 ghost use Rattle.grain_frame.specs.Abstraction.{abstraction, frame_in, is_out, native_continuation, Implements, setup_of, moment};
-ghost use Rattle.grain_frame.specs.Natives.{Seeks, Serves};
+ghost use Rattle.grain_frame.specs.Natives.{IsAt, Seeks, Serves};
 ghost use Rattle.grain_frame.specs.Targets.{Assigns, AssignsHere, CanAssign, CanBeLent, HoldsAt, content_at, kept_operand, receiver_at};
 ghost use Rattle.grain_frame.specs.declared.targets.Target.{Target};
 
@@ -127,7 +127,7 @@ impl<H: Host> Run<H> {
             (f : Option Place → Frame)
             (go : Setup H → Option Place → Dynamic → World H → Act H)
             (fails : Setup H → Option Place → Problem → World H → Act H) → m.law ≡ H.law →
-            ((place : Option Place) → position_of m.program (f place).address ≡ position) →
+            IsAt m f position →
             HoldsAt self.old target h →
             Seeks H.law host.old name (Some (receiver_at target h)) args position
             sought → SimulatesExactly m (abstraction self.old steps.old host.old)

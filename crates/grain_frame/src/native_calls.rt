@@ -2,14 +2,13 @@
 
 ghost use Rattle.std.specs.Prelude.{◌≡◌, ◌<◌, ◌≤◌, ◌+◌, ◌-◌, ◌++◌, ◌∷◌, [], ℕ, List, Option, None, Some, true, is_some, length, IfOk};
 ghost use Rattle.grain_value.specs.Operands.{arguments, under};
-ghost use Rattle.grain_program.specs.View.{position_of};
 ghost use Rattle.grain_value.specs.declared.values.Dynamic.{Dynamic};
 ghost use Rattle.grain_value.specs.declared.values.Held.{Held};
 ghost use Rattle.grain_means.specs.Worlds.{Setup, Frame, Place, World, Act};
 ghost use Rattle.grain_means.specs.Rules.{native, flat_all, pushed, raised, call_function};
 ghost use Rattle.grain_means.specs.Simulation.{SimulatesExactly};
 ghost use Rattle.grain_frame.specs.Abstraction.{abstraction, is_out, native_continuation, frame_in, Implements, setup_of, moment};
-ghost use Rattle.grain_frame.specs.Natives.{Describes, Seeks, Serves, EndsBy};
+ghost use Rattle.grain_frame.specs.Natives.{Describes, IsAt, Seeks, Serves, EndsBy};
 ghost use Rattle.grain_fault.specs.Problems.{Problem};
 ghost use Rattle.grain_host.specs.Answers.{reply_of};
 
@@ -177,7 +176,7 @@ impl<H: Host> Run<H> {
         ensures same { (m : Setup H) (name : List ℕ) (args : List Held) (f : Option Place → Frame)
             (go : Setup H → Option Place → Dynamic → World H → Act H)
             (fails : Setup H → Option Place → Problem → World H → Act H) → m.law ≡ H.law →
-            ((place : Option Place) → position_of m.program (f place).address ≡ position) →
+            IsAt m f position →
             Seeks H.law host.old name None args position sought → SimulatesExactly m
             (abstraction self.old steps.old host.old)
             (λ m place w. native m name None args (f place) w (go m place) (fails m place))
@@ -284,6 +283,7 @@ impl<H: Host> Run<H> {
         let progress = self.native_by_name(context, host, steps, &mut copy, name, count, next);
         frame.address = copy.address;
         frame.floor = copy.floor;
+        frame.slot = copy.slot;
         progress
     }
 

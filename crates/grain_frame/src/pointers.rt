@@ -34,7 +34,7 @@ pub enum Under {
     Other,
 }
 
-// Copies of what is held go behind the values of a pointer.
+// Copies of what is held go after the values of a pointer.
 fn add_copies(alloc: Global, pointer: &mut FnPtr, held: &[Held]) -> Result<(), OutOfMemory>
     ensures { IfOk result (λ _. pointer.new ≡ record pointer.old {
       curry = pointer.old.curry ++ trees_in held.now;
@@ -100,7 +100,7 @@ impl<H: Host> Run<H> {
         self.mismatch(context, steps, address, "Fn", type_name)
     }
 
-    // `curry`: the last `count` operands go behind the values of the pointer under them.
+    // `curry`: the last `count` operands go after the values of the pointer under them.
     pub(crate) fn curry<L: Ledger>(
         &mut self,
         context: Context<'_>,
@@ -128,7 +128,7 @@ impl<H: Host> Run<H> {
         Ok(self.push_on(steps, frame, Dynamic::Pointer(pointer), next))
     }
 
-    // Copies of the last `count` operands go behind the values of a pointer.
+    // Copies of the last `count` operands go after the values of a pointer.
     fn add_to(&self, pointer: &mut FnPtr, count: usize) -> Result<(), OutOfMemory>
         requires { count ≤ length self.now.stacks.operands }
         ensures { IfOk result (λ _. pointer.new ≡ record pointer.old {

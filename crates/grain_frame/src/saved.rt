@@ -7,7 +7,7 @@ use std::alloc::Global;
 use std::marker::Model;
 use std::mem;
 
-/// The scopes of the frames that wait, the newest last. Behind them lie empty scopes, whose memory
+/// The scopes of the frames that wait, the newest last. After them lie empty scopes, whose memory
 /// the next frames take over.
 #[derive(Drop)]
 pub struct SavedScopes {

@@ -171,6 +171,7 @@ module _ {S : Type 0} (m : Setup S) where
               omega arith,
               λ valid. fits_main m.program valid (length w.scope) this,
               tt,
+              (refl, refl),
             ),
           ),
         ),

@@ -20,6 +20,7 @@ module _ {S : Type 0} (m : Setup S) where
     pub meets : (s : ProgramPoint S) → Meets m s first → Meets m s root
     meets s h = record {
       comes = onto (InFrame s.frame) s.world h.comes;
+      blames = h.blames;
       width = h.width;
       stands = h.stands;
     }
@@ -54,6 +55,7 @@ module _ {S : Type 0} (m : Setup S) where
       around = a.around;
       block = a.block;
       left = a.left;
+      ended = a.ended;
       is = a.is;
     }
 

@@ -13,7 +13,7 @@ use Rattle.grain_program.specs.View.{name_of, position_of}
 use Rattle.grain_host.specs.Law.{Verdict, GoOn, Stop}
 use Rattle.grain_means.specs.Worlds.{Act, Go, Failed, World, Setup, Frame, Handler, InFrame, InCatch}
 use Rattle.grain_fault.specs.CatchValues.{caught_value}
-use Rattle.grain_means.specs.Rules.{is_full, is_stop, leave_by_fault, marked, on_verdict, progressed, charged_or, escaped, bind_caught, catching, caught, position}
+use Rattle.grain_means.specs.Rules.{is_full, is_stop, leave_by_fault, marked, on_verdict, progressed, charged_or, escaped, bind_caught, catching, resumed, caught}
 use Rattle.grain_means.specs.Comes.{CatchPoint, Comes, try_of, tries}
 use Rattle.grain_means.specs.Leavings.{Keeps, Cut}
 use Rattle.grain_means.specs.Causes.{HasPosition, ComesToCharge, CatchRow, raised_at, Caused}
@@ -37,7 +37,7 @@ module _ {S : Type 0} (m : Setup S) (f : Frame) (h : Handler) (x : Problem) (w :
   g = catching f h x
 
   abbrev pub block : Frame
-  block = record g { address = h.target }
+  block = resumed g h.target
 
   -- this scope keeps what the handler keeps of the scope
   abbrev Kept : List Entry → Type 0
@@ -56,7 +56,7 @@ module _ {S : Type 0} (m : Setup S) (f : Frame) (h : Handler) (x : Problem) (w :
   pub record Fails (act : Act S) : Type 0 where
     pub fault : Problem
     pub world : World S
-    pub is : act ≡ leave_by_fault m None f fault world
+    pub is : act ≡ leave_by_fault m f fault world
     pub why : FailsWith fault world
     pub along : Along world
 
@@ -74,14 +74,14 @@ module _ {S : Type 0} (m : Setup S) (f : Frame) (h : Handler) (x : Problem) (w :
   Outcome act = Fails act ⊎ Begins act
 
   fails : (y : Problem) (u : World S) → FailsWith y u → Along u →
-      Outcome (leave_by_fault m None f y u)
+      Outcome (leave_by_fault m f y u)
   fails y u why along =
       inl (record { fault = y; world = u; is = refl; why = why; along = along })
 
   at_mark : (u : World S) → Along u → (go : World S → Act S) →
       Outcome (go (record u { passed = u.passed + 1 })) → Outcome (marked m f u go)
   at_mark u along go rest =
-      by_test Outcome (is_stop m.stop u.passed) (leave_by_fault m None f NoMemory u)
+      by_test Outcome (is_stop m.stop u.passed) (leave_by_fault m f NoMemory u)
       (go (record u { passed = u.passed + 1 }))
       (λ stop. fails NoMemory u (inl (refl, stop)) along) (λ _. rest)
 
@@ -89,7 +89,7 @@ module _ {S : Type 0} (m : Setup S) (f : Frame) (h : Handler) (x : Problem) (w :
       HasPosition (position_of m.program (raised_at y point)) y → Along u →
       Outcome (escaped m f y u)
   escapes y u row has along =
-      at_mark u along (leave_by_fault m None f y)
+      at_mark u along (leave_by_fault m f y)
       (fails y (record u { passed = u.passed + 1 }) (inr (row, has)) along)
 
   -- the charge at the target, on a scope that is cut and has the variable
@@ -109,7 +109,7 @@ module _ {S : Type 0} (m : Setup S) (f : Frame) (h : Handler) (x : Problem) (w :
 
     verdict : w.count < m.engine.limits.operations → (said : Verdict) →
         m.law.progress_reply w.host (w.count + 1) ≡ said →
-        Outcome (on_verdict m said (position_of m.program h.target) g (leave_by_fault m None g)
+        Outcome (on_verdict m said (position_of m.program h.target) g (leave_by_fault m g)
         heard (Go (InFrame block)))
     verdict fits GoOn e = inr (record {
       world = heard;
@@ -124,11 +124,11 @@ module _ {S : Type 0} (m : Setup S) (f : Frame) (h : Handler) (x : Problem) (w :
         escapes (Plain (Terminated v) (position_of m.program h.target)) heard (came, fits, e) refl
         (refl, refl, refl, kept)
 
-    charges : Outcome (charged_or m (position_of m.program h.target) g (leave_by_fault m None g)
+    charges : Outcome (charged_or m (position_of m.program h.target) g (leave_by_fault m g)
         now (Go (InFrame block)))
     charges =
         let p = position_of m.program h.target in
-        let leaves : Problem → World S → Act S = leave_by_fault m None g in
+        let leaves : Problem → World S → Act S = leave_by_fault m g in
         let go : World S → Act S = Go (InFrame block) in
         let after : World S → World S =
         λ w1. record w1 { host = m.law.progress_after w1.host w1.count } in
@@ -156,7 +156,7 @@ module _ {S : Type 0} (m : Setup S) (f : Frame) (h : Handler) (x : Problem) (w :
 
   binds : (v : Option ℕ) → h.variable ≡ v → h.scope ≤ length w.scope →
       Outcome (bind_caught m v (position_of m.program h.target) g x cut
-      (λ w1. charged_or m (position_of m.program h.target) g (leave_by_fault m None g) w1
+      (λ w1. charged_or m (position_of m.program h.target) g (leave_by_fault m g) w1
       (Go (InFrame block))))
   binds None e there =
       let scope = take h.scope w.scope in
@@ -169,7 +169,7 @@ module _ {S : Type 0} (m : Setup S) (f : Frame) (h : Handler) (x : Problem) (w :
       let entry : Entry =
       new_entry (name_of m.program n) (read_write (caught_value m.program.source x)) in
       let charge : World S → Act S =
-      λ w1. charged_or m p g (leave_by_fault m None g) w1 (Go (InFrame block)) in
+      λ w1. charged_or m p g (leave_by_fault m g) w1 (Go (InFrame block)) in
       by_test Outcome (is_full m.engine.limits.variables scope)
       (escaped m g (Plain TooManyVariables p) cut)
       (marked m g cut (λ w1. charge (record w1 { scope = w1.scope ++ entry ∷ [] })))
@@ -201,10 +201,11 @@ module _ {S : Type 0} (m : Setup S) (f : Frame) (h : Handler) (x : Problem) (w :
   pub outcome : Fails (caught m f h x w) ⊎ Begins (caught m f h x w)
   outcome =
       let p = position_of m.program h.target in
-      let y = Plain (Malformed (kind.TryFloorBroken h.scope (length w.scope))) (position m f) in
+      let y = Plain (Malformed (kind.TryFloorBroken h.scope (length w.scope)))
+      (position_of m.program f.address) in
       by_test Outcome (nat_lt (length w.scope) h.scope) (escaped m f y (record w { trace = [] }))
       (bind_caught m h.variable p g x cut
-      (λ w1. charged_or m p g (leave_by_fault m None g) w1 (Go (InFrame block))))
+      (λ w1. charged_or m p g (leave_by_fault m g) w1 (Go (InFrame block))))
       (λ short. escapes y (record w { trace = [] }) (refl, refl, ltb-true (length w.scope) h.scope short) refl
       (refl, refl, refl, λ base ns low k. k))
       (λ clear. binds h.variable refl (ltb-false (length w.scope) h.scope clear))
@@ -217,15 +218,15 @@ module _ {S : Type 0} (m : Setup S) (f : Frame) (h : Handler) (x : Problem) (w :
     even_fails act l =
         let u = l.world in
         let left : Cut m root k.level k.base l.fault (take f.floor u.scope)
-        (u.trace ++ record { address = f.address; slot = None } ∷ []) = record {
+        (u.trace ++ record { address = f.address; slot = f.slot } ∷ []) = record {
           frame = can.from;
           world = can.world;
           comes = can.comes;
           own = can.own;
           based = can.from_base;
           inner = u.trace;
-          slot = None;
-          last = ap (λ (a : ℕ). u.trace ++ record { address = a; slot = None } ∷ []) can.address;
+          slot = f.slot;
+          last = ap (λ (a : ℕ). u.trace ++ record { address = a; slot = f.slot } ∷ []) can.address;
           short = inl (omega (arith, cut_short f.floor u.scope, can.floor));
         } in
         subst (Tally m root turn r k) (sym l.is) (
@@ -272,6 +273,7 @@ module _ {S : Type 0} (m : Setup S) (f : Frame) (h : Handler) (x : Problem) (w :
                 },
                 can.around,
               ),
+              (refl, refl),
             ),
           ),
         )
@@ -301,7 +303,7 @@ module _ {S : Type 0} (m : Setup S) (f : Frame) (h : Handler) (x : Problem) (w :
         l.fault,
         record l.world {
           scope = take f.floor l.world.scope;
-          trace = l.world.trace ++ record { address = f.address; slot = None } ∷ [];
+          trace = l.world.trace ++ record { address = f.address; slot = f.slot } ∷ [];
         },
         l.is,
         passes l.fault l.world l.why,
@@ -322,6 +324,8 @@ module _ {S : Type 0} (m : Setup S) (f : Frame) (h : Handler) (x : Problem) (w :
           base = refl;
           floor = refl;
           this = refl;
+          slot = refl;
+          position = refl;
           there = b.there;
           scope = b.scope;
           trace = b.trace;

@@ -10,6 +10,10 @@ pub mod Operators
 pub mod Transfers
 pub mod Calls
 pub mod Catching
+pub mod Tasks
+pub mod StepTasks
+pub mod Walks
+pub mod Chains
 use Rattle.std.proofs.Common.{◌≡◌, ◌≤◌, ◌+◌, ℕ, List, [], ◌∷◌, Option, Some, None, Bool, true, false, length, refl, arith}
 use Rattle.std.specs.List.{AllByRecursion}
 use Rattle.std.specs.Prelude.{is_some}

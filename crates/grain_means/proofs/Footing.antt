@@ -8,9 +8,9 @@ use Rattle.grain_fault.specs.Problems.{FaultKind, Malformed, Runtime, Terminated
 use Rattle.grain_program.specs.Typing.{IsProgram}
 use Rattle.grain_means.specs.Worlds.{Act, Go, End, Then, Answer, Failed, World, Setup, Frame, Handler, Todo, InFrame, InCatch}
 use Rattle.grain_means.specs.Rules.{if_armed, kind_throws_unit, outer_handlers, position, throws_unit, thrown_anew}
-use Rattle.grain_means.specs.Comes.{ProgramPoint, CatchPoint, Comes, ComesToCatch, Meets, try_of, tries}
+use Rattle.grain_means.specs.Comes.{ProgramPoint, CatchPoint, Comes, ComesToCatch, BlamesNone, Meets, try_of, tries}
 use Rattle.grain_means.specs.Leavings.{Keeps, Cuts}
-use Rattle.grain_means.specs.Causes.{HasPosition, Why, Throws, Raises, Tells, ThrowsUnit, HaveCaughtUnit, Raised, Row, FailsToCatch, CatchRow, Caused, ThrowsUnitAt}
+use Rattle.grain_means.specs.Causes.{HasPosition, Why, Throws, Raises, Tells, ThrowsUnit, HaveCaughtUnit, FirstIsArmed, Raised, Row, FailsToCatch, CatchRow, Caused, ThrowsUnitAt}
 use Rattle.grain_means.proofs.Moving.{placed_twice, unit_anywhere, unit_placed}
 use Rattle.grain_means.proofs.Standing.{Fitting, Covered}
 
@@ -47,10 +47,10 @@ Guarded m root k [] = Unit {0}
 Guarded m root k (h ∷ hs) =
     (k.base ≤ h.scope) × HasCaught m root k.level h h.caught × Guarded m root k hs
 
--- a frame on this footing, which in a valid program fits
+-- a frame on this footing, which in a valid program fits, and blames no step
 abbrev pub Sits : {S : Type 0} → Setup S → Act S → Footing → Frame → Type 0
 Sits {S = S} m root k f = (f.base ≡ k.base) × (k.base ≤ f.floor) ×
-    (IsProgram m.program → Fitting m.program f) × Guarded m root k f.handlers
+    (IsProgram m.program → Fitting m.program f) × Guarded m root k f.handlers × BlamesNone f
 
 -- A frame on this footing, in which the handler catches the fault: the frame stood at an instruction
 -- that raised it.
@@ -217,6 +217,16 @@ module _ {S : Type 0} (m : Setup S) where
   abbrev pub Offers : Act S → ℕ → List Handler → Problem → World S → Type 0
   Offers root level hs x w = Caused m root level (Failed x) w × UnitThrown root level hs x
 
+  -- the fault is not thrown anew by the innermost of these handlers
+  abbrev pub StaysAt : List Handler → Problem → Type 0
+  StaysAt hs x = throws_unit x ≡ true → FirstIsArmed hs
+
+  -- a fault that is offered to these handlers of a frame with those: why, if it stays there, and where
+  -- it is thrown if it is a throw of unit
+  abbrev pub OffersTo : Act S → ℕ → (hs left : List Handler) → Problem → World S → Type 0
+  OffersTo root level hs left x w =
+      (StaysAt left x → Caused m root level (Failed x) w) × UnitThrown root level hs x
+
   -- one more handler has caught a throw of unit
   one_more_caught : (inside : List Handler) (h : Handler) (y : Problem) → HaveCaughtUnit inside →
       h.caught ≡ Some y → throws_unit y ≡ true → HaveCaughtUnit (inside ++ h ∷ [])
@@ -242,9 +252,10 @@ module _ {S : Type 0} (m : Setup S) where
   -- what was caught is thrown anew where unit is thrown, in a frame that has the handler
   cause_anew : (root : Act S) (level : ℕ) (inside around : List Handler) (h : Handler)
       (y : Problem) → WasCaught m root level h y → HaveCaughtUnit inside → (p : Position) →
+      (throws_unit y ≡ true → FirstIsArmed around) →
       ThrownUnder root level (inside ++ h ∷ around) p →
       Raised m root level (at_position p y) (Why m (at_position p y))
-  cause_anew root level inside around h y c left p throw = record {
+  cause_anew root level inside around h y c left p ended throw = record {
     point = c.cause.point;
     met = c.cause.met;
     why = moved_why p y c.cause.point c.cause.why;
@@ -261,6 +272,7 @@ module _ {S : Type 0} (m : Setup S) where
         block = throw.1
             ∙ ap (λ (g : Handler). inside ++ g ∷ around) (sym c.handler);
         left = left;
+        ended = λ unit. ended (sym (ap throws_unit c.is) ∙ unit);
         is = ap (at_position p) (sym c.is);
       },
     ));
@@ -269,19 +281,20 @@ module _ {S : Type 0} (m : Setup S) where
   pub offers_anew : (root : Act S) (level : ℕ) (hs inside around : List Handler) (h : Handler)
       (y : Problem) → WasCaught m root level h y → hs ≡ inside ++ h ∷ around →
       (x : Problem) (w : World S) → (throws_unit x ≡ true → HaveCaughtUnit inside) →
-      Offers root level hs x w → Offers root level hs (thrown_anew y x) w
+      OffersTo root level hs (h ∷ around) x w →
+      OffersTo root level hs around (thrown_anew y x) w
   offers_anew root level hs inside around h y c split x w left offers =
       by_unit (throws_unit x) refl where
         p : Position
         p = position_of_problem x
 
         by_unit : (b : Bool) → throws_unit x ≡ b →
-            Offers root level hs (if b then at_position p y else x) w
-        by_unit false e = offers
+            OffersTo root level hs around (if b then at_position p y else x) w
+        by_unit false e = (λ stays. offers.0 (λ unit. true-false unit e), offers.1)
         by_unit true e =
             let throw = offers.1 e in (
-              inr (inl (cause_anew root level inside around h y c (left e) p
-                  (throw.0, throw.1 ∙ split))),
+              λ stays. inr (inl (cause_anew root level inside around h y c (left e) p
+                  (λ unit. stays (unit_anywhere p y ∙ unit)) (throw.0, throw.1 ∙ split))),
               λ again. subst (ThrownUnder root level hs)
                   (sym (unit_placed p y (sym (unit_anywhere p y) ∙ again))) throw,
             )

@@ -8,7 +8,7 @@ use Rattle.grain_value.specs.Scopes.{set_held}
 use Rattle.grain_value.specs.Tree.{Tree}
 use Rattle.grain_host.specs.Law.{Law}
 use Rattle.grain_host.specs.Law as reply
-use Rattle.grain_means.specs.Rules.{Receiver, given_back, back_in_entry}
+use Rattle.grain_means.specs.Rules.{Home, InScope, AtPlace, Receiver, given_back, back_in_scope}
 use Rattle.grain_means.specs.Leavings.{names, Keeps}
 use Rattle.grain_means.specs.lemmas.Scopes.{length_set_held}
 
@@ -63,10 +63,11 @@ pub keeps_given : {S : Type 0} {b : ℕ} {ns : List (List ℕ)} (law : Law S) (h
     (values : List Tree) (r : Option Receiver) (scope : List Entry) → Keeps b ns scope →
     Keeps b ns (given_back law host key values r scope)
 keeps_given law host key values None scope k = k
-keeps_given {b = b} {ns = ns} law host key values (Some q) scope k = at q.cell where
+keeps_given {b = b} {ns = ns} law host key values (Some q) scope k = at q.home where
   h : Held
   h = reply.written law host key values q.held
 
-  at : (cell : Option ℕ) → Keeps b ns (back_in_entry cell q.index h scope)
-  at None = keeps_set b ns scope q.index h k
-  at (Some n) = k
+  at : (home : Home) → Keeps b ns (back_in_scope home h scope)
+  at (InScope i None) = keeps_set b ns scope i h k
+  at (InScope i (Some n)) = k
+  at (AtPlace p) = k

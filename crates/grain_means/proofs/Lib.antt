@@ -14,4 +14,11 @@ pub mod Plain
 pub mod CellFree
 pub mod Naming
 pub mod Caught
+pub mod Inside
 pub mod Containing
+pub mod Walking
+pub mod Reading
+pub mod Examples
+pub mod ChainExamples
+pub mod Explaining
+pub mod Rows

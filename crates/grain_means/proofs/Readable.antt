@@ -9,7 +9,7 @@ use Rattle.grain_value.specs.Looking.{cell_of}
 use Rattle.grain_value.specs.Cells.{flat, content, idle}
 use Rattle.grain_host.specs.Law.{Law}
 use Rattle.grain_host.specs.Law as reply
-use Rattle.grain_means.specs.Rules.{back_in_cell, cells_given_back}
+use Rattle.grain_means.specs.Rules.{InScope, back_in_cell, cells_given_back}
 
 no_content : {A : Type 0} {v : Dynamic} → content None ≡ Some v → A
 no_content e = absurd cc
@@ -25,7 +25,7 @@ put_there (c ∷ cells) (suc n) v h e = put_there cells n v h e
 pub stays_readable : {S : Type 0} (law : Law S) (host : S) (key : ℕ) (values : List Tree)
     (index : ℕ) (h : Held) (u : Dynamic) (cells : List Cell) → flat cells h.value ≡ Some u →
     (c : Dynamic) × (flat (cells_given_back law host key values
-    (Some (record { index = index; cell = cell_of h.value; held = record h { value = u } })) cells)
+    (Some (record { home = InScope index (cell_of h.value); held = record h { value = u } })) cells)
     h.value ≡ Some c)
 stays_readable law host key values index h u cells e = at (cell_of h.value) refl where
   back : Held

@@ -15,7 +15,7 @@ use Rattle.grain_program.specs.Decoding.{op_at}
 use Rattle.grain_program.specs.Typing.{In, IsProgram}
 use Rattle.grain_program.specs.View.{View}
 use Rattle.grain_means.specs.Worlds.{Frame, Handler, Place}
-use Rattle.grain_means.specs.Rules.{frame_at, function_numbered, outer_handlers, catching}
+use Rattle.grain_means.specs.Rules.{frame_at, function_numbered, outer_handlers, catching, resumed}
 use Rattle.grain_means.specs.Comes.{Stands, try_of, tries}
 
 -- the typing of a chunk knows the frame
@@ -47,7 +47,7 @@ as_many p operands h hs covered =
 -- a frame that has caught fits at the handler's target
 pub fits_caught : (p : View) (f : Frame) (h : Handler) (x : Problem) →
     Covered p f.operands (try_of h ∷ tries f.handlers) →
-    Fitting p (record (catching f h x) { address = h.target })
+    Fitting p (resumed (catching f h x) h.target)
 fits_caught p f h x covered =
     let cut : length (take h.operands f.operands) ≡ h.operands =
     omega (

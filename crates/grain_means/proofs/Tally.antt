@@ -12,6 +12,8 @@ pub mod Entries
 pub mod Operators
 pub mod Transfers
 pub mod Calls
+pub mod Walks
+pub mod Chains
 use Rattle.std.proofs.Common.{◌≡◌, ℕ, ◌+◌, ◌-◌, List, [], ◌∷◌, ◌++◌, Option, Some, None, Bool, true, false, refl, ap, inl, inr, arith, length}
 use Rattle.std.specs.Prelude.{is_some}
 use Rattle.grain_value.specs.declared.values.Dynamic.TheVariants as dynamic
@@ -264,7 +266,7 @@ module _ {S : Type 0} {m : Setup S} (walk : Walk m) where
       (λ _. omega arith) in
       even_onward walk (now.ran + 1)
       (record f { address = f.address + width; floor = length now.scope }) (start walk)
-      (steady walk) trace (inr ((width, at), refl)) (sits.0, keeps.there, on.2, on.3)
+      (steady walk) trace (inr ((width, at), refl)) (sits.0, keeps.there, on.2, on.3, on.4)
   even_instr (op.Statement depth) width at = even_on walk (op.Statement depth) width at _ refl
       (sits_at walk (op.Statement depth) width at refl _ f.operands (inl refl) (λ _. omega arith))
   even_instr (op.PushHandler target) width at =
@@ -286,6 +288,7 @@ module _ {S : Type 0} {m : Setup S} (walk : Walk m) where
         fits_on walk op.PopHandler width at after (inl refl) (λ _. omega arith)
             (tries_outer f.handlers),
         guarded_outside m root k f.handlers sits.3,
+        sits.4,
       )
   even_instr op.Throw width at =
       even_flat walk op.Throw width at (top f.operands) [] (λ lent. (refl, lent)) _

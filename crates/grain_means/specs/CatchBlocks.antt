@@ -22,7 +22,7 @@ variable_entry program (Some n) x =
 
 -- The catch block begins in a frame and a world: at the handler's target, with exactly as many
 -- operands and entries of the scope as at its push, and with the variable above these; the handler
--- has caught the fault. It cost one operation.
+-- has caught the fault, and no step of a chain is blamed. It cost one operation.
 pub record CatchBlock {S : Type 0} (m : Setup S) (at : CatchPoint S) (f : Frame) (w : World S) :
     Type 0 where
   pub target : f.address ≡ at.handler.target
@@ -32,6 +32,8 @@ pub record CatchBlock {S : Type 0} (m : Setup S) (at : CatchPoint S) (f : Frame)
   pub base : f.base ≡ at.frame.base
   pub floor : f.floor ≡ at.frame.floor
   pub this : f.this ≡ at.frame.this
+  pub slot : f.slot ≡ None
+  pub position : f.position ≡ None
   pub there : at.handler.scope ≤ length at.world.scope
   pub scope : w.scope ≡
       take at.handler.scope at.world.scope ++

@@ -3,9 +3,11 @@
 pub mod Instructions
 pub mod Natives
 pub mod Positions
+pub mod Spots
+pub mod Chains
 pub use Rattle.grain_means.specs.Causes.Instructions.{truth_read, truth_on_top, Points, CallsOn, Calls, Charges, IsCharged, HasTooMany, ReadsTop, Overfills, UsesEntry, Unwinds, Tests, AsksPointer, Throws, Holds, AssignsConstant, Misses, Operates, HasNoBuiltIn, Mistypes, IsLent, AssignsLent, StoresLent, ReadsLent}
 pub use Rattle.grain_means.specs.Causes.Natives.{AssignsByHost, Question, all_args, native_asked, reply_to, IsCalled, EndsWith, asks_first, AsksAgain, AsksSecond, AsksToAssign, AsksOnCopies, AsksNative, AsksLast, FindsNone, FindsNative, WritesConstant, HostAnswers, FromHost}
-pub use Rattle.grain_means.specs.Causes.Positions.{Enters, LeftCall, HasPosition, AnsweredSo, TellsHere, ThrowsUnitAt, ThrowsUnit, HaveCaughtUnit, ThrownAnew, Tells}
+pub use Rattle.grain_means.specs.Causes.Positions.{Enters, LeftCall, HasPosition, AnsweredSo, TellsHere, ThrowsUnitAt, ThrowsUnit, HaveCaughtUnit, FirstIsArmed, ThrownAnew, Tells}
 use Rattle.std.specs.Prelude.{◌≡◌, ◌⊎◌, ◌<◌, ◌≤◌, ◌+◌, ℕ, List, Some, None, true, length, Result, Ok, Err}
 use Rattle.grain_value.specs.declared.values.Dynamic.{Dynamic}
 use Rattle.grain_value.specs.declared.values.Held.{Held}

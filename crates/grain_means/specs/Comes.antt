@@ -1,5 +1,5 @@
 -- The frames to which a run comes, and what a valid program has there.
-use Rattle.std.specs.Prelude.{◌≡◌, ◌≤◌, ℕ, List, Some, false, length, map}
+use Rattle.std.specs.Prelude.{◌≡◌, ◌≤◌, ℕ, List, None, Some, false, length, map}
 use Rattle.grain_fault.specs.Problems.{Problem}
 use Rattle.grain_program.specs.declared.code.instruction_set.Op.{Op}
 use Rattle.grain_program.specs.Effects.{takes_of, handling_of}
@@ -36,9 +36,14 @@ pub data Comes {S : Type 0} (m : Setup S) (t : Todo) (w : World S) : Act S → T
   behind : {first : Act S} {rest : Answer → World S → Act S} {a : Answer} {v : World S} →
       Ends m first a v → Comes m t w (rest a v) → Comes m t w (Then first rest)
 
--- the run of an act comes to the point, where the instruction stands
+-- a frame blames no step of a chain, and has no position but its instruction's
+abbrev pub BlamesNone : Frame → Type 0
+BlamesNone f = (f.slot ≡ None) × (f.position ≡ None)
+
+-- the run of an act comes to the point, where the instruction stands and blames no step yet
 pub record Meets {S : Type 0} (m : Setup S) (s : ProgramPoint S) (act : Act S) : Type 0 where
   pub comes : Comes m (InFrame s.frame) s.world act
+  pub blames : BlamesNone s.frame
   pub width : ℕ
   pub stands : op_at m.program.code s.frame.address ≡ Some (s.instruction, width)
 

@@ -1,12 +1,14 @@
 -- What a program means. A reader of the contracts reads Worlds, Rules, Ends, Means, Comes, Causes,
 -- Leavings and CatchBlocks, in this order, and beside Rules what the variable of a catch holds
 -- (CatchValues) and how a function that is not found is named (Signatures). Places says what stands at
--- a place, Tasks what a walk along one may do, and Walks what a chain's walk does. Length and Simulation
--- say how runs are counted and how code is joined to them.
+-- a place, Tasks what a walk along one may do, Walks what a chain's walk does, and WalkEnds and Readings
+-- what holds of it. Length and Simulation say how runs are counted and how code is joined to them.
 pub mod Worlds
 pub mod Places
 pub mod Tasks
 pub mod Walks
+pub mod WalkEnds
+pub mod Readings
 pub mod Rules
 pub mod Ends
 pub mod Length

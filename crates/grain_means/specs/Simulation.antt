@@ -1,5 +1,5 @@
 -- How code is joined to the meaning: a stretch of code simulates a part of a run. An end that the
--- run has from behind the part is then an end that it has from before it, and the same of a run
+-- run has from after the part is then an end that it has from before it, and the same of a run
 -- that is stopped at a later mark.
 use Rattle.std.specs.Prelude.{◌≡◌, ◌<◌, ◌≤◌, ℕ, List, [], Option, Some, None, Bool, true, false}
 use Rattle.grain_value.specs.declared.values.Held.{Held}

@@ -1,6 +1,5 @@
 -- The walk of a chain along a place: one rule for each kind of step, and for what is done where the
--- steps lead. What stands inside an array or a map is no cell, and no root of a walk is one but an
--- answer that is the chain's own value.
+-- steps lead. What stands inside an array or a map is no cell, and no root of a walk is one.
 --
 -- A step has a mark where it begins, and one where it leads on: to a place further down, to a new root,
 -- or to what is done where the steps end. There is one more before each thing that is written, asked
@@ -8,7 +7,7 @@
 pub mod Asking
 pub mod Returning
 pub use Rattle.grain_means.specs.Walks.Asking.{Setting, Rest, Next, index_get, index_set, at_mark, failing, flat_or_busy, flattening, asking, index_was_set, set_by_index, set_instead, property_was_set, got_instead, property_was_got, index_was_got, index_was_read, operator_answered, named, set_property, get_property, operator_asked, was_op_assigned, native_stored, stored, operating}
-pub use Rattle.grain_means.specs.Walks.Returning.{Origin, OfPart, OfIndex, OfProperty, OfNothing, put_part, set_back, back, rooted, into_answer}
+pub use Rattle.grain_means.specs.Walks.Returning.{Origin, OfPart, OfIndex, OfProperty, OfNothing, put_part, set_back, back, rooted, own_value, into_answer}
 use Rattle.std.specs.Prelude.{ℕ, ◌+◌, ◌-◌, ◌==◌, ℤ, Bool, true, false, List, [], ◌∷◌, Option, Some, None, Result, Ok, Err, slice_index_or, codes, if◌then◌else◌}
 use Rattle.std.specs.Int.{bit_at}
 use Rattle.grain_value.specs.Tree.{Tree, unit}

@@ -5,6 +5,7 @@ use Rattle.grain_value.specs.declared.values.Held.{Held}
 use Rattle.grain_value.specs.declared.scopes.Entry.{Entry}
 use Rattle.grain_value.specs.declared.stores.Cell.{Cell}
 use Rattle.grain_value.specs.declared.values.paths.PathStep.{PathStep}
+use Rattle.grain_fault.specs.declared.places.Position.{Position}
 use Rattle.grain_fault.specs.declared.traces.Fault.{Fault}
 use Rattle.grain_fault.specs.Problems.{Problem}
 use Rattle.grain_program.specs.View.{View}
@@ -33,7 +34,9 @@ pub record Handler : Type 0 where
 
 -- A frame: the address of its instruction, its own operands, its own handlers, the innermost first,
 -- the scope's length at its entry, from which its slots count, the length to which a fault cuts the
--- scope, and the place of its `this`, if any.
+-- scope, and the place of its `this`, if any. While it walks a chain, and until a fault of the walk is
+-- caught, it has the slot by which a trace names the step that is blamed; while a step is done, it
+-- has the position that stands in place of its instruction's.
 pub record Frame : Type 0 where
   pub address : ℕ
   pub operands : List Held
@@ -41,6 +44,8 @@ pub record Frame : Type 0 where
   pub base : ℕ
   pub floor : ℕ
   pub this : Option Place
+  pub slot : Option ℕ
+  pub position : Option Position
 
 -- The world of a run on a host whose states are S.
 pub record World (S : Type 0) : Type 0 where

@@ -1,5 +1,8 @@
 -- Lemmas that the crates above cite. Nothing here is part of a contract's words.
 pub mod PlaceLaws
+pub mod Spreading
+pub mod Plays
+pub mod Added
 pub mod Roots
 pub mod Stretches
 pub mod Scopes

@@ -1,10 +1,12 @@
 //! Laws of the meaning alone. Each is a function that does nothing, whose contract is the law.
 
-ghost use Rattle.std.specs.Prelude.{◌≡◌, ◌≤◌, ◌+◌, [], length, ℕ, Bool, Option, Some};
+ghost use Rattle.std.specs.Prelude.{◌≡◌, ◌<◌, ◌≤◌, ◌⊎◌, ◌+◌, [], ◌∷◌, false, length, List, ℕ, Bool, Ok, Option, None, Some};
 ghost use Rattle.grain_means.specs.Worlds.{Act, Answer, World, Setup, Place, Frame, InFrame};
 ghost use Rattle.grain_means.specs.CatchBlocks.{Catches};
 ghost use Rattle.grain_means.specs.Rules.{called};
 ghost use Rattle.grain_means.specs.Causes.{Caused};
+ghost use Rattle.grain_means.specs.Causes.Spots.{ChainWalk, InsteadFails, NativeFails, OwnRow, WalkRow};
+ghost use Rattle.grain_fault.specs.Problems.{Problem};
 ghost use Rattle.grain_means.specs.Comes.{CatchPoint, Comes, ComesToCatch, Stands};
 ghost use Rattle.grain_means.specs.Ends.{Ends};
 ghost use Rattle.grain_means.specs.Leavings.{names, Keeps, Cuts};
@@ -15,6 +17,22 @@ ghost use Rattle.grain_program.specs.View.{View};
 ghost use Rattle.grain_host.specs.Law.{Law, IsLawful};
 ghost use Rattle.grain_means.specs.Contained.{AnswerNames, ConstantsName, Contained};
 ghost use Rattle.grain_program.specs.Typing.{IsProgram};
+ghost use Rattle.grain_program.specs.declared.code.chains.Step.{Step};
+ghost use Rattle.grain_value.specs.declared.stores.Cell.{Cell};
+ghost use Rattle.grain_value.specs.Paths.{at};
+ghost use Rattle.grain_value.specs.View.{tree};
+ghost use Rattle.grain_value.specs.declared.values.Dynamic.{Dynamic};
+ghost use Rattle.grain_value.specs.declared.values.Held.{Held};
+ghost use Rattle.grain_value.specs.declared.values.paths.PathStep.{PathStep};
+ghost use Rattle.grain_means.specs.Places.{find};
+ghost use Rattle.grain_means.specs.Rules.InWorld.{walks};
+ghost use Rattle.grain_means.specs.Readings.{ReadsAlong};
+ghost use Rattle.grain_means.specs.Tasks.{Own, Task, Walked, Well, play};
+ghost use Rattle.grain_means.specs.Tasks.{Over as WalkOver};
+ghost use Rattle.grain_means.specs.WalkEnds.{AllEnds, PlayEnds, WalkEnds};
+ghost use Rattle.grain_means.specs.Walks.{Course, whole_walk};
+ghost use Rattle.grain_means.specs.lemmas.Plays.{laid, played};
+ghost use Rattle.grain_means.specs.lemmas.Spreading.{Rooted};
 
 /// A run has at most one end.
 pub fn one_end<S>()
@@ -73,4 +91,42 @@ pub fn one_meaning<S>()
     ensures { (law : Law S) (program : View) (engine : Engine) (b : Begin S) (e f : Finish S)
         (n k : ℕ) →
         Means law program engine b e n → Means law program engine b f k → (e ≡ f) × (n ≡ k) }
+{}
+
+/// Each end of a chain's walk leaves one root, that at which it began; a chain that assigns ends with
+/// unit; and a fault blames one of the chain's steps. What holds of every end of a task holds where a
+/// walk by itself ends, and of every end that it still can come to where it asks for something.
+pub fn walk_ends()
+    ensures all { (c : Course) (steps : List Step) → 0 < length steps →
+        AllEnds (WalkEnds c steps) 1 (whole_walk c steps) }
+    ensures by_play { (c : Course) (steps : List Step) (stop : Option ℕ) (cells : List Cell)
+        (t : Task) (s : Own) → AllEnds (WalkEnds c steps) (length s.roots) t →
+        PlayEnds (WalkEnds c steps) (play stop cells t s) }
+{}
+
+/// Where a walk by itself comes to, the walk in the world comes to, with the first root at its place
+/// and the others after all roots of the world.
+pub fn both_readings<S>()
+    ensures { (m : Setup S) (k : ℕ) (f : Frame) (p : Place) (g : Held)
+        (done : Walked → World S → Act S) (w : World S) → find w.roots p ≡ Some g → (t : Task)
+        (s : Own) → Rooted g.read_only s.roots → walks m k f p (length w.roots) t done (laid w p s)
+        ≡ played m k f p done w (play m.stop w.cells t s) }
+{}
+
+/// A chain that assigns nothing, and whose steps lead along elements of arrays and keys of maps alone,
+/// gives what stands at the end of their path, leaves its root as it was, and asks for nothing.
+pub fn reads_along()
+    ensures { (c : Course) (cells : List Cell) (h : Held) (steps : List Step)
+        (path : List PathStep) (u : Dynamic) → c.assigns ≡ None →
+        ReadsAlong cells c steps h.value path u →
+        (j : ℕ) × (play None cells (whole_walk c steps) (record { roots = h ∷ []; passed = 0 })
+        ≡ WalkOver (Well u false) (record { roots = h ∷ []; passed = j }))
+        × (at path (tree h.value) ≡ Ok (tree u)) }
+{}
+
+/// Where the walk of a chain ends in a fault, the fault has the row of its kind, or a native was not to
+/// be had, or failed.
+pub fn walk_rows<S>()
+    ensures { (m : Setup S) (c : ChainWalk S) (n : ℕ) (x : Problem) → WalkRow m c n x →
+        OwnRow m c n x ⊎ (NativeFails m c n x ⊎ InsteadFails m c n x) }
 {}

@@ -122,14 +122,14 @@ pub memory_passes : {H : Type 0} {m : Setup H} (f : Activation) (s t : Run H) (g
     (next : ℕ) (n : StepsView) (host : H) → abstraction t n host ≡ abstraction s n host →
     SimulatesExactly m (abstraction s n host)
     (λ k place w. resume_caller k g (frame_in f s place) next (Failed NoMemory) w) true
-    (abstraction t n host) (λ k place w. leave_by_fault k None (frame_in f t place) NoMemory w)
+    (abstraction t n host) (λ k place w. leave_by_fault k (frame_in f t place) NoMemory w)
 memory_passes {H = H} {m = m} f s t g next n host e = record {
   this = refl;
   order = omega arith;
   equal = λ stop clear halts u place.
       memory_leaves (stopped m stop) (handlers_in s.stacks.handlers) (frame_in f s place)
       (world (abstraction s n host) u)
-      ∙ ap (λ (q : LocalState H). leave_by_fault (stopped m stop) None (frame_in f s place) NoMemory
+      ∙ ap (λ (q : LocalState H). leave_by_fault (stopped m stop) (frame_in f s place) NoMemory
       (world q u)) (sym e);
 }
 

@@ -14,7 +14,7 @@ use Rattle.grain_stack.specs.declared.handlers.Handler.{Handler}
 use Rattle.grain_host.specs.Law.{Law}
 use Rattle.grain_global.specs.declared.engines.Engine.{Engine}
 use Rattle.grain_means.specs.Worlds.{Act, Frame, Place, Setup, World, Go, InFrame}
-use Rattle.grain_means.specs.Rules.{bind_caught, catching, caught, charged_or, is_stop, leave_by_fault, marked, progressed}
+use Rattle.grain_means.specs.Rules.{bind_caught, catching, resumed, caught, charged_or, is_stop, leave_by_fault, marked, progressed}
 use Rattle.grain_fault.specs.CatchValues.{caught_value}
 use Rattle.grain_means.specs.Simulation.{Computation, SimulatesExactly, stopped, world}
 use Rattle.grain_means.specs.Means.{setup}
@@ -92,11 +92,11 @@ module _ {H : Type 0} (law : Law H) (p : View) (engine : Engine) (a : Activation
 
   -- what is raised then leaves it
   abbrev pub fails : Setup H → Option Place → Problem → World H → Act H
-  fails m place x w = leave_by_fault m None (caught_frame place) x w
+  fails m place x w = leave_by_fault m (caught_frame place) x w
 
   -- where it goes on
   abbrev at_target : Setup H → Option Place → World H → Act H
-  at_target m place w = Go (InFrame (record (caught_frame place) { address = h.target })) w
+  at_target m place w = Go (InFrame (resumed (caught_frame place) h.target)) w
 
   -- the charge at the target
   abbrev charge : Setup H → Option Place → World H → Act H
@@ -133,7 +133,7 @@ module _ {H : Type 0} (law : Law H) (p : View) (engine : Engine) (a : Activation
       SimulatesExactly (setup law p engine) (abstraction s1 n host)
       (λ m place w. bind_caught m h.variable (position_of m.program h.target) (f place)
       (problem_of s1.fault) w (go m place)) (is_out r) (abstraction s2 n2 host)
-      (charge_continuation r s2.fault f go (λ m place x w. leave_by_fault m None (f place) x w))
+      (charge_continuation r s2.fault f go (λ m place x w. leave_by_fault m (f place) x w))
 
   same_fault : problem_of s1.fault ≡ what
   same_fault = ap (λ (q : Run H). problem_of q.fault) cut
@@ -141,14 +141,14 @@ module _ {H : Type 0} (law : Law H) (p : View) (engine : Engine) (a : Activation
   bound_by : (r : Result Bool OutOfMemory) (s2 : Run H) (n2 : StepsView) → Binds r s2 n2 →
       Catches (is_out r) s2 n2 host
       (charge_continuation r s2.fault caught_frame charge (λ m place x w.
-      leave_by_fault m None (caught_frame place) x w))
+      leave_by_fault m (caught_frame place) x w))
   bound_by r s2 n2 does =
       then_exactly cuts
       (subst (λ (x : Problem). SimulatesExactly (setup law p engine) (abstraction s1 n host)
       (λ m place w. bind_caught m h.variable (position_of m.program h.target) (caught_frame place)
       x w (charge m place)) (is_out r) (abstraction s2 n2 host)
       (charge_continuation r s2.fault caught_frame charge (λ m place x w.
-      leave_by_fault m None (caught_frame place) x w))) same_fault (does host caught_frame charge))
+      leave_by_fault m (caught_frame place) x w))) same_fault (does host caught_frame charge))
 
   -- it is not bound
   pub not_bound : (b : Bool) (s2 : Run H) (n2 : StepsView) → b ≡ false → Binds (Ok b) s2 n2 →
@@ -156,7 +156,7 @@ module _ {H : Type 0} (law : Law H) (p : View) (engine : Engine) (a : Activation
   not_bound true s2 n2 e does = absurd cc
   not_bound false s2 n2 e does = leaves (bound_by (Ok false) s2 n2 does) where
     leaves : Catches false s2 n2 host (λ m place w.
-        leave_by_fault m None (caught_frame place) (problem_of s2.fault) w) →
+        leave_by_fault m (caught_frame place) (problem_of s2.fault) w) →
         Catches false s2 n2 host (catch_continuation (Ok false) s2.fault h.target (frame_in a s2))
     leaves h = record {
       this = h.this;
@@ -197,14 +197,14 @@ module _ {H : Type 0} (law : Law H) (p : View) (engine : Engine) (a : Activation
           (world (abstraction s3 n2 host) u) halts;
     }) where
       stops : (m : Setup H) (place : Option Place) (w : World H) → is_stop m.stop w.passed ≡ true →
-          charge m place w ≡ leave_by_fault m None (frame_in a s3 place) NoMemory w
+          charge m place w ≡ leave_by_fault m (frame_in a s3 place) NoMemory w
       stops m place w halts = at (nat_lt w.count m.engine.limits.operations) where
         at : (q : Bool) → (if q then marked m (caught_frame place) w (λ w1. progressed m
             (position_of m.program h.target) (caught_frame place) (fails m place)
             (record w1 { count = w1.count + 1 }) (at_target m place))
             else marked m (caught_frame place) w
             (fails m place (Plain TooManyOperations (position_of m.program h.target))))
-            ≡ leave_by_fault m None (frame_in a s3 place) NoMemory w
+            ≡ leave_by_fault m (frame_in a s3 place) NoMemory w
         at true = rw halts refl
         at false = rw halts refl
 
@@ -229,7 +229,7 @@ module _ {H : Type 0} (law : Law H) (p : View) (engine : Engine) (a : Activation
             this = c.this;
             order = c.order;
             equal = λ stop clear halts u place. c.equal stop clear halts u place
-                ∙ ap (λ (f : Frame). Go (InFrame (record f { address = h.target }))
+                ∙ ap (λ (f : Frame). Go (InFrame (resumed f h.target))
                 (world (abstraction s' n' host') u)) (frames place);
           }
           at (Ok false) c = record {

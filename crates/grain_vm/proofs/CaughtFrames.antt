@@ -94,15 +94,15 @@ module _ {H : Type 0} (m : Setup H) (f : Activation) (s s1 : Run H) (n : StepsVi
       scope = take f.floor s2.scope;
       stacks = record s2.stacks {
         noted = true;
-        trace = s2.stacks.trace ++ record { address = f.address; slot = None } ∷ [];
+        trace = s2.stacks.trace ++ record { address = f.address; slot = f.slot } ∷ [];
       };
     }) where
       left_at : (out : Bool) (x : Problem) →
-          Leads out s2 (λ k place w. leave_by_fault k None (frame_in f s2 place) x w) →
+          Leads out s2 (λ k place w. leave_by_fault k (frame_in f s2 place) x w) →
           Leads out t (λ k place w. End (Failed x) w)
       left_at out x h =
           left_out (abstraction s2 n2 host2) (abstraction t n2 host2) (frame_in f s2) f.floor
-          f.address (λ place. refl) (λ place. refl) (rw is refl) h
+          f.address f.slot (λ place. refl) (λ place. refl) (λ place. refl) (rw is refl) h
 
       -- a fault leaves it
       pub leaves_at : (b : Bool) → b ≡ false → DoneBy (Ok b) →
@@ -184,13 +184,13 @@ module _ {H : Type 0} (s s1 s2 : Run H) (h : Handler)
 
 -- the frame that goes on runs
 pub caught_runs : {H : Type 0} (p : View) (engine : Engine) (c : Chunk)
-    (base address floor at low target : ℕ) (s t u : Run H) →
-    Runs p (activation_at c base address floor) s → t.stacks.room ≡ s.stacks.room →
+    (base address floor at low target : ℕ) (slot : Option ℕ) (s t u : Run H) →
+    Runs p (activation_at c base address floor None) s → t.stacks.room ≡ s.stacks.room →
     t.stacks.outer ≡ s.stacks.outer → t.stacks.noted ≡ false →
     Caught engine t u (Ok (Some target)) →
-    CaughtAt p (activation_at c base at low) u (Ok (Some target)) →
-    Runs p (activation_at c base target low) u
-caught_runs p engine c base address floor at low target s t u runs room outer noted caught typed =
+    CaughtAt p (activation_at c base at low slot) u (Ok (Some target)) →
+    Runs p (activation_at c base target low None) u
+caught_runs p engine c base address floor at low target slot s t u runs room outer noted caught typed =
     record {
       inside = typed.0;
       typed = typed.1;
@@ -217,7 +217,8 @@ pub stopped_at : {H : Type 0} {m : Setup H} {old : LocalState H} {start : Comput
     {new : LocalState H} (c : Chunk) (base : ℕ) (f : Activation) (s : Run H) → f.chunk ≡ c →
     f.base ≡ base → Simulates m old start false new (λ k place w.
     offered k (frame_in f s place) (problem_of s.fault) w) →
-    Simulates m old start false new (stop_continuation (Ok (stop.Fault f.address f.floor)) c base s)
+    Simulates m old start false new
+    (stop_continuation (Ok (stop.Fault f.address f.floor f.slot)) c base s)
 stopped_at c base f s ec eb h = rw (← ec, ← eb) h
 
 -- how a frame stopped

@@ -58,7 +58,7 @@ module _ {H : Type 0} {m : Setup H} where
 pub main_runs : {H : Type 0} (p : View) → IsProgram p → (s : Run H) (chunk : Chunk) (v : StacksView)
     (a : Activation) (size : ℕ) → chunk ≡ p.main → v ≡ with_frame chunk.max_stack s.stacks →
     size ≡ length s.scope →
-    a ≡ record { chunk = chunk; address = chunk.entry; base = size; floor = size } →
+    a ≡ record { chunk = chunk; address = chunk.entry; base = size; floor = size; slot = None } →
     Runs p a (record s { stacks = v })
 main_runs p valid s chunk v a size ec ev en ea = rw (ea, ev, ec, en) (record {
   inside = omega arith;

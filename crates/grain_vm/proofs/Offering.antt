@@ -16,13 +16,13 @@ use Rattle.grain_frame.specs.declared.runs.Run.{Run}
 -- want of memory is caught by none
 pub memory_leaves : {S : Type 0} (m : Setup S) (hs : List worlds.Handler) (f : Frame) (w : World S)
     →
-    offered_to m hs f NoMemory w ≡ leave_by_fault m None f NoMemory w
+    offered_to m hs f NoMemory w ≡ leave_by_fault m f NoMemory w
 memory_leaves m [] f w = refl
 memory_leaves {S = S} m (h ∷ hs) f w = at h.caught (memory_leaves m hs f w) where
   at : (y : Option Problem) →
-      offered_to m hs f NoMemory w ≡ leave_by_fault m None f NoMemory w →
-      if_armed m y (leave_by_fault m None f NoMemory w)
-      (λ z. offered_to m hs f (thrown_anew z NoMemory) w) ≡ leave_by_fault m None f NoMemory w
+      offered_to m hs f NoMemory w ≡ leave_by_fault m f NoMemory w →
+      if_armed m y (leave_by_fault m f NoMemory w)
+      (λ z. offered_to m hs f (thrown_anew z NoMemory) w) ≡ leave_by_fault m f NoMemory w
   at None others = refl
   at (Some y) others = others
 

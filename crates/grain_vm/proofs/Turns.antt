@@ -68,20 +68,21 @@ module _ {H : Type 0} {m : Setup H} where
 
   -- a fault leaves a frame
   pub left_out : {old : LocalState H} {start : Computation H} {out : Bool} (mid new : LocalState H)
-      (f : Option Place → Frame) (floor at : ℕ) {x : Problem} →
+      (f : Option Place → Frame) (floor at : ℕ) (slot : Option ℕ) {x : Problem} →
       ((place : Option Place) → (f place).floor ≡ floor) →
       ((place : Option Place) → (f place).address ≡ at) →
+      ((place : Option Place) → (f place).slot ≡ slot) →
       new ≡ record mid {
         scope = take floor mid.scope;
         trace =
-            mid.trace ++ record { address = at; slot = None } ∷ [];
+            mid.trace ++ record { address = at; slot = slot } ∷ [];
       } →
-      Simulates m old start out mid (λ n place w. leave_by_fault n None (f place) x w) →
+      Simulates m old start out mid (λ n place w. leave_by_fault n (f place) x w) →
       Simulates m old start out new (λ n place w. End (Failed x) w)
-  left_out {out = out} mid new f floor at {x} low here e h =
+  left_out {out = out} mid new f floor at slot {x} low here blamed e h =
       compose h (same (leaves out)) (carried out) where
         leaves : (out : Bool) →
-            SimulatesExactly m mid (λ n place w. leave_by_fault n None (f place) x w) out new
+            SimulatesExactly m mid (λ n place w. leave_by_fault n (f place) x w) out new
             (λ n place w. End (Failed x) w)
         leaves out =
             record {
@@ -89,7 +90,7 @@ module _ {H : Type 0} {m : Setup H} where
               order =
                   omega (arith, ap (λ (k : LocalState H). k.passed) e);
               equal =
-                  λ stop clear halts u place. rw (e, low place, here place) refl;
+                  λ stop clear halts u place. rw (e, low place, here place, blamed place) refl;
             }
 
         carried : (out : Bool) → StopPersists out mid.passed out new.passed

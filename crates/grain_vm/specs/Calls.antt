@@ -21,7 +21,8 @@ use Rattle.grain_vm.specs.declared.calls.FrameEnd.TheVariants as frame_end
 
 -- a frame at the entry of a chunk, on a scope of this length
 abbrev pub entry_of : Chunk → ℕ → Activation
-entry_of c size = record { chunk = c; address = c.entry; base = size; floor = size }
+entry_of c size =
+    record { chunk = c; address = c.entry; base = size; floor = size; slot = None }
 
 -- what a frame that is over gave
 abbrev pub frame_answer : {H : Type 0} → Result FrameEnd OutOfMemory → Run H → Answer
@@ -97,7 +98,7 @@ call_continuation (Ok true) s s' g f next m place w =
     (λ a w2. resume_caller m g (without (length g.params) (f place)) next a
     (record w2 { scope = s.scope; level = s.level }))
 call_continuation (Ok false) s s' g f next m place w = offered m (f place) (problem_of s'.fault) w
-call_continuation (Err e) s s' g f next m place w = leave_by_fault m None (f place) NoMemory w
+call_continuation (Err e) s s' g f next m place w = leave_by_fault m (f place) NoMemory w
 
 -- the run of the frame around the innermost one, which is left
 abbrev pub caller_of : {H : Type 0} → Run H → Run H

@@ -10,7 +10,7 @@ use Rattle.grain_program.specs.TypedAt.{IsTypedAt, IsCovered}
 use Rattle.grain_global.specs.declared.engines.Engine.{Engine}
 use Rattle.grain_stack.specs.declared.handlers.Handler.{Handler}
 use Rattle.grain_means.specs.Worlds.{Act, Go, End, Came, Failed, Frame, InFrame, InCatch, Place, Setup, World}
-use Rattle.grain_means.specs.Rules.{leave_by_fault, offered}
+use Rattle.grain_means.specs.Rules.{leave_by_fault, offered, resumed}
 use Rattle.grain_means.specs.Simulation.{Computation}
 use Rattle.grain_frame.specs.Abstraction.{frame_in, handler_in, handlers_in, tries_in, Above, CanCatch}
 use Rattle.grain_frame.specs.declared.activations.Activation.{Activation}
@@ -27,7 +27,7 @@ IsArmed (h ∷ hs) = h.caught ≡ None
 -- frame
 abbrev pub found : {S : Type 0} → Setup S → Option Handler → List Handler → Frame →
     EvalAltResult → World S → Act S
-found m None hs f x w = leave_by_fault m None f (problem_of x) w
+found m None hs f x w = leave_by_fault m f (problem_of x) w
 found m (Some h) hs f x w =
     Go (InCatch (record f { handlers = handlers_in hs }) (handler_in h) (problem_of x)) w
 
@@ -45,11 +45,10 @@ pub record StandsFor (old new : List Handler) : Type 0 where
 -- what is to be done once a handler caught: the frame goes on at the target, or a fault leaves it
 abbrev pub catch_continuation : {H : Type 0} → Result Bool OutOfMemory → EvalAltResult → ℕ →
     (Option Place → Frame) → Computation H
-catch_continuation (Ok true) x target f m place w =
-    Go (InFrame (record (f place) { address = target })) w
+catch_continuation (Ok true) x target f m place w = Go (InFrame (resumed (f place) target)) w
 catch_continuation (Ok false) x target f m place w =
-    leave_by_fault m None (f place) (problem_of x) w
-catch_continuation (Err e) x target f m place w = leave_by_fault m None (f place) NoMemory w
+    leave_by_fault m (f place) (problem_of x) w
+catch_continuation (Err e) x target f m place w = leave_by_fault m (f place) NoMemory w
 
 -- the frames around the innermost one are as they were, with their scopes, and the level is the same
 pub record KeepsRun {H : Type 0} (s s' : Run H) : Type 0 where
@@ -62,8 +61,7 @@ pub record KeepsRun {H : Type 0} (s s' : Run H) : Type 0 where
 -- the frame goes on at an address, or a fault has left it
 abbrev pub caught_or_left : {H : Type 0} → Result (Option ℕ) OutOfMemory → EvalAltResult →
     (Option Place → Frame) → Computation H
-caught_or_left (Ok (Some target)) x f m place w =
-    Go (InFrame (record (f place) { address = target })) w
+caught_or_left (Ok (Some target)) x f m place w = Go (InFrame (resumed (f place) target)) w
 caught_or_left (Ok None) x f m place w = End (Failed (problem_of x)) w
 caught_or_left (Err e) x f m place w = End (Failed NoMemory) w
 
@@ -96,22 +94,22 @@ CaughtAt p f s (Ok (Some target)) = (f.base ≤ length s.scope) ×
 CaughtAt p f s (Ok None) = Unit {0}
 CaughtAt p f s (Err e) = Unit {0}
 
--- a frame at an address, with a floor
-abbrev pub activation_at : Chunk → (base address floor : ℕ) → Activation
-activation_at c base address floor =
-    record { chunk = c; address = address; base = base; floor = floor }
+-- a frame at an address, with a floor, and with the slot of the step that it blames
+abbrev pub activation_at : Chunk → (base address floor : ℕ) → Option ℕ → Activation
+activation_at c base address floor slot =
+    record { chunk = c; address = address; base = base; floor = floor; slot = slot }
 
 -- what is to be done once a frame stopped: it is over, or a fault is offered to its handlers
 abbrev pub stop_continuation : {H : Type 0} → Result Stop OutOfMemory → Chunk → ℕ → Run H →
     Computation H
 stop_continuation (Ok stop.Value) c base s m place w = End (Came (top s.stacks.operands).value) w
-stop_continuation (Ok (stop.Fault address floor)) c base s m place w =
-    offered m (frame_in (activation_at c base address floor) s place) (problem_of s.fault) w
+stop_continuation (Ok (stop.Fault address floor slot)) c base s m place w =
+    offered m (frame_in (activation_at c base address floor slot) s place) (problem_of s.fault) w
 stop_continuation (Err e) c base s m place w = End (Failed NoMemory) w
 
 -- after a fault the frame has noted none, and its handlers can catch
 abbrev pub StopsSo : {H : Type 0} → View → Chunk → ℕ → Run H → Result Stop OutOfMemory → Type 0
 StopsSo p c base s (Ok stop.Value) = Unit {0}
-StopsSo p c base s (Ok (stop.Fault address floor)) =
-    (s.stacks.noted ≡ false) × CanCatch p (activation_at c base address floor) s
+StopsSo p c base s (Ok (stop.Fault address floor slot)) =
+    (s.stacks.noted ≡ false) × CanCatch p (activation_at c base address floor slot) s
 StopsSo p c base s (Err e) = Unit {0}

@@ -34,7 +34,7 @@ without_two s = record s {
   stacks = record s.stacks { operands = under 2 s.stacks.operands };
 }
 
--- the counts once a load is done and the instruction behind it has begun
+-- the counts once a load is done and the instruction after it has begun
 abbrev pub begun_behind : StepsView → StepsView
 begun_behind n = begun_one (marked_once n)
 

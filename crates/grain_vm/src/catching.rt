@@ -32,7 +32,8 @@ fn throws_unit(fault: &EvalAltResult) -> bool
 
 // A fault of a frame, which lies in the run, is offered to the frame's handlers. It says at
 // which address the frame goes on, or that the fault has left it. Of the frame it is given the
-// address and the floor alone, so that the loop can hold it in registers.
+// address, the floor and the slot of the step that is blamed alone, so that the loop can hold it in
+// registers.
 #[cold]
 #[inline(never)]
 pub(crate) fn catch<H: Host, L: Ledger>(
@@ -42,12 +43,13 @@ pub(crate) fn catch<H: Host, L: Ledger>(
     steps: &mut Steps<L>,
     address: usize,
     floor: usize,
+    slot: Option<u32>,
 ) -> Result<Option<u32>, OutOfMemory>
     requires entered { 0 < length run.old.stacks.outer }
     requires unnoted { run.old.stacks.noted ≡ false }
     requires catches { (f : Activation) × CanCatch context.program.now f run.old }
-    ensures goes { (f : Activation) → f.address ≡ address → f.floor ≡ floor → Simulates
-        (setup_of H.law context.entry)
+    ensures goes { (f : Activation) → f.address ≡ address → f.floor ≡ floor → f.slot ≡ slot →
+        Simulates (setup_of H.law context.entry)
         (abstraction run.old steps.old host.old)
         (λ m place w. offered m (frame_in f run.old place) (problem_of run.old.fault) w)
         (is_out result) (abstraction run.new steps.new host.new)
@@ -58,20 +60,20 @@ pub(crate) fn catch<H: Host, L: Ledger>(
     ensures before { steps.new.before ≡ steps.old.before }
 {
     let Some(handler) = catching_handler(run) else {
-        leave_by_fault(run, address, floor);
+        leave_by_fault(run, address, floor, slot);
         return Ok(None);
     };
     let target = handler.target;
     match catch_by(run, context, host, steps, address, handler) {
         Err(e) => {
-            leave_by_fault(run, address, floor);
+            leave_by_fault(run, address, floor, slot);
             Err(e)
         }
         Ok(goes_on) => {
             if goes_on {
                 return Ok(Some(target));
             }
-            leave_by_fault(run, address, floor);
+            leave_by_fault(run, address, floor, slot);
             Ok(None)
         }
     }
@@ -209,7 +211,7 @@ fn bind_caught<H: Host, L: Ledger>(
         (problem_of run.old.fault) w (go m place))
         (is_out result) (abstraction run.new steps.new host)
         (charge_continuation result run.new.fault f go
-        (λ m place x w. leave_by_fault m None (f place) x w)) }
+        (λ m place x w. leave_by_fault m (f place) x w)) }
     ensures bound { IfOk result (λ bound. bound ≡ true →
         problem_of run.new.fault ≡ problem_of run.old.fault) }
     ensures longer { length run.old.scope ≤ length run.new.scope }

@@ -29,29 +29,37 @@ use std::sync::ledger::Ledger;
 pub enum Stop {
     /// To its end, with a value, which is its last operand, or unit if it has none.
     Value,
-    /// A fault was raised, which lies in the run, at this address. The frame then has this floor.
-    Fault { address: usize, floor: usize },
+    /// A fault was raised, which lies in the run, at this address. The frame then has this floor, and
+    /// blames the step of this slot, if any.
+    Fault {
+        address: usize,
+        floor: usize,
+        slot: Option<u32>,
+    },
 }
 
-// Leaves a frame by a fault: the scope is cut, and the trace notes where the frame stopped.
+// Leaves a frame by a fault: the scope is cut, and the trace notes where the frame stopped, and the
+// slot of the step that is blamed.
 #[cold]
 #[inline(never)]
-pub(crate) fn leave_by_fault<H: Host>(run: &mut Run<H>, address: usize, floor: usize)
+pub(crate) fn leave_by_fault<H: Host>(
+    run: &mut Run<H>,
+    address: usize,
+    floor: usize,
+    slot: Option<u32>,
+)
     requires entered { 0 < length run.old.stacks.outer }
     requires unnoted { run.old.stacks.noted ≡ false }
     ensures { run.new ≡ record run.old {
       scope = take floor run.old.scope;
       stacks = record run.old.stacks {
         noted = true;
-        trace = run.old.stacks.trace ++ record { address = address; slot = None } ∷ [];
+        trace = run.old.stacks.trace ++ record { address = address; slot = slot } ∷ [];
       };
     } }
 {
     run.scope.rewind(floor);
-    run.stacks.note(Fault {
-        address,
-        slot: None,
-    });
+    run.stacks.note(Fault { address, slot });
 }
 
 // The jump at which the frame stands.
@@ -102,6 +110,7 @@ fn do_or_find<H: Host, L: Ledger>(
             let found = find_pointed(run, context, host, steps, &mut copy, count, next);
             frame.address = copy.address;
             frame.floor = copy.floor;
+            frame.slot = copy.slot;
             found
         }
         Pending::Other => {
@@ -109,6 +118,7 @@ fn do_or_find<H: Host, L: Ledger>(
             let progress = run.step(context, host, steps, &mut copy);
             frame.address = copy.address;
             frame.floor = copy.floor;
+            frame.slot = copy.slot;
             Found::of(progress)
         }
     }
@@ -221,7 +231,8 @@ pub(crate) fn run_frame<H: Host, L: Ledger>(
                 Stop::Fault {
                     address: at,
                     floor: low,
-                } => match catch(run, context, host, steps, at, low) {
+                    slot,
+                } => match catch(run, context, host, steps, at, low, slot) {
                     Err(e) => return Err(e),
                     Ok(caught) => match caught {
                         Some(target) => {
@@ -250,11 +261,12 @@ fn run_from<H: Host, L: Ledger>(
     address: usize,
     floor: usize,
 ) -> Result<Stop, OutOfMemory>
-    requires runs { Runs context.program.now (activation_at chunk.now base address floor) run.old }
+    requires runs { Runs context.program.now
+        (activation_at chunk.now base address floor None) run.old }
     ensures goes { Simulates (setup_of H.law context.entry)
         (abstraction run.old steps.old host.old)
         (λ m place w. Go (InFrame
-        (frame_in (activation_at chunk.now base address floor) run.old place)) w)
+        (frame_in (activation_at chunk.now base address floor None) run.old place)) w)
         (is_out result) (abstraction run.new steps.new host.new)
         (stop_continuation result chunk.now base run.new) }
     ensures catches { StopsSo context.entry.program.now chunk.now base run.new result }
@@ -270,6 +282,7 @@ fn run_from<H: Host, L: Ledger>(
         address,
         base,
         floor,
+        slot: None,
     };
     'turn: loop {
         steps.begin_instruction();
@@ -280,7 +293,7 @@ fn run_from<H: Host, L: Ledger>(
             Attempt::Jump(target) => {
                 match jump(run, context, host, steps, &mut frame, target) {
                     Err(e) => {
-                        leave_by_fault(run, frame.address, frame.floor);
+                        leave_by_fault(run, frame.address, frame.floor, frame.slot);
                         return Err(e);
                     }
                     Ok(progress) => match progress {
@@ -290,6 +303,7 @@ fn run_from<H: Host, L: Ledger>(
                             return Ok(Stop::Fault {
                                 address: frame.address,
                                 floor: frame.floor,
+                                slot: frame.slot,
                             });
                         }
                     },
@@ -299,7 +313,7 @@ fn run_from<H: Host, L: Ledger>(
         };
         match proceed(run, context, host, steps, &mut frame, pending) {
             Err(e) => {
-                leave_by_fault(run, frame.address, frame.floor);
+                leave_by_fault(run, frame.address, frame.floor, frame.slot);
                 return Err(e);
             }
             Ok(progress) => match progress {
@@ -308,6 +322,7 @@ fn run_from<H: Host, L: Ledger>(
                 Progress::Failed => return Ok(Stop::Fault {
                     address: frame.address,
                     floor: frame.floor,
+                    slot: frame.slot,
                 }),
             },
         }

@@ -61,9 +61,9 @@ performs {now = now} f o at width here e h =
           rw (here place, e) refl;
     })) h tt
 
--- a frame that differs in its address and its floor alone
+-- a frame that differs in its address, its floor and the step that it blames alone
 pub taken_back : (f g : Activation) → g.chunk ≡ f.chunk → g.base ≡ f.base →
-    g ≡ record f { address = g.address; floor = g.floor }
+    g ≡ record f { address = g.address; floor = g.floor; slot = g.slot }
 taken_back f g chunk base = rw (← chunk, ← base) refl
 
 -- an instruction at which a frame stands, by what was verified of it

@@ -18,7 +18,7 @@ use Rattle.grain_global.specs.declared.engines.Engine.{Engine}
 use Rattle.grain_stack.specs.declared.handlers.Handler.{Handler}
 use Rattle.grain_ops.specs.Outcomes.{Outcome, NotBuiltIn, Gave, ArithmeticFault, TooLarge}
 use Rattle.grain_means.specs.Worlds.{Act, Frame, Place, Setup, World}
-use Rattle.grain_means.specs.Rules.{Receiver, cell_written, content_now, data_race, first_is_read_only, flat_or_race, flattened, given, host_called, is_stop, kinds_in, leave_by_fault, marked, native, native_found, onward, op_assign_failed, operator_assigned, position, push_outcome, pushed, raised, stepped, store_outcome, write_entry, written}
+use Rattle.grain_means.specs.Rules.{InScope, Receiver, cell_written, content_now, data_race, first_is_read_only, flat_or_race, flattened, given, host_called, is_stop, kinds_in, leave_by_fault, marked, native, native_found, onward, op_assign_failed, operator_assigned, position, push_outcome, pushed, raised, stepped, store_outcome, write_entry, written}
 use Rattle.grain_host.specs.Signatures.{says_missing}
 use Rattle.grain_means.specs.Means.{setup}
 use Rattle.grain_means.specs.Simulation.{Computation, Environment, stopped, world}
@@ -34,18 +34,18 @@ use Rattle.grain_frame.specs.lemmas.Arms.{raises_exactly}
 -- a fault that is raised stops at its mark
 abbrev pub StopsAtMark : {S : Type 0} → Setup S → Frame → World S → (Problem → World S → Act S) →
     Type 0
-StopsAtMark m f w fails = (x : Problem) → fails x w ≡ leave_by_fault m None f NoMemory w
+StopsAtMark m f w fails = (x : Problem) → fails x w ≡ leave_by_fault m f NoMemory w
 
 found_stops : {S : Type 0} (m : Setup S) (o : Option Native) (name : List ℕ)
     (r : Option Receiver) (args : List Held) (f : Frame) (w : World S)
     (go : Dynamic → World S → Act S) (fails : Problem → World S → Act S) →
     is_stop m.stop w.passed ≡ true → StopsAtMark m f w fails →
-    native_found m o name r args f w go fails ≡ leave_by_fault m None f NoMemory w
+    native_found m o name r args f w go fails ≡ leave_by_fault m f NoMemory w
 found_stops m None name r args f w go fails halts stops = stops _
 found_stops {S = S} m (Some n) name r args f w go fails halts stops =
     at (n.writes && first_is_read_only (given r args)) where
       at : (b : Bool) → (if b then fails (Plain (NonPureCall name) (position m f)) w
-          else host_called m n.key r args f w go fails) ≡ leave_by_fault m None f NoMemory w
+          else host_called m n.key r args f w go fails) ≡ leave_by_fault m f NoMemory w
       at true = stops _
       at false = rw halts refl
 
@@ -54,7 +54,7 @@ pub native_stops : {S : Type 0} (m : Setup S) (name : List ℕ) (r : Option Rece
     (args : List Held) (f : Frame) (w : World S) (go : Dynamic → World S → Act S)
     (fails : Problem → World S → Act S) → is_stop m.stop w.passed ≡ true →
     StopsAtMark m f w fails →
-    native m name r args f w go fails ≡ leave_by_fault m None f NoMemory w
+    native m name r args f w go fails ≡ leave_by_fault m f NoMemory w
 native_stops m name r args f w go fails halts stops =
     found_stops m (native_of m.law w.host name (kinds_in (given r args))) name r args f w go fails
     halts stops
@@ -62,16 +62,16 @@ native_stops m name r args f w go fails halts stops =
 -- a write stops at its mark, whatever is written
 pub written_stops : {S : Type 0} (m : Setup S) (c : Option ℕ) (i : ℕ) (h : Held) (name : List ℕ)
     (f : Frame) (w : World S) (go : World S → Act S) → is_stop m.stop w.passed ≡ true →
-    written m c i h name f w go ≡ leave_by_fault m None f NoMemory w
+    written m c i h name f w go ≡ leave_by_fault m f NoMemory w
 written_stops m None i h name f w go halts = rw halts refl
 written_stops {S = S} m (Some n) i h name f w go halts = at (slice_get w.cells n) where
   by_flag : (b : Bool) → (if b then data_race m name f w
       else marked m f w (λ w1. go (record w1 { cells = slice_set w1.cells n (idle h) })))
-      ≡ leave_by_fault m None f NoMemory w
+      ≡ leave_by_fault m f NoMemory w
   by_flag true = rw halts refl
   by_flag false = rw halts refl
 
-  at : (o : Option Cell) → cell_written m o n h name f w go ≡ leave_by_fault m None f NoMemory w
+  at : (o : Option Cell) → cell_written m o n h name f w go ≡ leave_by_fault m f NoMemory w
   at None = rw halts refl
   at (Some d) = by_flag d.busy
 
@@ -100,7 +100,7 @@ lent_raises {S = S} m v i h name f w go none = at (cell_of v) refl where
 pub taken_stops : {S : Type 0} (m : Setup S) (o : Option Dynamic) (h : Held) (slot : ℕ)
     (name : List ℕ) (next : ℕ) (f : Frame) (w : World S) → is_stop m.stop w.passed ≡ true →
     flat_or_race m o name f w (λ q. write_entry m h slot (record h { value = q }) name next f w)
-    ≡ leave_by_fault m None f NoMemory w
+    ≡ leave_by_fault m f NoMemory w
 taken_stops m None h slot name next f w halts = rw halts refl
 taken_stops m (Some q) h slot name next f w halts =
     written_stops m (cell_of h.value) (f.base + slot) (record h { value = q }) name f w
@@ -109,7 +109,7 @@ taken_stops m (Some q) h slot name next f w halts =
 -- so does the host's operator
 pub operator_stops : {S : Type 0} (m : Setup S) (name : List ℕ) (h u v : Held)
     (slot n next : ℕ) (f : Frame) (w : World S) → is_stop m.stop w.passed ≡ true →
-    operator_assigned m name h u v slot n next f w ≡ leave_by_fault m None f NoMemory w
+    operator_assigned m name h u v slot n next f w ≡ leave_by_fault m f NoMemory w
 operator_stops m name h u v slot n next f w halts =
     native_stops m name None (u ∷ v ∷ []) f w
     (λ r w1. flattened m (read_write r) (name_of m.program n) f w1 (λ q.
@@ -127,7 +127,7 @@ op_assign_stops m a h v slot n next f w halts x =
 
       at : (b : Bool) →
           (if b then operator_assigned m (name_of m.program a.op_name) h u v slot n next f w
-          else raised m f x w) ≡ leave_by_fault m None f NoMemory w
+          else raised m f x w) ≡ leave_by_fault m f NoMemory w
       at true = operator_stops m (name_of m.program a.op_name) h u v slot n next f w halts
       at false = rw halts refl
 
@@ -135,12 +135,11 @@ op_assign_stops m a h v slot n next f w halts x =
 pub store_stops : {S : Type 0} (m : Setup S) (o : Outcome) (a : AssignOp) (h : Held)
     (u : Dynamic) (v : Held) (slot n next : ℕ) (f : Frame) (w : World S) →
     is_stop m.stop w.passed ≡ true →
-    store_outcome m o a h u v slot n next f w ≡ leave_by_fault m None f NoMemory w
+    store_outcome m o a h u v slot n next f w ≡ leave_by_fault m f NoMemory w
 store_stops m NotBuiltIn a h u v slot n next f w halts =
     native_stops m (name_of m.program a.op_assign_name)
     (Some (record {
-      index = f.base + slot;
-      cell = cell_of h.value;
+      home = InScope (f.base + slot) (cell_of h.value);
       held = record h { value = u };
     })) (v ∷ []) f w
     (λ r w1. onward m f (stepped f next (below f.operands)) w1)
@@ -160,7 +159,7 @@ pub wants_memory : {H : Type 0} (law : Law H) (p : View) (engine : Engine) (f : 
     ((stop : Option ℕ) (u : Environment) (place : Option Place) →
     is_stop stop n.passed ≡ true →
     rule (stopped (setup law p engine) stop) place (world (abstraction s n host) u)
-    ≡ leave_by_fault (stopped (setup law p engine) stop) None (frame_in f s place) NoMemory
+    ≡ leave_by_fault (stopped (setup law p engine) stop) (frame_in f s place) NoMemory
     (world (abstraction s n host) u)) →
     Implements (setup law p engine) (moment f s n host) rule ts takes gives hs r (moment f s n host)
 wants_memory law p engine f s n host (Ok y) out inside stops = absurd cc
@@ -250,7 +249,7 @@ pub outcome_raises : {H : Type 0} (law : Law H) (p : View) (engine : Engine) (f 
     ((stop : Option ℕ) (u : Environment) (place : Option Place) →
     is_stop stop n.passed ≡ true →
     rule (stopped (setup law p engine) stop) place (world (abstraction s n host) u)
-    ≡ leave_by_fault (stopped (setup law p engine) stop) None (frame_in f s place) NoMemory
+    ≡ leave_by_fault (stopped (setup law p engine) stop) (frame_in f s place) NoMemory
     (world (abstraction s n host) u)) →
     Implements (setup law p engine) (moment f s n host) rule ts takes gives s.stacks.handlers r
     (moment f s' n' host)
@@ -263,7 +262,7 @@ outcome_raises law p engine f s s' n n' host o (Err e) h inside raises stops =
 -- what an operator gives as a value stops at its first mark, whatever it is
 pub push_stops : {S : Type 0} (m : Setup S) (o : Outcome) (name : List ℕ) (args : List Held)
     (next : ℕ) (operands : List Held) (f : Frame) (w : World S) → is_stop m.stop w.passed ≡ true →
-    push_outcome m o name args next operands f w ≡ leave_by_fault m None f NoMemory w
+    push_outcome m o name args next operands f w ≡ leave_by_fault m f NoMemory w
 push_stops m NotBuiltIn name args next operands f w halts =
     native_stops m name None args f w (λ v w1. pushed m f next operands v w1) (raised m f) halts
     (λ y. rw halts refl)

@@ -10,7 +10,7 @@ use Rattle.grain_program.specs.View.{name_of, position_of}
 use Rattle.grain_means.specs.Contained.{EntryNames, HeldNames, ProblemNames}
 use Rattle.grain_fault.specs.CatchValues.{caught_value}
 use Rattle.grain_means.specs.Rules as rules
-use Rattle.grain_means.specs.Rules.{catching, bound, is_full}
+use Rattle.grain_means.specs.Rules.{catching, resumed, bound, is_full}
 use Rattle.grain_means.specs.Worlds.{Act, Go, Frame, Handler, InFrame, Setup, World}
 use Rattle.grain_means.proofs.Caught.{caught_names}
 use Rattle.grain_means.proofs.Footing.{by_test}
@@ -41,7 +41,7 @@ module _ {S : Type 0} {m : Setup S} (on : Grounds m) where
 
           broken : Problem
           broken = Plain (Malformed (kind.TryFloorBroken h.scope (length w.scope)))
-              (rules.position m f)
+              (position_of m.program f.address)
 
           cleared : World S
           cleared = record w { trace = [] }
@@ -70,22 +70,22 @@ module _ {S : Type 0} {m : Setup S} (on : Grounds m) where
           escapes : (f' : Frame) (y : Problem) (v : World S) → Here on n low f names v →
               ProblemNames clean n y → Stays on n low f names (rules.escaped m f' y v)
           escapes f' y v there within =
-              marks on n low f' v (rules.leave_by_fault m None f' y) there
-              (leaves on n low None f' y
+              marks on n low f' v (rules.leave_by_fault m f' y) there
+              (leaves on n low f' y
               (record v { passed = v.passed + 1 }) there within)
 
           after : World S → Act S
           after w1 =
-              rules.charged_or m p g (rules.leave_by_fault m None g) w1
-              (Go (InFrame (record g { address = h.target })))
+              rules.charged_or m p g (rules.leave_by_fault m g) w1
+              (Go (InFrame (resumed g h.target)))
 
           goes_on : (v : World S) → Here on n low f names v → Stays on n low f names (after v)
           goes_on v there =
               charges on n low g caught_frame p
-              (rules.leave_by_fault m None g) (Go (InFrame (record g { address = h.target })))
-              (λ y u here within. leaves on n low None g y u here within)
+              (rules.leave_by_fault m g) (Go (InFrame (resumed g h.target)))
+              (λ y u here within. leaves on n low g y u here within)
               (λ u here. goes on n low
-              (InFrame (record g { address = h.target })) u here caught_frame) v there
+              (InFrame (resumed g h.target)) u here caught_frame) v there
 
           binds : (variable : Option ℕ) →
               Stays on n low f names (rules.bind_caught m variable p g x start after)

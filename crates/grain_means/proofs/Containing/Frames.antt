@@ -88,17 +88,17 @@ module _ {S : Type 0} {m : Setup S} (on : Grounds m) where
     pub goes : (t : Todo) (w : World S) → At n w → Seated n t → Keeps (Go t w)
     goes t w at seated = (n, omega arith, at, seated)
 
-    pub leaves : (slot : Option ℕ) (f : Frame) (x : Problem) (w : World S) → At n w →
-        ProblemNames clean n x → Keeps (rules.leave_by_fault m slot f x w)
-    leaves slot f x w at names =
+    pub leaves : (f : Frame) (x : Problem) (w : World S) → At n w →
+        ProblemNames clean n x → Keeps (rules.leave_by_fault m f x w)
+    leaves f x w at names =
         (n, omega arith, cut f.floor w at (take f.floor w.scope) refl, names)
 
     pub marks : (f : Frame) (w : World S) (go : World S → Act S) → At n w →
         Keeps (go (record w { passed = w.passed + 1 })) → Keeps (rules.marked m f w go)
     marks f w go at h =
-        by_test Keeps (is_stop m.stop w.passed) (rules.leave_by_fault m None f NoMemory w)
+        by_test Keeps (is_stop m.stop w.passed) (rules.leave_by_fault m f NoMemory w)
         (go (record w { passed = w.passed + 1 }))
-        (λ stop. leaves None f NoMemory w at (omega arith, λ s. refl)) (λ clear. h)
+        (λ stop. leaves f NoMemory w at (omega arith, λ s. refl)) (λ clear. h)
 
     anew : (y x : Problem) → ProblemNames clean n y → ProblemNames clean n x →
         ProblemNames clean n (thrown_anew y x)
@@ -111,17 +111,17 @@ module _ {S : Type 0} {m : Setup S} (on : Grounds m) where
     offers : (hs : List Handler) (f : Frame) (x : Problem) (w : World S) → At n w →
         Operands clean n f.operands → AllByRecursion (HandlerNames clean n) hs → ProblemNames clean
         n x → Keeps (rules.offered_to m hs f x w)
-    offers [] f x w at ops names bound = leaves None f x w at bound
+    offers [] f x w at ops names bound = leaves f x w at bound
     offers (h ∷ hs) f x w at ops names bound =
         by_arming m Keeps h.caught
         (if catchable x then Go (InCatch (record f { handlers = hs }) h x) w
-        else rules.leave_by_fault m None f x w)
+        else rules.leave_by_fault m f x w)
         (λ y. rules.offered_to m hs f (thrown_anew y x) w)
         (λ none. by_test Keeps (catchable x) (Go (InCatch (record f { handlers = hs }) h x) w)
-        (rules.leave_by_fault m None f x w)
+        (rules.leave_by_fault m f x w)
         (λ may. goes (InCatch (record f { handlers = hs }) h x) w at
         ((ops, names.1), bound, may))
-        (λ may. leaves None f x w at bound))
+        (λ may. leaves f x w at bound))
         (λ y is. offers hs f (thrown_anew y x) w at ops names.1
         (anew y x (subst (CaughtNames clean n) is names.0) bound))
 

@@ -5,7 +5,6 @@ use Rattle.std.proofs.Math.Nat.{max-le}
 use Rattle.std.specs.List.{list_all}
 use Rattle.std.specs.Prelude.{max}
 use Rattle.grain_value.specs.Cells.{cell_bound, idle}
-use Rattle.grain_value.specs.Looking.{cell_of}
 use Rattle.grain_value.specs.Operands.{values_in}
 use Rattle.grain_value.specs.Tree.{Tree, array, pack}
 use Rattle.grain_value.specs.declared.natives.Native.{Native}
@@ -18,13 +17,13 @@ use Rattle.grain_host.specs.Law.{Reply, call_bound, call_is_clean, is_plain, nat
 use Rattle.grain_host.specs.Law as reply
 use Rattle.grain_means.specs.Contained.{CellNames, Contained, Names, ProblemNames}
 use Rattle.grain_means.specs.Rules as rules
-use Rattle.grain_means.specs.Rules.{Receiver, back_in_cell, back_in_entry, cells_given_back, bound, first_is_read_only, given, given_back, held_at, lent_held, trees_in}
+use Rattle.grain_means.specs.Rules.{Home, InScope, AtPlace, Receiver, back_in_scope, back_in_cells, cells_given_back, roots_given_back, bound, first_is_read_only, given, given_back, lent_held, trees_in}
 use Rattle.grain_host.specs.Signatures.{not_found}
 use Rattle.grain_means.specs.Worlds.{Act, Frame, Setup, World}
 use Rattle.grain_means.proofs.Caught.{filled_names}
 use Rattle.grain_means.proofs.Footing.{by_test}
-use Rattle.grain_means.proofs.Naming.{all_set, PlainNames, plain_operands, plain_tree, plain_trees, set_names, trees_name}
-use Rattle.grain_means.proofs.Containing.Parts.{Arguments, FrameNames, none_missing, ReplyNames, ReceiverNames, LendsPlain, set_plain}
+use Rattle.grain_means.proofs.Naming.{all_set, plain_operands, plain_tree, plain_trees, set_names, trees_name}
+use Rattle.grain_means.proofs.Containing.Parts.{Arguments, FrameNames, none_missing, ReplyNames, HomeNames, home_names, home_clear, home_written, ReceiverNames, HoldsPlain, LendsPlain, set_plain}
 use Rattle.grain_means.proofs.Containing.Frames.{Grounds, At, Keeps, marks}
 
 module _ {S : Type 0} {m : Setup S} (on : Grounds m) where
@@ -33,7 +32,7 @@ module _ {S : Type 0} {m : Setup S} (on : Grounds m) where
   module _ (n : ℕ) (low : least ≤ n) where
     module _ (f : Frame) (names : FrameNames clean n f) where
       -- what the host may hand over
-      call_names : (r : Option Receiver) (args : List Held) (w : World S) → At on n w →
+      pub call_names : (r : Option Receiver) (args : List Held) (w : World S) → At on n w →
           ReceiverNames clean n r → Arguments clean n args →
           call_bound m.law w.host (lent_held r) (trees_in args) ≤ n
       call_names r args w at receiver given =
@@ -44,9 +43,9 @@ module _ {S : Type 0} {m : Setup S} (on : Grounds m) where
           (trees_name clean n args (plain_operands clean n args given)).0) where
             own : (r : Option Receiver) → ReceiverNames clean n r → receiver_bound (lent_held r) ≤ n
             own None h = omega arith
-            own (Some q) h = h.0.0
+            own (Some q) h = (home_names clean n q.home q.held h).0
 
-      call_clean : (r : Option Receiver) (args : List Held) (w : World S) → At on n w →
+      pub call_clean : (r : Option Receiver) (args : List Held) (w : World S) → At on n w →
           ReceiverNames clean n r → Arguments clean n args → clean ≡ true →
           call_is_clean m.law w.host (lent_held r) (trees_in args) ≡ true
       call_clean r args w at receiver given s =
@@ -57,32 +56,33 @@ module _ {S : Type 0} {m : Setup S} (on : Grounds m) where
             own : (r : Option Receiver) → ReceiverNames clean n r →
                 receiver_is_plain (lent_held r) ≡ true
             own None h = refl
-            own (Some q) h = plain_tree clean n q.held h s
+            own (Some q) h =
+                plain_tree clean n q.held
+                (home_names clean n q.home q.held h, home_clear clean n q.home q.held h s) s
 
       -- what is back of a receiver
-      back_names : (key : ℕ) (q : Receiver) (args : List Held) (w : World S) → At on n w →
-          PlainNames clean n q.held → Arguments clean n args →
-          PlainNames clean n (written m.law w.host key (trees_in args) q.held)
+      pub back_names : (key : ℕ) (q : Receiver) (args : List Held) (w : World S) → At on n w →
+          HomeNames clean n q.home q.held → Arguments clean n args →
+          HomeNames clean n q.home (written m.law w.host key (trees_in args) q.held)
       back_names key q args w at receiver given = by_flag (m.law.writes w.host key) where
         values : List Tree
         values = trees_in args
 
         by_flag : (b : Bool) →
-            PlainNames clean n (if b then record q.held {
+            HomeNames clean n q.home (if b then record q.held {
               value = m.law.call_written w.host key q.held values;
             } else q.held)
-        by_flag true = (
-          (
-            omega (
-              arith,
-              lawful.writes_within w.host key q.held values,
-              call_names (Some q) args w at receiver given,
-            ),
-            λ s. lawful.writes_clean w.host key q.held values
-                (call_clean (Some q) args w at receiver given s),
-          ),
-          lawful.writes_content w.host key q.held values receiver.1,
-        )
+        by_flag true =
+            home_written clean n q.home q.held (m.law.call_written w.host key q.held values) receiver (
+              omega (
+                arith,
+                lawful.writes_within w.host key q.held values,
+                call_names (Some q) args w at receiver given,
+              ),
+              λ s. lawful.writes_clean w.host key q.held values
+                  (call_clean (Some q) args w at receiver given s),
+            )
+            (lawful.writes_content w.host key q.held values)
         by_flag false = receiver
 
       module _ (key : ℕ) (r : Option Receiver) (args : List Held) (w : World S) (at : At on n w)
@@ -101,7 +101,7 @@ module _ {S : Type 0} {m : Setup S} (on : Grounds m) where
             (call_clean r args w at receiver given s)
 
       -- the world once the host has answered
-      answers_at : (key : ℕ) (r : Option Receiver) (args : List Held) (w : World S) → At on n w →
+      pub answers_at : (key : ℕ) (r : Option Receiver) (args : List Held) (w : World S) → At on n w →
           ReceiverNames clean n r → Arguments clean n args →
           Contained m.law clean n (given_back m.law w.host key (trees_in args) r w.scope)
           (cells_given_back m.law w.host key (trees_in args) r w.cells)
@@ -114,26 +114,33 @@ module _ {S : Type 0} {m : Setup S} (on : Grounds m) where
         hands = after_hands key None args w at receiver given;
       }
       answers_at key (Some q) args w at receiver given =
-          by_cell q.cell (back_names key q args w at receiver given) where
+          by_home q.home (back_names key q args w at receiver given) where
             back : Held
             back = written m.law w.host key (trees_in args) q.held
 
-            by_cell : (c : Option ℕ) → PlainNames clean n back →
-                Contained m.law clean n (back_in_entry c q.index back w.scope)
-                (back_in_cell c back w.cells)
+            by_home : (h : Home) → HomeNames clean n h back →
+                Contained m.law clean n (back_in_scope h back w.scope)
+                (back_in_cells h back w.cells)
                 (m.law.call_after w.host key (Some q.held) (trees_in args))
-            by_cell None held = record {
+            by_home (InScope index None) held = record {
               size = at.size;
-              entries = set_names clean n w.scope q.index back at.entries held.0;
+              entries = set_names clean n w.scope index back at.entries held.0;
               contents = at.contents;
               reaches = after_reaches key (Some q) args w at receiver given;
               hands = after_hands key (Some q) args w at receiver given;
             }
-            by_cell (Some i) held = record {
+            by_home (InScope index (Some i)) held = record {
               size = length-set w.cells i (idle back) ∙ at.size;
               entries = at.entries;
               contents = all_set (CellNames clean n) w.cells i (idle back) at.contents
                   (record { idle = refl; flat = held.1; names = held.0 });
+              reaches = after_reaches key (Some q) args w at receiver given;
+              hands = after_hands key (Some q) args w at receiver given;
+            }
+            by_home (AtPlace p) held = record {
+              size = at.size;
+              entries = at.entries;
+              contents = at.contents;
               reaches = after_reaches key (Some q) args w at receiver given;
               hands = after_hands key (Some q) args w at receiver given;
             }
@@ -144,15 +151,16 @@ module _ {S : Type 0} {m : Setup S} (on : Grounds m) where
           LendsPlain r (given_back m.law w.host key (trees_in args) r w.scope)
       lends_plain key None args w at receiver given = tt
       lends_plain key (Some q) args w at receiver given =
-          by_cell q.cell (back_names key q args w at receiver given).1 where
+          by_home q.home (back_names key q args w at receiver given) where
             back : Held
             back = written m.law w.host key (trees_in args) q.held
 
-            by_cell : (c : Option ℕ) → cell_of back.value ≡ None → c ≡ None → (h : Held) →
-                held_at (back_in_entry c q.index back w.scope) q.index ≡ Some h →
-                cell_of h.value ≡ None
-            by_cell None plain none h is = set_plain w.scope q.index back h plain is
-            by_cell (Some i) plain none h is = absurd cc
+            by_home : (h : Home) → HomeNames clean n h back →
+                HoldsPlain h (back_in_scope h back w.scope)
+            by_home (InScope index None) plain =
+                λ none h is. set_plain w.scope index back h plain.1 is
+            by_home (InScope index (Some i)) plain = λ none h is. absurd cc
+            by_home (AtPlace p) plain = tt
 
       module _ (r : Option Receiver) (go : Dynamic → World S → Act S)
           (fails : Problem → World S → Act S)
@@ -175,6 +183,7 @@ module _ {S : Type 0} {m : Setup S} (on : Grounds m) where
               host = m.law.call_after v.host key (lent_held r) values;
               scope = given_back m.law v.host key values r v.scope;
               cells = cells_given_back m.law v.host key values r v.cells;
+              roots = roots_given_back m.law v.host key values r v.roots;
             } in
             marks on n low f w (λ w1. rules.marked m f (back w1) (λ w2. rules.answered m
             (m.law.call_reply w1.host key (lent_held r) values) f w2 go fails)) at

@@ -10,7 +10,7 @@ use Rattle.grain_program.specs.declared.code.parts.AssignOp.{AssignOp}
 use Rattle.grain_ops.specs.Outcomes.{Outcome, NotBuiltIn, Gave, ArithmeticFault, TooLarge}
 use Rattle.grain_means.specs.Contained.{HeldNames, Names, ProblemNames}
 use Rattle.grain_means.specs.Rules as rules
-use Rattle.grain_means.specs.Rules.{content_now, bound, given, held_at, held_or, is_read_only, op_assigned, stepped}
+use Rattle.grain_means.specs.Rules.{InScope, content_now, bound, given, held_at, held_or, is_read_only, op_assigned, stepped}
 use Rattle.grain_host.specs.Signatures.{says_missing}
 use Rattle.grain_means.specs.Worlds.{Act, Frame, Setup, World}
 use Rattle.grain_means.proofs.CellFree.{none_names}
@@ -85,8 +85,7 @@ module _ {S : Type 0} {m : Setup S} (on : Grounds m) where
     by_host a h u v slot k next w at named stands left plain right =
         asking on n low f names
         (Some (record {
-          index = f.base + slot;
-          cell = cell_of h.value;
+          home = InScope (f.base + slot) (cell_of h.value);
           held = record h { value = u };
         }))
         (λ r w1. rules.onward m f (stepped f next (below f.operands)) w1)

@@ -16,10 +16,11 @@ use Rattle.grain_fault.specs.Problems.{Problem, Plain, InFunctionCall, InModule,
 use Rattle.grain_fault.specs.declared.places.Position.{Position}
 use Rattle.grain_host.specs.Law.{Reply, Verdict, reply_bound, reply_is_clean, verdict_bound, verdict_is_clean}
 use Rattle.grain_means.specs.Contained.{CellNames, HeldNames, Names, ProblemNames}
-use Rattle.grain_means.specs.Rules.{Receiver, bound, held_at}
+use Rattle.grain_means.specs.Rules.{Home, InScope, AtPlace, Receiver, bound, held_at}
 use Rattle.grain_host.specs.Signatures.{index_text, not_found, signature_text, type_at, unknown_property, unwritable_property}
 use Rattle.grain_means.specs.Worlds.{Frame, Handler}
 use Rattle.grain_means.proofs.Caught.{first_names}
+use Rattle.grain_means.proofs.Inside.{MayPut, put_clear, put_written}
 use Rattle.grain_means.proofs.Naming.{all_got, PlainNames}
 
 abbrev pub CaughtNames : Bool → ℕ → Option Problem → Type 0
@@ -71,16 +72,42 @@ VerdictNames clean n v =
 abbrev pub ReplyNames : Bool → ℕ → Reply → Type 0
 ReplyNames clean n r = (reply_bound r ≤ n) × (clean ≡ true → reply_is_clean r ≡ true)
 
--- what a native is lent is no cell
+-- what a native is lent is no cell; what stands inside a value is none where values are clean
+abbrev pub HomeNames : Bool → ℕ → Home → Held → Type 0
+HomeNames clean n (InScope i cell) h = PlainNames clean n h
+HomeNames clean n (AtPlace p) h = HeldNames clean n h × MayPut clean n p.path h.value
+
 abbrev pub ReceiverNames : Bool → ℕ → Option Receiver → Type 0
 ReceiverNames clean n None = Unit {0}
-ReceiverNames clean n (Some q) = PlainNames clean n q.held
+ReceiverNames clean n (Some q) = HomeNames clean n q.home q.held
 
--- the entry that it is lent, if that is no cell, holds none
+pub home_names : (clean : Bool) (n : ℕ) (a : Home) (h : Held) → HomeNames clean n a h →
+    HeldNames clean n h
+home_names clean n (InScope i cell) h p = p.0
+home_names clean n (AtPlace q) h p = p.0
+
+pub home_clear : (clean : Bool) (n : ℕ) (a : Home) (h : Held) → HomeNames clean n a h →
+    clean ≡ true → cell_of h.value ≡ None
+home_clear clean n (InScope i cell) h p s = p.1
+home_clear clean n (AtPlace q) h p s = put_clear clean n q.path h.value p.1 s
+
+-- so it is once a native has written it
+pub home_written : (clean : Bool) (n : ℕ) (a : Home) (h : Held) (v : Dynamic) →
+    HomeNames clean n a h → Names clean n v → (cell_of h.value ≡ None → cell_of v ≡ None) →
+    HomeNames clean n a (record h { value = v })
+home_written clean n (InScope i cell) h v p names keeps = (names, keeps p.1)
+home_written clean n (AtPlace q) h v p names keeps =
+    (names, put_written clean n q.path h.value v p.1 keeps)
+
+-- the entry that it is lent, if it is lent one and that is no cell, holds none
+abbrev pub HoldsPlain : Home → List Entry → Type 0
+HoldsPlain (InScope i cell) scope =
+    cell ≡ None → (h : Held) → held_at scope i ≡ Some h → cell_of h.value ≡ None
+HoldsPlain (AtPlace p) scope = Unit {0}
+
 abbrev pub LendsPlain : Option Receiver → List Entry → Type 0
 LendsPlain None scope = Unit {0}
-LendsPlain (Some q) scope =
-    q.cell ≡ None → (h : Held) → held_at scope q.index ≡ Some h → cell_of h.value ≡ None
+LendsPlain (Some q) scope = HoldsPlain q.home scope
 
 pub set_plain : (scope : List Entry) (i : ℕ) (g h : Held) → cell_of g.value ≡ None →
     held_at (set_held scope i g) i ≡ Some h → cell_of h.value ≡ None

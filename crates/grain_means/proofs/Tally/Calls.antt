@@ -165,7 +165,7 @@ module _ {S : Type 0} {m : Setup S} (walk : Walk m) where
               refl,
               refl,
               keeps_nothing (bound m.program g.params args),
-              (trace, (refl, omega arith, fits, tt)),
+              (trace, (refl, omega arith, fits, tt, (refl, refl))),
             ),
             λ onto mine x w t l there cut cause.
                 even_resumed (Go (InFrame (frame_at g.chunk 0 None)) inside) onto (now.level + 1)

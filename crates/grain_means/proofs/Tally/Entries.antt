@@ -31,7 +31,7 @@ lent_cell : (cells : List Cell) (v : Dynamic) (n : ℕ) (c : Option Cell) → ce
     slice_get cells n ≡ c → content c ≡ None → flat cells v ≡ None
 lent_cell cells v n c is at none = rw (is, at) none
 
-busy_content : (c : Cell) → c.busy ≡ true → content (Some c) ≡ None
+pub busy_content : (c : Cell) → c.busy ≡ true → content (Some c) ≡ None
 busy_content c busy = rw busy refl
 
 module _ {S : Type 0} {m : Setup S} (walk : Walk m) where

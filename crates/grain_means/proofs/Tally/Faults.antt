@@ -5,6 +5,7 @@ use Rattle.std.proofs.lemmas.Bool.{ltb-true, ltb-false, leb-true}
 use Rattle.grain_value.specs.declared.values.Dynamic.{Dynamic}
 use Rattle.grain_value.specs.declared.values.Held.{Held}
 use Rattle.grain_fault.specs.Positions.{at_position_if_none}
+use Rattle.grain_fault.specs.declared.places.Position.{Position}
 use Rattle.grain_fault.specs.Problems.{Problem, Plain, TooManyOperations}
 use Rattle.grain_fault.specs.Problems as problem
 use Rattle.grain_program.specs.declared.code.instruction_set.Op.{Op}
@@ -23,7 +24,7 @@ use Rattle.grain_means.specs.Comes.{Meets, tries}
 use Rattle.grain_means.specs.Causes.{HostAnswers, HasPosition, Charges, IsCharged, Row, ReadsLent, AnswersLent, IsLent}
 use Rattle.grain_means.proofs.Standing.{Fitting, fits_next, fits_covered}
 use Rattle.grain_means.proofs.Footing.{Sits, by_test, unit_by_row, Offers}
-use Rattle.grain_means.proofs.Tally.Frames.{Walk, Even, Steady, start, steady, even_marked, holding, even_offered, even_onward, point, Reason, Enough, all_there}
+use Rattle.grain_means.proofs.Tally.Frames.{Walk, Even, Steady, start, steady, even_marked, even_marked_at, holding, stepping, even_offered, even_onward, point, Reason, Enough, all_there}
 
 module _ {S : Type 0} {m : Setup S} (walk : Walk m) where
   open walk use {root, footing as k, frame as f, now, comes, level, trace, sits}
@@ -31,7 +32,7 @@ module _ {S : Type 0} {m : Setup S} (walk : Walk m) where
   -- the rules of an instruction that stands where the frame does
   module _ (o : Op) (width : ℕ) (stands : op_at m.program.code f.address ≡ Some (o, width)) where
     pub met : Meets m (point walk o) root
-    met = record { comes = comes; width = width; stands = stands }
+    met = record { comes = comes; blames = sits.4; width = width; stands = stands }
 
     -- why the instruction raises this fault
     pub why : (x : Problem) → HasPosition (position m f) x → Row m x (point walk o) → Reason walk x
@@ -70,21 +71,33 @@ module _ {S : Type 0} {m : Setup S} (walk : Walk m) where
 
     -- a fault is offered to the frame's handlers, where no more operands are gone than the
     -- instruction takes
+    pub even_offered_at : (slot : Option ℕ) (position : Option Position) (operands : List Held) →
+        Enough walk o operands → (r : ℕ) (x : Problem) (w : World S) → Steady walk r w →
+        Offers m root k.level f.handlers x w →
+        Even walk r (offered m (stepping walk slot position operands) x w)
+    even_offered_at slot position operands enough r x w s offers =
+        even_offered walk [] f.handlers refl sits.3 slot position operands
+        (λ valid. fits_covered m.program valid f o width stands operands enough (sits.2 valid)) r
+        x w (λ unit. tt) s (λ stays. offers.0, offers.1)
+
     pub even_offered_in : (operands : List Held) → Enough walk o operands → (r : ℕ) (x : Problem)
         (w : World S) → Steady walk r w → Offers m root k.level f.handlers x w →
         Even walk r (offered m (holding walk operands) x w)
-    even_offered_in operands enough r x w s offers =
-        even_offered walk [] f.handlers refl sits.3 operands
-        (λ valid. fits_covered m.program valid f o width stands operands enough (sits.2 valid)) r
-        x w (λ unit. tt) s offers
+    even_offered_in operands = even_offered_at f.slot f.position operands
+
+    pub even_raised_at : (slot : Option ℕ) (position : Option Position) (operands : List Held) →
+        Enough walk o operands → (r : ℕ) (x : Problem) (w : World S) → Steady walk r w →
+        Reason walk x → Even walk r (raised m (stepping walk slot position operands) x w)
+    even_raised_at slot position operands enough r x w s reason =
+        let on : Frame = stepping walk slot position operands in
+        even_marked_at walk on r w refl (inl refl) sits.1 s (offered m on x)
+        (even_offered_at slot position operands enough r x (record w { passed = w.passed + 1 }) s
+        (inr reason.0, reason.1))
 
     pub even_raised_in : (operands : List Held) → Enough walk o operands → (r : ℕ) (x : Problem)
         (w : World S) → Steady walk r w → Reason walk x → Even walk r
         (raised m (holding walk operands) x w)
-    even_raised_in operands enough r x w s reason =
-        even_marked walk r w s (offered m (holding walk operands) x)
-        (even_offered_in operands enough r x (record w { passed = w.passed + 1 }) s
-        (inr reason.0, reason.1))
+    even_raised_in operands = even_raised_at f.slot f.position operands
 
     pub even_raised : (r : ℕ) (x : Problem) (w : World S) → Steady walk r w → Reason walk x →
         Even walk r (raised m f x w)
@@ -157,6 +170,7 @@ module _ {S : Type 0} {m : Setup S} (walk : Walk m) where
           (ap (λ (how : Handling). handled how (length f.operands - takes_of o + gives_of o)
           (tries f.handlers)) (sym kept)),
       sits.3,
+      sits.4,
     )
 
     pub even_on : (g : Frame) → g.floor ≡ f.floor → Sits m root k g →

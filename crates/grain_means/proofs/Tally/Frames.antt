@@ -5,6 +5,7 @@ use Rattle.grain_value.specs.declared.values.Held.{Held}
 use Rattle.grain_value.specs.declared.scopes.Entry.{Entry}
 use Rattle.grain_value.specs.Operands.{below, read_write}
 use Rattle.grain_fault.specs.Classes.{catchable}
+use Rattle.grain_fault.specs.declared.places.Position.{Position}
 use Rattle.grain_fault.specs.Problems.{Problem, NoMemory}
 use Rattle.grain_program.specs.declared.code.instruction_set.Op.{Op}
 use Rattle.grain_program.specs.Effects.{takes_of}
@@ -17,7 +18,7 @@ use Rattle.grain_means.specs.Causes.{HaveCaughtUnit, Cause, Caused}
 use Rattle.grain_means.proofs.Kept.{keeps_cut}
 use Rattle.grain_means.proofs.Lengths.{cut_short, length_under, length_pushed}
 use Rattle.grain_means.proofs.Standing.{Covered, covered_outside}
-use Rattle.grain_means.proofs.Footing.{Footing, HasCaught, Guarded, Sits, Tally, by_test, by_arming, cause_in, UnitThrown, Offers, left_so_far, offers_anew}
+use Rattle.grain_means.proofs.Footing.{Footing, HasCaught, Guarded, Sits, Tally, by_test, by_arming, cause_in, UnitThrown, OffersTo, left_so_far, offers_anew}
 
 -- where the walk is: the run of a root, on a footing, at an instruction of a frame
 pub record Walk {S : Type 0} (m : Setup S) : Type 0 where
@@ -56,7 +57,7 @@ module _ {S : Type 0} {m : Setup S} (walk : Walk m) where
   Floor n = (n ≡ f.floor) ⊎ (AtCheckpoint m.program f × (n ≡ length now.scope))
 
   -- the floor to which this fault cuts it: that of a checkpoint only where memory is out
-  abbrev FloorFor : Problem → ℕ → Type 0
+  abbrev pub FloorFor : Problem → ℕ → Type 0
   FloorFor x n =
       (n ≡ f.floor) ⊎ ((x ≡ NoMemory) × AtCheckpoint m.program f × (n ≡ length now.scope))
 
@@ -71,33 +72,30 @@ module _ {S : Type 0} {m : Setup S} (walk : Walk m) where
   short x n scope (inr (out, c, e)) le = inr (out, c, omega (arith, e, le))
 
   -- a fault leaves the frame, at its own floor or at that of a checkpoint that is done
-  even_left_at : (g : Frame) (r : ℕ) (x : Problem) (w : World S) → g.address ≡ f.address →
+  pub even_left_at : (g : Frame) (r : ℕ) (x : Problem) (w : World S) → g.address ≡ f.address →
       FloorFor x g.floor → k.base ≤ g.floor → Steady r w → Caused m root k.level (Failed x) w →
-      Even r (leave_by_fault m None g x w)
+      Even r (leave_by_fault m g x w)
   even_left_at g r x w same floor low s cause =
       let cut : Cut m root k.level k.base x (take g.floor w.scope)
-      (w.trace ++ record { address = g.address; slot = None } ∷ []) = record {
+      (w.trace ++ record { address = g.address; slot = g.slot } ∷ []) = record {
         frame = f;
         world = now;
         comes = comes;
         own = level;
         based = sits.0;
         inner = w.trace;
-        slot = None;
+        slot = g.slot;
         last = rw same refl;
         short = short x g.floor (take g.floor w.scope) floor (cut_short g.floor w.scope);
       } in
       (s.0, s.1, s.2, keeps_cut k.base g.floor k.names w.scope low s.3, inl cut, cause)
 
-  even_left : (r : ℕ) (x : Problem) (w : World S) → Steady r w →
-      Caused m root k.level (Failed x) w → Even r (leave_by_fault m None f x w)
-  even_left r x w s cause = even_left_at f r x w refl (inl refl) sits.1 s cause
-
-  even_marked_at : (g : Frame) (r : ℕ) (w : World S) → g.address ≡ f.address → Floor g.floor →
+  -- a mark, in the frame as it then stands
+  pub even_marked_at : (g : Frame) (r : ℕ) (w : World S) → g.address ≡ f.address → Floor g.floor →
       k.base ≤ g.floor → Steady r w → (go : World S → Act S) →
       Even r (go (record w { passed = w.passed + 1 })) → Even r (marked m g w go)
   even_marked_at g r w same floor low s go h =
-      by_test (Even r) (is_stop m.stop w.passed) (leave_by_fault m None g NoMemory w)
+      by_test (Even r) (is_stop m.stop w.passed) (leave_by_fault m g NoMemory w)
       (go (record w { passed = w.passed + 1 }))
       (λ stop. even_left_at g r NoMemory w same (out_of_memory g.floor floor) low s
       (inl (refl, stop))) (λ _. h)
@@ -109,6 +107,12 @@ module _ {S : Type 0} {m : Setup S} (walk : Walk m) where
   -- the frame with other operands
   abbrev pub holding : List Held → Frame
   holding operands = record f { operands = operands }
+
+  -- the same at a step of a chain, which is blamed, and whose position stands in place of the
+  -- instruction's
+  abbrev pub stepping : Option ℕ → Option Position → List Held → Frame
+  stepping slot position operands =
+      record f { operands = operands; slot = slot; position = position }
 
   -- the frame at another address with one more handler, and without its innermost one
   abbrev pub guarding : ℕ → Option ℕ → ℕ → Frame
@@ -129,21 +133,23 @@ module _ {S : Type 0} {m : Setup S} (walk : Walk m) where
   -- a fault is offered to handlers of the frame, and what they need of its operands is there; where
   -- it throws unit, those inside of them have caught throws of unit
   pub even_offered : (inside hs : List Handler) → f.handlers ≡ inside ++ hs →
-      Guarded m root k hs → (operands : List Held) →
+      Guarded m root k hs → (slot : Option ℕ) (position : Option Position)
+      (operands : List Held) →
       (IsProgram m.program → Covered m.program operands (tries hs)) → (r : ℕ) (x : Problem)
       (w : World S) → (throws_unit x ≡ true → HaveCaughtUnit inside) → Steady r w →
-      Offers m root k.level f.handlers x w →
-      Even r (offered_to m hs (holding operands) x w)
-  even_offered inside [] split g operands covered r x w left s offers =
-      even_left r x w s offers.0
-  even_offered inside (h ∷ hs) split g operands covered r x w left s offers =
-      let around : Frame = record (holding operands) { handlers = hs } in
+      OffersTo m root k.level f.handlers hs x w →
+      Even r (offered_to m hs (stepping slot position operands) x w)
+  even_offered inside [] split g slot position operands covered r x w left s offers =
+      even_left_at (stepping slot position operands) r x w refl (inl refl) sits.1 s
+      (offers.0 (λ unit. tt))
+  even_offered inside (h ∷ hs) split g slot position operands covered r x w left s offers =
+      let on : Frame = stepping slot position operands in
+      let around : Frame = record on { handlers = hs } in
       by_arming m (Even r) h.caught
-      (if catchable x then Go (InCatch around h x) w
-      else leave_by_fault m None (holding operands) x w)
-      (λ y. offered_to m hs (holding operands) (thrown_anew y x) w)
+      (if catchable x then Go (InCatch around h x) w else leave_by_fault m on x w)
+      (λ y. offered_to m hs on (thrown_anew y x) w)
       (λ none. by_test (Even r) (catchable x) (Go (InCatch around h x) w)
-      (leave_by_fault m None (holding operands) x w)
+      (leave_by_fault m on x w)
       (λ may. (
         s.0,
         s.1,
@@ -163,13 +169,13 @@ module _ {S : Type 0} {m : Setup S} (walk : Walk m) where
           around = g.2;
           armed = none;
           may = may;
-          cause = cause_in m root k.level x w may offers.0;
+          cause = cause_in m root k.level x w may (offers.0 (λ unit. none));
           covered = covered;
         },
       ))
-      (λ _. even_left r x w s offers.0))
+      (λ _. even_left_at on r x w refl (inl refl) sits.1 s (offers.0 (λ unit. none))))
       (λ y e. even_offered (inside ++ h ∷ []) hs (split ∙ sym (append_assoc inside (h ∷ []) hs))
-      g.2 operands
+      g.2 slot position operands
       (λ valid. covered_outside m.program operands (try_of h) (tries hs) (covered valid)) r
       (thrown_anew y x) w (left_so_far m inside h x y left e) s
       (offers_anew m root k.level f.handlers inside hs h y

@@ -16,7 +16,7 @@ use Rattle.grain_host.specs.Law.{Reply}
 use Rattle.grain_host.specs.Law as reply
 use Rattle.grain_value.specs.declared.natives.Native.{Native}
 use Rattle.grain_means.proofs.Missing.{row_of_missing}
-use Rattle.grain_means.specs.Rules.{Receiver, lent_held, given, given_back, trees_in, first_is_read_only, answered, host_called, native_found, native, marked, raised, position, cells_given_back}
+use Rattle.grain_means.specs.Rules.{Receiver, lent_held, given, given_back, trees_in, first_is_read_only, answered, host_called, native_found, native, marked, raised, position, cells_given_back, roots_given_back}
 use Rattle.grain_means.specs.Causes.{Question, native_asked, reply_to, AsksNative, AsksLast, FindsNative, IsCalled}
 use Rattle.grain_means.proofs.Kept.{keeps_given}
 use Rattle.grain_means.proofs.Footing.{by_test, is_false}
@@ -33,14 +33,15 @@ module _ {S : Type 0} {m : Setup S} (walk : Walk m) where
 
   -- the rules of an instruction that stands where the frame does
   module _ (o : Op) (width : ℕ) (stands : op_at m.program.code f.address ≡ Some (o, width)) where
-    -- the world once the host has answered the call of a native, with the host, the scope and the
-    -- cells as it left them
-    abbrev pub served : World S → S → List Entry → List Cell → World S
-    served w host scope cells = record w {
+    -- the world once the host has answered the call of a native, with the host, the scope, the cells
+    -- and the roots as it left them
+    abbrev pub served : World S → S → List Entry → List Cell → List Held → World S
+    served w host scope cells roots = record w {
       passed = w.passed + 1 + 1;
       host = host;
       scope = scope;
       cells = cells;
+      roots = roots;
     }
 
     -- a native is asked for in a world
@@ -57,6 +58,7 @@ module _ {S : Type 0} {m : Setup S} (walk : Walk m) where
           served w (m.law.call_after w.host key (lent_held r) (trees_in args))
           (given_back m.law w.host key (trees_in args) r w.scope)
           (cells_given_back m.law w.host key (trees_in args) r w.cells)
+          (roots_given_back m.law w.host key (trees_in args) r w.roots)
 
       pub steady_after : (key : ℕ) → Steady walk (now.ran + 1) (answered_by key)
       steady_after key =
@@ -136,6 +138,7 @@ module _ {S : Type 0} {m : Setup S} (walk : Walk m) where
                 host = m.law.call_after w1.host n.key (lent_held r) (trees_in args);
                 scope = given_back m.law w1.host n.key (trees_in args) r w1.scope;
                 cells = cells_given_back m.law w1.host n.key (trees_in args) r w1.cells;
+                roots = roots_given_back m.law w1.host n.key (trees_in args) r w1.roots;
               } in
               let answers : World S → World S → Act S =
               λ w1 w2. answered m (m.law.call_reply w1.host n.key (lent_held r) (trees_in args)) g

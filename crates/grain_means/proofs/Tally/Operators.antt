@@ -19,7 +19,7 @@ use Rattle.grain_means.specs.Worlds.{World, Setup}
 use Rattle.grain_host.specs.Signatures.{not_found, says_missing}
 use Rattle.grain_host.specs.Law as reply
 use Rattle.grain_value.specs.declared.natives.Native.{Native}
-use Rattle.grain_means.specs.Rules.{Receiver, given, content_now, operator_assigned, op_assign_failed, native_assigned, trees_in, pushed, held_at, stepped, op_assigned, onward, push_outcome, assignment_to_constant, write_entry, store_outcome, position, flattened, is_read_only}
+use Rattle.grain_means.specs.Rules.{InScope, Receiver, given, content_now, operator_assigned, op_assign_failed, native_assigned, trees_in, pushed, held_at, stepped, op_assigned, onward, push_outcome, assignment_to_constant, write_entry, store_outcome, position, flattened, is_read_only}
 use Rattle.grain_means.specs.Comes.{ProgramPoint}
 use Rattle.grain_means.specs.Causes.{Question, native_asked, reply_to, asks_first, EndsWith, HasNoBuiltIn, AssignsByHost, AsksAgain, AsksSecond, AsksNative, IsCalled, ReadsTop, Holds, AssignsConstant, Operates, ReadsLent, AnswersLent, IsLent, AssignsLent}
 use Rattle.grain_means.proofs.Footing.{Sits, by_test}
@@ -98,7 +98,7 @@ module _ {S : Type 0} {m : Setup S} (walk : Walk m) where
       Readable w = (c : Dynamic) × (flat w.cells h.value ≡ Some c)
 
       even_operator : (w : World S) → Steady walk (now.ran + 1) w → w.trace ≡ [] → Readable w →
-          (x : Problem) → EndsWith m f now first_question x w.host w.scope w.cells →
+          (x : Problem) → EndsWith m f now first_question x w.host w.scope w.cells w.roots →
           says x ≡ true →
           Even walk (now.ran + 1)
           (operator_assigned m (name_of m.program a.op_name) h
@@ -112,7 +112,7 @@ module _ {S : Type 0} {m : Setup S} (walk : Walk m) where
           let question : Question S =
           record { host = w.host; cells = w.cells; name = name; lent = None; args = args } in
           let again : AsksAgain m a (f.base + slot) h u v question (point walk o) =
-          (x, w.host, w.scope, w.cells, ends, missing, refl) in
+          (x, w.host, w.scope, w.cells, w.roots, ends, missing, refl) in
           let asked_so : AsksSecond m question (point walk o) =
           (a, f.base + slot, h, u, v, by_host, again) in
           let q : AsksNative m question (point walk o) =
@@ -140,8 +140,7 @@ module _ {S : Type 0} {m : Setup S} (walk : Walk m) where
       even_natively =
           let name = name_of m.program a.op_assign_name in
           let r : Option Receiver = Some (record {
-            index = f.base + slot;
-            cell = cell_of h.value;
+            home = InScope (f.base + slot) (cell_of h.value);
             held = record h { value = u };
           }) in
           let args : List Held = v ∷ [] in
@@ -158,7 +157,7 @@ module _ {S : Type 0} {m : Setup S} (walk : Walk m) where
           (λ e. let x = not_found name (values_in (given r args)) (position m f) in
           by_test (Even walk (now.ran + 1)) (says x) _ _
           (λ missing. even_operator (start walk) (steady walk) trace (u, by_host.content) x
-          (inl (e, refl, refl, refl, refl)) missing)
+          (inl (e, refl, refl, refl, refl, refl)) missing)
           (λ other. none_raised walk o width stands (start walk) (steady walk) name r args q
           f.operands (all_there walk o) (inr (
             a,
@@ -175,7 +174,7 @@ module _ {S : Type 0} {m : Setup S} (walk : Walk m) where
           (λ missing. even_operator (there native.key) (steady_there native.key) trace
           (stays_readable m.law now.host native.key (trees_in args) (f.base + slot) h u now.cells
           by_host.content) x
-          (inr (native, e, called, (y, is, refl, refl, refl, refl))) missing)
+          (inr (native, e, called, (y, is, refl, refl, refl, refl, refl))) missing)
           (λ other. failed_raised walk o width stands (start walk) (steady walk) name r args q
           f.operands (all_there walk o) native e called y
           (inr (a, f.base + slot, h, u, v, by_host, inl (refl, other))) is))

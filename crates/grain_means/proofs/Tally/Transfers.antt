@@ -102,4 +102,4 @@ module _ {S : Type 0} {m : Setup S} (walk : Walk m) where
         (f.address + width) f (start walk))
     even_handled target variable fits =
         even_on walk o width stands (guarding walk target variable (f.address + width)) refl
-        (sits.0, sits.1, fits, (keeps.there, tt, sits.3))
+        (sits.0, sits.1, fits, (keeps.there, tt, sits.3), sits.4)

@@ -20,7 +20,7 @@ use Rattle.grain_host.specs.Signatures.{missing_kind, not_found, says_missing}
 use Rattle.grain_host.specs.Law.{Reply, native_of}
 use Rattle.grain_host.specs.Law as reply
 use Rattle.grain_value.specs.declared.natives.Native.{Native}
-use Rattle.grain_means.specs.Rules.{Receiver, lent_held, given, given_back, cells_given_back, content_now, kinds_in, trees_in, first_is_read_only, position, op_assigned}
+use Rattle.grain_means.specs.Rules.{InScope, Receiver, lent_held, given, given_back, cells_given_back, roots_given_back, content_now, kinds_in, trees_in, first_is_read_only, position, op_assigned}
 use Rattle.grain_means.specs.Comes.{ProgramPoint}
 use Rattle.grain_means.specs.Causes.Instructions.{Holds, Misses, HasNoBuiltIn}
 
@@ -66,19 +66,20 @@ abbrev pub IsCalled : {S : Type 0} → Question S → Native → Type 0
 IsCalled q n = n.writes && first_is_read_only (all_args q) ≡ false
 
 -- the question ended with this fault in a frame: there is no native, or the host answered it to the
--- call; and this is then the host, and this the scope and the cells
+-- call; and this is then the host, and this the scope, the cells and the roots
 abbrev pub EndsWith : {S : Type 0} → Setup S → Frame → World S → Question S → Problem → S →
-    List Entry → List Cell → Type 0
-EndsWith m f w q x host left cells =
+    List Entry → List Cell → List Held → Type 0
+EndsWith m f w q x host left cells roots =
     ((native_asked m q ≡ None) ×
     (x ≡ not_found q.name (values_in (all_args q)) (position m f)) × (host ≡ q.host) ×
-    (left ≡ w.scope) × (cells ≡ w.cells))
+    (left ≡ w.scope) × (cells ≡ w.cells) × (roots ≡ w.roots))
     ⊎ ((n : Native) × (native_asked m q ≡ Some n) × IsCalled q n ×
     ((y : Problem) × (reply_to m q n.key ≡ reply.Failed y) ×
     (x ≡ at_position_if_none (position m f) y) ×
     (host ≡ m.law.call_after q.host n.key (lent_held q.lent) (trees_in q.args)) ×
     (left ≡ given_back m.law q.host n.key (trees_in q.args) q.lent w.scope) ×
-    (cells ≡ cells_given_back m.law q.host n.key (trees_in q.args) q.lent w.cells)))
+    (cells ≡ cells_given_back m.law q.host n.key (trees_in q.args) q.lent w.cells) ×
+    (roots ≡ roots_given_back m.law q.host n.key (trees_in q.args) q.lent w.roots)))
 
 -- an op-assignment asks for the host's op-assignment, to which the entry is lent, or what its cell
 -- holds
@@ -88,7 +89,7 @@ asks_first m a i h u v w = record {
   host = w.host;
   cells = w.cells;
   name = name_of m.program a.op_assign_name;
-  lent = Some (record { index = i; cell = cell_of h.value; held = record h { value = u } });
+  lent = Some (record { home = InScope i (cell_of h.value); held = record h { value = u } });
   args = v ∷ [];
 }
 
@@ -98,8 +99,8 @@ asks_first m a i h u v w = record {
 abbrev pub AsksAgain : {S : Type 0} → Setup S → AssignOp → ℕ → Held → Dynamic → Held →
     Question S → ProgramPoint S → Type 0
 AsksAgain {S = S} m a i h u v q at =
-    (x : Problem) × (host : S) × (left : List Entry) × (cells : List Cell) ×
-    EndsWith m at.frame at.world (asks_first m a i h u v at.world) x host left cells ×
+    (x : Problem) × (host : S) × (left : List Entry) × (cells : List Cell) × (roots : List Held) ×
+    EndsWith m at.frame at.world (asks_first m a i h u v at.world) x host left cells roots ×
     (says_missing (name_of m.program a.op_assign_name) x ≡ true) ×
     (q ≡ record {
       host = host;
@@ -164,8 +165,8 @@ abbrev pub WritesConstant : {S : Type 0} → Setup S → List ℕ → ProgramPoi
 WritesConstant m name at = (n : Native) × (c : FindsNative m name n at)
     × (n.writes ≡ true) × (first_is_read_only (all_args c.question) ≡ true)
 
--- the host answers this fault to the call of a native, and after the fault, which has the
--- instruction's position if it has none, no other native is asked for
+-- the host answers this fault to the call of a native, and after the fault, which has the frame's
+-- position if it has none, no other native is asked for
 abbrev pub HostAnswers : {S : Type 0} → Setup S → Problem → ProgramPoint S → Type 0
 HostAnswers m y at = (name : List ℕ) × (n : Native) × (c : FindsNative m name n at)
     × IsCalled c.question n × (reply_to m c.question n.key ≡ reply.Failed y)

@@ -79,9 +79,16 @@ HaveCaughtUnit [] = Unit {0}
 HaveCaughtUnit (h ∷ hs) =
     ((y : Problem) × (h.caught ≡ Some y) × (throws_unit y ≡ true)) × HaveCaughtUnit hs
 
+-- the innermost of these handlers, if there is one, has caught nothing yet
+abbrev pub FirstIsArmed : List Handler → Type 0
+FirstIsArmed [] = Unit {0}
+FirstIsArmed (h ∷ hs) = h.caught ≡ None
+
 -- In a frame of this level a handler caught a fault, then unit was thrown in its catch block, and
 -- with the position of that throw this is the fault that was caught. Where unit is thrown, the frame
--- has the handler, which has caught that fault, and those inside of it have caught others.
+-- has the handler, which has caught that fault, and those inside of it have caught throws of unit.
+-- No handler around it took the fault further: if it is a throw of unit too, the next one has caught
+-- nothing.
 pub record ThrownAnew {S : Type 0} (m : Setup S) (act : Act S) (level : ℕ) (x : Problem) : Type 0
   where
     pub caught : CatchPoint S
@@ -94,6 +101,7 @@ pub record ThrownAnew {S : Type 0} (m : Setup S) (act : Act S) (level : ℕ) (x 
     pub block : throw.point.frame.handlers
         ≡ inside ++ record caught.handler { caught = Some caught.fault } ∷ around
     pub left : HaveCaughtUnit inside
+    pub ended : throws_unit caught.fault ≡ true → FirstIsArmed around
     pub is : x ≡ at_position position caught.fault
 
 -- The fault has the position of the instruction that raised it in a frame of this level, or the one

@@ -9,7 +9,7 @@ use Rattle.grain_program.specs.View.{name_of, position_of}
 use Rattle.grain_means.specs.Worlds.{Handler, Frame, World, InFrame, Act, Go, Setup}
 use Rattle.grain_fault.specs.CatchValues.{caught_value}
 use Rattle.grain_means.specs.Rules.Frames.{is_full}
-use Rattle.grain_means.specs.Rules.Faults.{position, leave_by_fault, marked, charged_or, escaped}
+use Rattle.grain_means.specs.Rules.Faults.{leave_by_fault, marked, charged_or, escaped}
 use Rattle.grain_means.specs.Rules.Going.{onward}
 
 -- a frame in which a handler has caught a fault, with the operands that there were at its push
@@ -18,6 +18,10 @@ catching f h x = record f {
   operands = take h.operands f.operands;
   handlers = record h { caught = Some x } ∷ f.handlers;
 }
+
+-- a frame that goes on at an address after a catch: no step is blamed
+abbrev pub resumed : Frame → ℕ → Frame
+resumed f address = record f { address = address; slot = None; position = None }
 
 module _ {S : Type 0} (m : Setup S) where
   -- an armed handler more, with as many operands and entries of the scope as there are
@@ -48,17 +52,18 @@ module _ {S : Type 0} (m : Setup S) where
 
   -- A handler of a frame catches, which has the handlers around it. What the trace had of the frames
   -- that the fault left before is gone. A scope that is shorter than at the handler's push is a fault
-  -- of this frame. Else the operands and the scope are cut, the variable is bound, an operation is
-  -- charged at the target's position, and the frame goes on there.
+  -- of this frame, at its instruction's position. Else the operands and the scope are cut, the
+  -- variable is bound, an operation is charged at the target's position, and the frame goes on there,
+  -- and no step is blamed any more. Until then the step that the caught fault blamed is.
   abbrev pub caught : Frame → Handler → Problem → World S → Act S
   caught f h x w =
       let p = position_of m.program h.target in
       let g = catching f h x in
       if nat_lt (length w.scope) h.scope
       then escaped m f
-      (Plain (Malformed (kind.TryFloorBroken h.scope (length w.scope))) (position m f))
+      (Plain (Malformed (kind.TryFloorBroken h.scope (length w.scope))) (position_of m.program f.address))
       (record w { trace = [] })
       else
       bind_caught h.variable p g x (record w { scope = take h.scope w.scope; trace = [] }) (λ w1.
-      charged_or m p g (leave_by_fault m None g) w1
-      (Go (InFrame (record g { address = h.target }))))
+      charged_or m p g (leave_by_fault m g) w1
+      (Go (InFrame (resumed g h.target))))

@@ -34,24 +34,33 @@ abbrev pub outer_handlers : List Handler → List Handler
 outer_handlers [] = []
 outer_handlers (h ∷ hs) = hs
 
-module _ {S : Type 0} (m : Setup S) where
-  -- the position of a frame's instruction
-  abbrev pub position : Frame → Position
-  position f = position_of m.program f.address
+-- the position that a frame has of its own, or else the other
+abbrev pub own_or : Option Position → Position → Position
+own_or None p = p
+own_or (Some q) p = q
 
-  -- a fault leaves a frame: the scope is cut, and the trace notes where the frame stopped
-  abbrev pub leave_by_fault : Option ℕ → Frame → Problem → World S → Act S
-  leave_by_fault slot f x w =
+module _ {S : Type 0} (m : Setup S) where
+  -- the position of what a frame does: its own while a step is done, and else its instruction's
+  abbrev pub position : Frame → Position
+  position f = own_or f.position (position_of m.program f.address)
+
+  -- a fault leaves a frame: the scope is cut, and the trace notes where the frame stopped, and the
+  -- step that is blamed
+  abbrev pub leave_by_fault : Frame → Problem → World S → Act S
+  leave_by_fault f x w =
       End (Failed x) (record w {
         scope = take f.floor w.scope;
-        trace = w.trace ++ record { address = f.address; slot = slot } ∷ [];
+        trace = w.trace ++ record { address = f.address; slot = f.slot } ∷ [];
       })
 
-  -- a mark in a frame: memory is out here, or the run goes on
+  -- a mark: memory is out here, and then what follows from that, or the run goes on
+  abbrev pub marked_or : (World S → Act S) → World S → (World S → Act S) → Act S
+  marked_or out w go =
+      if is_stop m.stop w.passed then out w else go (record w { passed = w.passed + 1 })
+
+  -- a mark in a frame, which want of memory leaves
   abbrev pub marked : Frame → World S → (World S → Act S) → Act S
-  marked f w go =
-      if is_stop m.stop w.passed then leave_by_fault None f NoMemory w
-      else go (record w { passed = w.passed + 1 })
+  marked f w go = marked_or (leave_by_fault f NoMemory) w go
 
   -- of a handler, what follows if it is armed, and what follows from the fault that it has caught
   abbrev pub if_armed : Option Problem → Act S → (Problem → Act S) → Act S
@@ -62,11 +71,11 @@ module _ {S : Type 0} (m : Setup S) where
   -- is thrown in its catch block, what it caught is thrown anew. An armed one catches what a script
   -- may catch.
   abbrev pub offered_to : List Handler → Frame → Problem → World S → Act S
-  offered_to [] f x w = leave_by_fault None f x w
+  offered_to [] f x w = leave_by_fault f x w
   offered_to (h ∷ hs) f x w =
       if_armed h.caught
       (if catchable x then Go (InCatch (record f { handlers = hs }) h x) w
-      else leave_by_fault None f x w)
+      else leave_by_fault f x w)
       (λ y. offered_to hs f (thrown_anew y x) w)
 
   -- a fault in a frame is offered to the frame's own handlers
@@ -106,7 +115,7 @@ module _ {S : Type 0} (m : Setup S) where
 
   -- what is raised while a handler catches leaves the frame, and is offered to no handler
   abbrev pub escaped : Frame → Problem → World S → Act S
-  escaped f x w = marked f w (leave_by_fault None f x)
+  escaped f x w = marked f w (leave_by_fault f x)
 
   -- the fault that the cell of a variable is lent
   abbrev pub data_race : List ℕ → Frame → World S → Act S

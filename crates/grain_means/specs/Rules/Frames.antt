@@ -29,6 +29,8 @@ frame_at c size this =
       base = size;
       floor = size;
       this = this;
+      slot = None;
+      position = None;
     }
 
 -- what the entry at an index of a scope holds, if any

@@ -12,12 +12,13 @@ use Rattle.grain_value.specs.View.{tree}
 use Rattle.grain_value.specs.declared.natives.Native.{Native}
 use Rattle.grain_value.specs.Writing.{kind_of}
 use Rattle.grain_fault.specs.Positions.{at_position_if_none}
-use Rattle.grain_fault.specs.Problems.{Problem, Plain, NonPureCall}
-use Rattle.grain_means.specs.Worlds.{Frame, World, Act, Setup}
+use Rattle.grain_fault.specs.Problems.{Problem, Plain, NonPureCall, NoMemory}
+use Rattle.grain_means.specs.Worlds.{Place, Frame, World, Act, Setup}
+use Rattle.grain_means.specs.Places.{put}
 use Rattle.grain_host.specs.Signatures.{not_found}
 use Rattle.grain_host.specs.Law.{Law, Reply, native_of}
 use Rattle.grain_host.specs.Law as reply
-use Rattle.grain_means.specs.Rules.Faults.{position, marked}
+use Rattle.grain_means.specs.Rules.Faults.{position, leave_by_fault, marked_or}
 
 -- the kinds and the trees of what is held
 abbrev pub kinds_in : List Held → List ℕ
@@ -31,10 +32,15 @@ abbrev pub first_is_read_only : List Held → Bool
 first_is_read_only [] = false
 first_is_read_only (h ∷ hs) = h.read_only
 
--- what an entry of a scope holds, at its index, or what its cell holds, as a native is lent it
+-- where what a native was lent goes back to: the entry of the scope at this index, or the cell of
+-- this number that the entry is; or a place among the roots
+pub data Home : Type 0 where
+  InScope : ℕ → Option ℕ → Home
+  AtPlace : Place → Home
+
+-- what a native is lent: what is held, and where it stands
 pub record Receiver : Type 0 where
-  pub index : ℕ
-  pub cell : Option ℕ
+  pub home : Home
   pub held : Held
 
 abbrev pub lent_held : Option Receiver → Option Held
@@ -55,57 +61,103 @@ abbrev pub back_in_cell : Option ℕ → Held → List Cell → List Cell
 back_in_cell None h cells = cells
 back_in_cell (Some n) h cells = slice_set cells n (idle h)
 
+-- the scope, the cells and the roots once this is back where it stood
+abbrev pub back_in_scope : Home → Held → List Entry → List Entry
+back_in_scope (InScope i cell) h scope = back_in_entry cell i h scope
+back_in_scope (AtPlace p) h scope = scope
+
+abbrev pub back_in_cells : Home → Held → List Cell → List Cell
+back_in_cells (InScope i cell) h cells = back_in_cell cell h cells
+back_in_cells (AtPlace p) h cells = cells
+
+abbrev pub back_in_roots : Home → Held → List Held → List Held
+back_in_roots (InScope i cell) h roots = roots
+back_in_roots (AtPlace p) h roots = put roots p h.value
+
 -- the scope once what was lent is back, as the native left it
 abbrev pub given_back : {S : Type 0} → Law S → S → ℕ → List Tree → Option Receiver →
     List Entry → List Entry
 given_back law s key values None scope = scope
 given_back law s key values (Some r) scope =
-    back_in_entry r.cell r.index (reply.written law s key values r.held) scope
+    back_in_scope r.home (reply.written law s key values r.held) scope
 
 -- and the cells
 abbrev pub cells_given_back : {S : Type 0} → Law S → S → ℕ → List Tree → Option Receiver →
     List Cell → List Cell
 cells_given_back law s key values None cells = cells
 cells_given_back law s key values (Some r) cells =
-    back_in_cell r.cell (reply.written law s key values r.held) cells
+    back_in_cells r.home (reply.written law s key values r.held) cells
+
+-- and the roots
+abbrev pub roots_given_back : {S : Type 0} → Law S → S → ℕ → List Tree → Option Receiver →
+    List Held → List Held
+roots_given_back law s key values None roots = roots
+roots_given_back law s key values (Some r) roots =
+    back_in_roots r.home (reply.written law s key values r.held) roots
 
 module _ {S : Type 0} (m : Setup S) where
   -- what the host answered, and then what follows from its value, or from its fault; one without a
-  -- position has the instruction's
+  -- position has the frame's
   abbrev pub answered : Reply → Frame → World S → (Dynamic → World S → Act S) →
       (Problem → World S → Act S) → Act S
   answered (reply.Done v) f w go fails = go v w
   answered (reply.Failed x) f w go fails = fails (at_position_if_none (position m f) x) w
 
-  -- the host is called, with a mark before and one after
-  abbrev pub host_called : ℕ → Option Receiver → List Held → Frame → World S →
-      (Dynamic → World S → Act S) → (Problem → World S → Act S) → Act S
-  host_called key r args f w go fails =
-      marked m f w (λ w1.
-      marked m f (record w1 {
+  -- the host is called, with a mark before and one after; and what follows where memory is out at one
+  abbrev pub host_called_or : (World S → Act S) → ℕ → Option Receiver → List Held → Frame →
+      World S → (Dynamic → World S → Act S) → (Problem → World S → Act S) → Act S
+  host_called_or out key r args f w go fails =
+      marked_or m out w (λ w1.
+      marked_or m out (record w1 {
         host = m.law.call_after w1.host key (lent_held r) (trees_in args);
         scope = given_back m.law w1.host key (trees_in args) r w1.scope;
         cells = cells_given_back m.law w1.host key (trees_in args) r w1.cells;
+        roots = roots_given_back m.law w1.host key (trees_in args) r w1.roots;
       }) (λ w2.
       answered (m.law.call_reply w1.host key (lent_held r) (trees_in args)) f w2 go fails))
 
   -- a native that writes its first argument is not called where that can only be read
+  abbrev pub native_called_or : (World S → Act S) → Native → List ℕ → Option Receiver →
+      List Held → Frame → World S → (Dynamic → World S → Act S) → (Problem → World S → Act S) →
+      Act S
+  native_called_or out n name r args f w go fails =
+      if n.writes && first_is_read_only (given r args)
+      then fails (Plain (NonPureCall name) (position m f)) w
+      else host_called_or out n.key r args f w go fails
+
+  abbrev pub native_found_or : (World S → Act S) → Option Native → List ℕ → Option Receiver →
+      List Held → Frame → World S → (Dynamic → World S → Act S) → (Problem → World S → Act S) →
+      Act S
+  native_found_or out None name r args f w go fails =
+      fails (not_found name (values_in (given r args)) (position m f)) w
+  native_found_or out (Some n) name r args f w go fails =
+      native_called_or out n name r args f w go fails
+
+  -- the host's native of this name on what is lent and these arguments, and then what follows from
+  -- its value, from the fault, or from want of memory
+  abbrev pub native_or : (World S → Act S) → List ℕ → Option Receiver → List Held → Frame →
+      World S → (Dynamic → World S → Act S) → (Problem → World S → Act S) → Act S
+  native_or out name r args f w go fails =
+      native_found_or out (native_of m.law w.host name (kinds_in (given r args))) name r args f w
+      go fails
+
+  -- the same where want of memory leaves the frame
+  abbrev pub host_called : ℕ → Option Receiver → List Held → Frame → World S →
+      (Dynamic → World S → Act S) → (Problem → World S → Act S) → Act S
+  host_called key r args f w go fails =
+      host_called_or (leave_by_fault m f NoMemory) key r args f w go fails
+
   abbrev pub native_called : Native → List ℕ → Option Receiver → List Held → Frame → World S →
       (Dynamic → World S → Act S) → (Problem → World S → Act S) → Act S
   native_called n name r args f w go fails =
-      if n.writes && first_is_read_only (given r args)
-      then fails (Plain (NonPureCall name) (position m f)) w
-      else host_called n.key r args f w go fails
+      native_called_or (leave_by_fault m f NoMemory) n name r args f w go fails
 
   abbrev pub native_found : Option Native → List ℕ → Option Receiver → List Held → Frame →
       World S → (Dynamic → World S → Act S) → (Problem → World S → Act S) → Act S
-  native_found None name r args f w go fails =
-      fails (not_found name (values_in (given r args)) (position m f)) w
-  native_found (Some n) name r args f w go fails = native_called n name r args f w go fails
+  native_found found name r args f w go fails =
+      native_found_or (leave_by_fault m f NoMemory) found name r args f w go fails
 
-  -- the host's native of this name on what is lent and these arguments, and then what follows from
-  -- its value, or from the fault
   abbrev pub native : List ℕ → Option Receiver → List Held → Frame → World S →
       (Dynamic → World S → Act S) → (Problem → World S → Act S) → Act S
   native name r args f w go fails =
-      native_found (native_of m.law w.host name (kinds_in (given r args))) name r args f w go fails
+      native_or (leave_by_fault m f NoMemory) name r args f w go fails

@@ -20,7 +20,7 @@ use Rattle.grain_means.specs.Rules.Faults.{position, raised}
 use Rattle.grain_means.specs.Rules.Going.{onward, pushed}
 use Rattle.grain_means.specs.Rules.Reads.{flattened}
 use Rattle.grain_means.specs.Rules.Entries.{at_slot, assignment_to_constant, write_entry}
-use Rattle.grain_means.specs.Rules.Natives.{native}
+use Rattle.grain_means.specs.Rules.Natives.{InScope, native}
 
 -- only if operators are fast is a built-in asked
 abbrev pub if_fast : Bool → Outcome → Outcome
@@ -68,8 +68,7 @@ module _ {S : Type 0} (m : Setup S) where
   native_assigned a h u v slot n next f w =
       native m (name_of m.program a.op_assign_name)
       (Some (record {
-        index = f.base + slot;
-        cell = cell_of h.value;
+        home = InScope (f.base + slot) (cell_of h.value);
         held = record h { value = u };
       })) (v ∷ []) f w
       (λ r w1. onward m f (stepped f next (below f.operands)) w1)

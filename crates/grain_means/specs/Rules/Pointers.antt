@@ -35,7 +35,7 @@ module _ {S : Type 0} (m : Setup S) where
   not_a_pointer v f w =
       raised m f (Plain (MismatchDataType (codes "Fn") (type_name_of v)) (position m f)) w
 
-  -- the last n operands go behind the values of a pointer
+  -- the last n operands go after the values of a pointer
   abbrev pub curried : Option FnPtr → Dynamic → ℕ → ℕ → Frame → World S → Act S
   curried None v n next f w = not_a_pointer v f w
   curried (Some p) v n next f w =

@@ -26,6 +26,10 @@ pub data Origin : Type 0 where
   -- what nothing sets: a missing key's unit, or a byte, a character or a bit that the chain reads
   OfNothing : Origin
 
+-- an answer that is the chain's own value, as it is given
+abbrev pub own_value : Rest → Dynamic → Task
+own_value done v = done (Well v false)
+
 module _ (g : Setting) where
   abbrev pub put_part : ℕ → Spot → Place → Dynamic → Dynamic → Bool → Rest → Option Dynamic → Task
   put_part n s p v u changed done (Some d) =
@@ -54,8 +58,9 @@ module _ (g : Setting) where
   abbrev pub rooted : ℕ → Origin → Held → Next → Place → Rest → Task
   rooted n o h next p done = at_mark n done (Root h (next (next_root p) (back n o p done)))
 
-  -- the walk goes on in an answer, which is flattened unless it is the chain's own value
+  -- The walk goes on in an answer as it is read, which is a new root. The chain's own value, at its last
+  -- step, is the answer as it is given, which may be a cell, and no root.
   abbrev pub into_answer : ℕ → Position → Bool → Origin → Next → Place → Rest → Dynamic → Task
   into_answer n q own o next p done v =
-      if own then rooted n o (read_write v) next p done
+      if own then own_value done v
       else flattening n q v done (λ u. rooted n o (read_write u) next p done)

@@ -20,7 +20,7 @@ returns-clause-same g c = λ host f go.
     c.read_write.result c.in_ok-value.value s.scope there c.read_write.ensures.0
     c.read_write.ensures.1 in
     binds g.H.Host.law p engine s s' c.args.steps.now c.mark.new.self host f go
-    (λ m place x w. leave_by_fault m None (f place) x w) c.args.variable c.in-Some.name
+    (λ m place x w. leave_by_fault m (f place) x w) c.args.variable c.in-Some.name
     c.args.target c.in_ok-value.value c.in-Some.is room
     (c.in_ok-value.ensures.value
     ∙ ap (λ (o : Option (List ℕ)). caught_value o (problem_of s.fault)) c.source.ensures)

@@ -25,7 +25,7 @@ pub leave_by_fault-requires-in-Ok-clause-unnoted : goal.leave_by_fault-requires-
 leave_by_fault-requires-in-Ok-clause-unnoted g c = search rules
 
 pub returns-then-goes_on-clause-goes : goal.returns-then-goes_on-clause-goes
-returns-then-goes_on-clause-goes g c = λ f at low.
+returns-then-goes_on-clause-goes g c = λ f at low slot.
     let m = setup g.H.Host.law c.args.context.program.now c.args.context.engine.now in
     goes_on_at m f c.args.run.now c.catching_handler.new.run c.args.steps.now
     c.args.host.now c.in-Some.handler c.in-Some.ensures.same c.catching_handler.ensures.others
@@ -45,18 +45,18 @@ returns-then-goes_on-clause-typed g c = λ f can.
     c.in-Some.ensures.stands c.in-Ok.goes_on c.if-goes_on.true c.in-Ok.ensures.caught
 
 pub returns-in-Err-clause-goes : goal.returns-in-Err-clause-goes
-returns-in-Err-clause-goes g c = λ f at low.
+returns-in-Err-clause-goes g c = λ f at low slot.
     let m = setup g.H.Host.law c.args.context.program.now c.args.context.engine.now in
     leaves_out m f c.args.run.now c.catching_handler.new.run c.args.steps.now
     c.args.host.now c.in-Some.handler c.in-Some.ensures.same c.catching_handler.ensures.others
     c.catch_by.new.run c.catch_by.new.steps c.catch_by.new.host c.leave_by_fault-in-Err.new.run
-    (rw (at, low) c.leave_by_fault-in-Err.ensures) c.in-Err.e (c.in-Err.ensures.same f at)
+    (rw (at, low, slot) c.leave_by_fault-in-Err.ensures) c.in-Err.e (c.in-Err.ensures.same f at)
 
 pub returns-else-goes_on-clause-goes : goal.returns-else-goes_on-clause-goes
-returns-else-goes_on-clause-goes g c = λ f at low.
+returns-else-goes_on-clause-goes g c = λ f at low slot.
     let m = setup g.H.Host.law c.args.context.program.now c.args.context.engine.now in
     leaves_at m f c.args.run.now c.catching_handler.new.run c.args.steps.now
     c.args.host.now c.in-Some.handler c.in-Some.ensures.same c.catching_handler.ensures.others
     c.catch_by.new.run c.catch_by.new.steps c.catch_by.new.host c.leave_by_fault-in-Ok.new.run
-    (rw (at, low) c.leave_by_fault-in-Ok.ensures) c.in-Ok.goes_on c.if-goes_on.false
+    (rw (at, low, slot) c.leave_by_fault-in-Ok.ensures) c.in-Ok.goes_on c.if-goes_on.false
     (c.in-Ok.ensures.same f at)

@@ -146,7 +146,8 @@ run_from-returns-in-Err g t c =
       goes = left_out (abstraction c.jump.new.run c.jump.new.steps c.jump.new.host)
           (abstraction c.leave_by_fault.new.run c.jump.new.steps
           c.jump.new.host) at
-          c.jump.new.frame.floor c.jump.new.frame.address (λ place. refl) (λ place. refl)
+          c.jump.new.frame.floor c.jump.new.frame.address c.jump.new.frame.slot (λ place. refl)
+          (λ place. refl) (λ place. refl)
           (rw left refl)
           (turn (abstraction c.turn.run c.turn.steps c.turn.host)
           (rw (c.mark.ensures, c.begin_instruction.ensures) refl) now.goes did.goes);
@@ -238,7 +239,8 @@ run_from-returns-in-Err-proceed g t c =
       goes = left_out (abstraction c.proceed.new.run c.proceed.new.steps c.proceed.new.host)
           (abstraction c.leave_by_fault-in-Err-proceed.new.run c.proceed.new.steps
           c.proceed.new.host) at
-          c.proceed.new.frame.floor c.proceed.new.frame.address (λ place. refl) (λ place. refl)
+          c.proceed.new.frame.floor c.proceed.new.frame.address c.proceed.new.frame.slot (λ place. refl)
+          (λ place. refl) (λ place. refl)
           (rw left refl)
           (turn (abstraction c.turn.run c.turn.steps c.turn.host)
           (rw (c.mark.ensures, c.begin_instruction.ensures) refl) now.goes did.goes);
@@ -400,32 +402,32 @@ run_frame-returns-in-Value-clause-goes g t c =
 
 pub run_frame-catch-requires-clause-catches : goal.run_frame-catch-requires-clause-catches
 run_frame-catch-requires-clause-catches g t c = (
-  activation_at c.args.chunk.now c.args.base c.in-Fault.at c.in-Fault.low,
+  activation_at c.args.chunk.now c.args.base c.in-Fault.at c.in-Fault.low c.in-Fault.slot,
   (subst (λ (q : Stop). StopsSo c.args.context.program.now c.args.chunk.now c.args.base
       c.run_from.new.run (Ok q)) c.in-Fault.is c.in-Ok.ensures.catches).1,
 )
 
 pub run_frame-returns-in-Err-catch-clause-goes : goal.run_frame-returns-in-Err-catch-clause-goes
 run_frame-returns-in-Err-catch-clause-goes g t c =
-    let at = activation_at c.args.chunk.now c.args.base c.in-Fault.at c.in-Fault.low in
+    let at = activation_at c.args.chunk.now c.args.base c.in-Fault.at c.in-Fault.low c.in-Fault.slot in
     compose (compose c.frame.invariant.goes
     (stopped_so c.args.chunk.now c.args.base c.run_from.new.run c.in-Fault.is
-    c.in-Ok.ensures.goes) tt) (c.in-Err-catch.ensures.goes at refl refl) tt
+    c.in-Ok.ensures.goes) tt) (c.in-Err-catch.ensures.goes at refl refl refl) tt
 
 pub run_frame-returns-in-None-clause-goes : goal.run_frame-returns-in-None-clause-goes
 run_frame-returns-in-None-clause-goes g t c =
-    let at = activation_at c.args.chunk.now c.args.base c.in-Fault.at c.in-Fault.low in
+    let at = activation_at c.args.chunk.now c.args.base c.in-Fault.at c.in-Fault.low c.in-Fault.slot in
     compose (compose c.frame.invariant.goes
     (stopped_so c.args.chunk.now c.args.base c.run_from.new.run c.in-Fault.is
     c.in-Ok.ensures.goes) tt)
     (offered_so (frame_in at c.catch.new.run) c.catch.new.run.fault c.in-None.is
-    (c.in-Ok-catch.ensures.goes at refl refl)) tt
+    (c.in-Ok-catch.ensures.goes at refl refl refl)) tt
 
 pub run_frame-frame-preserved : goal.run_frame-frame-preserved
 run_frame-frame-preserved g t c =
     let p = c.args.context.program.now in
     let engine = c.args.context.engine.now in
-    let at = activation_at c.args.chunk.now c.args.base c.in-Fault.at c.in-Fault.low in
+    let at = activation_at c.args.chunk.now c.args.base c.in-Fault.at c.in-Fault.low c.in-Fault.slot in
     let did = c.in-Ok.ensures in
     let stops =
     subst (λ (q : Stop). StopsSo p c.args.chunk.now c.args.base c.run_from.new.run (Ok q))
@@ -443,9 +445,9 @@ run_frame-frame-preserved g t c =
       goes = compose (compose now.goes
           (stopped_so c.args.chunk.now c.args.base c.run_from.new.run c.in-Fault.is did.goes) tt)
           (offered_so (frame_in at c.catch.new.run) c.catch.new.run.fault c.in-Some.is
-          (c.in-Ok-catch.ensures.goes at refl refl)) tt;
+          (c.in-Ok-catch.ensures.goes at refl refl refl)) tt;
       runs = caught_runs p engine c.args.chunk.now c.args.base c.frame.address c.frame.floor
-          c.in-Fault.at c.in-Fault.low c.in-Some.target c.frame.run c.run_from.new.run
+          c.in-Fault.at c.in-Fault.low c.in-Some.target c.in-Fault.slot c.frame.run c.run_from.new.run
           c.catch.new.run now.runs did.room did.outer stops.0 kept typed;
       outer = kept.0.outer ∙ (did.outer ∙ now.outer);
       saved = kept.0.saved ∙ (did.saved ∙ now.saved);

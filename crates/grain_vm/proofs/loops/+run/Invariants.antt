@@ -1,4 +1,4 @@
-use Rattle.std.proofs.Common.{◌≡◌, ◌≤◌, ◌+◌, ◌*◌, false}
+use Rattle.std.proofs.Common.{◌≡◌, ◌≤◌, ◌+◌, ◌*◌, None, false}
 use Rattle.grain_means.specs.Worlds.{Go, InFrame}
 use Rattle.grain_means.specs.Simulation.{Simulates}
 use Rattle.grain_means.specs.Means.{setup}
@@ -26,7 +26,7 @@ invariant-run_from-turn g l = record {
   goes : Simulates (setup g.H.Host.law l.context.program.now l.context.engine.now)
       (abstraction l.fn.run l.fn.steps l.fn.host)
       (λ m place w. Go (InFrame (frame_in
-      (activation_at l.fn.chunk l.fn.base l.fn.address l.fn.floor) l.fn.run place)) w) false
+      (activation_at l.fn.chunk l.fn.base l.fn.address l.fn.floor None) l.fn.run place)) w) false
       (abstraction l.run l.steps l.host)
       (λ m place w. Go (InFrame (frame_in l.frame l.run place)) w);
   runs : Runs l.context.program.now l.frame l.run;
@@ -52,9 +52,9 @@ invariant-run_frame-frame g l = record {
       (abstraction l.fn.run l.fn.steps l.fn.host)
       (λ m place w. Go (InFrame (frame_in (entry_of l.fn.chunk l.fn.base) l.fn.run place)) w) false
       (abstraction l.run l.steps l.host)
-      (λ m place w. Go (InFrame (frame_in (activation_at l.fn.chunk l.fn.base l.address l.floor) l.run
+      (λ m place w. Go (InFrame (frame_in (activation_at l.fn.chunk l.fn.base l.address l.floor None) l.run
       place)) w);
-  runs : Runs l.context.program.now (activation_at l.fn.chunk l.fn.base l.address l.floor) l.run;
+  runs : Runs l.context.program.now (activation_at l.fn.chunk l.fn.base l.address l.floor None) l.run;
   outer : l.run.stacks.outer ≡ l.fn.run.stacks.outer;
   saved : l.run.saved ≡ l.fn.run.saved;
   level : l.run.level ≡ l.fn.run.level;

@@ -1,0 +1,252 @@
+-- Walks by themselves, as they end.
+use Rattle.std.specs.Prelude.{◌≡◌, ℕ, pos, negsuc, true, false, List, [], ◌∷◌, Option, Some, None, refl, codes, slice_index_or}
+use Rattle.grain_value.specs.Tree.{Tree, unit, integer, text, cell}
+use Rattle.grain_value.specs.declared.values.Dynamic.{Dynamic}
+use Rattle.grain_value.specs.declared.values.Dynamic.TheVariants as dynamic
+use Rattle.grain_value.specs.declared.tokens.Token.TheVariants as token
+use Rattle.grain_value.specs.Operands.{read_write}
+use Rattle.grain_fault.specs.declared.places.Position.{Position}
+use Rattle.grain_fault.specs.Places.{nowhere}
+use Rattle.grain_global.specs.declared.engines.Engine.{Engine}
+use Rattle.grain_program.specs.View.{View}
+use Rattle.grain_program.specs.declared.code.parts.AssignOp.{AssignOp}
+use Rattle.grain_fault.specs.Problems.{Plain, ArrayBounds, DataRace, MismatchDataType, DotExpr, IndexingType, NoMemory, FunctionNotFound}
+use Rattle.grain_program.specs.declared.code.chains.Step.{Step}
+use Rattle.grain_program.specs.declared.code.chains.Step.TheVariants as step
+use Rattle.grain_program.specs.declared.code.chains.StepFlags.{StepFlags}
+use Rattle.grain_means.specs.Worlds.{Answer, Came, Failed}
+use Rattle.grain_means.specs.Places.{put}
+use Rattle.grain_means.specs.Tasks.{Walked, Well, Ill, Play, Over, Asks, play}
+use Rattle.grain_means.specs.Walks.{Course, whole_walk}
+
+abbrev here : Position
+here = nowhere
+
+abbrev no_flags : StepFlags
+no_flags = record { 0 = 0 }
+
+abbrev skip_unit : StepFlags
+skip_unit = record { 0 = 1 }
+
+module _ (engine : Engine) (program : View) where
+  abbrev course : List Tree → Option Dynamic → Option AssignOp → Course
+  course operands v a = record {
+    setting = record {
+      engine = record engine { fast_operators = true; strict_properties = false };
+      program =
+          record program { names = codes "k" ∷ codes "get$k" ∷ codes "set$k" ∷ codes "+=" ∷ codes "+" ∷ [] };
+      position = here;
+    };
+    operands = operands;
+    assigns = v;
+    operator = a;
+  }
+
+  abbrev plus : AssignOp
+  plus = record { op_assign = token.Other; op_assign_name = 3; op = token.Other; op_name = 4 }
+
+  abbrev end_of : Play → Walked
+  end_of (Over o s) = o
+  end_of (Asks c f s) = Ill 99 NoMemory
+
+  abbrev root_of : Play → Dynamic
+  root_of (Over o s) = (slice_index_or s.roots 0 (read_write dynamic.Unit)).value
+  root_of (Asks c f s) = (slice_index_or s.roots 0 (read_write dynamic.Unit)).value
+
+  -- a walk goes on with an outcome
+  abbrev resumed : Answer → Play → Play
+  resumed a (Over o s) = Over o s
+  resumed a (Asks c f s) = play None [] (f a) s
+
+  abbrev asked_name : Play → List ℕ
+  asked_name (Over o s) = []
+  asked_name (Asks c f s) = c.name
+
+  abbrev asked_values : Play → List Dynamic
+  asked_values (Over o s) = []
+  asked_values (Asks c f s) = c.values
+
+  abbrev begin : Course → List Step → Dynamic → Play
+  begin c steps root =
+      play None [] (whole_walk c steps) (record { roots = read_write root ∷ []; passed = 0 })
+
+  abbrev index : Step
+  index = step.Index 0 no_flags here here
+
+  abbrev property : Step
+  property = step.Property 0 1 2 no_flags here
+
+  abbrev one : Dynamic
+  one = dynamic.Array (integer (pos 1) ∷ [])
+
+  abbrev no_property : Answer
+  no_property = Failed (Plain (DotExpr []) here)
+
+  abbrev no_index : Answer
+  no_index = Failed (Plain (IndexingType []) here)
+
+  -- an index past the end, and one that counts from the end
+  pub past_the_end : end_of (begin (course (integer (pos 5) ∷ []) None None) (index ∷ []) one)
+      ≡ Ill 0 (Plain (ArrayBounds 1 (pos 5)) here)
+  past_the_end = refl
+
+  pub from_the_end : end_of (begin (course (integer (negsuc 0) ∷ []) None None) (index ∷ []) one)
+      ≡ Well (dynamic.Int (pos 1)) false
+  from_the_end = refl
+
+  -- a key that is missing, read as a property
+  pub missing_property : end_of (begin (course [] None None) (property ∷ []) (dynamic.Map []))
+      ≡ Well dynamic.Unit false
+  missing_property = refl
+
+  -- a key that is missing is added, and stays where the op-assignment then fails
+  abbrev adding : Play
+  adding = begin (course (text (codes "a") ∷ []) (Some (dynamic.Int (pos 1))) (Some plus)) (index ∷ [])
+      (dynamic.Map [])
+
+  pub key_added : root_of adding ≡ dynamic.Map ((codes "a", unit) ∷ [])
+  key_added = refl
+
+  pub op_assign_asked : asked_name adding ≡ codes "+="
+  op_assign_asked = refl
+
+  pub operator_asked :
+      asked_name (resumed (Failed (Plain (FunctionNotFound (codes "+= (x)")) here)) adding) ≡ codes "+"
+  operator_asked = refl
+
+  pub operator_answered :
+      root_of (resumed (Came (dynamic.Int (pos 7)))
+      (resumed (Failed (Plain (FunctionNotFound (codes "+= (x)")) here)) adding))
+      ≡ dynamic.Map ((codes "a", integer (pos 7)) ∷ [])
+  operator_answered = refl
+
+  -- a bit and a byte are put back
+  pub bit_put : root_of (begin (course (integer (negsuc 0) ∷ []) (Some (dynamic.Bool true)) None)
+      (index ∷ []) (dynamic.Int (pos 0))) ≡ dynamic.Int (negsuc 9223372036854775807)
+  bit_put = refl
+
+  pub byte_put : root_of (begin (course (integer (pos 0) ∷ []) (Some (dynamic.Int (negsuc 0))) None)
+      (index ∷ []) (dynamic.Blob (1 ∷ 2 ∷ []))) ≡ dynamic.Blob (255 ∷ 2 ∷ [])
+  byte_put = refl
+
+  -- a getter, and the indexer in its place
+  abbrev getting : Play
+  getting = begin (course [] None None) (property ∷ []) (dynamic.Foreign 16 1)
+
+  pub getter_asked : asked_name getting ≡ codes "get$k"
+  getter_asked = refl
+
+  pub getter_answered : end_of (resumed (Came (dynamic.Int (pos 3))) getting)
+      ≡ Well (dynamic.Int (pos 3)) false
+  getter_answered = refl
+
+  pub indexer_asked : asked_name (resumed no_property getting) ≡ codes "index$get$"
+  indexer_asked = refl
+
+  pub getter_missing : end_of (resumed no_index (resumed no_property getting))
+      ≡ Ill 0 (Plain (DotExpr []) here)
+  getter_missing = refl
+
+  -- a property of a host's value is changed below: it is set back
+  abbrev changing : Play
+  changing =
+      begin (course (integer (pos 0) ∷ []) (Some (dynamic.Int (pos 9))) None) (property ∷ index ∷ [])
+      (dynamic.Foreign 16 1)
+
+  pub set_back_asked : asked_name (resumed (Came one) changing) ≡ codes "set$k"
+  set_back_asked = refl
+
+  pub set_back_value : asked_values (resumed (Came one) changing)
+      ≡ dynamic.Array (integer (pos 9) ∷ []) ∷ []
+  set_back_value = refl
+
+  pub set_back_ignored :
+      end_of (resumed no_index (resumed no_property (resumed (Came one) changing)))
+      ≡ Well dynamic.Unit true
+  set_back_ignored = refl
+
+  -- a property that the chain assigns, and that has no setter
+  abbrev setting : Play
+  setting = begin (course [] (Some (dynamic.Int (pos 9))) None) (property ∷ []) (dynamic.Foreign 16 1)
+
+  pub setter_missing : end_of (resumed no_index (resumed no_property setting))
+      ≡ Ill 0 (Plain (DotExpr []) here)
+  setter_missing = refl
+
+  -- a step that skips at unit
+  pub skipped : end_of (begin (course [] None None)
+      (step.Property 0 1 2 skip_unit here ∷ []) dynamic.Unit) ≡ Well dynamic.Unit false
+  skipped = refl
+
+  -- an index of a value that has none is for the host's indexers; where the read fails, the value is set as
+  -- it is
+  abbrev indexing : Play
+  indexing =
+      begin (course (integer (pos 0) ∷ []) (Some (dynamic.Int (pos 9))) (Some plus)) (index ∷ [])
+      (dynamic.Foreign 17 1)
+
+  pub index_read : asked_name indexing ≡ codes "index$get$"
+  index_read = refl
+
+  pub index_written : asked_values (resumed no_index indexing)
+      ≡ dynamic.Int (pos 0) ∷ dynamic.Int (pos 9) ∷ []
+  index_written = refl
+
+  pub index_ignored : end_of (resumed no_index (resumed no_index indexing)) ≡ Well dynamic.Unit true
+  index_ignored = refl
+
+  -- an index that is a lent cell: a map reads it, at the index's position, and the host's indexers are
+  -- given it as it is
+  abbrev there : Position
+  there = record { line = 1; column = 1 }
+
+  abbrev lent_index : Step
+  lent_index = step.Index 0 no_flags there here
+
+  pub index_lent : end_of (begin (course (cell 7 ∷ []) None None) (lent_index ∷ []) (dynamic.Map []))
+      ≡ Ill 0 (Plain (DataRace (codes "variable ''")) there)
+  index_lent = refl
+
+  pub index_handed_on : asked_values (begin (course (cell 7 ∷ []) None None) (lent_index ∷ [])
+      (dynamic.Foreign 17 1)) ≡ dynamic.Cell 7 ∷ []
+  index_handed_on = refl
+
+  -- a getter may write the bit that it is lent: the bit is put back, although nothing changed
+  abbrev lending : Play
+  lending = begin (course (integer (pos 0) ∷ []) None None) (index ∷ property ∷ [])
+      (dynamic.Int (pos 0))
+
+  abbrev written : Dynamic → Play → Play
+  written v (Over o s) = Over o s
+  written v (Asks c f s) =
+      Asks c f (record s { roots = put s.roots (record { root = 1; path = [] }) v })
+
+  pub bit_put_back : root_of (resumed (Came dynamic.Unit) (written (dynamic.Bool true) lending))
+      ≡ dynamic.Int (pos 1)
+  bit_put_back = refl
+
+  -- it is not of the type of a bit
+  pub bit_mistyped : end_of (resumed (Came dynamic.Unit) (written dynamic.Unit lending))
+      ≡ Ill 0 (Plain (MismatchDataType (codes "bool") (codes "()")) here)
+  bit_mistyped = refl
+
+  -- a missing key of an index, in which something changes further down, is set by the host's indexer
+  abbrev missing : Play
+  missing =
+      begin (course (text (codes "a") ∷ integer (pos 0) ∷ []) (Some (dynamic.Bool true)) None)
+      (step.Index 0 no_flags here there ∷ property ∷ []) (dynamic.Map [])
+
+  pub missing_set : asked_name missing ≡ codes "set$k"
+  missing_set = refl
+
+  pub missing_set_back : asked_values (resumed (Came dynamic.Unit) missing)
+      ≡ dynamic.Text (codes "a") ∷ dynamic.Unit ∷ []
+  missing_set_back = refl
+
+  pub missing_ends : end_of (resumed no_index (resumed (Came dynamic.Unit) missing))
+      ≡ Well dynamic.Unit true
+  missing_ends = refl
+
+  -- how many these are
+  abbrev pub examples : ℕ
+  examples = 30

@@ -1,0 +1,160 @@
+-- The ways of a walk from its beginning on: what follows from each of them, marks, values that are read,
+-- and calls.
+use Rattle.std.proofs.Common.{◌≡◌, ◌+◌, ℕ, Bool, true, false, List, [], ◌∷◌, ◌++◌, Option, Some, None, take, refl, inl, inr}
+use Rattle.grain_value.specs.Cells.{flat}
+use Rattle.grain_value.specs.declared.values.Dynamic.{Dynamic}
+use Rattle.grain_value.specs.declared.values.Held.{Held}
+use Rattle.grain_fault.specs.Absences.{is_indexing_type}
+use Rattle.grain_fault.specs.Problems.{Problem, NoMemory}
+use Rattle.grain_fault.specs.declared.places.Position.{Position}
+use Rattle.grain_means.specs.Worlds.{is_stop, Answer, Failed, Place, Setup, World}
+use Rattle.grain_means.specs.Places.{look, put}
+use Rattle.grain_means.specs.Tasks.{Call, Task, Done, Mark, Look, Flatten, Write, Root, Drop, Need, Well, Ill}
+use Rattle.grain_means.specs.Walks as walks
+use Rattle.grain_means.specs.Walks.{Setting, Course, Rest, Next, Role, Passes, Reads, Writes, Operates, Origin, OfPart, OfIndex, OfProperty, OfNothing, at_mark, assigning, failing, flat_or_busy, flattening, is_indexed, key_of, origin_of_part, role_at_end, role_before, skips, with_key}
+use Rattle.grain_means.specs.Causes.Spots.{ChainWalk, WalksTo, here, marked, looked, read, wrote, added, dropped, heard, past, CallEnds, Falls, ComesTo, WalkRow, CallFails, lent_for, world_of}
+
+module _ {S : Type 0} (m : Setup S) (c : ChainWalk S) where
+  -- one way after another
+  pub join : {r u : Task} {x w : World S} {t : Task} {v : World S} → WalksTo m c u w t v → WalksTo m c r x u w →
+      WalksTo m c r x t v
+  join here b = b
+  join (marked e a) b = marked e (join a b)
+  join (looked a) b = looked (join a b)
+  join (read a) b = read (join a b)
+  join (wrote a) b = wrote (join a b)
+  join (added a) b = added (join a b)
+  join (dropped a) b = dropped (join a b)
+  join (heard e a) b = heard e (join a b)
+
+  abbrev pub On : Task → World S → Type 0
+  On t v = ComesTo m c t v
+
+  -- memory is out, and the newer roots go
+  abbrev pub Stops : Task → Type 0
+  Stops t = (k : ℕ) × Falls k NoMemory t
+
+  -- every fault that a task comes to from this world has its row
+  abbrev pub Why : Task → World S → Type 0
+  Why (Done (Well u changed)) v = Unit {0}
+  Why (Done (Ill n x)) v = WalkRow m c n x
+  Why (Mark out go) v = Stops out × (is_stop m.stop v.passed ≡ false → Why go (past v))
+  Why (Look q go) v = Why (go (look v.roots (world_of m c q))) v
+  Why (Flatten u go) v = Why (go (flat v.cells u)) v
+  Why (Write q u t) v = Why t (record v { roots = put v.roots (world_of m c q) u })
+  Why (Root h t) v = Why t (record v { roots = v.roots ++ h ∷ [] })
+  Why (Drop i go) v =
+      Why (go (look v.roots (record { root = c.others + i; path = [] })))
+      (record v { roots = take (c.others + i) v.roots })
+  Why (Need call go) v =
+      Stops (go (Failed NoMemory)) × ((a : Answer) (u : World S) →
+      CallEnds m call (lent_for m c call v) v a u → Why (go a) u)
+
+  -- so from each world in which the walk comes to it
+  abbrev pub From : Task → Type 0
+  From t = (v : World S) → On t v → Why t v
+
+  -- what follows: a fault goes to the walk's end, and a value is gone on from
+  pub record Follows (done : Rest) : Type 0 where
+    pub falls : (n : ℕ) (x : Problem) → Falls n x (done (Ill n x))
+    pub well : (u : Dynamic) (changed : Bool) → From (done (Well u changed))
+
+  abbrev pub Goes : Next → Type 0
+  Goes next = (p : Place) (done : Rest) → Follows done → From (next p done)
+
+  -- a fault that goes to the walk's end has the row that it has
+  pub fallen : (n : ℕ) (x : Problem) → WalkRow m c n x → (t : Task) → Falls n x t → (v : World S) →
+      Why t v
+  fallen n x row (Done o) falls v = rw falls row
+  fallen n x row (Mark out go) falls v = absurd falls
+  fallen n x row (Look q go) falls v = absurd falls
+  fallen n x row (Flatten u go) falls v = absurd falls
+  fallen n x row (Write q u t) falls v = absurd falls
+  fallen n x row (Root h t) falls v = absurd falls
+  fallen n x row (Drop i go) falls v =
+      let h : Held = look v.roots (record { root = c.others + i; path = [] }) in
+      fallen n x row (go h) (falls h) (record v { roots = take (c.others + i) v.roots })
+  fallen n x row (Need call go) falls v = absurd falls
+
+  module _ (n : ℕ) where
+    pub ill : (x : Problem) (done : Rest) → Follows done → WalkRow m c n x → (v : World S) →
+        Why (done (Ill n x)) v
+    ill x done f row v = fallen n x row (done (Ill n x)) (f.falls n x) v
+
+    pub out : (done : Rest) → Follows done → Stops (done (Ill n NoMemory))
+    out done f = (n, f.falls n NoMemory)
+
+    pub marks : (done : Rest) (go : Task) → Follows done → From go → From (at_mark n done go)
+    marks done go f from v come =
+        (out done f, λ clear. from (past v) (join come (marked clear here)))
+
+    pub fails : (x : Problem) (done : Rest) → Follows done → WalkRow m c n x → From (failing n x done)
+    fails x done f row = marks done (done (Ill n x)) f (λ v come. ill x done f row v)
+
+    -- a value is read, or it is a lent cell
+    pub reads : (q : Position) (u : Dynamic) (done : Rest) (go : Dynamic → Task) → Follows done →
+        ((v : World S) → On (flattening n q u done go) v → (d : Dynamic) →
+        flat v.cells u ≡ Some d → On (go d) v → Why (go d) v) → From (flattening n q u done go)
+    reads q u done go f from v come =
+        by_content (flat v.cells u) refl (join come (read here)) where
+          by_content : (o : Option Dynamic) → flat v.cells u ≡ o →
+              On (flat_or_busy n q done go o) v → Why (flat_or_busy n q done go o) v
+          by_content None e arrived =
+              fails _ done f (inr (inr (inr (inr (inl (record {
+                value = u;
+                position = q;
+                rest = done;
+                go = go;
+                world = v;
+                comes = come;
+                lent = e;
+                is = refl;
+              })))))) v arrived
+          by_content (Some d) e arrived = from v come d e arrived
+
+    -- what is called
+    abbrev pub call_of : Position → List ℕ → Option Place → List Dynamic → Call
+    call_of q name p args =
+        record { step = n; position = q; name = name; receiver = p; values = args }
+
+    -- what follows from an answer, and from the way to it
+    abbrev pub Hears : Call → (Answer → Task) → Type 0
+    Hears call go = (v : World S) → On (Need call go) v → (a : Answer) (u : World S) →
+        CallEnds m call (lent_for m c call v) v a u → On (go a) u → Why (go a) u
+
+    pub asks : (q : Position) (name : List ℕ) (p : Option Place) (args : List Dynamic) (done : Rest)
+        (go : Answer → Task) → Follows done → Falls n NoMemory (go (Failed NoMemory)) →
+        Hears (call_of q name p args) go → From (walks.asking n q name p args done go)
+    asks q name p args done go f quiet hears =
+        marks done (Need (call_of q name p args) go) f (λ v come.
+        ((n, quiet), λ a u ends. hears v come a u ends (join come (heard ends here))))
+
+    -- a call that failed, and the fault with which the walk then ends
+    abbrev pub failing_call : (call : Call) → call.step ≡ n → (go : Answer → Task) (v : World S) →
+        On (Need call go) v → (x : Problem) (u : World S) →
+        CallEnds m call (lent_for m c call v) v (Failed x) u → CallFails m c n x
+    failing_call call step go v come x u ends = record {
+      call = call;
+      go = go;
+      world = v;
+      comes = come;
+      step = step;
+      after = u;
+      ends = ends;
+    }
+
+    pub native_row : (x : Problem) (call : CallFails m c n x) → Falls n x (call.go (Failed x)) →
+        WalkRow m c n x
+    native_row x call last =
+        inr (inr (inr (inr (inr (inr (inr (inl (record { fails = call; last = last }))))))))
+
+    pub instead_row : (x y : Problem) (first : CallFails m c n x) (second : CallFails m c n y) →
+        is_indexing_type y ≡ true → Falls n x (second.go (Failed y)) → WalkRow m c n x
+    instead_row x y first second absent last =
+        inr (inr (inr (inr (inr (inr (inr (inr (record {
+          first = first;
+          other = y;
+          second = second;
+          absent = absent;
+          last = last;
+        }))))))))

@@ -1,0 +1,91 @@
+-- Why a chain ends in a fault, at a point of a program.
+use Rattle.std.specs.Prelude.{◌≡◌, ◌≤◌, ◌+◌, ◌&&◌, ℕ, List, [], ◌∷◌, ◌++◌, Option, Some, None, true, false, length, slice_get, slice_set}
+use Rattle.grain_value.specs.Cells.{content, flat, lent}
+use Rattle.grain_value.specs.Looking.{cell_of}
+use Rattle.grain_value.specs.Operands.{top}
+use Rattle.grain_value.specs.declared.stores.Cell.{Cell}
+use Rattle.grain_value.specs.declared.values.Dynamic.{Dynamic}
+use Rattle.grain_value.specs.declared.values.Held.{Held}
+use Rattle.grain_fault.specs.Problems.{Problem, Plain, AssignmentToConstant, DataRace, Malformed}
+use Rattle.grain_fault.specs.declared.faults.MalformedKind.TheVariants as kind
+use Rattle.grain_program.specs.Chains.{assigns}
+use Rattle.grain_program.specs.declared.code.chains.Chain.{Chain}
+use Rattle.grain_program.specs.declared.code.chains.Root.{Root}
+use Rattle.grain_program.specs.declared.code.chains.Root.TheVariants as root
+use Rattle.grain_program.specs.declared.code.chains.Tail.{Tail}
+use Rattle.grain_program.specs.declared.code.chains.Tail.TheVariants as tail
+use Rattle.grain_means.specs.Comes.{ProgramPoint}
+use Rattle.grain_means.specs.Worlds.{Frame, Setup, World}
+use Rattle.grain_means.specs.Rules.{assigned_operand, course_of, held_at, is_read_only, new_root, position, race_text, root_name}
+use Rattle.grain_means.specs.Causes.Spots.{ChainWalk, WalkRow}
+
+-- what a chain's root holds
+abbrev pub RootHolds : {S : Type 0} → Root → Frame → World S → Held → Type 0
+RootHolds (root.Local name slot) f w h = held_at w.scope (f.base + slot) ≡ Some h
+RootHolds root.Temporary f w h = h ≡ top f.operands
+
+-- what a chain assigns, as it is read
+abbrev pub AssignsValue : {S : Type 0} → Tail → Held → World S → Option Dynamic → Type 0
+AssignsValue tail.Read h w v = v ≡ None
+AssignsValue (tail.Assign a) h w v =
+    (u : Dynamic) × (v ≡ Some u) × (flat w.cells h.value ≡ Some u)
+
+-- the root with which the walk begins, and the cells then, of which one is lent if it is one
+abbrev pub RootLends : {S : Type 0} → Option ℕ → Held → World S → Held → List Cell → Type 0
+RootLends None h w r cells = (r ≡ h) × (cells ≡ w.cells)
+RootLends (Some i) h w r cells =
+    (a : Cell) × (slice_get w.cells i ≡ Some a) × (a.busy ≡ false) ×
+    (r ≡ record { value = a.held.value; read_only = is_read_only w h }) ×
+    (cells ≡ slice_set w.cells i (lent a.held))
+
+-- the instruction at the point begins in this world
+abbrev pub begun_at : {S : Type 0} → ProgramPoint S → World S
+begun_at at = record at.world { ran = at.world.ran + 1; passed = at.world.passed + 1 }
+
+-- the chain comes so far that its root and its value are read
+pub record ChainReads {S : Type 0} (m : Setup S) (c : Chain) (at : ProgramPoint S) : Type 0 where
+  pub held : Held
+  pub holds : RootHolds c.root at.frame at.world held
+  pub writable : assigns c.tail && is_read_only at.world held ≡ false
+  pub value : Option Dynamic
+  pub reads : AssignsValue c.tail (assigned_operand c at.frame.operands) at.world value
+
+-- the walk of a chain that has read them
+abbrev pub walk_of : {S : Type 0} → Setup S → Chain → ProgramPoint S → Option Dynamic → Held →
+    List Cell → ChainWalk S
+walk_of m c at value r cells = record {
+  course = course_of m c at.frame value;
+  steps = c.steps;
+  place = new_root at.world.roots;
+  others = length at.world.roots + 1;
+  start = record (begun_at at) {
+    passed = at.world.passed + 1 + 1;
+    cells = cells;
+    roots = at.world.roots ++ r ∷ [];
+  };
+}
+
+-- Why a chain ends in this fault: its root is an entry that is not there; or it may only be read, and
+-- the chain assigns; or the value that it assigns, or its root, is a cell whose content is lent; or its
+-- walk ends so.
+pub data ChainRow {S : Type 0} (m : Setup S) (c : Chain) (at : ProgramPoint S) : ℕ → Problem →
+    Type 0 where
+  past_scope : (name slot : ℕ) → c.root ≡ root.Local name slot →
+      length at.world.scope ≤ at.frame.base + slot →
+      ChainRow m c at 0 (Plain (Malformed (kind.SlotPastScope (at.frame.base + slot)
+      (length at.world.scope))) (position m at.frame))
+  constant : (h : Held) → RootHolds c.root at.frame at.world h →
+      assigns c.tail && is_read_only at.world h ≡ true →
+      ChainRow m c at 0
+      (Plain (AssignmentToConstant (root_name m.program c.root)) (position m at.frame))
+  value_lent : (h : Held) → RootHolds c.root at.frame at.world h →
+      assigns c.tail && is_read_only at.world h ≡ false → assigns c.tail ≡ true →
+      flat at.world.cells (assigned_operand c at.frame.operands).value ≡ None →
+      ChainRow m c at 0 (Plain (DataRace (race_text [])) (position m at.frame))
+  root_lent : (so_far : ChainReads m c at) → (i : ℕ) →
+      cell_of so_far.held.value ≡ Some i → content (slice_get at.world.cells i) ≡ None →
+      ChainRow m c at 0
+      (Plain (DataRace (race_text (root_name m.program c.root))) (position m at.frame))
+  by_walk : {n : ℕ} {x : Problem} (so_far : ChainReads m c at) (r : Held) (cells : List Cell) →
+      RootLends (cell_of so_far.held.value) so_far.held at.world r cells →
+      WalkRow m (walk_of m c at so_far.value r cells) n x → ChainRow m c at n x

@@ -1,0 +1,295 @@
+-- The spots to which the walk of a chain comes, and what it finds there where it ends in a fault.
+use Rattle.std.specs.Prelude.{◌≡◌, ◌⊎◌, ◌+◌, ◌&&◌, ℕ, ℤ, List, [], ◌∷◌, ◌++◌, Option, Some, None, Bool, true, false, Err, drop, map, option_map, take}
+use Rattle.grain_value.specs.Cells.{flat}
+use Rattle.grain_value.specs.Locating.{locate}
+use Rattle.grain_value.specs.Maps.{Entries, entry_at}
+use Rattle.grain_value.specs.Operands.{read_write, values_in}
+use Rattle.grain_value.specs.Parts.{part_type, with_part}
+use Rattle.grain_value.specs.Writing.{type_name_of}
+use Rattle.grain_value.specs.declared.natives.Native.{Native}
+use Rattle.grain_value.specs.declared.values.Dynamic.{Dynamic}
+use Rattle.grain_value.specs.declared.values.Dynamic.TheVariants as dynamic
+use Rattle.grain_value.specs.declared.values.Held.{Held}
+use Rattle.grain_value.specs.declared.values.locating.Spot.{Spot}
+use Rattle.grain_value.specs.declared.values.value_faults.ValueFault.TheVariants as fault
+use Rattle.grain_fault.specs.Absences.{is_indexing_type}
+use Rattle.grain_fault.specs.Positions.{at_position_if_none}
+use Rattle.grain_fault.specs.Problems.{FaultKind, Problem, Plain, InFunctionCall, InModule, SystemError, NoMemory, Arithmetic, ArrayBounds, BitFieldBounds, DataRace, DataTooLarge, MismatchDataType, NonPureCall, PropertyNotFound, StringBounds}
+use Rattle.grain_fault.specs.declared.places.Position.{Position}
+use Rattle.grain_host.specs.Law as reply
+use Rattle.grain_host.specs.Signatures.{not_found}
+use Rattle.grain_ops.specs.Outcomes.{ArithmeticFault, TooLarge}
+use Rattle.grain_program.specs.View.{name_of}
+use Rattle.grain_program.specs.declared.code.parts.AssignOp.{AssignOp}
+use Rattle.grain_program.specs.declared.code.chains.Step.{Step}
+use Rattle.grain_program.specs.declared.code.chains.Step.TheVariants as step
+use Rattle.grain_program.specs.declared.code.chains.StepFlags.{StepFlags}
+use Rattle.grain_means.specs.Worlds.{is_stop, Answer, Came, Failed, Place, Setup, World}
+use Rattle.grain_means.specs.Places.{look, put}
+use Rattle.grain_means.specs.Rules.{Receiver, cells_given_back, first_is_read_only, flat_all, given, given_back, lent_at, lent_held, op_assigned, placed, race_text, roots_given_back, trees_in}
+use Rattle.grain_means.specs.Tasks.{Call, Task, Done, Mark, Look, Flatten, Write, Root, Drop, Need, Ill}
+use Rattle.grain_means.specs.Walks.{Course, OfPart, Rest, assigning, flattening, index_type, key_of, operand, operating, out_of_bounds, role_before, set_back, taken, walked, whole_walk}
+use Rattle.grain_means.specs.Causes.Natives.{IsCalled, Question, native_asked, reply_to}
+
+-- A walk of a chain in the world: what the chain took from the operands, and its steps, the place of the
+-- walk's first root, how many roots there were, that one with them, and the world in which it begins.
+pub record ChainWalk (S : Type 0) : Type 0 where
+  pub course : Course
+  pub steps : List Step
+  pub place : Place
+  pub others : ℕ
+  pub start : World S
+
+-- a mark is passed
+abbrev pub past : {S : Type 0} → World S → World S
+past w = record w { passed = w.passed + 1 }
+
+-- memory is not out at the next mark
+abbrev pub Passes : {S : Type 0} → Setup S → World S → Type 0
+Passes m w = is_stop m.stop w.passed ≡ false
+
+-- what a walk needs is a question to the host, on arguments as they are read
+abbrev pub question_of : {S : Type 0} → Call → Option Receiver → World S → List Held → Question S
+question_of c r w args =
+    record { host = w.host; cells = w.cells; name = c.name; lent = r; args = args }
+
+-- the world once the host has answered a native of this key
+abbrev pub answered_world : {S : Type 0} → Setup S → ℕ → Option Receiver → List Held → World S →
+    World S
+answered_world m key r args w = record w {
+  host = m.law.call_after w.host key (lent_held r) (trees_in args);
+  scope = given_back m.law w.host key (trees_in args) r w.scope;
+  cells = cells_given_back m.law w.host key (trees_in args) r w.cells;
+  roots = roots_given_back m.law w.host key (trees_in args) r w.roots;
+  passed = w.passed + 1 + 1;
+}
+
+-- How what a walk needs ends where memory is not out, and the world then: an argument is a cell whose
+-- content is lent, or there is no such native, or it writes its first argument, which can only be
+-- read; or the host answers with a value, or with a fault, which has the call's position if it has
+-- none.
+pub data CallEnds {S : Type 0} (m : Setup S) (c : Call) (r : Option Receiver) (w : World S) :
+    Answer → World S → Type 0 where
+  lent : flat_all w.cells (map read_write c.values) ≡ None → Passes m w →
+      CallEnds m c r w (Failed (Plain (DataRace (race_text [])) c.position)) (past w)
+  missing : (args : List Held) → flat_all w.cells (map read_write c.values) ≡ Some args →
+      native_asked m (question_of c r w args) ≡ None → Passes m w →
+      CallEnds m c r w (Failed (not_found c.name (values_in (given r args)) c.position)) (past w)
+  refused : (args : List Held) → flat_all w.cells (map read_write c.values) ≡ Some args →
+      (n : Native) → native_asked m (question_of c r w args) ≡ Some n →
+      n.writes && first_is_read_only (given r args) ≡ true → Passes m w →
+      CallEnds m c r w (Failed (Plain (NonPureCall c.name) c.position)) (past w)
+  gave : (args : List Held) → flat_all w.cells (map read_write c.values) ≡ Some args →
+      (n : Native) → native_asked m (question_of c r w args) ≡ Some n →
+      IsCalled (question_of c r w args) n → Passes m w → Passes m (past w) → (v : Dynamic) →
+      reply_to m (question_of c r w args) n.key ≡ reply.Done v →
+      CallEnds m c r w (Came v) (answered_world m n.key r args w)
+  failed : (args : List Held) → flat_all w.cells (map read_write c.values) ≡ Some args →
+      (n : Native) → native_asked m (question_of c r w args) ≡ Some n →
+      IsCalled (question_of c r w args) n → Passes m w → Passes m (past w) → (x : Problem) →
+      reply_to m (question_of c r w args) n.key ≡ reply.Failed x → Passes m (past (past w)) →
+      CallEnds m c r w (Failed (at_position_if_none c.position x))
+      (past (answered_world m n.key r args w))
+
+-- this is left, and it goes away over roots alone to the walk's end by the fault of the step
+abbrev pub Falls : ℕ → Problem → Task → Type 0
+Falls n x (Done o) = o ≡ Ill n x
+Falls n x (Mark out go) = ⊥
+Falls n x (Look q go) = ⊥
+Falls n x (Flatten v go) = ⊥
+Falls n x (Write q v t) = ⊥
+Falls n x (Root h t) = ⊥
+Falls n x (Drop i go) = (h : Held) → Falls n x (go h)
+Falls n x (Need c go) = ⊥
+
+module _ {S : Type 0} (m : Setup S) (c : ChainWalk S) where
+  -- where a place of the walk lies in the world
+  abbrev pub world_of : Place → Place
+  world_of q = placed c.place c.others q
+
+  -- what is lent for a call
+  abbrev pub lent_for : Call → World S → Option Receiver
+  lent_for call w = lent_at w.roots (option_map world_of call.receiver)
+
+  -- a task in a world comes to this in that world
+  pub data WalksTo (t : Task) (v : World S) : Task → World S → Type 0 where
+    here : WalksTo t v t v
+    marked : {out go : Task} {w : World S} → Passes m w →
+        WalksTo t v go (past w) → WalksTo t v (Mark out go) w
+    looked : {q : Place} {go : Held → Task} {w : World S} →
+        WalksTo t v (go (look w.roots (world_of q))) w → WalksTo t v (Look q go) w
+    read : {u : Dynamic} {go : Option Dynamic → Task} {w : World S} →
+        WalksTo t v (go (flat w.cells u)) w → WalksTo t v (Flatten u go) w
+    wrote : {q : Place} {u : Dynamic} {next : Task} {w : World S} →
+        WalksTo t v next (record w { roots = put w.roots (world_of q) u }) →
+        WalksTo t v (Write q u next) w
+    added : {h : Held} {next : Task} {w : World S} →
+        WalksTo t v next (record w { roots = w.roots ++ h ∷ [] }) → WalksTo t v (Root h next) w
+    dropped : {i : ℕ} {go : Held → Task} {w : World S} →
+        WalksTo t v (go (look w.roots (record { root = c.others + i; path = [] })))
+        (record w { roots = take (c.others + i) w.roots }) → WalksTo t v (Drop i go) w
+    heard : {call : Call} {go : Answer → Task} {w u : World S} {a : Answer} →
+        CallEnds m call (lent_for call w) w a u → WalksTo t v (go a) u →
+        WalksTo t v (Need call go) w
+
+  -- the walk comes to this in this world
+  abbrev pub ComesTo : Task → World S → Type 0
+  ComesTo t v = WalksTo t v (whole_walk c.course c.steps) c.start
+
+  -- the walk comes to a step, which has this number, and is now at a place
+  pub record AtStep (n : ℕ) (s : Step) : Type 0 where
+    pub left : List Step
+    pub stands : drop n c.steps ≡ s ∷ left
+    pub place : Place
+    pub rest : Rest
+    pub world : World S
+    pub comes : ComesTo (taken c.course s n (role_before c.course left)
+        (walked c.course left (n + 1)) place rest) world
+
+  -- what stands at the place where a step begins
+  abbrev pub value_at : {n : ℕ} {s : Step} → AtStep n s → Dynamic
+  value_at at = (look at.world.roots (world_of at.place)).value
+
+  -- the walk comes to an index step of this operand, positions of the index and of its bracket; and the
+  -- operand, as it is read, is this index
+  pub record Indexes (n : ℕ) (index : Dynamic) (q : Position) : Type 0 where
+    pub number : ℕ
+    pub flags : StepFlags
+    pub bracket : Position
+    pub at : AtStep n (step.Index number flags q bracket)
+    pub reads : flat at.world.cells (operand c.course number) ≡ Some index
+
+  -- nothing stands at the index
+  pub record OutOfBounds (n : ℕ) (x : Problem) : Type 0 where
+    pub index : Dynamic
+    pub position : Position
+    pub step : Indexes n index position
+    pub size : ℕ
+    pub number : ℤ
+    pub none : locate (value_at step.at) index ≡ Err (fault.Bounds size number)
+    pub is : x ≡ Plain (out_of_bounds (value_at step.at) size number) position
+
+  -- the index is of a type by which the value is not indexed
+  pub record MistypesIndex (n : ℕ) (x : Problem) : Type 0 where
+    pub index : Dynamic
+    pub position : Position
+    pub step : Indexes n index position
+    pub none : locate (value_at step.at) index ≡ Err fault.WrongType
+    pub is : x ≡ Plain (MismatchDataType (index_type (value_at step.at)) (type_name_of index)) position
+
+  -- a map lacks the key of an index, or of a property, which the chain does not assign
+  pub record LacksIndex (n : ℕ) (x : Problem) : Type 0 where
+    pub index : Dynamic
+    pub position : Position
+    pub step : Indexes n index position
+    pub none : locate (value_at step.at) index ≡ Err fault.NoKey
+    pub reads : assigning (role_before c.course step.at.left) ≡ false
+    pub strict : c.course.setting.engine.strict_properties ≡ true
+    pub is : x ≡ Plain (PropertyNotFound (key_of index)) position
+
+  pub record LacksProperty (n : ℕ) (x : Problem) : Type 0 where
+    pub name : ℕ
+    pub getter : ℕ
+    pub setter : ℕ
+    pub flags : StepFlags
+    pub position : Position
+    pub at : AtStep n (step.Property name getter setter flags position)
+    pub entries : Entries
+    pub map : value_at at ≡ dynamic.Map entries
+    pub none : entry_at (name_of c.course.setting.program name) entries ≡ None
+    pub reads : assigning (role_before c.course at.left) ≡ false
+    pub strict : c.course.setting.engine.strict_properties ≡ true
+    pub is : x ≡ Plain (PropertyNotFound (name_of c.course.setting.program name)) position
+
+  -- an index, an answer in which the walk goes on, or what an operator answers is a cell whose content
+  -- is lent
+  pub record ReadsLentCell (n : ℕ) (x : Problem) : Type 0 where
+    pub value : Dynamic
+    pub position : Position
+    pub rest : Rest
+    pub go : Dynamic → Task
+    pub world : World S
+    pub comes : ComesTo (flattening n position value rest go) world
+    pub lent : flat world.cells value ≡ None
+    pub is : x ≡ Plain (DataRace (race_text [])) position
+
+  -- what is put back of a byte, a character or a bit is of another type
+  pub record MistypesPart (n : ℕ) (x : Problem) : Type 0 where
+    pub spot : Spot
+    pub place : Place
+    pub part : Dynamic
+    pub value : Dynamic
+    pub changed : Bool
+    pub rest : Rest
+    pub world : World S
+    pub comes : ComesTo (set_back c.course.setting n (OfPart spot) place part value changed rest) world
+    pub none : with_part (look world.roots (world_of place)).value spot part ≡ None
+    pub is : x ≡ Plain (MismatchDataType (part_type spot) (type_name_of part))
+        c.course.setting.position
+
+  -- a built-in op-assignment has no result, or it is too large
+  pub record Calculates (n : ℕ) (x : Problem) : Type 0 where
+    pub operator : AssignOp
+    pub value : Dynamic
+    pub position : Position
+    pub place : Place
+    pub rest : Rest
+    pub world : World S
+    pub comes : ComesTo (operating c.course.setting n position operator value place rest) world
+    pub text : List ℕ
+    pub none : let outcome = op_assigned c.course.setting.engine operator
+        (look world.roots (world_of place)).value value in
+        ((outcome ≡ ArithmeticFault text) × (x ≡ Plain (Arithmetic text) position))
+        ⊎ ((outcome ≡ TooLarge text) × (x ≡ Plain (DataTooLarge text) position))
+
+  -- the walk needs a call, which ends with a fault
+  pub record CallFails (n : ℕ) (x : Problem) : Type 0 where
+    pub call : Call
+    pub go : Answer → Task
+    pub world : World S
+    pub comes : ComesTo (Need call go) world
+    pub step : call.step ≡ n
+    pub after : World S
+    pub ends : CallEnds m call (lent_for call world) world (Failed x) after
+
+  -- with that fault the walk ends
+  pub record NativeFails (n : ℕ) (x : Problem) : Type 0 where
+    pub fails : CallFails n x
+    pub last : Falls n x (fails.go (Failed x))
+
+  -- with that fault, of an accessor, the walk ends, since the host's indexer, which was asked in its
+  -- place, failed for want of one
+  pub record InsteadFails (n : ℕ) (x : Problem) : Type 0 where
+    pub first : CallFails n x
+    pub other : Problem
+    pub second : CallFails n other
+    pub absent : is_indexing_type other ≡ true
+    pub last : Falls n x (second.go (Failed other))
+
+  -- why the walk ends in this fault, and blames the step of this number
+  abbrev pub WalkRow : ℕ → Problem → Type 0
+  WalkRow n x = OutOfBounds n x ⊎ (MistypesIndex n x ⊎ (LacksIndex n x ⊎ (LacksProperty n x ⊎
+      (ReadsLentCell n x ⊎ (MistypesPart n x ⊎ (Calculates n x ⊎
+      (NativeFails n x ⊎ InsteadFails n x)))))))
+
+  -- why the walk ends in a fault of this kind at this position, if neither the host answered it nor a
+  -- native was not to be had; it ends in no other kind than these
+  abbrev pub KindRow : ℕ → FaultKind → Position → Type 0
+  KindRow n (ArrayBounds size i) q = OutOfBounds n (Plain (ArrayBounds size i) q)
+  KindRow n (StringBounds size i) q = OutOfBounds n (Plain (StringBounds size i) q)
+  KindRow n (BitFieldBounds size i) q = OutOfBounds n (Plain (BitFieldBounds size i) q)
+  KindRow n (MismatchDataType r a) q = MistypesIndex n (Plain (MismatchDataType r a) q)
+      ⊎ MistypesPart n (Plain (MismatchDataType r a) q)
+  KindRow n (PropertyNotFound k) q =
+      LacksIndex n (Plain (PropertyNotFound k) q) ⊎ LacksProperty n (Plain (PropertyNotFound k) q)
+  KindRow n (DataRace s) q = ReadsLentCell n (Plain (DataRace s) q)
+  KindRow n (Arithmetic s) q = Calculates n (Plain (Arithmetic s) q)
+  KindRow n (DataTooLarge s) q = Calculates n (Plain (DataTooLarge s) q)
+  KindRow n k q = ⊥
+
+  abbrev pub OwnRow : ℕ → Problem → Type 0
+  OwnRow n (Plain k q) = KindRow n k q
+  OwnRow n (InFunctionCall f s x q) = ⊥
+  OwnRow n (InModule f x q) = ⊥
+  OwnRow n (SystemError s e) = ⊥
+  OwnRow n NoMemory = ⊥

@@ -1,0 +1,149 @@
+-- A chain: its root is found, a walk is taken from it, and the root goes back.
+use Rattle.std.specs.Prelude.{ℕ, ◌+◌, ◌&&◌, slice_get, slice_set, List, [], ◌∷◌, ◌++◌, Option, Some, None, Bool, if◌then◌else◌, length, take}
+use Rattle.grain_value.specs.declared.values.Dynamic.{Dynamic}
+use Rattle.grain_value.specs.declared.values.Held.{Held}
+use Rattle.grain_value.specs.declared.stores.Cell.{Cell}
+use Rattle.grain_value.specs.Cells.{idle, lent}
+use Rattle.grain_value.specs.Looking.{cell_of}
+use Rattle.grain_value.specs.Operands.{top, under, arguments}
+use Rattle.grain_value.specs.Scopes.{set_held}
+use Rattle.grain_fault.specs.Problems.{Plain, AssignmentToConstant}
+use Rattle.grain_program.specs.declared.code.chains.Chain.{Chain}
+use Rattle.grain_program.specs.declared.code.chains.Root.{Root}
+use Rattle.grain_program.specs.declared.code.chains.Root.TheVariants as root
+use Rattle.grain_program.specs.declared.code.chains.Tail.{Tail}
+use Rattle.grain_program.specs.declared.code.chains.Tail.TheVariants as tail
+use Rattle.grain_program.specs.declared.code.parts.AssignOp.{AssignOp}
+use Rattle.grain_program.specs.Chains.{assigns, slot_of}
+use Rattle.grain_program.specs.View.{View, name_of, chain_of, assign_op_of}
+use Rattle.grain_means.specs.Worlds.{Place, Frame, World, Act, Setup}
+use Rattle.grain_means.specs.Places.{look}
+use Rattle.grain_means.specs.Tasks.{Walked, Well, Ill, Task}
+use Rattle.grain_means.specs.Walks.{Course, whole_walk}
+use Rattle.grain_means.specs.Rules.Frames.{without, is_read_only}
+use Rattle.grain_means.specs.Rules.Faults.{position, marked, raised, data_race}
+use Rattle.grain_means.specs.Rules.Going.{pushed}
+use Rattle.grain_means.specs.Rules.Reads.{flattened}
+use Rattle.grain_means.specs.Rules.Entries.{at_slot}
+use Rattle.grain_means.specs.Rules.Natives.{trees_in}
+use Rattle.grain_means.specs.Rules.InWorld.{walks}
+
+-- the name by which faults call a chain's root
+abbrev pub root_name : View → Root → List ℕ
+root_name p (root.Local name slot) = name_of p name
+root_name p root.Temporary = []
+
+-- how many operands a root is, and how many a chain assigns
+abbrev pub root_operands : Root → ℕ
+root_operands (root.Local name slot) = 0
+root_operands root.Temporary = 1
+
+abbrev pub assigned_operands : Tail → ℕ
+assigned_operands tail.Read = 0
+assigned_operands (tail.Assign op) = 1
+
+-- how many operands a chain takes: what it assigns, what its steps use, and its root
+abbrev pub chain_operands : Chain → ℕ
+chain_operands c = assigned_operands c.tail + c.operands + root_operands c.root
+
+-- what its steps use
+abbrev pub steps_operands : Chain → List Held → List Held
+steps_operands c hs = arguments c.operands (under (root_operands c.root) hs)
+
+-- what it assigns
+abbrev pub assigned_operand : Chain → List Held → Held
+assigned_operand c hs = top (under (c.operands + root_operands c.root) hs)
+
+-- the op-assignment by which it assigns, if any
+abbrev pub operator_of : View → Tail → Option AssignOp
+operator_of p tail.Read = None
+operator_of p (tail.Assign None) = None
+operator_of p (tail.Assign (Some a)) = Some (assign_op_of p a)
+
+-- the place of a root that is added to others
+abbrev pub new_root : List Held → Place
+new_root roots = record { root = length roots; path = [] }
+
+-- a root that is no cell goes back to its entry, and one that nothing holds goes away
+abbrev pub back_from : {S : Type 0} → Root → Frame → Held → World S → World S
+back_from (root.Local name slot) f h w = record w { scope = set_held w.scope (f.base + slot) h }
+back_from root.Temporary f h w = w
+
+module _ {S : Type 0} (m : Setup S) where
+  -- what a chain's root holds
+  abbrev pub at_root : Root → Frame → World S → (Held → Act S) → Act S
+  at_root (root.Local name slot) f w go = at_slot m f slot w go
+  at_root root.Temporary f w go = go (top f.operands)
+
+  -- what a chain assigns, as it is read, if it assigns something
+  abbrev pub assigned_value : Tail → Held → Frame → World S → (Option Dynamic → Act S) → Act S
+  assigned_value tail.Read h f w go = go None
+  assigned_value (tail.Assign op) h f w go = flattened m h [] f w (λ v. go (Some v))
+
+  -- what a chain took from the operands
+  abbrev pub course_of : Chain → Frame → Option Dynamic → Course
+  course_of c f v = record {
+    setting = record { engine = m.engine; program = m.program; position = position m f };
+    operands = trees_in (steps_operands c f.operands);
+    assigns = v;
+    operator = operator_of m.program c.tail;
+  }
+
+  -- The walk of the chain of index k is over, in a frame without the chain's operands: its value is
+  -- pushed, or its fault is raised, for which the step is blamed.
+  abbrev pub chain_over : ℕ → ℕ → Frame → Walked → World S → Act S
+  chain_over k next f (Well v changed) w = pushed m f next f.operands v w
+  chain_over k next f (Ill n x) w =
+      raised m (record f { slot = Some (slot_of m.program k n) }) x w
+
+  -- The walk of the chain of index k, from a root that is added to those of the world. However it
+  -- ends, the root goes back to where it was held.
+  abbrev pub walk_from : ℕ → Task → ℕ → Frame → Held → (Held → World S → World S) → World S → Act S
+  walk_from k task next f h back w =
+      walks m k f (new_root w.roots) (length w.roots + 1) task
+      (λ o w1. chain_over k next f o
+      (back (look w1.roots (new_root w.roots)) (record w1 { roots = take (length w.roots) w1.roots })))
+      (record w { roots = w.roots ++ h ∷ [] })
+
+  -- what a cell held is lent as a root, which can only be read where the flag says so, and goes back
+  -- to the cell
+  abbrev pub walk_cell : Option Cell → ℕ → Bool → ℕ → Task → ℕ → List ℕ → Frame → Frame →
+      World S → Act S
+  walk_cell None n read_only k task next name f g w = data_race m name f w
+  walk_cell (Some c) n read_only k task next name f g w =
+      if c.busy then data_race m name f w
+      else
+      walk_from k task next g (record { value = c.held.value; read_only = read_only })
+      (λ h w1. record w1 { cells = slice_set w1.cells n (idle (record c.held { value = h.value })) })
+      (record w { cells = slice_set w.cells n (lent c.held) })
+
+  -- the walk from what a root holds, or from what the cell holds that it is
+  abbrev pub walk_root : Option ℕ → Held → ℕ → Chain → Task → ℕ → Frame → Frame → World S → Act S
+  walk_root None h k c task next f g w = walk_from k task next g h (back_from c.root g) w
+  walk_root (Some n) h k c task next f g w =
+      walk_cell (slice_get w.cells n) n (is_read_only w h) k task next
+      (root_name m.program c.root) f g w
+
+  -- A chain assigns to what its root holds: that may not be read-only.
+  abbrev pub unless_constant : Chain → Held → Frame → World S → Act S → Act S
+  unless_constant c h f w go =
+      if assigns c.tail && is_read_only w h
+      then raised m f (Plain (AssignmentToConstant (root_name m.program c.root)) (position m f)) w
+      else go
+
+  -- A chain, in a frame whose first step is blamed: the root is found, which may not be read-only
+  -- where the chain assigns; the value that it assigns is read, and the operands of its steps are
+  -- copied; a root that is a cell is lent; and then the walk, in the frame without the chain's operands.
+  abbrev pub chain_in : ℕ → Chain → ℕ → Frame → Frame → World S → Act S
+  chain_in k c next f g w =
+      at_root c.root f w (λ h. unless_constant c h f w
+      (assigned_value c.tail (assigned_operand c f.operands) f w (λ v.
+      marked m f w
+      (walk_root (cell_of h.value) h k c (whole_walk (course_of c f v) c.steps) next f g))))
+
+  -- the chain of index k
+  abbrev pub chain : ℕ → ℕ → Frame → World S → Act S
+  chain k next f w =
+      let c = chain_of m.program k in
+      chain_in k c next (record f { slot = Some (slot_of m.program k 0) })
+      (without (chain_operands c) f) w

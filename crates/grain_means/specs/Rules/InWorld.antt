@@ -1,0 +1,75 @@
+-- A walk in the world: its first root stands at a place, and its other roots are the last ones of the
+-- world.
+use Rattle.std.specs.Prelude.{ℕ, zero, suc, ◌+◌, List, [], ◌∷◌, ◌++◌, Option, Some, None, take, map, option_map, if◌then◌else◌}
+use Rattle.grain_value.specs.Cells.{flat}
+use Rattle.grain_value.specs.Operands.{read_write}
+use Rattle.grain_value.specs.declared.values.Held.{Held}
+use Rattle.grain_value.specs.declared.values.paths.PathStep.{PathStep}
+use Rattle.grain_fault.specs.Problems.{Problem, Plain, DataRace, NoMemory}
+use Rattle.grain_fault.specs.declared.places.Position.{Position}
+use Rattle.grain_program.specs.Chains.{slot_of}
+use Rattle.grain_program.specs.View.{View}
+use Rattle.grain_means.specs.Worlds.{is_stop, Place, Answer, Came, Failed, Frame, World, Act, Setup}
+use Rattle.grain_means.specs.Places.{look, put}
+use Rattle.grain_means.specs.Tasks.{Task, Done, Mark, Look, Flatten, Write, Root, Drop, Need, Call, Walked}
+use Rattle.grain_means.specs.Rules.Faults.{race_text, marked_or}
+use Rattle.grain_means.specs.Rules.Reads.{flat_all}
+use Rattle.grain_means.specs.Rules.Natives.{AtPlace, Receiver, native_or}
+
+-- the place in the world of a place in a walk that began at p, when there were n roots in the world
+abbrev pub world_place : Place → ℕ → ℕ → List PathStep → Place
+world_place p n zero path = record p { path = p.path ++ path }
+world_place p n (suc k) path = record { root = n + k; path = path }
+
+abbrev pub placed : Place → ℕ → Place → Place
+placed p n q = world_place p n q.root q.path
+
+-- the frame while a step of the chain of index k is done: its faults blame the step, and have this
+-- position
+abbrev pub at_step : View → ℕ → ℕ → Position → Frame → Frame
+at_step program k n q f = record f { slot = Some (slot_of program k n); position = Some q }
+
+-- what stands at a place, as a native is lent it
+abbrev pub lent_at : List Held → Option Place → Option Receiver
+lent_at roots None = None
+lent_at roots (Some p) = Some (record { home = AtPlace p; held = look roots p })
+
+-- what a walk needs comes to a fault, which is raised: the walk hears of it, or, where memory is out
+-- there, of that
+abbrev pub failed_so : {S : Type 0} → Setup S → (Answer → World S → Act S) → Problem → World S → Act S
+failed_so m heard x w = marked_or m (heard (Failed NoMemory)) w (heard (Failed x))
+
+-- a walk of the chain of index k, in a frame
+module _ {S : Type 0} (m : Setup S) (k : ℕ) (f : Frame) where
+  -- The native that a walk needs, on arguments as they are read, and then what follows from its answer,
+  -- or from the fault that one of them is a cell whose content is lent. Where memory is out, the walk
+  -- hears so.
+  abbrev pub needed : Call → Option Receiver → (Answer → World S → Act S) → World S →
+      Option (List Held) → Act S
+  needed c r heard w None = failed_so m heard (Plain (DataRace (race_text [])) c.position) w
+  needed c r heard w (Some args) =
+      native_or m (heard (Failed NoMemory)) c.name r args
+      (at_step m.program k c.step c.position f) w (λ v w1. heard (Came v) w1) (failed_so m heard)
+
+  -- what a walk needs, with the place that is lent
+  abbrev pub performed : Call → Option Place → (Answer → World S → Act S) → World S → Act S
+  performed c p heard w =
+      needed c (lent_at w.roots p) heard w (flat_all w.cells (map read_write c.values))
+
+  -- what is done, where the walk began at p, when there were n roots in the world; and then what
+  -- follows from how it ends
+  abbrev pub walks : Place → ℕ → Task → (Walked → World S → Act S) → World S → Act S
+  walks p n (Done o) done w = done o w
+  walks p n (Mark out go) done w =
+      if is_stop m.stop w.passed then walks p n out done w
+      else walks p n go done (record w { passed = w.passed + 1 })
+  walks p n (Look q go) done w = walks p n (go (look w.roots (placed p n q))) done w
+  walks p n (Flatten v go) done w = walks p n (go (flat w.cells v)) done w
+  walks p n (Write q v t) done w =
+      walks p n t done (record w { roots = put w.roots (placed p n q) v })
+  walks p n (Root h t) done w = walks p n t done (record w { roots = w.roots ++ h ∷ [] })
+  walks p n (Drop i go) done w =
+      walks p n (go (look w.roots (record { root = n + i; path = [] }))) done
+      (record w { roots = take (n + i) w.roots })
+  walks p n (Need c go) done w =
+      performed c (option_map (placed p n) c.receiver) (λ a w1. walks p n (go a) done w1) w
