@@ -134,16 +134,27 @@ lent_is w false (Some a) h = absurd h
 lent_is w true None h = absurd h
 lent_is w true (Some a) h = refl
 
+lent_flag : (w : Walk) (b : Bool) (o : Option Held) → Lends w b o → (h : Held) → o ≡ Some h →
+    h.read_only ≡ w.trail.here.read_only
+lent_flag w false None l h e = cc
+lent_flag w false (Some a) l h e = absurd l
+lent_flag w true None l h e = absurd l
+lent_flag w true (Some a) l h e = let same : a ≡ h = cc in ap (λ (g : Held). g.read_only) (sym same) ∙ l.1
+
 -- the walk then waits, and needs less
 pub asks_less : (p : View) (w v : Walk) (q : Position) (name : List ℕ) (args : List Tree)
     (s : Awaits) (r : Result WalkAnswer OutOfMemory) (n : ℕ) → Asked w q name args s r v →
     IsAtStep p (waiting w s) s → still p (waiting w s) s < n → Needs p v r n
 asks_less p w v q name args s (Ok (answer.Need r)) n h at less =
-    subst (λ (u : Walk). Falls p u (answer.Need r) n) (sym h.1) (record {
-      leads = lent_leads w (lends s) r.receiver h.0.receiver;
-      step = at;
-      lent = lent_is w (lends s) r.receiver h.0.receiver;
-    }, less)
+    subst (λ (u : Walk). Falls p u (answer.Need r) n) (sym h.1) (
+      record {
+        leads = lent_leads w (lends s) r.receiver h.0.receiver;
+        step = at;
+        lent = lent_is w (lends s) r.receiver h.0.receiver;
+        flag = lent_flag w (lends s) r.receiver h.0.receiver;
+      },
+      less,
+    )
 asks_less p w v q name args s (Ok (answer.Ended u changed)) n h at less = absurd h
 asks_less p w v q name args s (Ok (answer.Faulted y k)) n h at less = absurd h
 asks_less p w v q name args s (Err o) n h at less = tt

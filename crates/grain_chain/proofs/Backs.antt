@@ -80,9 +80,10 @@ module _ (x : Context) where
         let after : Task = rest x m (Well m.gives changed) in
         let go : Task = Write (place_of m) d after in
         let written : Walk = record m { trail = put_there m.trail d; marks = m.marks + 1 } in
-        let back : GoesBack x m (putting m (Some d)) changed (Ok None) written =
-        (λ k. go_on (passes x m go k) (writes x (marked m) d after k) tt,
-        record { same = refl; outer = refl }) in
+        let back : GoesBack x m (putting m (Some d)) changed (Ok None) written = (
+          λ k. go_on (passes x m go k) (writes x (marked m) d after k) tt,
+          record { same = refl; outer = refl },
+        ) in
         marked_back x w v (looking w) changed (Ok None)
         (then_back x m v (looking m) (putting m (with_part t s part)) changed (Ok None)
         (looks x m t (λ h. putting m (with_part h.value s part)) standing)

@@ -97,9 +97,11 @@ module _ (x : Context) (w0 : Walk) (t0 : Task) where
       let led = back_led w g t changed h went in
       let here = subst (λ (q : Result (Option WalkAnswer) OutOfMemory).
       GoesBack x (left_root w g t) (returning w g t changed) changed q v) e back in
-      let all : Led v (rest x v (Well w.gives changed)) = λ k. go_on (led k) (here.0 k) tt in
-      (subst (λ (d : Dynamic). Led v (rest x v (Well d changed)))
-      (sym (ap (λ (u : Walk). u.gives) here.1.same)) all, here.1)
+      let all : Led v (rest x v (Well w.gives changed)) = λ k. go_on (led k) (here.0 k) tt in (
+        subst (λ (d : Dynamic). Led v (rest x v (Well d changed)))
+            (sym (ap (λ (u : Walk). u.gives) here.1.same)) all,
+        here.1,
+      )
 
   -- the first root alone is left
   pub back_home : (w : Walk) (t : Standing) (changed : Bool) (d e : Dynamic) →

@@ -35,9 +35,10 @@ module _ (x : Context) where
       Takes x w (at_mark w.step (rest x w) (next_step x w (deeper (place_of w) s) (rest x w))) (Ok None) v
   dives w v s e =
       subst (λ (u : Walk). Takes x w (at_mark w.step (rest x w)
-      (next_step x w (deeper (place_of w) s) (rest x w))) (Ok None) u) (sym e)
-      (passes x w (next_step x w (deeper (place_of w) s) (rest x w)),
-      record { same = refl; grown = omega arith })
+      (next_step x w (deeper (place_of w) s) (rest x w))) (Ok None) u) (sym e) (
+        passes x w (next_step x w (deeper (place_of w) s) (rest x w)),
+        record { same = refl; grown = omega arith },
+      )
 
   -- a key is added, and the walk goes there
   pub adds : (w v : Walk) (key : List ℕ) (d : Dynamic) →
@@ -47,9 +48,10 @@ module _ (x : Context) where
   adds w v key d e =
       let on : Task = next_step x w (deeper (place_of w) (path_step.Key key)) (rest x w) in
       let go : Task = Write (place_of w) (with_key key d) on in
-      subst (λ (u : Walk). Takes x w (at_mark w.step (rest x w) go) (Ok None) u) (sym e)
-      (λ k. go_on (passes x w go k) (writes x (marked w) (with_key key d) on k) tt,
-      record { same = refl; grown = omega arith })
+      subst (λ (u : Walk). Takes x w (at_mark w.step (rest x w) go) (Ok None) u) (sym e) (
+        λ k. go_on (passes x w go k) (writes x (marked w) (with_key key d) on k) tt,
+        record { same = refl; grown = omega arith },
+      )
 
   -- a newer root
   pub enters : (w : Walk) (o : CodeOrigin) (h : Held) (next : Next) →
@@ -64,12 +66,13 @@ module _ (x : Context) where
       (Ok None) v
   roots_in w v o h e =
       subst (λ (u : Walk). Takes x w (rooted (setting x w) w.step (origin_of o) h (next_step x w)
-      (place_of w) (rest x w)) (Ok None) u) (sym e)
-      (enters w o h (next_step x w),
-      record {
-        same = refl;
-        grown = omega (arith, length-append w.trail.outer (aside w o ∷ []));
-      })
+      (place_of w) (rest x w)) (Ok None) u) (sym e) (
+        enters w o h (next_step x w),
+        record {
+          same = refl;
+          grown = omega (arith, length-append w.trail.outer (aside w o ∷ []));
+        },
+      )
 
   -- the newest root goes
   pub leaves : (w : Walk) (g : Gone) (t : Standing) (u : Dynamic) (changed : Bool) →

@@ -291,11 +291,13 @@ still p w (awaits.IndexRead q i n) = steps_left p w + 2
 still p w (awaits.OpAssigned q a) = backs w + 1
 still p w (awaits.Operator q) = backs w
 
--- A walk that waits for an answer: a receiver comes back exactly where one was lent.
+-- A walk that waits for an answer: a receiver comes back exactly where one was lent, and has the flag of
+-- its root.
 pub record Waits (p : View) (w : Walk) (receiver : Option Held) : Type 0 where
   pub leads : lends w.awaits ≡ true → Leads w.trail.path (tree w.trail.here.value)
   pub step : IsAtStep p w w.awaits
   pub lent : is_some receiver ≡ lends w.awaits
+  pub flag : (h : Held) → receiver ≡ Some h → h.read_only ≡ w.trail.here.read_only
 
 -- where something is needed, the walk waits, and it needs fewer things after it than this
 abbrev pub Falls : View → Walk → WalkAnswer → ℕ → Type 0

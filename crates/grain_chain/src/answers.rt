@@ -55,7 +55,7 @@ impl Walk {
         }
     }
 
-    // Goes on in an answer, which is a new root.
+    // Goes on in an answer, which is a new root. The chain's own value is the answer as it is given.
     fn go_in(
         &mut self,
         context: Context<'_>,
@@ -76,7 +76,8 @@ impl Walk {
             go,
         } = into;
         if own {
-            return self.go_on(context, origin, go, value);
+            self.gives = value;
+            return self.well(context, false);
         }
         let Ok(content) = flat_copy(self.alloc, context.cells, value) else {
             return Err(OutOfMemory);

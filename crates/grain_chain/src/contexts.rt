@@ -4,8 +4,8 @@ ghost use Rattle.std.specs.Prelude.{◌≡◌, ◌<◌, Some, slice_get};
 ghost use Rattle.grain_program.specs.View.{name_of, chain_of};
 ghost use Rattle.grain_chain.specs.Walking.{steps_of, count_of, ending_in, HasOperator};
 
-use grain_global::Engine;
 use crate::origins::Ending;
+use grain_global::Engine;
 use grain_program::{Program, Step, Tail};
 use grain_value::Store;
 

@@ -5,6 +5,7 @@ mod answers;
 mod asking;
 mod contexts;
 mod faults;
+mod indexers;
 mod indexing;
 mod leading;
 mod origins;

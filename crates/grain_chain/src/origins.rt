@@ -14,7 +14,10 @@ pub(crate) enum Origin {
     Part(Spot),
     /// What an indexer gave for an index, or a missing key's unit: an indexer sets it, and its faults
     /// have this position.
-    Index { index: Dynamic, bracket: Position },
+    Index {
+        index: Dynamic,
+        bracket: Position,
+    },
     /// What a getter gave: the setter sets it. Where the chain does not assign the property itself,
     /// it is no fault that there is none.
     Property {
@@ -104,7 +107,10 @@ pub(crate) enum Awaits {
         into: Into,
     },
     /// An indexer gives a property of which the getter failed with this fault.
-    GotInstead { fault: EvalAltResult, into: Into },
+    GotInstead {
+        fault: EvalAltResult,
+        into: Into,
+    },
     /// An indexer gives what an index names.
     IndexGot(Into),
     /// An indexer gives what an op-assignment changes.

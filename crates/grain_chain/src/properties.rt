@@ -216,7 +216,12 @@ impl Walk {
     {
         let name = named(self.alloc, context.program, name)?;
         let values = one(self.alloc, name)?;
-        self.ask(pos, "index$get$", values, Awaits::GotInstead { fault, into })
+        self.ask(
+            pos,
+            "index$get$",
+            values,
+            Awaits::GotInstead { fault, into },
+        )
     }
 
     // Asks a setter to set the chain's value.

@@ -149,11 +149,7 @@ impl Walk {
     }
 
     // What is put back is of another type than what stands there.
-    fn refuse_part(
-        &mut self,
-        spot: Spot,
-        part: &Dynamic,
-    ) -> Result<Option<WalkAnswer>, OutOfMemory>
+    fn refuse_part(&mut self, spot: Spot, part: &Dynamic) -> Result<Option<WalkAnswer>, OutOfMemory>
         ensures goes { (x : AnyContext) (changed : Bool) → GoesBack x self.old
             (failing self.old.step (Plain (MismatchDataType (part_type spot) (type_name_of part.now))
             self.old.pos) (rest x self.old)) changed result self.new }

@@ -75,11 +75,7 @@ impl Walk {
     }
 
     // Takes a step. None says that the walk goes on at the next one.
-    fn take(
-        &mut self,
-        context: Context<'_>,
-        step: Step,
-    ) -> Result<Option<WalkAnswer>, OutOfMemory>
+    fn take(&mut self, context: Context<'_>, step: Step) -> Result<Option<WalkAnswer>, OutOfMemory>
         requires at { self.old.step < count context.program.now self.old }
         ensures takes { Takes context.entry self.old
             (at_mark self.old.step (rest context.entry self.old)
@@ -138,9 +134,7 @@ fn skips(step: Step) -> bool
 }
 
 // An answer that stops a step.
-pub(crate) fn stop(
-    went: Result<WalkAnswer, OutOfMemory>,
-) -> Result<Option<WalkAnswer>, OutOfMemory>
+pub(crate) fn stop(went: Result<WalkAnswer, OutOfMemory>) -> Result<Option<WalkAnswer>, OutOfMemory>
     ensures { result ≡ stopped went }
 {
     match went {

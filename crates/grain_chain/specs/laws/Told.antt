@@ -46,9 +46,10 @@ stops true b = itself b
 -- a stretch, as it is played
 pub played : (cells : List Cell) (a b : Own) (t u : Task) (out : Bool) → WalksOn cells a t out b u →
     (stop : Option ℕ) × (play stop cells t a ≡ play stop cells u b)
-played cells a b t u out h =
-    (stop_at out b.passed,
-    h.equal (stop_at out b.passed) (none_within out a.passed b.passed) (stops out b.passed))
+played cells a b t u out h = (
+  stop_at out b.passed,
+  h.equal (stop_at out b.passed) (none_within out a.passed b.passed) (stops out b.passed),
+)
 
 -- where a walk by itself stands still
 abbrev state_of : Play → Own
@@ -133,17 +134,19 @@ module _ (e : Engine) (p : View) (cells : List Cell) where
   falls_with : (w : Walk) (receiver : Option Held) (n : ℕ) (k : ℕ) →
       (h : Held) × WalksOn cells (own (with_receiver w receiver) k) (rest_of e p w (Ill n NoMemory)) false
       (own (h ∷ []) k) (Done (Ill n NoMemory))
-  falls_with w None n k =
-      (oldest w.trail.outer w.trail.here,
-      fell (setting_of e p w.pos) cells n NoMemory w.trail.outer w.trail.here
-      (oldest w.trail.outer w.trail.here) k refl)
+  falls_with w None n k = (
+    oldest w.trail.outer w.trail.here,
+    fell (setting_of e p w.pos) cells n NoMemory w.trail.outer w.trail.here
+        (oldest w.trail.outer w.trail.here) k refl,
+  )
   falls_with w (Some r) n k =
-      let here : Held = put_held w.trail.path r.value w.trail.here in
-      (oldest w.trail.outer here,
-      subst (λ (rs : List Held). WalksOn cells (own rs k) (rest_of e p w (Ill n NoMemory)) false
-      (own (oldest w.trail.outer here ∷ []) k) (Done (Ill n NoMemory)))
-      (sym (put-here w.trail.outer w.trail.here r.value w.trail.path))
-      (fell (setting_of e p w.pos) cells n NoMemory w.trail.outer here (oldest w.trail.outer here) k refl))
+      let here : Held = put_held w.trail.path r.value w.trail.here in (
+        oldest w.trail.outer here,
+        subst (λ (rs : List Held). WalksOn cells (own rs k) (rest_of e p w (Ill n NoMemory)) false
+            (own (oldest w.trail.outer here ∷ []) k) (Done (Ill n NoMemory)))
+            (sym (put-here w.trail.outer w.trail.here r.value w.trail.path))
+            (fell (setting_of e p w.pos) cells n NoMemory w.trail.outer here (oldest w.trail.outer here) k refl),
+      )
 
   is_over : (stop : Option ℕ) (w : Walk) (a : WalkAnswer) (n : ℕ) (s : Own) (rs : List Held) (k : ℕ) →
       Over (Ill n NoMemory) s ≡ play stop cells (left_to_do e p w a) (own rs k) →

@@ -33,8 +33,8 @@ invariant_of-self c =
     let longer = c.in_ok-path.ensures ∙ ap (λ (k : List ℕ). path ++ Key k ∷ []) c.in_ok-copy.ensures in
     record {
       leads = subst (λ (p : List PathStep). Leads p (tree c.put_at.new.self)) (sym longer)
-      (added_leads path c.args.key d c.put_at.new.self es here
-      (is ∙ ap (λ (m : Dynamic). put_value path m d) made));
+          (added_leads path c.args.key d c.put_at.new.self es here
+          (is ∙ ap (λ (m : Dynamic). put_value path m d) made));
       outer = c.self.invariant.outer;
     }
 

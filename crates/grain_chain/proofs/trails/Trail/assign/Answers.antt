@@ -31,10 +31,12 @@ returns c =
     let t : Standing = record s { here = record s.here { value = c.put_at.new.self } } in
     let back = put_back s dynamic.Unit c.assign-answer.new.target c.take_at-target.new.self
     c.put_at.new.self c.self.invariant c.take_at-target.ensures.left c.put_at.ensures.left in
-    let o = assignment c.args.limits.now c.args.token c.take_at-target.result c.args.value.now in
-    (c.take_at-target.result,
-    subst (λ (u : Standing). Stands u c.take_at-target.result × AssignedThere u c.assign-answer.result o t)
-    c.self.view_is
-    (c.take_at-target.ensures.taken,
-    assigned_there s t c.take_at-target.result c.assign-answer.new.target c.assign-answer.result o
-    c.take_at-target.ensures.taken back c.assign-answer.ensures))
+    let o = assignment c.args.limits.now c.args.token c.take_at-target.result c.args.value.now in (
+      c.take_at-target.result,
+      subst (λ (u : Standing). Stands u c.take_at-target.result × AssignedThere u c.assign-answer.result o t)
+          c.self.view_is (
+            c.take_at-target.ensures.taken,
+            assigned_there s t c.take_at-target.result c.assign-answer.new.target c.assign-answer.result o
+                c.take_at-target.ensures.taken back c.assign-answer.ensures,
+          ),
+    )

@@ -22,7 +22,7 @@ invariant_of-self c =
     c.self.invariant.leads) in
     record {
       leads = subst (λ (path : List PathStep). Leads path (tree c.replace-root.new.dest.value))
-      (sym (c.replace-path.ensures.after ∙ c.new.ensures)) refl;
+          (sym (c.replace-path.ensures.after ∙ c.new.ensures)) refl;
       outer = subst AllLead (sym c.in-Ok.ensures.items)
-      (lead_more c.self.inside.outer.items aside c.self.invariant.outer leads);
+          (lead_more c.self.inside.outer.items aside c.self.invariant.outer leads);
     }

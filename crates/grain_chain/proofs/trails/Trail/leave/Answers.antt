@@ -12,6 +12,6 @@ invariant_of-self-2 c =
     (subst AllLead c.in-Some.ensures.items c.self.invariant.outer) in
     record {
       leads = subst (λ (h : Held). Leads c.in-Some.outer.path (tree h.value))
-      (sym c.replace-root.ensures.after) fewer.1;
+          (sym c.replace-root.ensures.after) fewer.1;
       outer = fewer.0;
     }

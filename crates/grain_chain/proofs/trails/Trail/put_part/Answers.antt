@@ -31,11 +31,13 @@ returns c =
     let t : Standing = record s { here = record s.here { value = c.put_at.new.self } } in
     let back = put_back s dynamic.Unit c.put_part-is_put.new.self c.take_at-target.new.self
     c.put_at.new.self c.self.invariant c.take_at-target.ensures.left c.put_at.ensures.left in
-    let o = with_part c.take_at-target.result c.args.spot c.args.part.now in
-    (c.take_at-target.result,
-    subst (λ (u : Standing). Stands u c.take_at-target.result × PartPut u o c.put_part-is_put.result t)
-    c.self.view_is
-    (c.take_at-target.ensures.taken,
-    part_put s t c.take_at-target.result c.put_part-is_put.new.self o c.put_part-is_put.result
-    c.take_at-target.ensures.taken back c.put_part-is_put.ensures.done c.put_part-is_put.ensures.left
-    c.put_part-is_put.ensures.unchanged))
+    let o = with_part c.take_at-target.result c.args.spot c.args.part.now in (
+      c.take_at-target.result,
+      subst (λ (u : Standing). Stands u c.take_at-target.result × PartPut u o c.put_part-is_put.result t)
+          c.self.view_is (
+            c.take_at-target.ensures.taken,
+            part_put s t c.take_at-target.result c.put_part-is_put.new.self o c.put_part-is_put.result
+                c.take_at-target.ensures.taken back c.put_part-is_put.ensures.done c.put_part-is_put.ensures.left
+                c.put_part-is_put.ensures.unchanged,
+          ),
+    )

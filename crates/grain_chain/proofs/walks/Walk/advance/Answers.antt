@@ -153,9 +153,9 @@ steps-preserved c =
     record {
       walks = subst (λ (u : Walk). Led x w0 (ahead x w0) u (ahead x u)) (sym c.step_on.ensures) got.0;
       less = subst (λ (u : Walk). steps_left p u ≤ steps_left p w0) (sym c.step_on.ensures)
-      (omega (arith, fewer_left, inv.less));
+          (omega (arith, fewer_left, inv.less));
       all = subst (λ (u : Walk). c.count_of_steps-count.result ≡ count p u) (sym c.step_on.ensures)
-      (subst (λ (u : Walk). c.count_of_steps-count.result ≡ count p u) (sym got.1.same) inv.all);
+          (subst (λ (u : Walk). c.count_of_steps-count.result ≡ count p u) (sym got.1.same) inv.all);
     }
 
 pub returns-in-Some-clause-goes : goal.returns-in-Some-clause-goes

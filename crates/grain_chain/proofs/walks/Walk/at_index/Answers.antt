@@ -32,9 +32,14 @@ at_spot-requires c =
 pub not_there-requires : goal.not_there-requires
 not_there-requires c =
     let same = same_target c.args.self.now.trail c.requires.0 c.target.result.now c.requires.1.0
-    c.target.ensures in
-    (c.target.result.now, (c.target.ensures, rw (← same) c.requires.1.1,
-    sym c.locate.ensures ∙ c.in-Err.is))
+    c.target.ensures in (
+      c.target.result.now,
+      (
+        c.target.ensures,
+        rw (← same) c.requires.1.1,
+        sym c.locate.ensures ∙ c.in-Err.is,
+      ),
+    )
 
 pub returns-in-Ok-clause-takes : goal.returns-in-Ok-clause-takes
 returns-in-Ok-clause-takes c = λ v stands.

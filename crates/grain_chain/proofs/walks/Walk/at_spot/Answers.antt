@@ -97,4 +97,3 @@ returns-in-Bit-clause-takes c = λ x v i q b stands.
     (record (with_value c.args.self.now v) { value = part v s }) (next_step x c.args.self.now)
     (place_of c.args.self.now) (rest x c.args.self.now)) c.at_part-in-Bit.result c.at_part-in-Bit.new.self) c.in-Bit.is
     (c.at_part-in-Bit.ensures.takes x v stands))
-

@@ -151,17 +151,25 @@ returns-clause-needs c =
     (sym c.in-Operator.is) (needs_more p c.store_answer.new.self c.store_answer.result _ _ c.store_answer.ensures.needs (omega arith))
 
 pub go_in-requires : goal.go_in-requires
-go_in-requires c = record { at =
-    subst (λ (s : Awaits). IsAtStep c.args.context.program.now c.args.self.now s) c.in-PropertyGot.is c.requires.at }
+go_in-requires c = record {
+  at =
+      subst (λ (s : Awaits). IsAtStep c.args.context.program.now c.args.self.now s) c.in-PropertyGot.is c.requires.at;
+}
 
 pub go_in-requires-in-GotInstead : goal.go_in-requires-in-GotInstead
-go_in-requires-in-GotInstead c = record { at =
-    subst (λ (s : Awaits). IsAtStep c.args.context.program.now c.args.self.now s) c.in-GotInstead.is c.requires.at }
+go_in-requires-in-GotInstead c = record {
+  at =
+      subst (λ (s : Awaits). IsAtStep c.args.context.program.now c.args.self.now s) c.in-GotInstead.is c.requires.at;
+}
 
 pub go_in-requires-in-IndexGot : goal.go_in-requires-in-IndexGot
-go_in-requires-in-IndexGot c = record { at =
-    subst (λ (s : Awaits). IsAtStep c.args.context.program.now c.args.self.now s) c.in-IndexGot.is c.requires.at }
+go_in-requires-in-IndexGot c = record {
+  at =
+      subst (λ (s : Awaits). IsAtStep c.args.context.program.now c.args.self.now s) c.in-IndexGot.is c.requires.at;
+}
 
 pub go_in-requires-in-IndexRead : goal.go_in-requires-in-IndexRead
-go_in-requires-in-IndexRead c = record { at =
-    subst (λ (s : Awaits). IsAtStep c.args.context.program.now c.args.self.now s) c.in-IndexRead.is c.requires.at }
+go_in-requires-in-IndexRead c = record {
+  at =
+      subst (λ (s : Awaits). IsAtStep c.args.context.program.now c.args.self.now s) c.in-IndexRead.is c.requires.at;
+}

@@ -44,8 +44,18 @@ use Rattle.grain_chain.proofs.walks.Walk.go_in.Goals as goal
 
 pub returns-then-own-clause-goes : goal.returns-then-own-clause-goes
 returns-then-own-clause-goes c =
-    pick_true c.args.context c.args.self.now c.go_on.new.self c.args.into.own _ _ c.go_on.result
-    c.if-own.true c.go_on.ensures.goes
+    let w = c.args.self.now in
+    let x = c.args.context in
+    let w1 : Walk = record w { gives = c.args.value } in
+    pick_true x w c.well.new.self c.args.into.own (rest x w (Well c.args.value false)) _ c.well.result
+    c.if-own.true
+    (from_same x w w1 c.well.new.self (rest x w (Well c.args.value false)) c.well.result (λ k. refl)
+    c.well.ensures.goes)
+
+pub returns-then-own-clause-needs : goal.returns-then-own-clause-needs
+returns-then-own-clause-needs c =
+    needs_more c.args.context.program.now c.well.new.self c.well.result _ _ c.well.ensures.needs
+    (omega arith)
 
 pub returns-in_default-clause-goes : goal.returns-in_default-clause-goes
 returns-in_default-clause-goes c =
@@ -55,11 +65,11 @@ returns-in_default-clause-goes c =
 
 pub returns-in-Some-clause-goes : goal.returns-in-Some-clause-goes
 returns-in-Some-clause-goes c =
-    pick_false c.args.context c.args.self.now c.go_on-in-Some.new.self c.args.into.own _ _
-    c.go_on-in-Some.result c.if-own.false
-    (goes_flat c.args.context c.args.self.now c.go_on-in-Some.new.self c.args.into.pos c.args.value _
-    (Some c.in-Some.content) c.go_on-in-Some.result (sym c.in-Some.is ∙ c.in-Ok.ensures)
-    c.go_on-in-Some.ensures.goes)
+    pick_false c.args.context c.args.self.now c.go_on.new.self c.args.into.own _ _
+    c.go_on.result c.if-own.false
+    (goes_flat c.args.context c.args.self.now c.go_on.new.self c.args.into.pos c.args.value _
+    (Some c.in-Some.content) c.go_on.result (sym c.in-Some.is ∙ c.in-Ok.ensures)
+    c.go_on.ensures.goes)
 
 pub returns-in-None-clause-goes : goal.returns-in-None-clause-goes
 returns-in-None-clause-goes c =

@@ -27,9 +27,14 @@ use Rattle.grain_fault.specs.Problems.{Plain, DataRace}
 use Rattle.grain_chain.proofs.walks.Walk.index_by_value.Goals as goal
 
 pub at_index-requires : goal.at_index-requires
-at_index-requires c =
-    (c.requires.0, (subst (λ (u : Walk). Stands u.trail c.requires.0) (sym c.in_ok-pass.ensures.passed)
-    c.requires.1.0, c.requires.1.1))
+at_index-requires c = (
+  c.requires.0,
+  (
+    subst (λ (u : Walk). Stands u.trail c.requires.0) (sym c.in_ok-pass.ensures.passed)
+        c.requires.1.0,
+    c.requires.1.1,
+  ),
+)
 
 pub returns-in-Some-clause-takes : goal.returns-in-Some-clause-takes
 returns-in-Some-clause-takes c =

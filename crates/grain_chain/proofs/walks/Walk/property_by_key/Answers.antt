@@ -59,9 +59,11 @@ returns-then-is_there-clause-takes c = λ getter setter.
 pub missing_key-requires : goal.missing_key-requires
 missing_key-requires c =
     let got = is_map c.requires.0 (name_of c.args.context.program.now c.args.name) c.args.is_there
-    c.requires.1.1 in
-    (got.0, subst (λ (u : Walk). Stands u.trail (dynamic.Map got.0)) (sym c.in_ok-pass.ensures.passed)
-    (subst (λ (d : Dynamic). Stands c.args.self.now.trail d) got.1 c.requires.1.0))
+    c.requires.1.1 in (
+      got.0,
+      subst (λ (u : Walk). Stands u.trail (dynamic.Map got.0)) (sym c.in_ok-pass.ensures.passed)
+          (subst (λ (d : Dynamic). Stands c.args.self.now.trail d) got.1 c.requires.1.0),
+    )
 
 pub returns-clause-takes : goal.returns-clause-takes
 returns-clause-takes c = λ getter setter.

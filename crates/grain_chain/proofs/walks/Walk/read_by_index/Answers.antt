@@ -48,4 +48,3 @@ returns-clause-needs c = λ p at.
       origin = origin.Index c.args.index c.args.bracket;
       go = go.Operate c.args.bracket c.args.op;
     })) c.get_by_index.result _ c.get_by_index.ensures at (omega arith)
-

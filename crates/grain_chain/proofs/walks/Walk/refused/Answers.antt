@@ -145,6 +145,8 @@ returns-clause-goes c =
     c.failed-in-Operator.ensures.left)
 
 pub property_not_got-requires : goal.property_not_got-requires
-property_not_got-requires c = record { at =
-    subst (λ (s : Awaits). IsAtStep c.args.context.program.now c.args.self.now s) c.in-PropertyGot.is
-    c.requires.at }
+property_not_got-requires c = record {
+  at =
+      subst (λ (s : Awaits). IsAtStep c.args.context.program.now c.args.self.now s) c.in-PropertyGot.is
+      c.requires.at;
+}

@@ -58,4 +58,3 @@ returns-in-Nothing-clause-goes c =
     (place_of c.args.self.now) c.args.inner c.args.self.now.gives c.args.changed
     (rest c.args.context c.args.self.now)) c.args.changed (Ok None) c.args.self.now) (sym c.in-Nothing.is)
     (as_it_was c.args.context c.args.self.now c.args.changed)
-
