@@ -1,25 +1,24 @@
 -- A walk that asks for a native.
-use Rattle.std.proofs.Common.{◌≡◌, ℕ, ◌+◌, ◌<◌, List, [], ◌∷◌, Bool, true, false, Option, Some, None, Result, Ok, Err, map, is_ok, is_some, refl, sym, ap, ◌∙◌, subst, arith}
+use Rattle.std.proofs.Common.{◌≡◌, ℕ, ◌+◌, ◌<◌, List, [], ◌∷◌, Bool, true, false, Option, Some, None, Result, Ok, Err, map, is_ok, is_some, refl, sym, ap, ◌∙◌, subst}
 use Rattle.grain_value.specs.Tree.{Tree}
 use Rattle.grain_value.specs.View.{tree, value_of}
 use Rattle.grain_value.specs.Paths.{at, Leads}
 use Rattle.grain_value.specs.declared.memory.OutOfMemory.{OutOfMemory}
 use Rattle.grain_value.specs.declared.values.Dynamic.{Dynamic}
 use Rattle.grain_value.specs.declared.values.Held.{Held}
-use Rattle.grain_value.specs.declared.values.paths.PathStep.{PathStep}
 use Rattle.grain_fault.specs.declared.places.Position.{Position}
 use Rattle.grain_program.specs.View.{View}
-use Rattle.grain_means.specs.Places.{put, put_held}
+use Rattle.grain_means.specs.Places.{put}
 use Rattle.grain_means.specs.Worlds.{Answer}
 use Rattle.grain_means.specs.Tasks.{Task, Call, Need, play}
-use Rattle.grain_means.specs.Walks.{asking, at_mark}
+use Rattle.grain_means.specs.Walks.{asking}
 use Rattle.grain_means.specs.lemmas.PlaceLaws.{ok-along, put-along}
 use Rattle.grain_value.specs.laws.Same.{value_of-tree}
 use Rattle.grain_chain.specs.OwnWalks.{WalksOn, own}
 use Rattle.grain_chain.specs.Standings.{Stands}
-use Rattle.grain_chain.specs.Walking.{roots, roots_of, place_of, roots_at, with_receiver, left_to_do, call_of, resumed, lends, IsAtStep, still, Waits, Falls}
-use Rattle.grain_chain.specs.Going.{Goes, Reaches, Needs, Asked, IsRequest, Lends, lent_place, rest}
-use Rattle.grain_chain.specs.laws.Joining.{go_on, by_play, passed_by, as_is}
+use Rattle.grain_chain.specs.Walking.{roots, roots_of, place_of, roots_at, with_receiver, left_to_do, call_of, resumed, lends, IsAtStep, still, Falls}
+use Rattle.grain_chain.specs.Going.{Goes, Needs, Asked, IsRequest, Lends, lent_place, rest}
+use Rattle.grain_chain.specs.laws.Joining.{go_on, by_play}
 use Rattle.grain_chain.specs.laws.Ways.{put-here}
 use Rattle.grain_chain.specs.declared.contexts.Context.{Context}
 use Rattle.grain_chain.specs.declared.origins.Awaits.{Awaits}

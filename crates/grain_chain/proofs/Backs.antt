@@ -1,23 +1,22 @@
 -- Roots that are set back.
-use Rattle.std.proofs.Common.{◌≡◌, ◌+◌, ℕ, List, [], Bool, true, false, Option, Some, None, Result, Ok, Err, is_ok, refl, sym, ap, ◌∙◌, subst}
+use Rattle.std.proofs.Common.{◌≡◌, ◌+◌, Bool, true, false, Option, Some, None, Result, Ok, Err, is_ok, refl, sym, ◌∙◌, subst}
 use Rattle.std.specs.Prelude.{if◌then◌else◌}
 use Rattle.grain_value.specs.Parts.{with_part, part_type}
 use Rattle.grain_value.specs.Writing.{type_name_of}
 use Rattle.grain_value.specs.declared.memory.OutOfMemory.{OutOfMemory}
 use Rattle.grain_value.specs.declared.values.Dynamic.{Dynamic}
-use Rattle.grain_value.specs.declared.values.Held.{Held}
 use Rattle.grain_value.specs.declared.values.locating.Spot.{Spot}
 use Rattle.grain_fault.specs.Problems.{Plain, MismatchDataType}
 use Rattle.grain_means.specs.Tasks.{Task, Look, Write, Well}
-use Rattle.grain_means.specs.Walks.{OfPart, at_mark, failing, put_part, set_back}
+use Rattle.grain_means.specs.Walks.{OfPart, failing, put_part, set_back}
 use Rattle.grain_chain.specs.Standings.{Stands, put_there}
-use Rattle.grain_chain.specs.Walking.{roots_of, place_of}
-use Rattle.grain_chain.specs.Going.{Reaches, Goes, GoesBack, CameBack, WrotePart, stopped, setting, rest, given_up, with_value}
+use Rattle.grain_chain.specs.Walking.{place_of}
+use Rattle.grain_chain.specs.Going.{GoesBack, WrotePart, setting, rest}
 use Rattle.grain_chain.specs.laws.Joining.{go_on, as_is}
 use Rattle.grain_chain.specs.declared.contexts.Context.{Context}
 use Rattle.grain_chain.specs.declared.requests.WalkAnswer.{WalkAnswer}
 use Rattle.grain_chain.specs.declared.walks.Walk.{Walk}
-use Rattle.grain_chain.proofs.Strides.{marked, halts, passes, marked_back, then_back, looks, looked, writes, stops_back}
+use Rattle.grain_chain.proofs.Strides.{marked, passes, marked_back, then_back, looks, looked, writes}
 use Rattle.grain_chain.proofs.Halting.{part_halts, then_halts}
 
 wrote : (w v : Walk) (o : Option Dynamic) → WrotePart w o true v →

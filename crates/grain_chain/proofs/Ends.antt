@@ -1,5 +1,5 @@
 -- How a walk begins, goes on and is over.
-use Rattle.std.proofs.Common.{◌≡◌, ◌+◌, ◌<◌, ◌≤◌, ℕ, List, [], ◌∷◌, Bool, true, false, Option, Some, None, Result, Ok, Err, refl, sym, ap, ◌∙◌, subst}
+use Rattle.std.proofs.Common.{◌≡◌, ◌+◌, ℕ, List, true, Option, Some, None, Result, Ok, Err, refl, sym, subst}
 use Rattle.grain_value.specs.declared.memory.OutOfMemory.{OutOfMemory}
 use Rattle.grain_value.specs.declared.values.Held.{Held}
 use Rattle.grain_fault.specs.Problems.{NoMemory}
@@ -7,10 +7,9 @@ use Rattle.grain_fault.specs.declared.faults.EvalAltResult.TheVariants as fault
 use Rattle.grain_program.specs.View.{View}
 use Rattle.grain_global.specs.declared.engines.Engine.{Engine}
 use Rattle.grain_means.specs.Worlds.{Answer}
-use Rattle.grain_means.specs.Tasks.{Task, Done, Ill}
+use Rattle.grain_means.specs.Tasks.{Task, Ill}
 use Rattle.grain_chain.specs.OwnWalks.{WalksOn, own}
-use Rattle.grain_chain.specs.Standings.{oldest, put_there}
-use Rattle.grain_chain.specs.Walking.{roots_of, roots_at, rest_of, setting_of, left_to_do, resumed, with_receiver, is_out, IsAtStep, still, Falls}
+use Rattle.grain_chain.specs.Walking.{roots_of, roots_at, setting_of, left_to_do, resumed, with_receiver, is_out, IsAtStep, still, Falls}
 use Rattle.grain_chain.specs.Going.{Reaches, Goes, Needs, Settles, fallen, received, rest}
 use Rattle.grain_chain.specs.laws.Joining.{go_on, any}
 use Rattle.grain_chain.specs.laws.Ways.{put-here, fell}

@@ -1,5 +1,5 @@
 -- Rules that begin with a mark, whatever they come to: memory may be out there.
-use Rattle.std.proofs.Common.{◌≡◌, ℕ, List, [], ◌∷◌, Bool, true, false, Option, Some, None}
+use Rattle.std.proofs.Common.{ℕ, List, Bool, true, false, Option, Some, None}
 use Rattle.std.specs.Prelude.{if◌then◌else◌}
 use Rattle.grain_value.specs.declared.values.Dynamic.{Dynamic}
 use Rattle.grain_value.specs.declared.values.Held.{Held}
@@ -8,7 +8,7 @@ use Rattle.grain_fault.specs.declared.places.Position.{Position}
 use Rattle.grain_program.specs.declared.code.parts.AssignOp.{AssignOp}
 use Rattle.grain_ops.specs.Outcomes.{Outcome, NotBuiltIn, Gave, ArithmeticFault, TooLarge}
 use Rattle.grain_means.specs.Tasks.{Task}
-use Rattle.grain_means.specs.Walks.{Role, Origin, Next, at_mark, flat_or_busy, flattening, missing_key, assigning, stored, put_part}
+use Rattle.grain_means.specs.Walks.{Role, Origin, Next, flat_or_busy, flattening, missing_key, assigning, stored, put_part}
 use Rattle.grain_chain.specs.Walking.{roots_of, place_of}
 use Rattle.grain_chain.specs.Going.{Reaches, given_up, rest, setting}
 use Rattle.grain_chain.specs.declared.contexts.Context.{Context}

@@ -1,14 +1,14 @@
 -- A key that is added to a map, and the way to it.
-use Rattle.std.proofs.Common.{◌≡◌, ℕ, List, [], ◌∷◌, ◌++◌, Bool, true, false, cond, Option, Some, None, Result, Ok, Err, is_ok, refl, sym, ap, ◌∙◌, subst}
+use Rattle.std.proofs.Common.{◌≡◌, ℕ, List, [], ◌∷◌, ◌++◌, Bool, cond, Some, None, Ok, is_ok, refl, ap, ◌∙◌}
 use Rattle.std.specs.Ordering.{nat_cmp, match_ordering, is_eq}
 use Rattle.std.specs.declared.cmp.Ordering.{Ordering}
 use Rattle.std.specs.declared.cmp.Ordering.TheVariants.{Less, Equal, Greater}
 use Rattle.std.specs.Cmp.Lexicographic.{slice_cmp}
 use Rattle.std.specs.Map.{lookup}
-use Rattle.std.specs.BTreeMap.{insert_entry, is_at}
+use Rattle.std.specs.BTreeMap.{is_at}
 use Rattle.std.proofs.lemmas.Cmp.{tied_itself, nat_list_cmp_total}
-use Rattle.grain_value.specs.Tree.{Tree, unit, pack_fields, dict}
-use Rattle.grain_value.specs.View.{tree, value_of}
+use Rattle.grain_value.specs.Tree.{Tree, unit}
+use Rattle.grain_value.specs.View.{tree}
 use Rattle.grain_value.specs.Maps.{Entries, entry_at, put_entry}
 use Rattle.grain_value.specs.Paths.{at, put, put_value, keyed, Leads}
 use Rattle.grain_value.specs.laws.Same.{tree-value_of}

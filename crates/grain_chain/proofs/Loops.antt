@@ -1,16 +1,13 @@
 -- The loops of a walk: over its steps, and over its newer roots.
-use Rattle.std.proofs.Common.{◌≡◌, ◌+◌, ◌*◌, ◌<◌, ◌≤◌, ℕ, suc, List, [], ◌∷◌, ◌++◌, Bool, true, false, Option, Some, None, Result, Ok, Err, is_ok, length, length-append, refl, sym, ap, ◌∙◌, subst, arith}
+use Rattle.std.proofs.Common.{◌≡◌, ◌≤◌, ℕ, suc, List, [], ◌∷◌, ◌++◌, Bool, false, Option, Some, None, Result, Ok, Err, is_ok, length, refl, sym, ap, ◌∙◌, subst}
 use Rattle.grain_value.specs.declared.memory.OutOfMemory.{OutOfMemory}
 use Rattle.grain_value.specs.declared.values.Dynamic.{Dynamic}
-use Rattle.grain_value.specs.declared.values.Dynamic.TheVariants as dynamic
-use Rattle.grain_value.specs.declared.values.Held.{Held}
 use Rattle.grain_program.specs.View.{View}
-use Rattle.grain_means.specs.Tasks.{Task, Done, Well}
+use Rattle.grain_means.specs.Tasks.{Task, Well}
 use Rattle.grain_means.specs.Walks.{set_back}
-use Rattle.grain_chain.specs.OwnWalks.{WalksOn, own}
 use Rattle.grain_chain.specs.Standings.{Standing, WentBack}
-use Rattle.grain_chain.specs.Walking.{roots_of, place_of, origin_of, backs, Falls}
-use Rattle.grain_chain.specs.Going.{Reaches, Goes, GoesBack, Takes, CameBack, Went, Needs, NeedsOr, setting, rest, next_step, given_up}
+use Rattle.grain_chain.specs.Walking.{roots_of, place_of, origin_of, Falls}
+use Rattle.grain_chain.specs.Going.{Reaches, Goes, GoesBack, Takes, CameBack, Went, NeedsOr, setting, rest}
 use Rattle.grain_chain.specs.laws.Joining.{go_on}
 use Rattle.grain_chain.specs.declared.contexts.Context.{Context}
 use Rattle.grain_chain.specs.declared.origins.Outer.{Outer}

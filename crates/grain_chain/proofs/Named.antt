@@ -1,5 +1,5 @@
 -- Index steps and property steps, by what stands there.
-use Rattle.std.proofs.Common.{◌≡◌, ◌+◌, ℕ, List, [], ◌∷◌, ◌++◌, Bool, true, false, Option, Some, None, Result, Ok, Err, is_some, refl, sym, ap, ◌∙◌, subst}
+use Rattle.std.proofs.Common.{◌≡◌, ℕ, List, [], ◌∷◌, ◌++◌, Bool, true, false, Option, Some, None, Result, Ok, is_some, refl, sym, subst}
 use Rattle.std.specs.Prelude.{if◌then◌else◌}
 use Rattle.grain_value.specs.Tree.{Tree}
 use Rattle.grain_value.specs.View.{tree}
@@ -10,7 +10,6 @@ use Rattle.grain_value.specs.Paths.{at, Leads}
 use Rattle.grain_value.specs.declared.memory.OutOfMemory.{OutOfMemory}
 use Rattle.grain_value.specs.declared.values.Dynamic.{Dynamic}
 use Rattle.grain_value.specs.declared.values.Dynamic.TheVariants as dynamic
-use Rattle.grain_value.specs.declared.values.Held.{Held}
 use Rattle.grain_value.specs.declared.values.locating.Spot.{Spot}
 use Rattle.grain_value.specs.declared.values.paths.PathStep.{PathStep}
 use Rattle.grain_value.specs.declared.values.paths.PathStep.TheVariants.{Key}

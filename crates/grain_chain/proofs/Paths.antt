@@ -1,5 +1,5 @@
 -- Values at the end of a path that leads somewhere, and the roots of a trail.
-use Rattle.std.proofs.Common.{◌≡◌, ℕ, List, [], ◌∷◌, ◌++◌, Bool, true, false, Option, Some, None, Result, Ok, Err, is_ok, is_some, IfOk, IfErr, refl, sym, ap, ◌∙◌, subst}
+use Rattle.std.proofs.Common.{◌≡◌, List, [], ◌∷◌, ◌++◌, Bool, Option, Some, None, Result, Ok, Err, is_ok, is_some, IfOk, IfErr, sym, ap, ◌∙◌}
 use Rattle.grain_value.specs.Tree.{Tree}
 use Rattle.grain_value.specs.View.{tree, value_of}
 use Rattle.grain_value.specs.Paths.{at, put, put_value, Leads}
@@ -11,7 +11,7 @@ use Rattle.grain_value.specs.declared.values.Dynamic.{Dynamic}
 use Rattle.grain_value.specs.declared.values.Held.{Held}
 use Rattle.grain_value.specs.declared.values.paths.PathStep.{PathStep}
 use Rattle.grain_value.specs.declared.values.value_faults.ValueFault.{ValueFault}
-use Rattle.grain_ops.specs.Outcomes.{Outcome, NotBuiltIn, Gave}
+use Rattle.grain_ops.specs.Outcomes.{Outcome}
 use Rattle.grain_ops.specs.Answers.{Assigns}
 use Rattle.grain_ops.specs.declared.answers.AssignAnswer.{AssignAnswer}
 use Rattle.grain_ops.specs.declared.answers.AssignAnswer.TheVariants as assigned

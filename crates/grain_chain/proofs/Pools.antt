@@ -1,5 +1,5 @@
 -- Entries of a pool, and past its end.
-use Rattle.std.proofs.Common.{◌≡◌, ℕ, zero, suc, List, [], ◌∷◌, Option, Some, None, slice_index_or, refl, sym}
+use Rattle.std.proofs.Common.{◌≡◌, ℕ, zero, suc, List, [], ◌∷◌, Some, None, slice_index_or, refl}
 use Rattle.std.specs.Prelude.{slice_get}
 
 pub past : {A : Type 0} (xs : List A) (i : ℕ) (d : A) → None ≡ slice_get xs i →

@@ -1,8 +1,6 @@
 -- Steps that lead on, and the way back over newer roots.
-use Rattle.std.proofs.Common.{◌≡◌, ℕ, suc, ◌+◌, ◌≤◌, List, [], ◌∷◌, ◌++◌, Bool, true, false, Option, Some, None, Result, Ok, Err, length, length-append, refl, sym, ap, ◌∙◌, subst, arith}
-use Rattle.grain_value.specs.Tree.{unit}
+use Rattle.std.proofs.Common.{◌≡◌, ℕ, ◌+◌, List, [], ◌∷◌, Bool, false, Option, Some, None, Result, Ok, Err, length-append, refl, sym, subst, arith}
 use Rattle.grain_value.specs.declared.memory.OutOfMemory.{OutOfMemory}
-use Rattle.grain_value.specs.declared.stores.Cell.{Cell}
 use Rattle.grain_value.specs.declared.values.Dynamic.{Dynamic}
 use Rattle.grain_value.specs.declared.values.Held.{Held}
 use Rattle.grain_value.specs.declared.values.paths.PathStep.{PathStep}
@@ -12,9 +10,9 @@ use Rattle.grain_means.specs.Places.{deeper}
 use Rattle.grain_means.specs.Tasks.{Task, Done, Write, Well}
 use Rattle.grain_means.specs.Walks.{Next, Setting, at_mark, rooted, set_back, with_key}
 use Rattle.grain_chain.specs.OwnWalks.{WalksOn, own}
-use Rattle.grain_chain.specs.Standings.{Standing, Stands, WentBack, put_there, key_added}
+use Rattle.grain_chain.specs.Standings.{Standing, WentBack, key_added}
 use Rattle.grain_chain.specs.Walking.{roots, roots_of, place_of, origin_of, way_back}
-use Rattle.grain_chain.specs.Going.{Reaches, Goes, Takes, Went, WentIn, Needs, NeedsOr, stopped, setting, rest, next_step, in_root, deep, aside}
+use Rattle.grain_chain.specs.Going.{Reaches, Takes, WentIn, Needs, NeedsOr, stopped, setting, rest, next_step, in_root, deep, aside}
 use Rattle.grain_chain.specs.laws.Joining.{go_on, as_is}
 use Rattle.grain_chain.specs.laws.Ways.{popped, goes_in}
 use Rattle.grain_chain.specs.declared.contexts.Context.{Context}

@@ -1,12 +1,12 @@
 -- What an index names, and the way to it.
-use Rattle.std.proofs.Common.{◌≡◌, ◌<◌, ◌≤◌, ◌-◌, ◌+◌, ℕ, zero, suc, ℤ, pos, negsuc, List, [], ◌∷◌, ◌++◌, Bool, true, false, Option, Some, None, Result, Ok, Err, length, is_ok, is_some, refl, sym, ap, ◌∙◌, subst, arith}
+use Rattle.std.proofs.Common.{◌≡◌, ◌<◌, ◌-◌, ◌+◌, ℕ, zero, suc, ℤ, pos, negsuc, List, [], ◌∷◌, ◌++◌, Bool, true, false, Option, Some, None, Result, Ok, Err, length, is_ok, is_some, refl, sym, ap, ◌∙◌, subst, arith}
 use Rattle.std.specs.Prelude.{nat_lt, slice_get, if◌then◌else◌}
 use Rattle.std.specs.Str.{chars}
 use Rattle.std.proofs.lemmas.Bool.{ltb-true}
 use Rattle.grain_value.specs.Tree.{Tree}
-use Rattle.grain_value.specs.View.{tree, value_of}
+use Rattle.grain_value.specs.View.{tree}
 use Rattle.grain_value.specs.Maps.{Entries, entry_at}
-use Rattle.grain_value.specs.Paths.{at, element, keyed, Leads}
+use Rattle.grain_value.specs.Paths.{at, element, Leads}
 use Rattle.grain_value.specs.Locating.{locate, located_among, located_key, entry_index, or_bounds, spot_at}
 use Rattle.grain_value.specs.laws.PathSteps.{child-array, at-step}
 use Rattle.grain_value.specs.declared.values.Dynamic.{Dynamic}

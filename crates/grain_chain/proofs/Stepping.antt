@@ -1,5 +1,5 @@
 -- Steps that are taken one after the other.
-use Rattle.std.proofs.Common.{◌≡◌, ◌<◌, ◌≤◌, ℕ, zero, suc, ◌+◌, ◌-◌, ◌*◌, List, [], ◌∷◌, Bool, true, false, Option, Some, None, Result, Ok, Err, length, drop, refl, sym, ap, ◌∙◌, subst, arith, add-one}
+use Rattle.std.proofs.Common.{◌≡◌, ◌<◌, ◌≤◌, ℕ, zero, suc, ◌+◌, ◌-◌, List, [], ◌∷◌, Bool, true, false, Option, Some, None, Result, Ok, Err, length, drop, refl, sym, ap, ◌∙◌, subst, arith, add-one}
 use Rattle.std.specs.Prelude.{slice_get, ◌&&◌, if◌then◌else◌}
 use Rattle.grain_value.specs.Looking.{is_unit}
 use Rattle.grain_value.specs.declared.memory.OutOfMemory.{OutOfMemory}
@@ -14,8 +14,8 @@ use Rattle.grain_means.specs.Tasks.{Task, Play, Well, Ill, play}
 use Rattle.grain_means.specs.Walks.{at_mark, unless_unit, skips, taken, walked, role_before, ended, last_role}
 use Rattle.grain_chain.specs.OwnWalks.{own}
 use Rattle.grain_chain.specs.Standings.{Stands}
-use Rattle.grain_chain.specs.Walking.{roots_of, place_of, steps_left, backs, count, Falls}
-use Rattle.grain_chain.specs.Going.{Reaches, Goes, Takes, Went, Needs, NeedsOr, course, steps, setting, rest, next_step}
+use Rattle.grain_chain.specs.Walking.{roots_of, place_of, steps_left, count, Falls}
+use Rattle.grain_chain.specs.Going.{Reaches, Went, Needs, NeedsOr, course, steps, setting, rest, next_step}
 use Rattle.grain_chain.specs.laws.Joining.{go_on, by_play}
 use Rattle.grain_chain.specs.laws.Ways.{look-here}
 use Rattle.grain_chain.specs.declared.contexts.Context.{Context}

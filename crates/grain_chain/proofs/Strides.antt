@@ -1,21 +1,20 @@
 -- Stretches of a walk, one after the other.
-use Rattle.std.proofs.Common.{◌≡◌, ℕ, ◌+◌, List, [], ◌∷◌, Bool, true, false, Option, Some, None, Result, Ok, Err, is_ok, refl, sym, ap, ◌∙◌, subst, arith}
+use Rattle.std.proofs.Common.{◌≡◌, ℕ, ◌+◌, List, [], ◌∷◌, Bool, true, false, Option, Some, None, Result, Ok, Err, is_ok, refl, sym, ap, subst, arith}
 use Rattle.grain_value.specs.Cells.{flat}
 use Rattle.grain_value.specs.declared.memory.OutOfMemory.{OutOfMemory}
-use Rattle.grain_value.specs.declared.stores.Cell.{Cell}
 use Rattle.grain_value.specs.declared.values.Dynamic.{Dynamic}
 use Rattle.grain_value.specs.declared.values.Held.{Held}
-use Rattle.grain_fault.specs.Problems.{Problem, problem_of, NoMemory}
+use Rattle.grain_fault.specs.Problems.{Problem, problem_of}
 use Rattle.grain_fault.specs.declared.faults.EvalAltResult.{EvalAltResult}
 use Rattle.grain_means.specs.Worlds.{Place}
 use Rattle.grain_means.specs.Places.{look}
 use Rattle.grain_means.specs.Tasks.{Task, Own, Done, Look, Flatten, Write, Ill, play}
-use Rattle.grain_means.specs.Walks.{at_mark, failing}
+use Rattle.grain_means.specs.Walks.{at_mark}
 use Rattle.grain_chain.specs.OwnWalks.{WalksOn, own}
 use Rattle.grain_chain.specs.Standings.{Stands, put_there}
-use Rattle.grain_chain.specs.Walking.{roots_of, place_of, setting_of, Did, is_out}
-use Rattle.grain_chain.specs.Going.{Reaches, Goes, GoesBack, Takes, Settles, Went, CameBack, stopped, fallen, given_up, rest, with_value}
-use Rattle.grain_chain.specs.laws.Joining.{go_on, as_is, by_play, passed_by, halted, any}
+use Rattle.grain_chain.specs.Walking.{roots_of, place_of, setting_of}
+use Rattle.grain_chain.specs.Going.{Reaches, Goes, GoesBack, Takes, stopped, fallen, given_up, rest, with_value}
+use Rattle.grain_chain.specs.laws.Joining.{go_on, as_is, by_play, passed_by, halted}
 use Rattle.grain_chain.specs.laws.Ways.{look-here, put-here, fell}
 use Rattle.grain_chain.specs.declared.contexts.Context.{Context}
 use Rattle.grain_chain.specs.declared.requests.WalkAnswer.{WalkAnswer}

@@ -1,32 +1,30 @@
 -- What is done where the steps end, and with answers.
-use Rattle.std.proofs.Common.{◌≡◌, ◌+◌, ◌-◌, ◌<◌, ◌≤◌, ℕ, zero, suc, List, [], ◌∷◌, Bool, true, false, Option, Some, None, Result, Ok, Err, length, drop, refl, sym, ap, ◌∙◌, subst, arith}
+use Rattle.std.proofs.Common.{◌≡◌, ◌<◌, ◌≤◌, ℕ, zero, suc, List, [], ◌∷◌, Bool, true, false, Option, Result, Ok, length, drop, refl, sym, subst, arith}
 use Rattle.std.specs.Prelude.{if◌then◌else◌}
 use Rattle.grain_value.specs.Cells.{flat}
-use Rattle.grain_value.specs.Operands.{read_write}
 use Rattle.grain_value.specs.declared.memory.OutOfMemory.{OutOfMemory}
 use Rattle.grain_value.specs.declared.values.Dynamic.{Dynamic}
 use Rattle.grain_value.specs.declared.values.Dynamic.TheVariants as dynamic
 use Rattle.grain_value.specs.declared.values.Held.{Held}
-use Rattle.grain_fault.specs.Problems.{Problem, Plain, Arithmetic, DataTooLarge, DataRace, problem_of}
+use Rattle.grain_fault.specs.Problems.{Problem, problem_of}
 use Rattle.grain_fault.specs.declared.places.Position.{Position}
 use Rattle.grain_fault.specs.declared.faults.EvalAltResult.{EvalAltResult}
 use Rattle.grain_program.specs.declared.code.parts.AssignOp.{AssignOp}
 use Rattle.grain_program.specs.declared.code.chains.Step.{Step}
 use Rattle.grain_ops.specs.Outcomes.{Outcome, NotBuiltIn, Gave, ArithmeticFault, TooLarge}
 use Rattle.grain_ops.specs.Operators.{assignment}
-use Rattle.grain_means.specs.Worlds.{Place, Came}
 use Rattle.grain_means.specs.Places.{look}
 use Rattle.grain_means.specs.Tasks.{Task, Look, Write, Well}
-use Rattle.grain_means.specs.Walks.{Origin, Next, at_mark, failing, flattening, flat_or_busy, rooted, into_answer, stored, native_stored, operating, Course, Role, Passes, role_before, last_role}
+use Rattle.grain_means.specs.Walks.{at_mark, failing, flattening, flat_or_busy, stored, native_stored, operating, Course, Passes, role_before, last_role}
 use Rattle.grain_chain.specs.Standings.{Standing, Stands, put_there}
 use Rattle.grain_chain.specs.Walking.{roots_of, place_of}
-use Rattle.grain_chain.specs.Going.{Reaches, Goes, FailsAt, setting, rest, with_value}
+use Rattle.grain_chain.specs.Going.{Goes, FailsAt, setting, rest}
 use Rattle.grain_chain.specs.laws.Joining.{go_on}
 use Rattle.grain_chain.specs.declared.contexts.Context.{Context}
 use Rattle.grain_chain.specs.declared.requests.WalkAnswer.{WalkAnswer}
 use Rattle.grain_chain.specs.declared.walks.Walk.{Walk}
 use Rattle.grain_chain.proofs.Strides.{marked, passes, then_goes, looks, looked, writes, flattens, from_same}
-use Rattle.grain_chain.proofs.Halting.{Halts, then_halts, stored_halts, flattening_halts}
+use Rattle.grain_chain.proofs.Halting.{Halts, then_halts, stored_halts}
 
 -- a value was written, and the walk gives unit
 abbrev pub written : Walk → Standing → Walk

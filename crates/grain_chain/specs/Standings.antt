@@ -1,6 +1,5 @@
 -- The roots of a walk of the code, and where it stands in the newest of them.
 use Rattle.std.specs.Prelude.{◌≡◌, ℕ, List, [], ◌∷◌, ◌++◌, Option, Some, None, Bool, true, false, Result, Ok, Err, is_some}
-use Rattle.grain_value.specs.Tree.{Tree}
 use Rattle.grain_value.specs.View.{tree}
 use Rattle.grain_value.specs.Paths.{at, Leads}
 use Rattle.grain_value.specs.Maps.{entry_at}

@@ -3,9 +3,7 @@ use Rattle.std.specs.Prelude.{◌≡◌, ℕ, suc, ◌+◌, ◌-◌, ◌*◌, �
 use Rattle.grain_value.specs.Tree.{Tree, unit}
 use Rattle.grain_value.specs.View.{tree, value_of}
 use Rattle.grain_value.specs.Paths.{Leads}
-use Rattle.grain_value.specs.declared.memory.OutOfMemory.{OutOfMemory}
 use Rattle.grain_value.specs.declared.values.Dynamic.{Dynamic}
-use Rattle.grain_value.specs.declared.values.Dynamic.TheVariants as dynamic
 use Rattle.grain_value.specs.declared.values.Held.{Held}
 use Rattle.grain_value.specs.declared.values.paths.PathStep.{PathStep}
 use Rattle.grain_value.specs.declared.stores.Cell.{Cell}

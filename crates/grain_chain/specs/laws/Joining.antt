@@ -1,10 +1,10 @@
 -- How stretches of a walk by itself are put together.
-use Rattle.std.proofs.Common.{◌≡◌, ◌<◌, ◌≤◌, ◌+◌, ℕ, List, [], ◌∷◌, Option, Some, None, Bool, true, false, refl, sym, ap, ◌∙◌, subst, arith}
+use Rattle.std.proofs.Common.{◌≡◌, ◌≤◌, ◌+◌, ℕ, List, Option, Bool, true, false, refl, sym, ap, ◌∙◌, subst, arith}
 use Rattle.std.specs.Prelude.{if◌then◌else◌}
 use Rattle.grain_value.specs.declared.values.Held.{Held}
 use Rattle.grain_value.specs.declared.stores.Cell.{Cell}
 use Rattle.grain_fault.specs.Problems.{NoMemory}
-use Rattle.grain_means.specs.Tasks.{Task, Mark, Own, Play, Ill, play}
+use Rattle.grain_means.specs.Tasks.{Task, Own, Ill, play}
 use Rattle.grain_means.specs.Worlds.{is_stop}
 use Rattle.grain_means.specs.Simulation.{NoStopWithin, StopsHere}
 use Rattle.grain_means.specs.Walks.{Rest, at_mark}

@@ -10,12 +10,12 @@ use Rattle.grain_fault.specs.Problems.{Problem, problem_of, NoMemory, Plain, InF
 use Rattle.grain_fault.specs.declared.faults.EvalAltResult.{EvalAltResult}
 use Rattle.grain_program.specs.View.{View}
 use Rattle.grain_global.specs.declared.engines.Engine.{Engine}
-use Rattle.grain_means.specs.Worlds.{Place, Answer, Came, Failed, is_stop}
+use Rattle.grain_means.specs.Worlds.{Place, Failed, is_stop}
 use Rattle.grain_means.specs.Simulation.{NoStopWithin, StopsHere}
 use Rattle.grain_means.specs.Places.{put, put_held, or_unit}
 use Rattle.grain_means.specs.Tasks.{Task, Done, Mark, Look, Flatten, Write, Root, Drop, Need, Own, Play, Over, Asks, Well, Ill, play}
 use Rattle.grain_chain.specs.OwnWalks.{WalksOn, StopPersists, own}
-use Rattle.grain_chain.specs.Walking.{Rooted, Did, roots, roots_of, place_of, roots_at, rest_of, setting_of, left_to_do, resumed, with_receiver, is_out, no_memory, is_want, outcome_of}
+use Rattle.grain_chain.specs.Walking.{Rooted, Did, roots_of, place_of, roots_at, rest_of, setting_of, left_to_do, resumed, with_receiver, is_out, no_memory, is_want, outcome_of}
 use Rattle.grain_chain.specs.Standings.{oldest}
 use Rattle.grain_chain.specs.laws.Ways.{put-here, fell}
 use Rattle.grain_chain.specs.declared.origins.Awaits.{Awaits}

@@ -1,16 +1,15 @@
 -- The roots of a walk, and the way back over the newer ones.
-use Rattle.std.proofs.Common.{◌≡◌, ◌<◌, ◌≤◌, ◌+◌, ℕ, zero, suc, List, [], ◌∷◌, ◌++◌, Option, Some, None, Ok, Bool, true, false, is_ok, length, map, take, drop, refl, sym, ap, ◌∙◌, subst, arith}
+use Rattle.std.proofs.Common.{◌≡◌, ◌+◌, ℕ, suc, List, [], ◌∷◌, ◌++◌, Option, Some, Ok, Bool, false, length, map, take, refl, sym, ap, ◌∙◌, subst, arith}
 use Rattle.std.specs.Prelude.{slice_get, slice_set}
 use Rattle.grain_value.specs.declared.values.Dynamic.{Dynamic}
 use Rattle.grain_value.specs.declared.values.Held.{Held}
 use Rattle.grain_value.specs.declared.stores.Cell.{Cell}
 use Rattle.grain_fault.specs.Problems.{Problem}
 use Rattle.grain_value.specs.View.{tree}
-use Rattle.grain_value.specs.Paths.{at, Leads, put_value}
+use Rattle.grain_value.specs.Paths.{at}
 use Rattle.grain_value.specs.declared.values.paths.PathStep.{PathStep}
-use Rattle.grain_means.specs.Worlds.{Place}
 use Rattle.grain_means.specs.Places.{or_unit, along, look, put, put_held, next_root}
-use Rattle.grain_means.specs.Tasks.{Task, Done, Walked, Well, Ill, Root, Own, play, root_after}
+use Rattle.grain_means.specs.Tasks.{Task, Done, Well, Ill, Root, play, root_after}
 use Rattle.grain_means.specs.Walks.{Setting, Rest, Next, Origin, back, set_back, rooted}
 use Rattle.grain_chain.specs.declared.origins.Outer.{Outer}
 use Rattle.grain_chain.specs.declared.origins.Origin.{Origin as CodeOrigin}

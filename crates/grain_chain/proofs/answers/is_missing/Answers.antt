@@ -1,4 +1,4 @@
-use Rattle.std.proofs.Common.{◌≡◌, ℕ, List, [], slice_index_or, refl, subst, ap, sym, ◌∙◌}
+use Rattle.std.proofs.Common.{◌≡◌, ℕ, List, [], slice_index_or, subst, ap, ◌∙◌}
 use Rattle.grain_fault.specs.Problems.{problem_of}
 use Rattle.grain_host.specs.Signatures.{says_missing}
 use Rattle.grain_program.specs.View.{name_of}

@@ -1,13 +1,8 @@
-use Rattle.std.proofs.Common.{◌≡◌, ◌<◌, ℕ, List, Option, Some, None, length, slice_index_or, refl, subst, ap, sym, ◌∙◌, arith}
-use Rattle.std.specs.Prelude.{slice_get}
-use Rattle.grain_program.specs.View.{no_chain, chain_of}
-use Rattle.grain_program.specs.declared.code.chains.Chain.{Chain}
-use Rattle.grain_program.specs.declared.code.chains.Step.{Step}
+use Rattle.std.proofs.Common.{ℕ, Option, subst, ap, sym, ◌∙◌}
 use Rattle.grain_program.specs.declared.code.chains.Tail.{Tail}
 use Rattle.grain_program.specs.declared.code.chains.Tail.TheVariants as tail
-use Rattle.grain_chain.specs.Walking.{ending_in, HasOperator, count_of, steps_of}
+use Rattle.grain_chain.specs.Walking.{ending_in, HasOperator}
 use Rattle.grain_chain.specs.declared.origins.Ending.TheVariants as ending
-use Rattle.grain_chain.proofs.Pools.{past, entry}
 use Rattle.grain_chain.proofs.contexts.ending_of.Goals as goal
 
 pub returns-in-Read : goal.returns-in-Read

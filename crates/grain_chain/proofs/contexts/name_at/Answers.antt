@@ -1,4 +1,4 @@
-use Rattle.std.proofs.Common.{◌≡◌, ℕ, zero, suc, List, [], ◌∷◌, Option, None, slice_index_or, refl, subst}
+use Rattle.std.proofs.Common.{◌≡◌, ℕ, zero, suc, List, [], ◌∷◌, None, slice_index_or, refl, subst}
 use Rattle.std.specs.Prelude.{slice_get}
 use Rattle.grain_chain.proofs.contexts.name_at.Goals as goal
 

@@ -1,13 +1,8 @@
-use Rattle.std.proofs.Common.{◌≡◌, sym, ◌∙◌, subst}
-use Rattle.grain_value.specs.View.{tree}
-use Rattle.grain_value.specs.Paths.{at}
-use Rattle.grain_value.specs.Parts.{with_part}
-use Rattle.grain_value.specs.declared.values.Dynamic.{Dynamic}
+use Rattle.std.proofs.Common.{subst}
 use Rattle.grain_value.specs.declared.values.Dynamic.TheVariants as dynamic
-use Rattle.grain_ops.specs.Answers.{Assigns}
 use Rattle.grain_ops.specs.Operators.{assignment}
-use Rattle.grain_chain.specs.Standings.{Standing, Stands, AssignedThere, PartPut}
-use Rattle.grain_chain.proofs.Paths.{leads_put, leading_twice, put_back, one_value, assigned_there}
+use Rattle.grain_chain.specs.Standings.{Standing, Stands, AssignedThere}
+use Rattle.grain_chain.proofs.Paths.{leads_put, leading_twice, put_back, assigned_there}
 use Rattle.grain_chain.proofs.trails.Trail.assign.Goals as goal
 
 pub put_at-requires : goal.put_at-requires

@@ -1,4 +1,4 @@
-use Rattle.std.proofs.Common.{◌≡◌, List, ◌∷◌, [], sym, ◌∙◌, subst, refl}
+use Rattle.std.proofs.Common.{List, sym, ◌∙◌, subst, refl}
 use Rattle.grain_value.specs.View.{tree}
 use Rattle.grain_value.specs.Paths.{Leads}
 use Rattle.grain_value.specs.declared.values.Held.{Held}

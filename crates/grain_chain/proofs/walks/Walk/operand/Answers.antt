@@ -1,11 +1,6 @@
-use Rattle.std.proofs.Common.{◌≡◌, ◌∙◌, ℕ, zero, suc, List, [], ◌∷◌, Option, Some, None, IfOk, slice_index_or, refl, sym, ap, subst}
-use Rattle.std.specs.Prelude.{slice_get}
-use Rattle.grain_value.specs.Cells.{flat}
-use Rattle.grain_value.specs.Tree.{Tree, unit}
-use Rattle.grain_value.specs.View.{tree, value_of}
-use Rattle.grain_value.specs.laws.Same.{value_of-tree}
+use Rattle.std.proofs.Common.{◌≡◌, IfOk, sym, ap, subst}
+use Rattle.grain_value.specs.View.{value_of}
 use Rattle.grain_value.specs.declared.values.Dynamic.{Dynamic}
-use Rattle.grain_means.specs.lemmas.PlaceLaws.{some-inj}
 use Rattle.grain_chain.proofs.Operands.{found, missing}
 use Rattle.grain_chain.proofs.walks.Walk.operand.Goals as goal
 

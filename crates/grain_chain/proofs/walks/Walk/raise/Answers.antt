@@ -1,9 +1,9 @@
-use Rattle.std.proofs.Common.{◌≡◌, Ok, refl}
+use Rattle.std.proofs.Common.{Ok, refl}
 use Rattle.grain_fault.specs.Problems.{problem_of}
 use Rattle.grain_means.specs.Tasks.{Ill}
 use Rattle.grain_chain.specs.Going.{rest}
 use Rattle.grain_chain.specs.declared.walks.Walk.{Walk}
-use Rattle.grain_chain.proofs.Strides.{passes_goes, fails, marked}
+use Rattle.grain_chain.proofs.Strides.{passes_goes, fails}
 use Rattle.grain_chain.proofs.walks.Walk.raise.Goals as goal
 
 pub returns-clause-goes : goal.returns-clause-goes
