@@ -19,5 +19,6 @@ pub mod Containing
 pub mod Walking
 pub mod Reading
 pub mod Examples
+pub mod ChainExamples
 pub mod Explaining
 pub mod Rows

@@ -1,0 +1,16 @@
+pub mod Strides
+pub mod Asks
+pub mod Halting
+pub mod Paths
+pub mod Keys
+pub mod Roots
+pub mod Stepping
+pub mod Spots
+pub mod Missing
+pub mod Named
+pub mod Backs
+pub mod Operands
+pub mod Tails
+pub mod Loops
+pub mod Ends
+pub mod Pools

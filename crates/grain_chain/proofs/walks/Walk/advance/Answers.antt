@@ -1,0 +1,152 @@
+use Rattle.std.proofs.Common.{◌≡◌, ◌<◌, false, Ok, refl, sym, ap, ◌∙◌, subst, arith}
+use Rattle.grain_means.specs.Walks
+use Rattle.grain_chain.specs.Going.{rest}
+use Rattle.grain_chain.specs.declared.walks.Walk.{Walk}
+use Rattle.grain_chain.proofs.Strides.{then_goes}
+use Rattle.grain_chain.proofs.Stepping.{needs_more}
+use Rattle.grain_means.specs.Tasks.{Task}
+use Rattle.grain_chain.specs.Walking.{count, steps_left}
+use Rattle.grain_chain.proofs.Stepping.{ahead, takes_next, skips_next, turns_less, take_on, then_reaches}
+use Rattle.grain_chain.proofs.Loops.{Led, step_answers, step_gives_up, step_turns, answers_less}
+use Rattle.std.proofs.Common.{rules, is_ok, ◌≤◌}
+use Rattle.grain_chain.proofs.Stepping.{no_steps}
+use Rattle.grain_chain.specs.laws.Joining.{as_is}
+use Rattle.grain_chain.proofs.walks.Walk.advance.Goals as goal
+
+pub steps-init : goal.steps-init
+steps-init c = record {
+  walks = λ k. as_is refl;
+  less = omega arith;
+  all = c.count_of_steps-count.ensures;
+}
+
+pub returns-then-self-count-clause-goes : goal.returns-then-self-count-clause-goes
+returns-then-self-count-clause-goes c =
+    let w0 = c.args.self.now in
+    let w = c.steps.self in
+    let x = c.args.context in
+    let p = x.program.now in
+    let inv = c.steps.invariant in
+    then_goes x w0 w c.end.new.self (ahead x w0) _ c.end.result
+    (subst (λ (t : Task). Led x w0 (ahead x w0) w t)
+    (no_steps x w (omega (arith, inv.all, c.if-self-count.true))) inv.walks) c.end.ensures.goes
+
+pub returns-then-self-count-clause-needs : goal.returns-then-self-count-clause-needs
+returns-then-self-count-clause-needs c =
+    let w0 = c.args.self.now in
+    let w = c.steps.self in
+    let x = c.args.context in
+    let p = x.program.now in
+    let inv = c.steps.invariant in
+    needs_more p c.end.new.self c.end.result _ _ c.end.ensures.needs (omega (arith, inv.less))
+
+pub step_at-step-requires : goal.step_at-step-requires
+step_at-step-requires c = omega (arith, c.steps.invariant.all, c.if-self-count.false)
+
+pub returns-then-ends_before-clause-goes : goal.returns-then-ends_before-clause-goes
+returns-then-ends_before-clause-goes c =
+    let w0 = c.args.self.now in
+    let w = c.steps.self in
+    let x = c.args.context in
+    let p = x.program.now in
+    let inv = c.steps.invariant in
+    let unit = c.ends_before.ensures in
+    then_goes x w0 w c.skip.new.self (ahead x w0) (ahead x w) c.skip.result inv.walks
+    (then_goes x w w c.skip.new.self (ahead x w) _ c.skip.result
+    (skips_next x w c.step_at-step.result unit.0 c.step_at-step.ensures unit.1.0
+    (sym unit.1.1 ∙ c.if-ends_before.true)) c.skip.ensures.goes)
+
+pub returns-then-ends_before-clause-needs : goal.returns-then-ends_before-clause-needs
+returns-then-ends_before-clause-needs c =
+    let w0 = c.args.self.now in
+    let w = c.steps.self in
+    let x = c.args.context in
+    let p = x.program.now in
+    let inv = c.steps.invariant in
+    needs_more p c.skip.new.self c.skip.result _ _ c.skip.ensures.needs (omega (arith, inv.less))
+
+pub take-requires : goal.take-requires
+take-requires c = omega (arith, c.steps.invariant.all, c.if-self-count.false)
+
+pub returns-in_err-take-clause-goes : goal.returns-in_err-take-clause-goes
+returns-in_err-take-clause-goes c =
+    let w0 = c.args.self.now in
+    let w = c.steps.self in
+    let x = c.args.context in
+    let p = x.program.now in
+    let inv = c.steps.invariant in
+    let unit = c.ends_before.ensures in
+    let led = then_reaches x w0 w w (ahead x w0) (ahead x w)
+    (Walks.at_mark w.step (rest x w) (take_on x w c.step_at-step.result)) inv.walks
+    (takes_next x w c.step_at-step.result unit.0 c.step_at-step.ensures unit.1.0
+    (sym unit.1.1 ∙ c.if-ends_before.false)) in
+    let out : is_ok c.from_residual.result ≡ false = search rules in
+    let none : is_ok c.take.result ≡ false = search rules in
+    step_gives_up x w0 (ahead x w0) w c.take.new.self _ c.take.result c.from_residual.result
+    led none out c.take.ensures.takes
+
+pub step_on-requires : goal.step_on-requires
+step_on-requires c =
+    let w0 = c.args.self.now in
+    let w = c.steps.self in
+    let x = c.args.context in
+    let p = x.program.now in
+    let inv = c.steps.invariant in
+    let unit = c.ends_before.ensures in
+    let led = then_reaches x w0 w w (ahead x w0) (ahead x w)
+    (Walks.at_mark w.step (rest x w) (take_on x w c.step_at-step.result)) inv.walks
+    (takes_next x w c.step_at-step.result unit.0 c.step_at-step.ensures unit.1.0
+    (sym unit.1.1 ∙ c.if-ends_before.false)) in
+    let got = step_turns x w0 (ahead x w0) w c.take.new.self _ c.take.result led
+    (c.in_ok-take.was ∙ ap Ok c.in-None.is) c.take.ensures.takes in
+    subst (λ (u : Walk). u.step < count p u) (sym got.1.same)
+    (omega (arith, inv.all, c.if-self-count.false))
+
+pub steps-preserved : goal.steps-preserved
+steps-preserved c =
+    let w0 = c.args.self.now in
+    let w = c.steps.self in
+    let x = c.args.context in
+    let p = x.program.now in
+    let inv = c.steps.invariant in
+    let unit = c.ends_before.ensures in
+    let led = then_reaches x w0 w w (ahead x w0) (ahead x w)
+    (Walks.at_mark w.step (rest x w) (take_on x w c.step_at-step.result)) inv.walks
+    (takes_next x w c.step_at-step.result unit.0 c.step_at-step.ensures unit.1.0
+    (sym unit.1.1 ∙ c.if-ends_before.false)) in
+    let got = step_turns x w0 (ahead x w0) w c.take.new.self _ c.take.result led
+    (c.in_ok-take.was ∙ ap Ok c.in-None.is) c.take.ensures.takes in
+    let here : w.step < count p w = omega (arith, inv.all, c.if-self-count.false) in
+    let fewer_left = turns_less p w c.take.new.self got.1 here in
+    record {
+      walks = subst (λ (u : Walk). Led x w0 (ahead x w0) u (ahead x u)) (sym c.step_on.ensures) got.0;
+      less = subst (λ (u : Walk). steps_left p u ≤ steps_left p w0) (sym c.step_on.ensures)
+          (omega (arith, fewer_left, inv.less));
+      all = subst (λ (u : Walk). c.count_of_steps-count.result ≡ count p u) (sym c.step_on.ensures)
+          (subst (λ (u : Walk). c.count_of_steps-count.result ≡ count p u) (sym got.1.same) inv.all);
+    }
+
+pub returns-in-Some-clause-goes : goal.returns-in-Some-clause-goes
+returns-in-Some-clause-goes c =
+    let w0 = c.args.self.now in
+    let w = c.steps.self in
+    let x = c.args.context in
+    let p = x.program.now in
+    let inv = c.steps.invariant in
+    let unit = c.ends_before.ensures in
+    let led = then_reaches x w0 w w (ahead x w0) (ahead x w)
+    (Walks.at_mark w.step (rest x w) (take_on x w c.step_at-step.result)) inv.walks
+    (takes_next x w c.step_at-step.result unit.0 c.step_at-step.ensures unit.1.0
+    (sym unit.1.1 ∙ c.if-ends_before.false)) in
+    step_answers x w0 (ahead x w0) w c.take.new.self _ c.in-Some.answer c.take.result led
+    (c.in_ok-take.was ∙ ap Ok c.in-Some.is) c.take.ensures.takes
+
+pub returns-in-Some-clause-needs : goal.returns-in-Some-clause-needs
+returns-in-Some-clause-needs c =
+    let w0 = c.args.self.now in
+    let w = c.steps.self in
+    let x = c.args.context in
+    let p = x.program.now in
+    let inv = c.steps.invariant in
+    answers_less p c.take.new.self c.in-Some.answer c.take.result _ _
+    (c.in_ok-take.was ∙ ap Ok c.in-Some.is) c.take.ensures.needs (omega (arith, inv.less))

@@ -1,0 +1,194 @@
+-- Where the calls of a walk lead, of which some answer want of memory. Then the walk is where its next
+-- mark is, and at this mark memory is out.
+use Rattle.std.specs.Prelude.{◌≡◌, ℕ, suc, ◌+◌, ◌≤◌, List, [], ◌∷◌, ◌++◌, length, Option, Some, None, Bool, true, false, Result, Ok, Err}
+use Rattle.grain_value.specs.Tree.{Tree}
+use Rattle.grain_value.specs.declared.memory.OutOfMemory.{OutOfMemory}
+use Rattle.grain_value.specs.declared.values.Held.{Held}
+use Rattle.grain_fault.specs.Problems.{NoMemory, Plain, Arithmetic, DataTooLarge, problem_of}
+use Rattle.grain_fault.specs.declared.faults.EvalAltResult.{EvalAltResult}
+use Rattle.grain_fault.specs.declared.places.Position.{Position}
+use Rattle.grain_fault.specs.declared.faults.EvalAltResult.TheVariants as fault
+use Rattle.grain_means.specs.Worlds.{Place}
+use Rattle.grain_program.specs.View.{View}
+use Rattle.grain_program.specs.declared.code.chains.Step.{Step}
+use Rattle.grain_means.specs.Tasks.{Task, Well, Ill}
+use Rattle.grain_means.specs.Walks.{Setting, Course, Rest, Next}
+use Rattle.grain_chain.specs.OwnWalks.{WalksOn, own}
+use Rattle.grain_chain.specs.Standings.{Stands, oldest, put_there}
+use Rattle.grain_chain.specs.Walking.{roots_of, roots_at, left_to_do, rest_of, place_of, further, setting_of, course_of, steps_of, Falls, lends}
+use Rattle.grain_chain.specs.declared.contexts.Context.{Context}
+use Rattle.grain_value.specs.declared.values.Dynamic.{Dynamic}
+use Rattle.grain_ops.specs.Outcomes.{Outcome, NotBuiltIn, Gave, ArithmeticFault, TooLarge}
+use Rattle.grain_value.specs.declared.values.paths.PathStep.{PathStep}
+use Rattle.grain_chain.specs.declared.origins.Origin.{Origin}
+use Rattle.grain_chain.specs.declared.origins.Outer.{Outer}
+use Rattle.grain_chain.specs.declared.origins.Awaits.{Awaits}
+use Rattle.grain_chain.specs.declared.requests.Request.{Request}
+use Rattle.grain_chain.specs.declared.requests.What.TheVariants as what
+use Rattle.grain_chain.specs.declared.requests.WalkAnswer.{WalkAnswer}
+use Rattle.grain_chain.specs.declared.requests.WalkAnswer.TheVariants as answer
+use Rattle.grain_chain.specs.declared.walks.Walk.{Walk}
+
+-- A walk that went on, in the same root or in a newer one: but for its place it is as it was.
+pub record Went (w v : Walk) : Type 0 where
+  pub same : v ≡ record w { trail = v.trail; marks = v.marks }
+  pub grown : length v.trail.outer ≤ suc (length w.trail.outer)
+
+-- a walk of which a root was set back: but for what stands in its newest root it is as it was
+pub record CameBack (w v : Walk) : Type 0 where
+  pub same : v ≡ record w { trail = v.trail; marks = v.marks }
+  pub outer : v.trail.outer ≡ w.trail.outer
+
+-- the walk with its newer roots gone
+abbrev pub fallen : Walk → Walk
+fallen w = record w {
+  trail = record { outer = []; here = oldest w.trail.outer w.trail.here; path = [] };
+}
+
+-- the walk with a receiver back in its place, and no mark passed
+abbrev pub received : Walk → Option Held → Walk
+received w None = record w { marks = 0 }
+received w (Some h) = record w { trail = put_there w.trail h.value; marks = 0 }
+
+module _ (x : Context) where
+  abbrev pub setting : Walk → Setting
+  setting w = setting_of x.engine.now x.program.now w.pos
+
+  abbrev pub course : Walk → Course
+  course w = course_of x.engine.now x.program.now w
+
+  abbrev pub steps : Walk → List Step
+  steps w = steps_of x.program.now w.chain
+
+  -- the way back
+  abbrev pub rest : Walk → Rest
+  rest w = rest_of x.engine.now x.program.now w
+
+  -- the steps after the one that is taken
+  abbrev pub next_step : Walk → Next
+  next_step w = further x.engine.now x.program.now w
+
+  -- what is left where memory is out at the next mark
+  abbrev pub given_up : Walk → Task
+  given_up w = rest w (Ill w.step NoMemory)
+
+  -- from the walk on, with a task, to where the rest is left
+  abbrev pub Reaches : Walk → Task → Bool → List Held → ℕ → Task → Type 0
+  Reaches old task out new marks now =
+      (k : ℕ) → WalksOn x.cells.now (own (roots_of old) (k + old.marks)) task out
+      (own new (k + marks)) now
+
+  -- the walk answers
+  abbrev pub Goes : Walk → Task → Result WalkAnswer OutOfMemory → Walk → Type 0
+  Goes old task (Ok a) new =
+      Reaches old task false (roots_at new a) new.marks (left_to_do x.engine.now x.program.now new a)
+  Goes old task (Err o) new = Reaches old task true (roots_of new) new.marks (given_up new)
+
+  -- the walk answers, or its way back goes on
+  abbrev pub GoesBack : Walk → Task → Bool → Result (Option WalkAnswer) OutOfMemory → Walk → Type 0
+  GoesBack old task changed (Ok (Some a)) new =
+      Reaches old task false (roots_at new a) new.marks (left_to_do x.engine.now x.program.now new a)
+  GoesBack old task changed (Ok None) new =
+      Reaches old task false (roots_of new) new.marks (rest new (Well old.gives changed))
+      × CameBack old new
+  GoesBack old task changed (Err o) new =
+      Reaches old task true (roots_of new) new.marks (given_up new)
+
+  -- the walk answers, or goes on at the step after the one that is taken
+  abbrev pub Takes : Walk → Task → Result (Option WalkAnswer) OutOfMemory → Walk → Type 0
+  Takes old task (Ok (Some a)) new =
+      Reaches old task false (roots_at new a) new.marks (left_to_do x.engine.now x.program.now new a)
+  Takes old task (Ok None) new =
+      Reaches old task false (roots_of new) new.marks
+      (next_step old (place_of new) (rest new))
+      × Went old new
+  Takes old task (Err o) new = Reaches old task true (roots_of new) new.marks (given_up new)
+
+-- what it needs next is less than this
+abbrev pub Needs : View → Walk → Result WalkAnswer OutOfMemory → ℕ → Type 0
+Needs p w (Ok a) n = Falls p w a n
+Needs p w (Err o) n = Unit {0}
+
+abbrev pub NeedsOr : View → Walk → Result (Option WalkAnswer) OutOfMemory → ℕ → Type 0
+NeedsOr p w (Ok (Some a)) n = Falls p w a n
+NeedsOr p w (Ok None) n = Unit {0}
+NeedsOr p w (Err o) n = Unit {0}
+
+-- an answer that stops a step
+abbrev pub stopped : Result WalkAnswer OutOfMemory → Result (Option WalkAnswer) OutOfMemory
+stopped (Ok a) = Ok (Some a)
+stopped (Err o) = Err o
+
+-- what is lent with a request: what stands where the walk stands, or nothing
+abbrev pub Lends : Walk → Bool → Option Held → Type 0
+Lends w false None = Unit {0}
+Lends w false (Some h) = ⊥
+Lends w true None = ⊥
+Lends w true (Some h) = Stands w.trail h.value × (h.read_only ≡ w.trail.here.read_only)
+
+-- a request of the step that is taken
+pub record IsRequest (w : Walk) (q : Position) (name : List ℕ) (lent : Bool) (args : List Tree)
+    (r : Request) : Type 0 where
+  pub step : r.step ≡ w.step
+  pub pos : r.pos ≡ q
+  pub what : r.what ≡ what.Native name
+  pub arguments : r.arguments ≡ args
+  pub receiver : Lends w lent r.receiver
+
+-- the walk asks for a native, or memory is out
+abbrev pub Asked : Walk → Position → List ℕ → List Tree → Awaits → Result WalkAnswer OutOfMemory →
+    Walk → Type 0
+Asked w q name args s (Ok (answer.Need r)) v =
+    IsRequest w q name (lends s) args r × (v ≡ record w { awaits = s; marks = w.marks + 1 })
+Asked w q name args s (Ok (answer.Ended u changed)) v = ⊥
+Asked w q name args s (Ok (answer.Faulted x n)) v = ⊥
+Asked w q name args s (Err o) v = v ≡ w
+
+-- the place that is lent
+abbrev pub lent_place : Walk → Bool → Option Place
+lent_place w false = None
+lent_place w true = Some (place_of w)
+
+-- the walk's answer; where there was no memory for the next mark, the walk is over
+abbrev pub Settles : Result WalkAnswer OutOfMemory → Walk → WalkAnswer → Walk → Type 0
+Settles (Ok a) w b v = (b ≡ a) × (v ≡ w)
+Settles (Err o) w b v = (b ≡ answer.Faulted fault.Memory w.step) × (v ≡ fallen w)
+
+-- a walk one step further down in the same root
+abbrev pub deep : Walk → PathStep → Walk
+deep w s = record w {
+  trail = record w.trail { path = w.trail.path ++ s ∷ [] };
+  marks = w.marks + 1;
+}
+
+-- the newest root, put aside for a newer one
+abbrev pub aside : Walk → Origin → Outer
+aside w o = record { root = w.trail.here; path = w.trail.path; step = w.step; origin = o }
+
+-- a walk in a newer root
+abbrev pub in_root : Walk → Origin → Held → Walk
+in_root w o h = record w {
+  trail = record { outer = w.trail.outer ++ aside w o ∷ []; here = h; path = [] };
+  marks = w.marks + 1;
+}
+
+abbrev pub WentIn : Walk → Origin → Held → Walk → Type 0
+WentIn w o h v = v ≡ in_root w o h
+
+-- what is held where the walk stands, with this value
+abbrev pub with_value : Walk → Dynamic → Held
+with_value w v = record w.trail.here { value = v }
+
+-- an op-assignment's fault at a position, or want of memory
+abbrev pub FailsAt : Position → Result EvalAltResult OutOfMemory → Outcome → Type 0
+FailsAt q (Ok y) NotBuiltIn = ⊥
+FailsAt q (Ok y) (Gave v) = ⊥
+FailsAt q (Ok y) (ArithmeticFault text) = problem_of y ≡ Plain (Arithmetic text) q
+FailsAt q (Ok y) (TooLarge what) = problem_of y ≡ Plain (DataTooLarge what) q
+FailsAt q (Err e) o = Unit {0}
+
+-- a byte, a character or a bit was written where the walk stands, if the value with it is one
+abbrev pub WrotePart : Walk → Option Dynamic → Bool → Walk → Type 0
+WrotePart w (Some d) b v =
+    (b ≡ true) × (v ≡ record w { trail = put_there w.trail d; marks = w.marks + 1 })
+WrotePart w None b v = (b ≡ false) × (v ≡ w)

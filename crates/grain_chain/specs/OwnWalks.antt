@@ -1,0 +1,21 @@
+-- How code is joined to a walk by itself.
+use Rattle.std.specs.Prelude.{◌≡◌, ◌≤◌, ℕ, List, Option, Bool, true, false}
+use Rattle.grain_value.specs.declared.values.Held.{Held}
+use Rattle.grain_value.specs.declared.stores.Cell.{Cell}
+use Rattle.grain_means.specs.Simulation.{NoStopWithin, StopsHere}
+use Rattle.grain_means.specs.Tasks.{Task, Own, play}
+
+-- once memory is out, no mark is passed
+abbrev pub StopPersists : Bool → ℕ → Bool → ℕ → Type 0
+StopPersists false passed out later = Unit {0}
+StopPersists true passed out later = (out ≡ true) × (later ≡ passed)
+
+-- from the first task on its roots to the second one, beside these cells
+pub record WalksOn (cells : List Cell) (old : Own) (start : Task) (out : Bool) (new : Own)
+    (now : Task) : Type 0 where
+  pub order : old.passed ≤ new.passed
+  pub equal : (stop : Option ℕ) → NoStopWithin stop old.passed new.passed →
+      StopsHere out stop new.passed → play stop cells start old ≡ play stop cells now new
+
+abbrev pub own : List Held → ℕ → Own
+own roots passed = record { roots = roots; passed = passed }

@@ -1,0 +1,304 @@
+-- What a walk of the code is: its roots, its place, and what is left to do.
+use Rattle.std.specs.Prelude.{◌≡◌, ℕ, suc, ◌+◌, ◌-◌, ◌*◌, ◌<◌, List, [], ◌∷◌, ◌++◌, Option, Some, None, Bool, true, false, Result, Ok, Err, length, map, drop, is_some, slice_index_or}
+use Rattle.grain_value.specs.Tree.{Tree, unit}
+use Rattle.grain_value.specs.View.{tree, value_of}
+use Rattle.grain_value.specs.Paths.{Leads}
+use Rattle.grain_value.specs.declared.values.Dynamic.{Dynamic}
+use Rattle.grain_value.specs.declared.values.Held.{Held}
+use Rattle.grain_value.specs.declared.values.paths.PathStep.{PathStep}
+use Rattle.grain_value.specs.declared.stores.Cell.{Cell}
+use Rattle.grain_fault.specs.Problems.{Problem, problem_of, NoMemory, Plain, InFunctionCall, InModule, SystemError}
+use Rattle.grain_fault.specs.declared.places.Position.{Position}
+use Rattle.grain_fault.specs.declared.faults.EvalAltResult.{EvalAltResult}
+use Rattle.grain_program.specs.View.{View, chain_of, assign_op_of}
+use Rattle.grain_program.specs.declared.code.parts.AssignOp.{AssignOp}
+use Rattle.grain_program.specs.declared.code.chains.Step.{Step}
+use Rattle.grain_program.specs.declared.code.chains.Tail.{Tail}
+use Rattle.grain_program.specs.declared.code.chains.Tail.TheVariants as tail
+use Rattle.grain_global.specs.declared.engines.Engine.{Engine}
+use Rattle.grain_means.specs.Places.{put}
+use Rattle.grain_means.specs.Worlds.{Place, Answer, Came, Failed}
+use Rattle.grain_means.specs.Tasks.{Task, Done, Need, Call, Well, Ill}
+use Rattle.grain_means.specs.Walks.{Setting, Course, Role, Passes, Reads, Writes, Operates, Rest, Next, Origin, OfPart, OfIndex, OfProperty, OfNothing, back, into_answer, walked, operating, index_was_set, property_was_set, set_instead, property_was_got, got_instead, index_was_got, index_was_read, was_op_assigned, operator_answered, named}
+use Rattle.grain_chain.specs.OwnWalks.{WalksOn, own}
+use Rattle.grain_chain.specs.declared.origins.Origin.{Origin as CodeOrigin}
+use Rattle.grain_chain.specs.declared.origins.Origin.TheVariants as origin
+use Rattle.grain_chain.specs.declared.origins.Outer.{Outer}
+use Rattle.grain_chain.specs.declared.origins.Ending.{Ending}
+use Rattle.grain_chain.specs.declared.origins.Ending.TheVariants as ending
+use Rattle.grain_chain.specs.declared.origins.Role.{Role as CodeRole}
+use Rattle.grain_chain.specs.declared.origins.Role.TheVariants as role
+use Rattle.grain_chain.specs.declared.origins.Go.{Go}
+use Rattle.grain_chain.specs.declared.origins.Go.TheVariants as go
+use Rattle.grain_chain.specs.declared.origins.Into.{Into}
+use Rattle.grain_chain.specs.declared.origins.Awaits.{Awaits}
+use Rattle.grain_chain.specs.declared.origins.Awaits.TheVariants as awaits
+use Rattle.grain_chain.specs.declared.requests.Request.{Request}
+use Rattle.grain_chain.specs.declared.requests.What.{What}
+use Rattle.grain_chain.specs.declared.requests.What.TheVariants as what
+use Rattle.grain_chain.specs.declared.requests.WalkAnswer.{WalkAnswer}
+use Rattle.grain_chain.specs.declared.requests.WalkAnswer.TheVariants as answer
+use Rattle.grain_chain.specs.declared.walks.Walk.{Walk}
+
+-- what a newer root is
+abbrev pub origin_of : CodeOrigin → Origin
+origin_of (origin.Part s) = OfPart s
+origin_of (origin.Index i q) = OfIndex i q
+origin_of (origin.Property name setter q assigned) = OfProperty name setter q assigned
+origin_of origin.Nothing = OfNothing
+
+-- the steps of the chain of an index
+abbrev pub steps_of : View → ℕ → List Step
+steps_of p k = (chain_of p k).steps
+
+abbrev pub count_of : View → ℕ → ℕ
+count_of p k = length (steps_of p k)
+
+-- the op-assignment of a chain's tail is in its pool
+abbrev pub HasOperator : View → Tail → Type 0
+HasOperator p tail.Read = Unit {0}
+HasOperator p (tail.Assign None) = Unit {0}
+HasOperator p (tail.Assign (Some a)) = a < length p.assign_ops
+
+-- what a chain does where its steps end
+abbrev pub ending_in : View → Tail → Ending
+ending_in p tail.Read = ending.Read
+ending_in p (tail.Assign None) = ending.Write
+ending_in p (tail.Assign (Some a)) = ending.Operate (assign_op_of p a)
+
+-- the value that it assigns, and the op-assignment by which it does, if any
+abbrev pub assigned_by : Ending → Dynamic → Option Dynamic
+assigned_by ending.Read v = None
+assigned_by ending.Write v = Some v
+assigned_by (ending.Operate a) v = Some v
+
+abbrev pub operator_of : Ending → Option AssignOp
+operator_of ending.Read = None
+operator_of ending.Write = None
+operator_of (ending.Operate a) = Some a
+
+-- what a step does besides leading on
+abbrev pub role_in : CodeRole → Dynamic → Role
+role_in role.Passes v = Passes
+role_in role.Reads v = Reads
+role_in role.Writes v = Writes v
+role_in (role.Operates a) v = Operates v a
+
+-- on what the walk runs
+abbrev pub setting_of : Engine → View → Position → Setting
+setting_of e p q = record { engine = e; program = p; position = q }
+
+-- what a walk that begins has from the operands
+abbrev pub new_course : Engine → View → Position → ℕ → List Tree → Dynamic → Course
+new_course e p q k operands v = record {
+  setting = setting_of e p q;
+  operands = operands;
+  assigns = assigned_by (ending_in p ((chain_of p k).tail)) v;
+  operator = operator_of (ending_in p ((chain_of p k).tail));
+}
+
+abbrev pub course_of : Engine → View → Walk → Course
+course_of e p w = record {
+  setting = setting_of e p w.pos;
+  operands = w.operands;
+  assigns = assigned_by w.ending w.value;
+  operator = operator_of w.ending;
+}
+
+abbrev pub outer_root : Outer → Held
+outer_root o = o.root
+
+abbrev pub roots : List Outer → Held → List Held
+roots os h = map outer_root os ++ h ∷ []
+
+-- the roots of a walk, the one at which it began first
+abbrev pub roots_of : Walk → List Held
+roots_of w = roots w.trail.outer w.trail.here
+
+-- where it stands
+abbrev pub place_in : List Outer → List PathStep → Place
+place_in os path = record { root = length os; path = path }
+
+abbrev pub place_of : Walk → Place
+place_of w = place_in w.trail.outer w.trail.path
+
+module _ (g : Setting) where
+  -- the way back over one root more
+  abbrev pub back_over : ℕ → Outer → Rest → Rest
+  back_over i o done = back g o.step (origin_of o.origin) (record { root = i; path = o.path }) done
+
+  -- the way back over the newer roots
+  abbrev pub way_back : ℕ → List Outer → Rest → Rest
+  way_back i [] done = done
+  way_back i (o ∷ os) done = way_back (suc i) os (back_over i o done)
+
+module _ (e : Engine) (p : View) where
+  abbrev pub rest_of : Walk → Rest
+  rest_of w = way_back (setting_of e p w.pos) 0 w.trail.outer Done
+
+  -- the steps after the one that is taken
+  abbrev pub further : Walk → Next
+  further w = walked (course_of e p w) (drop (w.step + 1) (steps_of p w.chain)) (w.step + 1)
+
+  abbrev pub next_of : Walk → Go → Next
+  next_of w go.Further = further w
+  next_of w (go.Operate q a) = operating (setting_of e p w.pos) w.step q a w.value
+
+  -- the walk goes on in an answer
+  abbrev pub gone_into : Walk → Into → Dynamic → Task
+  gone_into w i =
+      into_answer (setting_of e p w.pos) w.step i.pos i.own (origin_of i.origin) (next_of w i.go)
+      (place_of w) (rest_of w)
+
+  -- what is done with an answer
+  abbrev pub resumed : Walk → Awaits → Answer → Task
+  resumed w awaits.IndexSet = index_was_set w.step w.gives (rest_of w)
+  resumed w (awaits.PropertySet name q assigned v) =
+      property_was_set w.step (named (setting_of e p w.pos) name) q assigned (place_of w) v w.gives
+      (rest_of w)
+  resumed w (awaits.SetInstead x assigned) =
+      set_instead w.step (problem_of x) assigned w.gives (rest_of w)
+  resumed w (awaits.PropertyGot name q i) =
+      property_was_got w.step (named (setting_of e p w.pos) name) q (place_of w) (rest_of w) (gone_into w i)
+  resumed w (awaits.GotInstead x i) =
+      got_instead w.step (problem_of x) (rest_of w) (gone_into w i)
+  resumed w (awaits.IndexGot i) = index_was_got w.step (rest_of w) (gone_into w i)
+  resumed w (awaits.IndexRead q i n) =
+      index_was_read w.step q (place_of w) i w.value (rest_of w) (gone_into w n)
+  resumed w (awaits.OpAssigned q a) =
+      was_op_assigned (setting_of e p w.pos) w.step q a w.value (place_of w) (rest_of w)
+  resumed w (awaits.Operator q) = operator_answered w.step q (place_of w) (rest_of w)
+
+  abbrev pub name_in : What → List ℕ
+  name_in (what.Native name) = name
+
+  abbrev pub lent : Walk → Option Held → Option Place
+  lent w None = None
+  lent w (Some h) = Some (place_of w)
+
+  abbrev pub call_of : Walk → Request → Call
+  call_of w r = record {
+    step = r.step;
+    position = r.pos;
+    name = name_in r.what;
+    receiver = lent w r.receiver;
+    values = map value_of r.arguments;
+  }
+
+  -- what a walk has left to do where it stands
+  abbrev pub left_to_do : Walk → WalkAnswer → Task
+  left_to_do w (answer.Need r) = Need (call_of w r) (resumed w w.awaits)
+  left_to_do w (answer.Ended v changed) = Done (Well v changed)
+  left_to_do w (answer.Faulted x n) = Done (Ill n (problem_of x))
+
+-- the roots once a receiver is back in its place
+abbrev pub with_receiver : Walk → Option Held → List Held
+with_receiver w None = roots_of w
+with_receiver w (Some h) = put (roots_of w) (place_of w) h.value
+
+-- the roots that a walk has where it stands: a receiver stands in its place, and a walk that is over has
+-- one root
+abbrev pub roots_at : Walk → WalkAnswer → List Held
+roots_at w (answer.Need r) = with_receiver w r.receiver
+roots_at w (answer.Ended v changed) = w.trail.here ∷ []
+roots_at w (answer.Faulted x n) = w.trail.here ∷ []
+
+abbrev pub no_memory : Problem → Bool
+no_memory (Plain k p) = false
+no_memory (InFunctionCall f s x p) = false
+no_memory (InModule n x p) = false
+no_memory (SystemError s x) = false
+no_memory NoMemory = true
+
+-- memory is out there
+abbrev pub is_out : WalkAnswer → Bool
+is_out (answer.Need r) = false
+is_out (answer.Ended v changed) = false
+is_out (answer.Faulted x n) = no_memory (problem_of x)
+
+-- the first root is read-only, or not
+abbrev pub Rooted : Bool → List Held → Type 0
+Rooted b [] = ⊥
+Rooted b (r ∷ rs) = r.read_only ≡ b
+
+-- an outcome is want of memory
+abbrev pub is_want : Result Dynamic EvalAltResult → Bool
+is_want (Ok v) = false
+is_want (Err x) = no_memory (problem_of x)
+
+abbrev pub outcome_of : Result Dynamic EvalAltResult → Answer
+outcome_of (Ok v) = Came v
+outcome_of (Err x) = Failed (problem_of x)
+
+-- The walk did by itself what the task says, and where it stands now the rest is left, whatever number
+-- of marks there were before its own.
+abbrev pub Did : Engine → View → List Cell → List Held → ℕ → Task → Walk → WalkAnswer → Type 0
+Did e p cells before passed task w a =
+    (k : ℕ) → WalksOn cells (own before (k + passed)) task (is_out a)
+    (own (roots_at w a) (k + w.marks)) (left_to_do e p w a)
+
+-- whether a place is lent with the request after which this is awaited
+abbrev pub lends : Awaits → Bool
+lends awaits.IndexSet = true
+lends (awaits.PropertySet name q assigned v) = true
+lends (awaits.SetInstead x assigned) = true
+lends (awaits.PropertyGot name q i) = true
+lends (awaits.GotInstead x i) = true
+lends (awaits.IndexGot i) = true
+lends (awaits.IndexRead q i n) = true
+lends (awaits.OpAssigned q a) = true
+lends (awaits.Operator q) = false
+
+-- an operand of the chain
+abbrev pub operand_of : Walk → ℕ → Dynamic
+operand_of w i = value_of (slice_index_or w.operands i unit)
+
+-- how many steps the chain of a walk has
+abbrev pub count : View → Walk → ℕ
+count p w = count_of p w.chain
+
+-- what is awaited goes on in a new root after a step of the chain
+abbrev pub IsAtStep : View → Walk → Awaits → Type 0
+IsAtStep p w awaits.IndexSet = Unit {0}
+IsAtStep p w (awaits.PropertySet name q assigned v) = Unit {0}
+IsAtStep p w (awaits.SetInstead x assigned) = Unit {0}
+IsAtStep p w (awaits.PropertyGot name q i) = w.step < count p w
+IsAtStep p w (awaits.GotInstead x i) = w.step < count p w
+IsAtStep p w (awaits.IndexGot i) = w.step < count p w
+IsAtStep p w (awaits.IndexRead q i n) = w.step < count p w
+IsAtStep p w (awaits.OpAssigned q a) = Unit {0}
+IsAtStep p w (awaits.Operator q) = Unit {0}
+
+-- at most how many requests there are on a way back over the newer roots
+abbrev pub backs : Walk → ℕ
+backs w = 2 * length w.trail.outer
+
+-- at most how many requests there are from the step that is taken on, and on the way back
+abbrev pub steps_left : View → Walk → ℕ
+steps_left p w = 4 * (count p w - w.step) + backs w
+
+-- at most how many requests there are after this one
+abbrev pub still : View → Walk → Awaits → ℕ
+still p w awaits.IndexSet = backs w
+still p w (awaits.PropertySet name q assigned v) = backs w + 1
+still p w (awaits.SetInstead x assigned) = backs w
+still p w (awaits.PropertyGot name q i) = steps_left p w + 2
+still p w (awaits.GotInstead x i) = steps_left p w + 1
+still p w (awaits.IndexGot i) = steps_left p w + 1
+still p w (awaits.IndexRead q i n) = steps_left p w + 2
+still p w (awaits.OpAssigned q a) = backs w + 1
+still p w (awaits.Operator q) = backs w
+
+-- A walk that waits for an answer: a receiver comes back exactly where one was lent, and has the flag of
+-- its root.
+pub record Waits (p : View) (w : Walk) (receiver : Option Held) : Type 0 where
+  pub leads : lends w.awaits ≡ true → Leads w.trail.path (tree w.trail.here.value)
+  pub step : IsAtStep p w w.awaits
+  pub lent : is_some receiver ≡ lends w.awaits
+  pub flag : (h : Held) → receiver ≡ Some h → h.read_only ≡ w.trail.here.read_only
+
+-- where something is needed, the walk waits, and it needs fewer things after it than this
+abbrev pub Falls : View → Walk → WalkAnswer → ℕ → Type 0
+Falls p w (answer.Need r) n = Waits p w r.receiver × (still p w w.awaits < n)
+Falls p w (answer.Ended v changed) n = Unit {0}
+Falls p w (answer.Faulted x k) n = Unit {0}

@@ -1,0 +1,331 @@
+//! What a walk does with the answers to its requests.
+
+ghost use Rattle.std.specs.Prelude.{◌≡◌, ◌<◌, ◌+◌, ℕ, true, if◌then◌else◌};
+ghost use Rattle.grain_fault.specs.Problems.{problem_of};
+ghost use Rattle.grain_host.specs.Signatures.{says_missing};
+ghost use Rattle.grain_program.specs.View.{View as AnyProgram, name_of};
+ghost use Rattle.grain_means.specs.Worlds.{Came, Failed};
+ghost use Rattle.grain_value.specs.Operands.{read_write};
+ghost use Rattle.grain_means.specs.Walks.{rooted, index_was_set, property_was_set, set_instead, property_was_got, got_instead, index_was_read, was_op_assigned, named};
+ghost use Rattle.grain_value.specs.declared.values.Dynamic.{Dynamic as AnyValue};
+ghost use Rattle.grain_means.specs.Tasks.{Task, Well, Ill};
+ghost use Rattle.grain_chain.specs.declared.contexts.Context.{Context as AnyContext};
+ghost use Rattle.grain_chain.specs.Walking.{resumed, gone_into, next_of, origin_of, place_of, still, IsAtStep, count, steps_left, backs};
+ghost use Rattle.grain_chain.specs.Going.{Goes, Needs, setting, rest};
+
+use crate::asking::flat_copy;
+use crate::contexts::Context;
+use crate::origins::{Awaits, Go, Into, Origin};
+use crate::requests::WalkAnswer;
+use crate::walks::Walk;
+use grain_fault::{EvalAltResult, Position};
+use grain_host::says_missing;
+use grain_program::{AssignOp, Program};
+use grain_value::{Dynamic, Held, OutOfMemory, Text};
+use std::alloc::Global;
+
+impl Walk {
+    // What was needed came to a value.
+    pub(crate) fn came(
+        &mut self,
+        context: Context<'_>,
+        awaits: Awaits,
+        value: Dynamic,
+    ) -> Result<WalkAnswer, OutOfMemory>
+        requires at { IsAtStep context.program.now self.old awaits }
+        ensures goes { Goes context.entry self.old
+            (resumed context.entry.engine.now context.entry.program.now self.old awaits (Came value))
+            result self.new }
+        ensures needs { Needs context.entry.program.now self.new result
+            (still context.entry.program.now self.old awaits) }
+    {
+        match awaits {
+            Awaits::IndexSet => self.well(context, true),
+            Awaits::PropertySet { .. } => self.well(context, true),
+            Awaits::SetInstead { .. } => self.well(context, true),
+            Awaits::PropertyGot { into, .. } => self.go_in(context, into, value),
+            Awaits::GotInstead { into, .. } => self.go_in(context, into, value),
+            Awaits::IndexGot(into) => self.go_in(context, into, value),
+            Awaits::IndexRead { into, .. } => self.go_in(context, into, value),
+            Awaits::OpAssigned(..) => {
+                self.gives = Dynamic::Unit;
+                self.well(context, true)
+            }
+            Awaits::Operator(pos) => self.store_answer(context, pos, value),
+        }
+    }
+
+    // Goes on in an answer, which is a new root. The chain's own value is the answer as it is given.
+    fn go_in(
+        &mut self,
+        context: Context<'_>,
+        into: Into,
+        value: Dynamic,
+    ) -> Result<WalkAnswer, OutOfMemory>
+        requires at { self.old.step < count context.program.now self.old }
+        ensures goes { Goes context.entry self.old
+            (gone_into context.entry.engine.now context.entry.program.now self.old into value)
+            result self.new }
+        ensures needs { Needs context.entry.program.now self.new result
+            (steps_left context.entry.program.now self.old + 1) }
+    {
+        let Into {
+            pos,
+            own,
+            origin,
+            go,
+        } = into;
+        if own {
+            self.gives = value;
+            return self.well(context, false);
+        }
+        let Ok(content) = flat_copy(self.alloc, context.cells, value) else {
+            return Err(OutOfMemory);
+        };
+        match content {
+            Some(content) => self.go_on(context, origin, go, content),
+            None => self.race(pos),
+        }
+    }
+
+    // Goes on in a new root.
+    fn go_on(
+        &mut self,
+        context: Context<'_>,
+        origin: Origin,
+        go: Go,
+        value: Dynamic,
+    ) -> Result<WalkAnswer, OutOfMemory>
+        requires at { self.old.step < count context.program.now self.old }
+        ensures goes { Goes context.entry self.old
+            (rooted (setting context.entry self.old) self.old.step (origin_of origin)
+            (read_write value)
+            (next_of context.entry.engine.now context.entry.program.now self.old go)
+            (place_of self.old) (rest context.entry self.old)) result self.new }
+        ensures needs { Needs context.entry.program.now self.new result
+            (steps_left context.entry.program.now self.old + 1) }
+    {
+        let root = Held {
+            value,
+            read_only: false,
+        };
+        self.enter(origin, root)?;
+        match go {
+            Go::Further => {
+                self.step_on(context);
+                self.advance(context)
+            }
+            Go::Operate(pos, op) => self.operate(context, pos, op),
+        }
+    }
+
+    // What was needed came to a fault.
+    pub(crate) fn refused(
+        &mut self,
+        context: Context<'_>,
+        awaits: Awaits,
+        fault: EvalAltResult,
+    ) -> Result<WalkAnswer, OutOfMemory>
+        requires at { IsAtStep context.program.now self.old awaits }
+        ensures goes { Goes context.entry self.old
+            (resumed context.entry.engine.now context.entry.program.now self.old awaits
+            (Failed (problem_of fault))) result self.new }
+        ensures needs { Needs context.entry.program.now self.new result
+            (still context.entry.program.now self.old awaits) }
+    {
+        match awaits {
+            Awaits::IndexSet => self.not_set(context, fault),
+            Awaits::PropertySet {
+                name,
+                pos,
+                assigned,
+                set,
+            } => self.property_not_set(context, name, pos, assigned, set, fault),
+            Awaits::SetInstead {
+                fault: first,
+                assigned,
+            } => self.not_set_instead(context, first, assigned, fault),
+            Awaits::PropertyGot { name, pos, into } => {
+                self.property_not_got(context, name, pos, into, fault)
+            }
+            Awaits::GotInstead {
+                fault: first,
+                into: _into,
+            } => self.not_got_instead(first, fault),
+            Awaits::IndexGot(_) => Ok(self.failed(fault)),
+            Awaits::IndexRead {
+                bracket,
+                index,
+                into: _into,
+            } => self.not_read(bracket, index, fault),
+            Awaits::OpAssigned(pos, op) => self.not_assigned(context, pos, op, fault),
+            Awaits::Operator(_) => Ok(self.failed(fault)),
+        }
+    }
+
+    // An indexer has not set a value. That there is none is no fault.
+    fn not_set(
+        &mut self,
+        context: Context<'_>,
+        fault: EvalAltResult,
+    ) -> Result<WalkAnswer, OutOfMemory>
+        ensures goes { Goes context.entry self.old
+            (index_was_set self.old.step self.old.gives (rest context.entry self.old)
+            (Failed (problem_of fault))) result self.new }
+        ensures needs { Needs context.entry.program.now self.new result (backs self.old) }
+    {
+        if fault.is_indexing_type() {
+            return self.well(context, true);
+        }
+        Ok(self.failed(fault))
+    }
+
+    // A setter has not set a property: if there is none, an indexer does.
+    fn property_not_set(
+        &mut self,
+        context: Context<'_>,
+        name: u32,
+        pos: Position,
+        assigned: bool,
+        set: Dynamic,
+        fault: EvalAltResult,
+    ) -> Result<WalkAnswer, OutOfMemory>
+        ensures goes { Goes context.entry self.old
+            (property_was_set self.old.step (named (setting context.entry self.old) name) pos assigned
+            (place_of self.old) set self.old.gives (rest context.entry self.old)
+            (Failed (problem_of fault))) result self.new }
+        ensures needs { Needs context.entry.program.now self.new result (backs self.old + 1) }
+    {
+        if fault.is_dot_expr() {
+            return self.set_instead(context, name, pos, set, fault, assigned);
+        }
+        Ok(self.failed(fault))
+    }
+
+    // A getter has not got a property: if there is none, an indexer gives it.
+    fn property_not_got(
+        &mut self,
+        context: Context<'_>,
+        name: u32,
+        pos: Position,
+        into: Into,
+        fault: EvalAltResult,
+    ) -> Result<WalkAnswer, OutOfMemory>
+        requires at { self.old.step < count context.program.now self.old }
+        ensures goes { Goes context.entry self.old
+            (property_was_got self.old.step (named (setting context.entry self.old) name) pos
+            (place_of self.old) (rest context.entry self.old)
+            (gone_into context.entry.engine.now context.entry.program.now self.old into)
+            (Failed (problem_of fault))) result self.new }
+        ensures needs { Needs context.entry.program.now self.new result
+            (steps_left context.entry.program.now self.old + 2) }
+    {
+        if fault.is_dot_expr() {
+            return self.get_instead(context, name, pos, fault, into);
+        }
+        Ok(self.failed(fault))
+    }
+
+    // An indexer has not got a property either, of which the getter failed.
+    fn not_got_instead(
+        &mut self,
+        first: EvalAltResult,
+        fault: EvalAltResult,
+    ) -> Result<WalkAnswer, OutOfMemory>
+        ensures goes { (x : AnyContext) (go : AnyValue → Task) → Goes x self.old
+            (got_instead self.old.step (problem_of first) (rest x self.old) go
+            (Failed (problem_of fault))) result self.new }
+        ensures needs { (p : AnyProgram) (n : ℕ) → Needs p self.new result n }
+    {
+        if fault.is_indexing_type() {
+            return Ok(self.failed(first));
+        }
+        Ok(self.failed(fault))
+    }
+
+    // An indexer has not given what an op-assignment changes: the value is set as it is.
+    fn not_read(
+        &mut self,
+        bracket: Position,
+        index: Dynamic,
+        fault: EvalAltResult,
+    ) -> Result<WalkAnswer, OutOfMemory>
+        ensures goes { (x : AnyContext) (go : AnyValue → Task) → Goes x self.old
+            (index_was_read self.old.step bracket (place_of self.old) index self.old.value
+            (rest x self.old) go (Failed (problem_of fault))) result self.new }
+        ensures needs { (p : AnyProgram) → Needs p self.new result (backs self.old + 1) }
+    {
+        if fault.is_catchable() {
+            return self.set_value_by_index(bracket, index);
+        }
+        Ok(self.failed(fault))
+    }
+
+    // The host's op-assignment has not assigned: if there is none, the host's operator does.
+    fn not_assigned(
+        &mut self,
+        context: Context<'_>,
+        pos: Position,
+        op: AssignOp,
+        fault: EvalAltResult,
+    ) -> Result<WalkAnswer, OutOfMemory>
+        ensures goes { Goes context.entry self.old
+            (was_op_assigned (setting context.entry self.old) self.old.step pos op self.old.value
+            (place_of self.old) (rest context.entry self.old) (Failed (problem_of fault)))
+            result self.new }
+        ensures needs { Needs context.entry.program.now self.new result (backs self.old + 1) }
+    {
+        if is_missing(self.alloc, context.program, op.op_assign_name, &fault) {
+            return self.ask_operator(context, pos, op);
+        }
+        Ok(self.failed(fault))
+    }
+
+    // No indexer has set a property, of which the setter failed.
+    fn not_set_instead(
+        &mut self,
+        context: Context<'_>,
+        first: EvalAltResult,
+        assigned: bool,
+        fault: EvalAltResult,
+    ) -> Result<WalkAnswer, OutOfMemory>
+        ensures goes { Goes context.entry self.old
+            (set_instead self.old.step (problem_of first) assigned self.old.gives
+            (rest context.entry self.old) (Failed (problem_of fault))) result self.new }
+        ensures needs { Needs context.entry.program.now self.new result (backs self.old) }
+    {
+        if fault.is_indexing_type() {
+            return self.unset(context, first, assigned);
+        }
+        Ok(self.failed(fault))
+    }
+
+    // There is no setter, and no indexer: that is the setter's fault, but for a value that was only
+    // changed.
+    fn unset(
+        &mut self,
+        context: Context<'_>,
+        first: EvalAltResult,
+        assigned: bool,
+    ) -> Result<WalkAnswer, OutOfMemory>
+        ensures goes { Goes context.entry self.old
+            (if assigned then rest context.entry self.old (Ill self.old.step (problem_of first))
+            else rest context.entry self.old (Well self.old.gives true)) result self.new }
+        ensures needs { Needs context.entry.program.now self.new result (backs self.old) }
+    {
+        if assigned {
+            return Ok(self.failed(first));
+        }
+        self.well(context, true)
+    }
+}
+
+// Whether a fault says that there is no function of the name at the index.
+fn is_missing(alloc: Global, program: &Program, name: u32, fault: &EvalAltResult) -> bool
+    ensures { result ≡ says_missing (name_of program.now name) (problem_of fault.now) }
+{
+    match program.names().get(name as usize) {
+        Some(name) => says_missing(name.as_text(), fault),
+        None => says_missing(&Text::new(alloc), fault),
+    }
+}

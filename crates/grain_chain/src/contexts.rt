@@ -1,0 +1,73 @@
+//! On what a walk runs.
+
+ghost use Rattle.std.specs.Prelude.{◌≡◌, ◌<◌, Some, slice_get};
+ghost use Rattle.grain_program.specs.View.{name_of, chain_of};
+ghost use Rattle.grain_chain.specs.Walking.{steps_of, count_of, ending_in, HasOperator};
+
+use crate::origins::Ending;
+use grain_global::Engine;
+use grain_program::{Program, Step, Tail};
+use grain_value::Store;
+
+/// On what a walk runs.
+#[derive(Clone, Copy)]
+pub(crate) struct Context<'a> {
+    pub(crate) engine: &'a Engine,
+    pub(crate) program: &'a Program,
+    pub(crate) cells: &'a Store,
+}
+
+/// The name at the index, empty if there is none.
+pub(crate) fn name_at(program: &Program, index: u32) -> &str
+    ensures { result.now ≡ name_of program.now index }
+{
+    match program.names().get(index as usize) {
+        Some(name) => name.as_str(),
+        None => "",
+    }
+}
+
+/// How many steps the chain of the index has, 0 if there is none.
+pub(crate) fn count_of_steps(program: &Program, chain: u32) -> usize
+    ensures { result ≡ count_of program.now chain }
+{
+    match program.chains().get(chain as usize) {
+        Some(chain) => chain.steps.len(),
+        None => 0,
+    }
+}
+
+/// The step of a number of the chain of the index.
+pub(crate) fn step_at(program: &Program, chain: u32, number: usize) -> Step
+    requires { number < count_of program.now chain }
+    ensures { slice_get (steps_of program.now chain) number ≡ Some result }
+{
+    match program.chains().get(chain as usize) {
+        Some(chain) => *chain.steps.at(number),
+        None => unreachable!(),
+    }
+}
+
+/// The tail of the chain of the index. It reads if there is no such chain.
+fn tail_of(program: &Program, chain: u32) -> Tail
+    ensures { result ≡ (chain_of program.now chain).tail }
+{
+    match program.chains().get(chain as usize) {
+        Some(chain) => chain.tail,
+        None => Tail::Read,
+    }
+}
+
+/// What the chain of the index does where its steps end.
+pub(crate) fn ending_of(program: &Program, chain: u32) -> Ending
+    requires { HasOperator program.now ((chain_of program.now chain).tail) }
+    ensures { result ≡ ending_in program.now ((chain_of program.now chain).tail) }
+{
+    match tail_of(program, chain) {
+        Tail::Read => Ending::Read,
+        Tail::Assign { op } => match op {
+            None => Ending::Write,
+            Some(op) => Ending::Operate(*program.assign_op(op)),
+        },
+    }
+}

@@ -1,0 +1,151 @@
+//! The host's indexers, which a walk asks.
+
+ghost use Rattle.std.specs.Prelude.{◌≡◌, ◌<◌, ◌+◌, ◌∷◌, [], ℕ, true, false, Some, Ok, Err, IfOk, codes};
+ghost use Rattle.grain_value.specs.View.{tree};
+ghost use Rattle.grain_fault.specs.declared.places.Position.{Position as AnyPosition};
+ghost use Rattle.grain_value.specs.Cells.{flat};
+ghost use Rattle.grain_value.specs.Locating.{locate};
+ghost use Rattle.grain_value.specs.Parts.{part};
+ghost use Rattle.grain_value.specs.Maps.{Entries};
+ghost use Rattle.grain_value.specs.declared.values.Dynamic.{Dynamic as AnyValue};
+ghost use Rattle.grain_value.specs.declared.values.Dynamic.TheVariants as dynamic;
+ghost use Rattle.grain_program.specs.View.{View as AnyProgram};
+ghost use Rattle.grain_means.specs.Walks.{at_mark, index_step, indexed, is_indexed, origin_of_part, rooted, key_of, missing_key, by_indexer, Operates, index_was_got, into_answer, asking, index_get, OfIndex, set_by_index};
+ghost use Rattle.grain_chain.specs.Standings.{Stands};
+ghost use Rattle.grain_chain.specs.Walking.{place_of, role_in, origin_of, operand_of, count, steps_left, backs};
+ghost use Rattle.grain_chain.specs.Going.{Goes, Takes, Needs, NeedsOr, setting, rest, next_step, with_value, Asked};
+ghost use Rattle.grain_chain.specs.declared.contexts.Context.{Context as AnyContext};
+
+use crate::asking::{one, two};
+use crate::origins::{Awaits, Go, Into, Origin, Role};
+use crate::requests::WalkAnswer;
+use crate::walks::Walk;
+use grain_fault::Position;
+use grain_program::AssignOp;
+use grain_value::{Dynamic, OutOfMemory};
+use std::mem;
+
+impl Walk {
+    // The host's indexers, for an index of a value that has none of its own.
+    pub(crate) fn by_indexer(
+        &mut self,
+        role: Role,
+        pos: Position,
+        bracket: Position,
+        index: Dynamic,
+    ) -> Result<WalkAnswer, OutOfMemory>
+        ensures goes { (x : AnyContext) → Goes x self.old
+            (by_indexer (setting x self.old) self.old.step pos bracket (role_in role self.old.value)
+            index (next_step x self.old) (place_of self.old) (rest x self.old)) result self.new }
+        ensures needs { (p : AnyProgram) → self.old.step < count p self.old →
+            Needs p self.new result (steps_left p self.old + 3) }
+    {
+        match role {
+            Role::Writes => self.set_value_by_index(bracket, index),
+            Role::Operates(op) => self.read_by_index(bracket, index, op),
+            Role::Reads => self.get_own_by_index(pos, bracket, index, true),
+            Role::Passes => self.get_own_by_index(pos, bracket, index, false),
+        }
+    }
+
+    // Asks an indexer for what the walk goes on in, which is the chain's own value or not.
+    fn get_own_by_index(
+        &mut self,
+        pos: Position,
+        bracket: Position,
+        index: Dynamic,
+        own: bool,
+    ) -> Result<WalkAnswer, OutOfMemory>
+        ensures goes { (x : AnyContext) → Goes x self.old
+            (asking self.old.step bracket index_get (Some (place_of self.old)) (index ∷ [])
+            (rest x self.old) (index_was_got self.old.step (rest x self.old)
+            (into_answer (setting x self.old) self.old.step pos own (OfIndex index bracket)
+            (next_step x self.old) (place_of self.old) (rest x self.old)))) result self.new }
+        ensures needs { (p : AnyProgram) → self.old.step < count p self.old →
+            Needs p self.new result (steps_left p self.old + 2) }
+    {
+        let argument = index.copy(self.alloc)?;
+        let into = Into {
+            pos,
+            own,
+            origin: Origin::Index { index, bracket },
+            go: Go::Further,
+        };
+        self.get_by_index(bracket, argument, Awaits::IndexGot(into))
+    }
+
+    // Asks an indexer for what an op-assignment changes.
+    fn read_by_index(
+        &mut self,
+        bracket: Position,
+        index: Dynamic,
+        op: AssignOp,
+    ) -> Result<WalkAnswer, OutOfMemory>
+        ensures goes { (x : AnyContext) → Goes x self.old
+            (by_indexer (setting x self.old) self.old.step bracket bracket
+            (Operates self.old.value op) index (next_step x self.old) (place_of self.old)
+            (rest x self.old)) result self.new }
+        ensures needs { (p : AnyProgram) → self.old.step < count p self.old →
+            Needs p self.new result (steps_left p self.old + 3) }
+    {
+        let kept = index.copy(self.alloc)?;
+        let argument = index.copy(self.alloc)?;
+        let into = Into {
+            pos: bracket,
+            own: false,
+            origin: Origin::Index { index, bracket },
+            go: Go::Operate(bracket, op),
+        };
+        let awaits = Awaits::IndexRead {
+            bracket,
+            index: kept,
+            into,
+        };
+        self.get_by_index(bracket, argument, awaits)
+    }
+
+    // Asks an indexer for what an index names.
+    fn get_by_index(
+        &mut self,
+        bracket: Position,
+        index: Dynamic,
+        awaits: Awaits,
+    ) -> Result<WalkAnswer, OutOfMemory>
+        ensures { Asked self.old bracket (codes "index$get$") (tree index ∷ []) awaits result self.new }
+    {
+        let values = one(self.alloc, index)?;
+        self.ask(bracket, "index$get$", values, awaits)
+    }
+
+    // Asks an indexer to set the chain's value.
+    pub(crate) fn set_value_by_index(
+        &mut self,
+        bracket: Position,
+        index: Dynamic,
+    ) -> Result<WalkAnswer, OutOfMemory>
+        ensures goes { (x : AnyContext) → Goes x self.old
+            (set_by_index self.old.step bracket (place_of self.old) index self.old.value dynamic.Unit
+            (rest x self.old)) result self.new }
+        ensures needs { (p : AnyProgram) → Needs p self.new result (backs self.old + 1) }
+    {
+        let value = mem::replace(&mut self.value, Dynamic::Unit);
+        self.gives = Dynamic::Unit;
+        self.set_by_index(bracket, index, value)
+    }
+
+    // Asks an indexer to set a value.
+    pub(crate) fn set_by_index(
+        &mut self,
+        bracket: Position,
+        index: Dynamic,
+        value: Dynamic,
+    ) -> Result<WalkAnswer, OutOfMemory>
+        ensures goes { (x : AnyContext) → Goes x self.old
+            (set_by_index self.old.step bracket (place_of self.old) index value self.old.gives
+            (rest x self.old)) result self.new }
+        ensures needs { (p : AnyProgram) → Needs p self.new result (backs self.old + 1) }
+    {
+        let values = two(self.alloc, index, value)?;
+        self.ask(bracket, "index$set$", values, Awaits::IndexSet)
+    }
+}

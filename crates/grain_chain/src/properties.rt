@@ -1,0 +1,305 @@
+//! Property steps.
+
+ghost use Rattle.std.specs.Prelude.{◌≡◌, ◌<◌, ◌+◌, ◌∷◌, [], ℕ, Some, None, true, false};
+ghost use Rattle.grain_value.specs.declared.values.Dynamic.{Dynamic as AnyValue};
+ghost use Rattle.grain_program.specs.View.{name_of};
+ghost use Rattle.grain_chain.specs.Standings.{Stands, has_key};
+ghost use Rattle.grain_value.specs.declared.values.Dynamic.TheVariants as dynamic;
+ghost use Rattle.grain_fault.specs.Problems.{problem_of};
+ghost use Rattle.grain_means.specs.Walks.{at_mark, asking, index_get, index_set, property_step, by_accessor, get_property, got_instead, set_instead, set_property, into_answer, OfProperty, named};
+ghost use Rattle.grain_chain.specs.Walking.{place_of, role_in, gone_into, count, steps_left, backs};
+ghost use Rattle.grain_chain.specs.Going.{Goes, Takes, Needs, NeedsOr, setting, rest, next_step};
+
+use crate::asking::{named, one, two};
+use crate::contexts::{Context, name_at};
+use crate::origins::{Awaits, Go, Into, Origin, Role};
+use crate::requests::WalkAnswer;
+use crate::steps::stop;
+use crate::walks::Walk;
+use grain_fault::{EvalAltResult, Position};
+use grain_value::{Array, Dynamic, OutOfMemory, PathStep, Text};
+use std::mem;
+
+impl Walk {
+    // A property step, with the mark at its start. None says that the walk goes on at the next step.
+    pub(crate) fn property(
+        &mut self,
+        context: Context<'_>,
+        role: Role,
+        name: u32,
+        getter: u32,
+        setter: u32,
+        pos: Position,
+    ) -> Result<Option<WalkAnswer>, OutOfMemory>
+        requires at { self.old.step < count context.program.now self.old }
+        ensures takes { Takes context.entry self.old
+            (at_mark self.old.step (rest context.entry self.old)
+            (property_step (setting context.entry self.old) self.old.step name getter setter pos
+            (role_in role self.old.value) (next_step context.entry self.old) (place_of self.old)
+            (rest context.entry self.old))) result self.new }
+        ensures needs { NeedsOr context.entry.program.now self.new result
+            (steps_left context.entry.program.now self.old + 3) }
+    {
+        let key = name_at(context.program, name);
+        match has_key(self.trail.target(), key) {
+            Some(is_there) => self.property_by_key(context, role, name, pos, is_there),
+            None => self.property_by_host(context, role, name, getter, setter, pos),
+        }
+    }
+
+    // A property step at a map, with the mark at its start.
+    fn property_by_key(
+        &mut self,
+        context: Context<'_>,
+        role: Role,
+        name: u32,
+        pos: Position,
+        is_there: bool,
+    ) -> Result<Option<WalkAnswer>, OutOfMemory>
+        requires { (v : AnyValue) × (Stands self.old.trail v
+            × (has_key v (name_of context.program.now name) ≡ Some is_there)) }
+        ensures takes { (getter setter : ℕ) → Takes context.entry self.old
+            (at_mark self.old.step (rest context.entry self.old)
+            (property_step (setting context.entry self.old) self.old.step name getter setter pos
+            (role_in role self.old.value) (next_step context.entry self.old) (place_of self.old)
+            (rest context.entry self.old))) result self.new }
+        ensures needs { (n : ℕ) → NeedsOr context.entry.program.now self.new result n }
+    {
+        let key = Text::copy_of(self.alloc, name_at(context.program, name))?;
+        self.pass()?;
+        if is_there {
+            self.deeper(PathStep::Key(key))?;
+            return Ok(None);
+        }
+        self.missing_key(context, role, pos, Origin::Nothing, key)
+    }
+
+    // A property step at a value that is no map, with the mark at its start.
+    fn property_by_host(
+        &mut self,
+        context: Context<'_>,
+        role: Role,
+        name: u32,
+        getter: u32,
+        setter: u32,
+        pos: Position,
+    ) -> Result<Option<WalkAnswer>, OutOfMemory>
+        requires at { self.old.step < count context.program.now self.old }
+        requires host { (v : AnyValue) × (Stands self.old.trail v
+            × (has_key v (name_of context.program.now name) ≡ None)) }
+        ensures takes { Takes context.entry self.old
+            (at_mark self.old.step (rest context.entry self.old)
+            (property_step (setting context.entry self.old) self.old.step name getter setter pos
+            (role_in role self.old.value) (next_step context.entry self.old) (place_of self.old)
+            (rest context.entry self.old))) result self.new }
+        ensures needs { NeedsOr context.entry.program.now self.new result
+            (steps_left context.entry.program.now self.old + 3) }
+    {
+        self.pass()?;
+        stop(self.by_accessor(context, role, name, getter, setter, pos))
+    }
+
+    // The host's getters and setters, for a property of a value that is no map.
+    fn by_accessor(
+        &mut self,
+        context: Context<'_>,
+        role: Role,
+        name: u32,
+        getter: u32,
+        setter: u32,
+        pos: Position,
+    ) -> Result<WalkAnswer, OutOfMemory>
+        requires at { self.old.step < count context.program.now self.old }
+        ensures goes { Goes context.entry self.old
+            (by_accessor (setting context.entry self.old) self.old.step name getter setter pos
+            (role_in role self.old.value) (next_step context.entry self.old) (place_of self.old)
+            (rest context.entry self.old)) result self.new }
+        ensures needs { Needs context.entry.program.now self.new result
+            (steps_left context.entry.program.now self.old + 3) }
+    {
+        match role {
+            Role::Writes => self.set_value(context, name, setter, pos),
+            Role::Operates(op) => {
+                let into = Into {
+                    pos,
+                    own: false,
+                    origin: Origin::Property {
+                        name,
+                        setter,
+                        pos,
+                        assigned: true,
+                    },
+                    go: Go::Operate(pos, op),
+                };
+                self.get_property(context, name, getter, pos, into)
+            }
+            Role::Reads => self.get_own_property(context, name, getter, setter, pos, true),
+            Role::Passes => self.get_own_property(context, name, getter, setter, pos, false),
+        }
+    }
+
+    // Asks a getter for what the walk goes on in, which is the chain's own value or not.
+    fn get_own_property(
+        &mut self,
+        context: Context<'_>,
+        name: u32,
+        getter: u32,
+        setter: u32,
+        pos: Position,
+        own: bool,
+    ) -> Result<WalkAnswer, OutOfMemory>
+        requires at { self.old.step < count context.program.now self.old }
+        ensures goes { Goes context.entry self.old
+            (get_property (setting context.entry self.old) self.old.step name getter pos
+            (place_of self.old) (rest context.entry self.old)
+            (into_answer (setting context.entry self.old) self.old.step pos own
+            (OfProperty name setter pos false) (next_step context.entry self.old) (place_of self.old)
+            (rest context.entry self.old))) result self.new }
+        ensures needs { Needs context.entry.program.now self.new result
+            (steps_left context.entry.program.now self.old + 3) }
+    {
+        let into = Into {
+            pos,
+            own,
+            origin: Origin::Property {
+                name,
+                setter,
+                pos,
+                assigned: false,
+            },
+            go: Go::Further,
+        };
+        self.get_property(context, name, getter, pos, into)
+    }
+
+    // Asks a getter for a property.
+    fn get_property(
+        &mut self,
+        context: Context<'_>,
+        name: u32,
+        getter: u32,
+        pos: Position,
+        into: Into,
+    ) -> Result<WalkAnswer, OutOfMemory>
+        requires at { self.old.step < count context.program.now self.old }
+        ensures goes { Goes context.entry self.old
+            (get_property (setting context.entry self.old) self.old.step name getter pos
+            (place_of self.old) (rest context.entry self.old)
+            (gone_into context.entry.engine.now context.entry.program.now self.old into))
+            result self.new }
+        ensures needs { Needs context.entry.program.now self.new result
+            (steps_left context.entry.program.now self.old + 3) }
+    {
+        let getter = name_at(context.program, getter);
+        let values = Array::new(self.alloc);
+        self.ask(pos, getter, values, Awaits::PropertyGot { name, pos, into })
+    }
+
+    // Asks an indexer for a property of which the getter failed.
+    pub(crate) fn get_instead(
+        &mut self,
+        context: Context<'_>,
+        name: u32,
+        pos: Position,
+        fault: EvalAltResult,
+        into: Into,
+    ) -> Result<WalkAnswer, OutOfMemory>
+        requires at { self.old.step < count context.program.now self.old }
+        ensures goes { Goes context.entry self.old
+            (asking self.old.step pos index_get (Some (place_of self.old))
+            (named (setting context.entry self.old) name ∷ []) (rest context.entry self.old)
+            (got_instead self.old.step (problem_of fault) (rest context.entry self.old)
+            (gone_into context.entry.engine.now context.entry.program.now self.old into)))
+            result self.new }
+        ensures needs { Needs context.entry.program.now self.new result
+            (steps_left context.entry.program.now self.old + 2) }
+    {
+        let name = named(self.alloc, context.program, name)?;
+        let values = one(self.alloc, name)?;
+        self.ask(
+            pos,
+            "index$get$",
+            values,
+            Awaits::GotInstead { fault, into },
+        )
+    }
+
+    // Asks a setter to set the chain's value.
+    fn set_value(
+        &mut self,
+        context: Context<'_>,
+        name: u32,
+        setter: u32,
+        pos: Position,
+    ) -> Result<WalkAnswer, OutOfMemory>
+        ensures goes { Goes context.entry self.old
+            (set_property (setting context.entry self.old) self.old.step name setter pos true
+            (place_of self.old) self.old.value dynamic.Unit (rest context.entry self.old))
+            result self.new }
+        ensures needs { Needs context.entry.program.now self.new result (backs self.old + 2) }
+    {
+        let value = mem::replace(&mut self.value, Dynamic::Unit);
+        self.gives = Dynamic::Unit;
+        self.set_property(context, name, setter, pos, true, value)
+    }
+
+    // Asks a setter to set a property.
+    pub(crate) fn set_property(
+        &mut self,
+        context: Context<'_>,
+        name: u32,
+        setter: u32,
+        pos: Position,
+        assigned: bool,
+        set: Dynamic,
+    ) -> Result<WalkAnswer, OutOfMemory>
+        ensures goes { Goes context.entry self.old
+            (set_property (setting context.entry self.old) self.old.step name setter pos assigned
+            (place_of self.old) set self.old.gives (rest context.entry self.old))
+            result self.new }
+        ensures needs { Needs context.entry.program.now self.new result (backs self.old + 2) }
+    {
+        let values = one(self.alloc, set.copy(self.alloc)?)?;
+        let setter = name_at(context.program, setter);
+        let awaits = Awaits::PropertySet {
+            name,
+            pos,
+            assigned,
+            set,
+        };
+        self.ask(pos, setter, values, awaits)
+    }
+
+    // Asks an indexer to set a property of which the setter failed.
+    pub(crate) fn set_instead(
+        &mut self,
+        context: Context<'_>,
+        name: u32,
+        pos: Position,
+        set: Dynamic,
+        fault: EvalAltResult,
+        assigned: bool,
+    ) -> Result<WalkAnswer, OutOfMemory>
+        ensures goes { Goes context.entry self.old
+            (asking self.old.step pos index_set (Some (place_of self.old))
+            (named (setting context.entry self.old) name ∷ set ∷ []) (rest context.entry self.old)
+            (set_instead self.old.step (problem_of fault) assigned self.old.gives
+            (rest context.entry self.old))) result self.new }
+        ensures needs { Needs context.entry.program.now self.new result (backs self.old + 1) }
+    {
+        let name = named(self.alloc, context.program, name)?;
+        let values = two(self.alloc, name, set)?;
+        let awaits = Awaits::SetInstead { fault, assigned };
+        self.ask(pos, "index$set$", values, awaits)
+    }
+}
+
+// Whether a map has a key. None where the value is no map.
+fn has_key(value: &Dynamic, key: &str) -> Option<bool>
+    ensures { result ≡ has_key value.now key.now }
+{
+    match value {
+        Dynamic::Map(map) => Some(map.get(key).is_some()),
+        _ => None,
+    }
+}

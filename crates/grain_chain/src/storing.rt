@@ -1,0 +1,163 @@
+//! What a walk does where its steps end.
+
+ghost use Rattle.std.specs.Prelude.{◌≡◌, ◌+◌, ◌-◌, true, false};
+ghost use Rattle.grain_value.specs.declared.values.Dynamic.TheVariants as dynamic;
+ghost use Rattle.grain_means.specs.Worlds.{Came};
+ghost use Rattle.grain_means.specs.Tasks.{Look, Write, Well};
+ghost use Rattle.grain_means.specs.Walks.{at_mark, ended, last_role, operating, native_stored, operator_asked, operator_answered};
+ghost use Rattle.grain_chain.specs.Walking.{place_of, backs};
+ghost use Rattle.grain_chain.specs.Going.{Goes, Needs, setting, course, rest};
+
+use crate::asking::{flat_copy, one, two};
+use crate::contexts::{Context, name_at};
+use crate::faults::placed;
+use crate::origins::{Awaits, Ending};
+use crate::requests::WalkAnswer;
+use crate::walks::Walk;
+use grain_fault::Position;
+use grain_ops::AssignAnswer;
+use grain_program::AssignOp;
+use grain_value::{Dynamic, OutOfMemory};
+use std::mem;
+
+impl Walk {
+    // Where the steps end: the chain reads, writes or assigns there. The last step is blamed for it.
+    pub(crate) fn end(&mut self, context: Context<'_>) -> Result<WalkAnswer, OutOfMemory>
+        ensures goes { Goes context.entry self.old
+            (ended (setting context.entry self.old) (last_role (course context.entry self.old))
+            (self.old.step - 1) (place_of self.old) (rest context.entry self.old))
+            result self.new }
+        ensures needs { Needs context.entry.program.now self.new result (backs self.old + 3) }
+    {
+        self.step = self.step.saturating_sub(1);
+        match self.ending {
+            Ending::Read => self.read(context),
+            Ending::Write => {
+                let value = mem::replace(&mut self.value, Dynamic::Unit);
+                self.write(context, value)
+            }
+            Ending::Operate(op) => self.operate(context, self.pos, op),
+        }
+    }
+
+    // Gives a copy of what stands where the walk stands.
+    fn read(&mut self, context: Context<'_>) -> Result<WalkAnswer, OutOfMemory>
+        ensures goes { Goes context.entry self.old
+            (at_mark self.old.step (rest context.entry self.old)
+            (Look (place_of self.old) (λ h. rest context.entry self.old (Well h.value false))))
+            result self.new }
+        ensures needs { Needs context.entry.program.now self.new result (backs self.old) }
+    {
+        let value = self.trail.target().copy(self.alloc)?;
+        self.pass()?;
+        self.gives = value;
+        self.well(context, false)
+    }
+
+    // Writes a value where the walk stands.
+    fn write(&mut self, context: Context<'_>, value: Dynamic) -> Result<WalkAnswer, OutOfMemory>
+        ensures goes { Goes context.entry self.old
+            (at_mark self.old.step (rest context.entry self.old)
+            (Write (place_of self.old) value (rest context.entry self.old (Well dynamic.Unit true))))
+            result self.new }
+        ensures needs { Needs context.entry.program.now self.new result (backs self.old) }
+    {
+        self.pass()?;
+        self.trail.put(value);
+        self.gives = Dynamic::Unit;
+        self.well(context, true)
+    }
+
+    // Assigns the chain's value by an op-assignment.
+    pub(crate) fn operate(
+        &mut self,
+        context: Context<'_>,
+        pos: Position,
+        op: AssignOp,
+    ) -> Result<WalkAnswer, OutOfMemory>
+        ensures goes { Goes context.entry self.old
+            (operating (setting context.entry self.old) self.old.step pos op self.old.value
+            (place_of self.old) (rest context.entry self.old)) result self.new }
+        ensures needs { Needs context.entry.program.now self.new result (backs self.old + 2) }
+    {
+        if !context.engine.fast_operators {
+            return self.ask_op_assign(context, pos, op);
+        }
+        let Ok(marks) = self.next_mark() else {
+            return Err(OutOfMemory);
+        };
+        let limits = &context.engine.limits;
+        match self
+            .trail
+            .assign(self.alloc, op.op_assign, &self.value, limits)
+        {
+            AssignAnswer::NotBuiltIn => self.ask_op_assign(context, pos, op),
+            AssignAnswer::Done => {
+                self.marks = marks;
+                self.gives = Dynamic::Unit;
+                self.well(context, true)
+            }
+            AssignAnswer::Failed(fault) => match placed(fault, pos) {
+                Ok(fault) => self.raise(fault),
+                Err(OutOfMemory) => Err(OutOfMemory),
+            },
+        }
+    }
+
+    // Asks for the host's op-assignment.
+    fn ask_op_assign(
+        &mut self,
+        context: Context<'_>,
+        pos: Position,
+        op: AssignOp,
+    ) -> Result<WalkAnswer, OutOfMemory>
+        ensures goes { Goes context.entry self.old
+            (native_stored (setting context.entry self.old) self.old.step pos op self.old.value
+            (place_of self.old) (rest context.entry self.old)) result self.new }
+        ensures needs { Needs context.entry.program.now self.new result (backs self.old + 2) }
+    {
+        let values = one(self.alloc, self.value.copy(self.alloc)?)?;
+        let name = name_at(context.program, op.op_assign_name);
+        self.ask(pos, name, values, Awaits::OpAssigned(pos, op))
+    }
+
+    // Asks for the host's operator, on a copy of what stands where the walk stands.
+    pub(crate) fn ask_operator(
+        &mut self,
+        context: Context<'_>,
+        pos: Position,
+        op: AssignOp,
+    ) -> Result<WalkAnswer, OutOfMemory>
+        ensures goes { Goes context.entry self.old
+            (operator_asked (setting context.entry self.old) self.old.step pos op self.old.value
+            (place_of self.old) (rest context.entry self.old)) result self.new }
+        ensures needs { Needs context.entry.program.now self.new result (backs self.old + 1) }
+    {
+        let target = self.trail.target().copy(self.alloc)?;
+        let value = mem::replace(&mut self.value, Dynamic::Unit);
+        let values = two(self.alloc, target, value)?;
+        let name = name_at(context.program, op.op_name);
+        self.ask(pos, name, values, Awaits::Operator(pos))
+    }
+
+    // Puts an operator's answer where the walk stands.
+    pub(crate) fn store_answer(
+        &mut self,
+        context: Context<'_>,
+        pos: Position,
+        value: Dynamic,
+    ) -> Result<WalkAnswer, OutOfMemory>
+        ensures goes { Goes context.entry self.old
+            (operator_answered self.old.step pos (place_of self.old) (rest context.entry self.old)
+            (Came value)) result self.new }
+        ensures needs { Needs context.entry.program.now self.new result (backs self.old) }
+    {
+        let Ok(content) = flat_copy(self.alloc, context.cells, value) else {
+            return Err(OutOfMemory);
+        };
+        match content {
+            Some(content) => self.write(context, content),
+            None => self.race(pos),
+        }
+    }
+}
