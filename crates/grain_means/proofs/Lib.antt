@@ -19,6 +19,5 @@ pub mod Containing
 pub mod Walking
 pub mod Reading
 pub mod Examples
-pub mod ChainExamples
 pub mod Explaining
 pub mod Rows
