@@ -1,7 +1,6 @@
 //! Index steps.
 
-ghost use Rattle.std.specs.Prelude.{◌≡◌, ◌<◌, ◌+◌, ◌∷◌, [], ℕ, true, false, Some, Ok, Err, IfOk, codes};
-ghost use Rattle.grain_value.specs.View.{tree};
+ghost use Rattle.std.specs.Prelude.{◌≡◌, ◌<◌, ◌+◌, ℕ, true, false, Some, Ok, Err, IfOk};
 ghost use Rattle.grain_fault.specs.declared.places.Position.{Position as AnyPosition};
 ghost use Rattle.grain_value.specs.Cells.{flat};
 ghost use Rattle.grain_value.specs.Locating.{locate};
@@ -10,10 +9,10 @@ ghost use Rattle.grain_value.specs.Maps.{Entries};
 ghost use Rattle.grain_value.specs.declared.values.Dynamic.{Dynamic as AnyValue};
 ghost use Rattle.grain_value.specs.declared.values.Dynamic.TheVariants as dynamic;
 ghost use Rattle.grain_program.specs.View.{View as AnyProgram};
-ghost use Rattle.grain_means.specs.Walks.{at_mark, index_step, indexed, is_indexed, origin_of_part, rooted, key_of, missing_key, by_indexer, Operates, index_was_got, into_answer, asking, index_get, OfIndex, set_by_index};
+ghost use Rattle.grain_means.specs.Walks.{at_mark, index_step, indexed, is_indexed, origin_of_part, rooted, key_of, missing_key, OfIndex};
 ghost use Rattle.grain_chain.specs.Standings.{Stands};
-ghost use Rattle.grain_chain.specs.Walking.{place_of, role_in, origin_of, operand_of, count, steps_left, backs};
-ghost use Rattle.grain_chain.specs.Going.{Goes, Takes, Needs, NeedsOr, setting, rest, next_step, with_value, Asked};
+ghost use Rattle.grain_chain.specs.Walking.{place_of, role_in, origin_of, operand_of, count, steps_left};
+ghost use Rattle.grain_chain.specs.Going.{Goes, Takes, NeedsOr, setting, rest, next_step, with_value};
 ghost use Rattle.grain_chain.specs.declared.contexts.Context.{Context as AnyContext};
 
 use crate::contexts::Context;

@@ -1,6 +1,6 @@
 //! What a walk does where its steps end.
 
-ghost use Rattle.std.specs.Prelude.{◌≡◌, ◌+◌, ◌-◌, true, false};
+ghost use Rattle.std.specs.Prelude.{◌+◌, ◌-◌, true, false};
 ghost use Rattle.grain_value.specs.declared.values.Dynamic.TheVariants as dynamic;
 ghost use Rattle.grain_means.specs.Worlds.{Came};
 ghost use Rattle.grain_means.specs.Tasks.{Look, Write, Well};
