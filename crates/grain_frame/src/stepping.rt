@@ -14,6 +14,7 @@ use std::sync::ledger::Ledger;
 
 impl<H: Host> Run<H> {
     /// Does the instruction at which the frame stands, which calls no function.
+    #[cold]
     #[inline(never)]
     pub fn step<L: Ledger>(
         &mut self,

@@ -64,6 +64,7 @@ pub(crate) fn find_named<H: Host, L: Ledger>(
 // `call_fn_ptr`: the function of the name of the pointer under the last `count` operands, with as
 // many parameters as the pointer has values and there are operands. The pointer's values take its
 // place. If there is no such function, the native of that name is called on all of them.
+#[cold]
 #[inline(never)]
 pub(crate) fn find_pointed<H: Host, L: Ledger>(
     run: &mut Run<H>,
