@@ -71,10 +71,10 @@ pub data Ended (words : List (List ℕ)) (source sink errors : Stream) : ℕ →
 pub data AnswerHanded {K : Type 0} (puts : K → List ℕ → Put → K → Type 0) (qs : List Query)
     (input : Option (List ℕ)) (first last : K) : ℕ → Type 0 where
   -- all of the text that is due, and nothing else
-  whole : {status : ℕ} {text : List ℕ} → IsDue input qs status text →
+  whole : {status : ℕ} (text : List ℕ) → IsDue input qs status text →
       PutWhole puts text first last → AnswerHanded puts qs input first last status
   -- a part of it: the sink failed
-  part : {status : ℕ} {text : List ℕ} → IsDue input qs status text →
+  part : (status : ℕ) (text : List ℕ) → IsDue input qs status text →
       PutPart puts text first last → AnswerHanded puts qs input first last 6
   -- nothing: the source failed, or memory was out
   nothing : {status : ℕ} → (status ≡ 5) ⊎ (status ≡ 7) → last ≡ first →

@@ -32,10 +32,11 @@ pub returns-in-Ok-write_all-clause-handed : goal.returns-in-Ok-write_all-clause-
 returns-in-Ok-write_all-clause-handed g c =
     let due = rw c.in-Ok-answered.is at c.in-Ok.ensures.due in
     let text : c.as_bytes.result.now ≡ c.in-Ok-answered.reply.text = search rules in
-    whole due (rw text at c.in-Ok-write_all.ensures.put_whole)
+    whole c.in-Ok-answered.reply.text due (rw text at c.in-Ok-write_all.ensures.put_whole)
 
 pub returns-clause-handed : goal.returns-clause-handed
 returns-clause-handed g c =
     let due = rw c.in-Ok-answered.is at c.in-Ok.ensures.due in
     let text : c.as_bytes.result.now ≡ c.in-Ok-answered.reply.text = search rules in
-    part due (rw text at c.in-Err-write_all.ensures.put_part)
+    part c.in-Ok-answered.reply.status c.in-Ok-answered.reply.text due
+    (rw text at c.in-Err-write_all.ensures.put_part)
