@@ -43,6 +43,7 @@ use Rattle.grain_means.proofs.Containing.Steps.{Stays, Here, pushing, going_on, 
 use Rattle.grain_means.proofs.Containing.Entries.{stores, declares, assigns, loads, loads_shared, shares}
 use Rattle.grain_means.proofs.Containing.Operators.{op_assigns, pushes_outcome}
 use Rattle.grain_means.proofs.Containing.Transfers.{jumping, tests_top, skips, unwinds}
+use Rattle.grain_means.proofs.Containing.Chains.{chains}
 use Rattle.grain_means.proofs.Containing.Calls.{calls_function, curries, calls_pointer}
 use Rattle.grain_means.proofs.Containing.Catching.{catches}
 
@@ -163,6 +164,7 @@ module _ {S : Type 0} {m : Setup S} (on : Grounds m) where
     does op.PopHandler next w at =
         goes_to (record f { address = next; handlers = outer_handlers f.handlers }) w at
         (names.0, outer_names)
+    does (op.Chain k) next w at = chains on n low f names k next w at
     does op.Throw next w at =
         reading on n low f names (top f.operands) [] w at (last on n low f names)
         (λ v. rules.raised m (without 1 f) (Plain (Runtime v) (rules.position m f)) w)

@@ -10,6 +10,7 @@ use Rattle.grain_value.specs.Maps.{entry_at}
 use Rattle.grain_value.specs.Operands.{read_write}
 use Rattle.grain_value.specs.Parts.{part, with_part}
 use Rattle.grain_value.specs.Tree.{Tree}
+use Rattle.grain_value.specs.Writing.{type_name_of}
 use Rattle.grain_value.specs.declared.values.Dynamic.{Dynamic}
 use Rattle.grain_value.specs.declared.values.Dynamic.TheVariants as dynamic
 use Rattle.grain_value.specs.declared.values.Held.{Held}
@@ -19,7 +20,7 @@ use Rattle.grain_value.specs.declared.values.value_faults.ValueFault.{ValueFault
 use Rattle.grain_value.specs.declared.values.value_faults.ValueFault.TheVariants as fault
 use Rattle.grain_fault.specs.Absences.{is_dot_expr, is_indexing_type}
 use Rattle.grain_fault.specs.Classes.{catchable}
-use Rattle.grain_fault.specs.Problems.{Problem, Plain, PropertyNotFound, NoMemory}
+use Rattle.grain_fault.specs.Problems.{Problem, Plain, DataRace, MismatchDataType, PropertyNotFound, NoMemory}
 use Rattle.grain_fault.specs.declared.places.Position.{Position}
 use Rattle.grain_host.specs.Signatures.{says_missing}
 use Rattle.grain_ops.specs.Outcomes.{Outcome, NotBuiltIn, Gave, ArithmeticFault, TooLarge}
@@ -31,7 +32,7 @@ use Rattle.grain_program.specs.declared.code.chains.StepFlags.{StepFlags}
 use Rattle.grain_means.specs.Worlds.{is_stop, Answer, Came, Failed, Place, Setup, World}
 use Rattle.grain_value.specs.declared.values.paths.PathStep.TheVariants as path_step
 use Rattle.grain_means.specs.Places.{deeper, look, put, next_root}
-use Rattle.grain_means.specs.Rules.{op_assigned}
+use Rattle.grain_means.specs.Rules.{op_assigned, race_text}
 use Rattle.grain_means.specs.Tasks.{Call, Task, Done, Mark, Look, Flatten, Write, Root, Drop, Need, Walked, Well, Ill}
 use Rattle.grain_means.specs.Walks as walks
 use Rattle.grain_means.specs.Walks.{Setting, Course, Rest, Next, Role, Passes, Reads, Writes, Operates, Origin, OfPart, OfIndex, OfProperty, OfNothing, at_mark, assigning, failing, flat_or_busy, flattening, is_indexed, key_of, origin_of_part, role_at_end, role_before, skips, with_key}
@@ -104,7 +105,8 @@ module _ {S : Type 0} (m : Setup S) (c : ChainWalk S) where
           let go = walks.into_answer c.course.setting n bracket false (OfIndex i bracket) over p done in
           asks m c n bracket walks.index_get (Some p) (i ∷ []) done
           (walks.index_was_read n bracket p i u done go) f (f.falls n NoMemory)
-          (index_read m c n (call_of m c n bracket walks.index_get (Some p) (i ∷ [])) refl bracket p i u done go f
+          (index_read m c n (call_of m c n bracket walks.index_get (Some p) (i ∷ [])) refl bracket p i u
+          done go f
           (into_answer m c n bracket (OfIndex i bracket) over (operates m c n bracket a u) p done f))
 
       by_accessor : (name getter setter : ℕ) (q : Position) (r : Role) →
@@ -174,7 +176,8 @@ module _ {S : Type 0} (m : Setup S) (c : ChainWalk S) where
             (record (look v.roots (world_of m c p)) { value = part here_stands s }) (Later left) on p
             done f v at
         indexed u e (Err (fault.Bounds size k)) is at =
-            fails m c n _ done f (inl (record {
+            let x = Plain (walks.out_of_bounds here_stands size k) q in
+            fails m c n x done f (inl (record {
               index = u;
               position = q;
               step = step_at u e;
@@ -182,6 +185,7 @@ module _ {S : Type 0} (m : Setup S) (c : ChainWalk S) where
               number = k;
               none = is;
               is = refl;
+              last = f.falls n x;
             })) v at
         indexed u e (Err fault.NoKey) is at =
             missing_key left (Later left) on p done f q (OfIndex i bracket) (key_of u)
@@ -193,14 +197,17 @@ module _ {S : Type 0} (m : Setup S) (c : ChainWalk S) where
               reads = none;
               strict = strict;
               is = refl;
+              last = f.falls n (Plain (PropertyNotFound (key_of u)) q);
             })))) v at
         indexed u e (Err fault.WrongType) is at =
-            fails m c n _ done f (inr (inl (record {
+            let x = Plain (MismatchDataType (walks.index_type here_stands) (type_name_of u)) q in
+            fails m c n x done f (inr (inl (record {
               index = u;
               position = q;
               step = step_at u e;
               none = is;
               is = refl;
+              last = f.falls n x;
             }))) v at
         indexed u e (Err x) is at =
             by_indexer left (Later left) on p done f q bracket (role_before c.course left) i v at
@@ -219,12 +226,14 @@ module _ {S : Type 0} (m : Setup S) (c : ChainWalk S) where
               Why m c (if b then flattening n q i done finds else asking_host) v
           by_kind true at =
               reads_here at where
-                reads_here : On m c (flattening n q i done finds) v → Why m c (flattening n q i done finds) v
+                reads_here : On m c (flattening n q i done finds) v →
+                    Why m c (flattening n q i done finds) v
                 reads_here at = by_content (flat v.cells i) refl (join m c at (read here)) where
                   by_content : (o : Option Dynamic) → flat v.cells i ≡ o →
                       On m c (flat_or_busy n q done finds o) v → Why m c (flat_or_busy n q done finds o) v
                   by_content None e arrived =
-                      fails m c n _ done f (inr (inr (inr (inr (inl (record {
+                      let x = Plain (DataRace (race_text [])) q in
+                      fails m c n x done f (inr (inr (inr (inr (inl (record {
                         value = i;
                         position = q;
                         rest = done;
@@ -233,6 +242,7 @@ module _ {S : Type 0} (m : Setup S) (c : ChainWalk S) where
                         comes = at;
                         lent = e;
                         is = refl;
+                        last = f.falls n x;
                       })))))) v arrived
                   by_content (Some u) e arrived =
                       indexed u e (locate here_stands u) refl arrived
@@ -283,6 +293,7 @@ module _ {S : Type 0} (m : Setup S) (c : ChainWalk S) where
                 reads = none;
                 strict = strict;
                 is = refl;
+                last = f.falls n (Plain (PropertyNotFound word) q);
               }))))) v arrived
         property_of d is at =
             by_accessor left (Later left) on p done f name getter setter q

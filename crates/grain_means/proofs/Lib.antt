@@ -8,6 +8,7 @@ pub mod Catching
 pub mod Tally
 pub mod Called
 pub mod Moving
+pub mod Chainless
 pub mod Readable
 pub mod Missing
 pub mod Plain
@@ -19,5 +20,6 @@ pub mod Containing
 pub mod Walking
 pub mod Reading
 pub mod Examples
+pub mod ChainExamples
 pub mod Explaining
 pub mod Rows

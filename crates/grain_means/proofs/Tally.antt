@@ -18,14 +18,15 @@ use Rattle.std.proofs.Common.{◌≡◌, ℕ, ◌+◌, ◌-◌, List, [], ◌∷
 use Rattle.std.specs.Prelude.{is_some}
 use Rattle.grain_value.specs.declared.values.Dynamic.TheVariants as dynamic
 use Rattle.grain_value.specs.Looking.{is_unit, cell_of}
-use Rattle.grain_value.specs.Operands.{top, below, under, arguments}
+use Rattle.grain_value.specs.Operands.{top, below, under, arguments, read_write}
 use Rattle.grain_fault.specs.Problems.{Plain}
 use Rattle.grain_fault.specs.Problems as problem
 use Rattle.grain_program.specs.declared.code.instruction_set.Op.{Op}
 use Rattle.grain_program.specs.declared.code.instruction_set.Op.TheVariants as op
 use Rattle.grain_program.specs.Shapes.{TryHandler}
 use Rattle.grain_program.specs.Decoding.{op_at}
-use Rattle.grain_program.specs.View.{name_of, const_of, assign_op_of}
+use Rattle.grain_program.specs.Chains.{chain_takes}
+use Rattle.grain_program.specs.View.{chain_of, name_of, const_of, assign_op_of}
 use Rattle.grain_value.specs.Cells.{flat, content}
 use Rattle.grain_program.specs.Lookups.{function_of, function_by_text}
 use Rattle.grain_means.specs.Worlds.{End, Came, Setup, Frame, InFrame}
@@ -36,11 +37,12 @@ use Rattle.grain_means.proofs.Lengths.{length_under, length_pushed, length_rotat
 use Rattle.grain_means.proofs.Standing.{tries_outer, fits_found}
 use Rattle.grain_means.proofs.Footing.{guarded_outside}
 use Rattle.grain_means.proofs.Tally.Frames.{Walk, Even, start, steady, even_marked, guarding, unguarded, even_onward, one_less, one_more}
-use Rattle.grain_means.proofs.Tally.Faults.{why, even_raised_in, even_flat, even_flat_all, fits_on, sits_at, even_on, even_charged_on, even_jumped}
+use Rattle.grain_means.proofs.Tally.Faults.{why, why_chain, even_raised_in, even_flat, even_flat_all, fits_on, sits_at, even_on, even_charged_on, even_jumped}
 use Rattle.grain_means.proofs.Tally.Entries.{even_at, even_declared, even_stored_in, even_assigned, even_shared}
 use Rattle.grain_means.proofs.Tally.Operators.{even_pushed, even_assigned_op}
 use Rattle.grain_means.proofs.Tally.Transfers.{even_jump_if, even_skipped, even_unwound, even_handled}
 use Rattle.grain_means.proofs.Tally.Calls.{even_called, even_pointer}
+use Rattle.grain_means.proofs.Tally.Chains.{even_chain}
 
 module _ {S : Type 0} {m : Setup S} (walk : Walk m) where
   open walk use {root, footing as k, frame as f, now, tokens, level, trace, keeps, sits}
@@ -290,6 +292,18 @@ module _ {S : Type 0} {m : Setup S} (walk : Walk m) where
         guarded_outside m root k f.handlers sits.3,
         sits.4,
       )
+  even_instr (op.Chain k) width at =
+      let n = chain_takes (chain_of m.program k) in
+      even_chain walk (op.Chain k) width at k (omega (arith, length_under n f.operands))
+      (λ v. sits_at walk (op.Chain k) width at refl (f.address + width)
+      (under n f.operands ++ read_write v ∷ []) (inl refl)
+      (λ enough. omega (
+        arith,
+        length_pushed (under n f.operands) v,
+        length_under n f.operands,
+        enough,
+      )))
+      (λ j x row. why_chain walk (op.Chain k) width at k j x refl row)
   even_instr op.Throw width at =
       even_flat walk op.Throw width at (top f.operands) [] (λ lent. (refl, lent)) _
       (λ v read. even_raised_in walk op.Throw width at (under 1 f.operands)

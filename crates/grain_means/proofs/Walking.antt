@@ -214,8 +214,11 @@ module _ (N : ℕ) (assigns : Bool) where
       )
 
       roots : (o : Origin) (h : Held) (next : Next) → Goes next → Goes (walks.rooted g n o h next)
-      roots o h next on j p done is f =
-          (f (Ill n NoMemory) low, on (suc j) (next_root p) (walks.back g n o p done) (ap suc is) (goes_back j o p done is f))
+      roots o h next on j p done is f = (
+        f (Ill n NoMemory) low,
+        on (suc j) (next_root p) (walks.back g n o p done) (ap suc is)
+            (goes_back j o p done is f),
+      )
 
       own_value : (j : ℕ) (done : Rest) → Follows j done → assigns ≡ false → (v : Dynamic) →
           AllEnds P j (walks.own_value done v)
@@ -237,8 +240,10 @@ module _ (N : ℕ) (assigns : Bool) where
 
       by_indexer : (q bracket : Position) (role : Role) → Fits role → (i : Dynamic) (next : Next) →
           Goes next → Goes (walks.by_indexer g n q bracket role i next)
-      by_indexer q bracket Passes fit i next on j p done is f =
-          (f (Ill n NoMemory) low, index_got j done _ f (into_answer q (OfIndex i bracket) next on j p done is f))
+      by_indexer q bracket Passes fit i next on j p done is f = (
+        f (Ill n NoMemory) low,
+        index_got j done _ f (into_answer q (OfIndex i bracket) next on j p done is f),
+      )
       by_indexer q bracket Reads fit i next on j p done is f =
           (f (Ill n NoMemory) low, index_got j done _ f (own_value j done f fit))
       by_indexer q bracket (Writes v) fit i next on j p done is f =
@@ -268,16 +273,16 @@ module _ (N : ℕ) (assigns : Bool) where
       indexed q bracket role fit i v h next on j p done is f (Err e) =
           by_indexer q bracket role fit i next on j p done is f
 
-      index_step : (i : Dynamic) (q bracket : Position) (role : Role) → Fits role → (next : Next) → Goes next →
-          Goes (walks.index_step g n i q bracket role next)
+      index_step : (i : Dynamic) (q bracket : Position) (role : Role) → Fits role → (next : Next) →
+          Goes next → Goes (walks.index_step g n i q bracket role next)
       index_step i q bracket role fit next on j p done is f = λ h.
           by (is_indexed h.value) j _ _
           (reads j q i done _ f (λ v. indexed q bracket role fit i v h next on j p done is f
           (locate h.value v)))
           (by_indexer q bracket role fit i next on j p done is f)
 
-      by_accessor : (name getter setter : ℕ) (q : Position) (role : Role) → Fits role → (next : Next) → Goes next →
-          Goes (walks.by_accessor g n name getter setter q role next)
+      by_accessor : (name getter setter : ℕ) (q : Position) (role : Role) → Fits role →
+          (next : Next) → Goes next → Goes (walks.by_accessor g n name getter setter q role next)
       by_accessor name getter setter q Passes fit next on j p done is f =
           gets_property j name getter q p done _ f
           (into_answer q (OfProperty name setter q false) next on j p done is f)
@@ -298,8 +303,9 @@ module _ (N : ℕ) (assigns : Bool) where
       at_key q role k h next on j p done is f None =
           missing_key q OfNothing role k h next on j p done is f
 
-      property_of : (name getter setter : ℕ) (q : Position) (role : Role) → Fits role → (h : Held) (next : Next) →
-          Goes next → (j : ℕ) (p : Place) (done : Rest) → suc p.root ≡ j → Follows j done →
+      property_of : (name getter setter : ℕ) (q : Position) (role : Role) → Fits role →
+          (h : Held) (next : Next) → Goes next → (j : ℕ) (p : Place) (done : Rest) →
+          suc p.root ≡ j → Follows j done →
           (d : Dynamic) →
           AllEnds P j (walks.property_of g n name getter setter q role h next p done d)
       property_of name getter setter q role fit h next on j p done is f (dynamic.Map es) =
@@ -318,8 +324,8 @@ module _ (c : Course) where
   abbrev Even : ℕ → Next → Type 0
   Even N next = Goes N (is_some c.assigns) next
 
-  takes : (N n : ℕ) → n < N → (s : Step) (role : Role) → Fits N (is_some c.assigns) role → (next : Next) → Even N next →
-      Even N (walks.taken c s n role next)
+  takes : (N n : ℕ) → n < N → (s : Step) (role : Role) → Fits N (is_some c.assigns) role →
+      (next : Next) → Even N next → Even N (walks.taken c s n role next)
   takes N n low (step.Index i flags q bracket) role fit next on =
       index_step N (is_some c.assigns) n low c.setting (walks.operand c i) q bracket role fit next on
   takes N n low (step.Property name getter setter flags q) role fit next on =

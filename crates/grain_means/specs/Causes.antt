@@ -6,8 +6,10 @@ pub mod Positions
 pub mod Spots
 pub mod Chains
 pub use Rattle.grain_means.specs.Causes.Instructions.{truth_read, truth_on_top, Points, CallsOn, Calls, Charges, IsCharged, HasTooMany, ReadsTop, Overfills, UsesEntry, Unwinds, Tests, AsksPointer, Throws, Holds, AssignsConstant, Misses, Operates, HasNoBuiltIn, Mistypes, IsLent, AssignsLent, StoresLent, ReadsLent}
-pub use Rattle.grain_means.specs.Causes.Natives.{AssignsByHost, Question, all_args, native_asked, reply_to, IsCalled, EndsWith, asks_first, AsksAgain, AsksSecond, AsksToAssign, AsksOnCopies, AsksNative, AsksLast, FindsNone, FindsNative, WritesConstant, HostAnswers, FromHost}
-pub use Rattle.grain_means.specs.Causes.Positions.{Enters, LeftCall, HasPosition, AnsweredSo, TellsHere, ThrowsUnitAt, ThrowsUnit, HaveCaughtUnit, FirstIsArmed, ThrownAnew, Tells}
+pub use Rattle.grain_means.specs.Causes.Natives.{AssignsByHost, Question, all_args, native_asked, reply_to, IsCalled, EndsWith, asks_first, AsksAgain, AsksSecond, AsksToAssign, AsksOnCopies, AsksNative, AsksLast, FindsNone, FindsNative, WritesConstant, HostAnswers}
+pub use Rattle.grain_means.specs.Causes.Spots.{ChainWalk, CallEnds, WalksTo, AtStep, Falls, WalkRow}
+pub use Rattle.grain_means.specs.Causes.Chains.{ChainReads, ChainRow, RaisedByChain, FromHostOrChain}
+pub use Rattle.grain_means.specs.Causes.Positions.{Enters, LeftCall, HasPosition, AnsweredSo, IsNoChain, TellsHere, ThrowsUnitAt, ThrowsUnit, HaveCaughtUnit, FirstIsArmed, ThrownAnew, Tells}
 use Rattle.std.specs.Prelude.{◌≡◌, ◌⊎◌, ◌<◌, ◌≤◌, ◌+◌, ℕ, List, Some, None, true, length, Result, Ok, Err}
 use Rattle.grain_value.specs.declared.values.Dynamic.{Dynamic}
 use Rattle.grain_value.specs.declared.values.Held.{Held}
@@ -71,7 +73,7 @@ abbrev pub Races : {S : Type 0} → Setup S → List ℕ → ProgramPoint S → 
 Races m s at = (name : List ℕ) × (s ≡ race_text name) ×
     (ReadsLent m.program name at.instruction at.frame at.world ⊎ AnswersLent m name at)
 
--- where an instruction raises a fault of this kind; it raises no other kind than these
+-- where an instruction raises a fault of this kind; but for a chain it raises no other kind than these
 abbrev pub Raises : {S : Type 0} → Setup S → FaultKind → ProgramPoint S → Type 0
 Raises m (FunctionNotFound s) at = FindsNone m (FunctionNotFound s) at
 Raises m (IndexingType s) at = FindsNone m (IndexingType s) at
@@ -107,14 +109,14 @@ Row m (InFunctionCall s source x p) at =
     ((g : Function) × (s ≡ name_of m.program g.name) ×
     Enters m g
     (λ body. Raised m body (at.world.level + 1) x
-    (λ in_body. Row m x in_body ⊎ FromHost m x in_body)) at)
+    (λ in_body. Row m x in_body ⊎ FromHostOrChain m x in_body)) at)
 Row m (InModule s x p) at = ⊥
 Row m (SystemError s e) at = ⊥
 Row m NoMemory at = ⊥
 
--- an instruction raises the fault, or the host answered it
+-- an instruction raises the fault, or the host answered it, or a chain ends in it
 abbrev pub Why : {S : Type 0} → Setup S → Problem → ProgramPoint S → Type 0
-Why m x at = Row m x at ⊎ FromHost m x at
+Why m x at = Row m x at ⊎ FromHostOrChain m x at
 
 -- the handler that catches comes as far as the charge at its target: the scope is no shorter than at
 -- its push, and its variable, if it has one, finds room

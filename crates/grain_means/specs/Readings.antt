@@ -45,8 +45,8 @@ step_along cells c (step.Index i flags q bracket) d = read_along d (flat cells (
 step_along cells c (step.Property name getter setter flags q) d =
     property_along (name_of c.setting.program name) d
 
--- The steps lead from a value along this path, each to an element or a key, and to this value at its
--- end. Where a step ends the chain at unit, no unit stands.
+-- The steps lead from the value d along this path to the value u: each step leads to an element of an
+-- array or to a key of a map. No step that ends the chain at unit (`skips`) begins at unit.
 abbrev pub ReadsAlong : List Cell → Course → List Step → Dynamic → List PathStep → Dynamic → Type 0
 ReadsAlong cells c [] d path u = (path ≡ []) × (u ≡ d)
 ReadsAlong cells c (s ∷ steps) d path u =

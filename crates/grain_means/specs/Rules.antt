@@ -14,7 +14,7 @@ pub mod Calls
 pub mod Pointers
 pub mod InWorld
 pub mod Chains
-pub use Rattle.grain_means.specs.Rules.Frames.{stepped, without, frame_at, held_at, is_full, name_at, flag_of_cell, is_read_only, held_or}
+pub use Rattle.grain_means.specs.Rules.Frames.{stepped, without, frame_at, held_at, is_full, name_at, flag_of_cell, only_read, is_read_only, held_or}
 pub use Rattle.grain_means.specs.Worlds.{is_stop}
 pub use Rattle.grain_means.specs.Rules.Faults.{race_text, kind_throws_unit, throws_unit, thrown_anew, outer_handlers, own_or, position, leave_by_fault, marked_or, marked, if_armed, offered_to, offered, raised, on_verdict, progressed, charged_or, charged, escaped, data_race}
 pub use Rattle.grain_means.specs.Rules.Catching.{catching, resumed, push_handler, bind_caught, caught}
@@ -27,7 +27,7 @@ pub use Rattle.grain_means.specs.Rules.Operators.{if_fast, operated, op_assigned
 pub use Rattle.grain_means.specs.Rules.Calls.{bound, function_numbered, function_found, function_by_name, propagate, resume_caller, function_entered, enter_function, call_function}
 pub use Rattle.grain_means.specs.Rules.Pointers.{curried_in, spread, operand_under, not_a_pointer, curried, curry, pointer_called, call_pointer}
 pub use Rattle.grain_means.specs.Rules.InWorld.{world_place, placed, at_step, lent_at, failed_so, needed, performed, walks}
-pub use Rattle.grain_means.specs.Rules.Chains.{root_name, root_operands, assigned_operands, chain_operands, steps_operands, assigned_operand, operator_of, new_root, at_root, assigned_value, course_of, chain_over, walk_from, back_from, walk_cell, walk_root, unless_constant, chain_in, chain}
+pub use Rattle.grain_means.specs.Rules.Chains.{root_name, root_operands, steps_operands, assigned_operand, operator_of, new_root, at_root, assigned_value, course_of, chain_over, walk_from, back_from, walk_cell, walk_root, unless_constant, chain_in, chain}
 use Rattle.std.specs.Prelude.{ℕ, ◌+◌, is_some, List, [], Option, Some, None, Bool, true, false, if◌then◌else◌, length}
 use Rattle.grain_value.specs.declared.values.Dynamic.{Dynamic}
 use Rattle.grain_value.specs.declared.values.Dynamic.TheVariants as dynamic
@@ -98,6 +98,7 @@ module _ {S : Type 0} (m : Setup S) where
   instr (op.PushHandlerVar t n) next f w = push_handler m t (Some n) next f w
   instr op.PopHandler next f w =
       onward m f (record f { address = next; handlers = outer_handlers f.handlers }) w
+  instr (op.Chain k) next f w = chain m k next f w
   instr op.Throw next f w =
       flattened m (top f.operands) [] f w
       (λ v. raised m (without 1 f) (Plain (Runtime v) (position m f)) w)

@@ -98,7 +98,9 @@ index_type (dynamic.Map es) = codes "string"
 index_type d = codes "i64"
 
 module _ (g : Setting) where
-  -- a key that a map does not have
+  -- An index step or a property step asks a map for the key k, which the map does not have. The last
+  -- step of a chain that assigns adds the key. Any other step fails if the engine is strict on
+  -- properties, and else goes on at unit.
   abbrev pub missing_key : ℕ → Position → Origin → Role → List ℕ → Held → Next → Place → Rest →
       Task
   missing_key n q o role k h next p done =
@@ -107,7 +109,9 @@ module _ (g : Setting) where
       else (if g.engine.strict_properties then failing n (Plain (PropertyNotFound k) q) done
       else rooted g n o (record h { value = dynamic.Unit }) next p done)
 
-  -- an index of a value that has none of its own is for the host's indexers
+  -- An index step at a value in which no index can be looked up asks the host's indexers, with the index
+  -- i as the operand is. A last step that writes asks an indexer to set; any other asks one to get, also
+  -- a last step that assigns by an op-assignment.
   abbrev pub by_indexer : ℕ → Position → Position → Role → Dynamic → Next → Place → Rest → Task
   by_indexer n q bracket (Writes v) i next p done =
       set_by_index n bracket p i v dynamic.Unit done
@@ -118,7 +122,8 @@ module _ (g : Setting) where
       asking n bracket index_get (Some p) (i ∷ []) done
       (index_was_got n done (into_answer g n q (reads role) (OfIndex i bracket) next p done))
 
-  -- where an index leads: an operand, and what it is as it is read
+  -- An index step goes on, by what the look-up of the index found in h, which stands at the place. The
+  -- index is i as the operand is, and v as it is read.
   abbrev pub indexed : ℕ → Position → Position → Role → Dynamic → Dynamic → Held → Next → Place →
       Rest → Result Spot ValueFault → Task
   indexed n q bracket role i v h next p done (Ok (spot.Item k)) =

@@ -124,8 +124,10 @@ pub fn reads_along()
         × (at path (tree h.value) ≡ Ok (tree u)) }
 {}
 
-/// Where the walk of a chain ends in a fault, the fault has the row of its kind, or a native was not to
-/// be had, or failed.
+/// A reason (`WalkRow`) for which a chain's walk ends in a fault and blames a step is one of three: it is
+/// among those of the fault's kind (`OwnRow`); or a call of the walk ended with the fault, and with it the
+/// walk ends; or a call ended with the fault because there was no such property, the walk called an
+/// indexer in its place, and there was none.
 pub fn walk_rows<S>()
     ensures { (m : Setup S) (c : ChainWalk S) (n : ℕ) (x : Problem) → WalkRow m c n x →
         OwnRow m c n x ⊎ (NativeFails m c n x ⊎ InsteadFails m c n x) }

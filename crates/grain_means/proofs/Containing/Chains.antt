@@ -11,7 +11,7 @@ use Rattle.grain_value.specs.declared.values.Dynamic.{Dynamic}
 use Rattle.grain_value.specs.declared.values.Dynamic.TheVariants as dynamic
 use Rattle.grain_value.specs.declared.values.Held.{Held}
 use Rattle.grain_fault.specs.Problems.{Plain, AssignmentToConstant, DataRace}
-use Rattle.grain_program.specs.Chains.{assigns, slot_of}
+use Rattle.grain_program.specs.Chains.{assigns, chain_takes, slot_of}
 use Rattle.grain_program.specs.View.{chain_of}
 use Rattle.grain_program.specs.declared.code.chains.Chain.{Chain}
 use Rattle.grain_program.specs.declared.code.chains.Root.{Root}
@@ -21,7 +21,7 @@ use Rattle.grain_program.specs.declared.code.chains.Tail.TheVariants as tail
 use Rattle.grain_means.specs.Contained.{CellNames, Contained, HeldNames}
 use Rattle.grain_means.specs.Places.{look}
 use Rattle.grain_means.specs.Rules as rules
-use Rattle.grain_means.specs.Rules.{assigned_operand, back_from, chain_operands, course_of, is_read_only, new_root, race_text, root_name, root_operands, steps_operands, trees_in, without}
+use Rattle.grain_means.specs.Rules.{assigned_operand, back_from, course_of, is_read_only, new_root, race_text, root_name, root_operands, steps_operands, trees_in, without}
 use Rattle.grain_means.specs.Tasks.{Task, Walked, Well, Ill}
 use Rattle.grain_means.specs.Walks.{whole_walk}
 use Rattle.grain_means.specs.Worlds.{Act, Frame, Setup, World}
@@ -256,5 +256,5 @@ module _ {S : Type 0} {m : Setup S} (on : Grounds m) where
     chains f names k next w at =
         let c = chain_of m.program k in
         chain_in (record f { slot = Some (slot_of m.program k 0) }) names
-        (without (chain_operands c) f)
-        (under_names clean n (chain_operands c) f.operands names.0, names.1) k c next w at
+        (without (chain_takes c) f)
+        (under_names clean n (chain_takes c) f.operands names.0, names.1) k c next w at

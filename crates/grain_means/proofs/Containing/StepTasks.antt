@@ -56,8 +56,8 @@ module _ (clean : Bool) (n : ℕ) where
           by clean n (assigning role) _ _
           (out clean n done k f, (key_added name h.value held plain, on _ done f))
           (by clean n g.engine.strict_properties _ _ (fails clean n k _ done f (omega arith, λ s. refl))
-          (roots clean n k g o from (record h { value = dynamic.Unit }) ((omega arith, λ s. refl), refl) next on
-          p done f))
+          (roots clean n k g o from (record h { value = dynamic.Unit })
+          ((omega arith, λ s. refl), refl) next on p done f))
 
       -- the value that a role assigns
       abbrev RoleNames : Role → Type 0
@@ -138,13 +138,15 @@ module _ (clean : Bool) (n : ℕ) where
                 walks.indexed g k q bracket role i v h next p done (locate h.value v))
                 else walks.by_indexer g k q bracket role i next p done)
             by_kind h stands true e =
-                reads clean n k q i done (λ v. walks.indexed g k q bracket role i v h next p done (locate h.value v))
+                reads clean n k q i done
+                (λ v. walks.indexed g k q bracket role i v h next p done (locate h.value v))
                 f index (λ v plain. indexed q bracket role value i v index h stands.0
                 (indexed_plain h.value e) next on p done f (locate h.value v))
             by_kind h stands false e = by_indexer q bracket role value i index next on p done f
 
       by_accessor : (name getter setter : ℕ) (q : Position) (role : Role) → RoleNames role →
-          (next : Next) → Goes clean n next → Goes clean n (walks.by_accessor g k name getter setter q role next)
+          (next : Next) → Goes clean n next →
+          Goes clean n (walks.by_accessor g k name getter setter q role next)
       by_accessor name getter setter q Passes value next on p done f =
           gets_property clean n k g name getter q p done _ f
           (into_answer clean n k g q (OfProperty name setter q false) tt next on p done f)
@@ -159,13 +161,15 @@ module _ (clean : Bool) (n : ℕ) where
 
       at_key : (q : Position) (role : Role) (name : List ℕ) (h : Held) → HeldNames clean n h →
           cell_of h.value ≡ None → (next : Next) → Goes clean n next → (p : Place) (done : Rest) →
-          Follows clean n done → (t : Option Tree) → TaskNames clean n (walks.at_key g k q role name h next p done t)
+          Follows clean n done → (t : Option Tree) →
+          TaskNames clean n (walks.at_key g k q role name h next p done t)
       at_key q role name h held plain next on p done f (Some t) = (out clean n done k f, on _ done f)
       at_key q role name h held plain next on p done f None =
           missing_key q OfNothing tt role name h held plain next on p done f
 
       property_step : (name getter setter : ℕ) (q : Position) (role : Role) → RoleNames role →
-          (next : Next) → Goes clean n next → Goes clean n (walks.property_step g k name getter setter q role next)
+          (next : Next) → Goes clean n next →
+          Goes clean n (walks.property_step g k name getter setter q role next)
       property_step name getter setter q role value next on p done f = λ h stands.
           at h stands h.value refl where
             at : (h : Held) → Stands clean n h → (d : Dynamic) → h.value ≡ d →

@@ -2,13 +2,14 @@
 use Rattle.std.proofs.Common.{◌≡◌, ◌+◌, ℕ, Bool, true, false, [], ◌∷◌, ◌++◌, Option, Some, None, take, refl, inl, inr}
 use Rattle.std.specs.Prelude.{if◌then◌else◌}
 use Rattle.grain_value.specs.Operands.{read_write}
-use Rattle.grain_value.specs.Parts.{with_part}
+use Rattle.grain_value.specs.Parts.{part_type, with_part}
+use Rattle.grain_value.specs.Writing.{type_name_of}
 use Rattle.grain_value.specs.declared.values.Dynamic.{Dynamic}
 use Rattle.grain_value.specs.declared.values.Dynamic.TheVariants as dynamic
 use Rattle.grain_value.specs.declared.values.Held.{Held}
 use Rattle.grain_fault.specs.Absences.{is_dot_expr, is_indexing_type}
 use Rattle.grain_fault.specs.Classes.{catchable}
-use Rattle.grain_fault.specs.Problems.{Problem, NoMemory}
+use Rattle.grain_fault.specs.Problems.{Problem, Plain, Arithmetic, DataTooLarge, MismatchDataType, NoMemory}
 use Rattle.grain_fault.specs.declared.places.Position.{Position}
 use Rattle.grain_host.specs.Signatures.{says_missing}
 use Rattle.grain_ops.specs.Outcomes.{Outcome, NotBuiltIn, Gave, ArithmeticFault, TooLarge}
@@ -21,7 +22,7 @@ use Rattle.grain_means.specs.Tasks.{Call, Task, Write, Root, Well, Ill}
 use Rattle.grain_means.specs.Walks as walks
 use Rattle.grain_means.specs.Walks.{Setting, Course, Rest, Next, Role, Passes, Reads, Writes, Operates, Origin, OfPart, OfIndex, OfProperty, OfNothing, at_mark, assigning, failing, flat_or_busy, flattening, is_indexed, key_of, origin_of_part, role_at_end, role_before, skips, with_key}
 use Rattle.grain_means.specs.Causes.Spots.{ChainWalk, here, marked, looked, wrote, added, dropped, past, Falls, CallFails, world_of}
-use Rattle.grain_means.proofs.Explaining.Ways.{join, On, Why, From, Goes, Follows, ill, out, marks, fails, reads, call_of, Hears, asks, failing_call, native_row, instead_row}
+use Rattle.grain_means.proofs.Explaining.Ways.{join, On, Why, From, Goes, Follows, ill, out, marks, fails, reads, call_of, Hears, asks, failing_call, native_row, IsReplaced, instead_row}
 
 pub if_false : {A : Type 0} (P : A → Type 0) (b : Bool) (x y : A) → b ≡ false → P y →
     P (if b then x else y)
@@ -59,12 +60,13 @@ module _ {S : Type 0} (m : Setup S) (c : ChainWalk S) where
         (index_set (call_of m c n q walks.index_set (Some p) (i ∷ v ∷ [])) refl u done f)
 
     -- an indexer has set a property, of which the setter failed
-    pub set_instead : (call : Call) → call.step ≡ n → (x : Problem) → CallFails m c n x →
-        (assigned : Bool) (u : Dynamic) (done : Rest) → Follows m c done →
+    pub set_instead : (call : Call) → call.step ≡ n → (x : Problem) (first : CallFails m c n x)
+        (assigned : Bool) (u : Dynamic) (done : Rest) →
+        IsReplaced m c n first call (walks.set_instead n x assigned u done) → Follows m c done →
         Hears m c n call (walks.set_instead n x assigned u done)
-    set_instead call step x first assigned u done f v come (Came r) w ends arrived =
+    set_instead call step x first assigned u done replaced f v come (Came r) w ends arrived =
         f.well u true w arrived
-    set_instead call step x first assigned u done f v come (Failed y) w ends arrived =
+    set_instead call step x first assigned u done replaced f v come (Failed y) w ends arrived =
         by_absence (is_indexing_type y) refl arrived where
           kept : Task
           kept = if assigned then done (Ill n x) else done (Well u true)
@@ -76,7 +78,7 @@ module _ {S : Type 0} (m : Setup S) (c : ChainWalk S) where
               On m c (if b then done (Ill n x) else done (Well u true)) w →
               Why m c (if b then done (Ill n x) else done (Well u true)) w
           by_assigned absent true e on =
-              ill m c n x done f (instead_row m c n x y first second absent
+              ill m c n x done f (instead_row m c n x y first second replaced absent
               (if_true (Falls n x) (is_indexing_type y) kept (done (Ill n y)) absent
               (if_true (Falls n x) assigned (done (Ill n x)) (done (Well u true)) e (f.falls n x)))) w
           by_assigned absent false e on = f.well u true w on
@@ -109,7 +111,12 @@ module _ {S : Type 0} (m : Setup S) (c : ChainWalk S) where
               asks m c n q walks.index_set (Some p) (name ∷ set ∷ []) done
               (walks.set_instead n x assigned u done) f (f.falls n NoMemory)
               (set_instead (call_of m c n q walks.index_set (Some p) (name ∷ set ∷ [])) refl x first
-              assigned u done f) w on
+              assigned u done (record {
+                none = e;
+                out = done (Ill n NoMemory);
+                instead =
+                    if_true (λ (t : Task). t ≡ again) (is_dot_expr x) again (done (Ill n x)) e refl;
+              }) f) w on
           by_absence false e on =
               ill m c n x done f (native_row m c n x first
               (if_false (Falls n x) (is_dot_expr x) again (done (Ill n x)) e (f.falls n x))) w
@@ -128,11 +135,13 @@ module _ {S : Type 0} (m : Setup S) (c : ChainWalk S) where
     abbrev pub Answers : (Dynamic → Task) → Type 0
     Answers go = (d : Dynamic) → From m c (go d)
 
-    pub got_instead : (call : Call) → call.step ≡ n → (x : Problem) → CallFails m c n x →
-        (done : Rest) (go : Dynamic → Task) → Follows m c done → Answers go →
-        Hears m c n call (walks.got_instead n x done go)
-    got_instead call step x first done go f on v come (Came d) w ends arrived = on d w arrived
-    got_instead call step x first done go f on v come (Failed y) w ends arrived =
+    pub got_instead : (call : Call) → call.step ≡ n → (x : Problem) (first : CallFails m c n x)
+        (done : Rest) (go : Dynamic → Task) →
+        IsReplaced m c n first call (walks.got_instead n x done go) → Follows m c done →
+        Answers go → Hears m c n call (walks.got_instead n x done go)
+    got_instead call step x first done go replaced f on v come (Came d) w ends arrived =
+        on d w arrived
+    got_instead call step x first done go replaced f on v come (Failed y) w ends arrived =
         by_absence (is_indexing_type y) refl where
           second : CallFails m c n y
           second = failing_call m c n call step (walks.got_instead n x done go) v come y w ends
@@ -140,7 +149,7 @@ module _ {S : Type 0} (m : Setup S) (c : ChainWalk S) where
           by_absence : (b : Bool) → is_indexing_type y ≡ b →
               Why m c (if b then done (Ill n x) else done (Ill n y)) w
           by_absence true e =
-              ill m c n x done f (instead_row m c n x y first second e
+              ill m c n x done f (instead_row m c n x y first second replaced e
               (if_true (Falls n x) (is_indexing_type y) (done (Ill n x)) (done (Ill n y)) e
               (f.falls n x))) w
           by_absence false e =
@@ -166,8 +175,13 @@ module _ {S : Type 0} (m : Setup S) (c : ChainWalk S) where
           by_absence true e at =
               asks m c n q walks.index_get (Some p) (name ∷ []) done (walks.got_instead n x done go) f
               (f.falls n NoMemory)
-              (got_instead (call_of m c n q walks.index_get (Some p) (name ∷ [])) refl x first done go f on)
-              w at
+              (got_instead (call_of m c n q walks.index_get (Some p) (name ∷ [])) refl x first done go
+              (record {
+                none = e;
+                out = done (Ill n NoMemory);
+                instead =
+                    if_true (λ (t : Task). t ≡ again) (is_dot_expr x) again (done (Ill n x)) e refl;
+              }) f on) w at
           by_absence false e at =
               ill m c n x done f (native_row m c n x first
               (if_false (Falls n x) (is_dot_expr x) again (done (Ill n x)) e (f.falls n x))) w
@@ -272,7 +286,8 @@ module _ {S : Type 0} (m : Setup S) (c : ChainWalk S) where
                 (op_assigned_by (call_of m c n q word (Some p) (value ∷ [])) refl p done f) v at
             by_outcome (Gave r) e at = writes p r done f v at
             by_outcome (ArithmeticFault text) e at =
-                fails m c n _ done f (inr (inr (inr (inr (inr (inr (inl (record {
+                let x = Plain (Arithmetic text) q in
+                fails m c n x done f (inr (inr (inr (inr (inr (inr (inl (record {
                   operator = a;
                   value = value;
                   position = q;
@@ -282,9 +297,11 @@ module _ {S : Type 0} (m : Setup S) (c : ChainWalk S) where
                   comes = come;
                   text = text;
                   none = inl (e, refl);
+                  last = f.falls n x;
                 })))))))) v at
             by_outcome (TooLarge text) e at =
-                fails m c n _ done f (inr (inr (inr (inr (inr (inr (inl (record {
+                let x = Plain (DataTooLarge text) q in
+                fails m c n x done f (inr (inr (inr (inr (inr (inr (inl (record {
                   operator = a;
                   value = value;
                   position = q;
@@ -294,6 +311,7 @@ module _ {S : Type 0} (m : Setup S) (c : ChainWalk S) where
                   comes = come;
                   text = text;
                   none = inr (e, refl);
+                  last = f.falls n x;
                 })))))))) v at
 
     -- the way back
@@ -313,7 +331,8 @@ module _ {S : Type 0} (m : Setup S) (c : ChainWalk S) where
           f.well u changed (record v2 { roots = put v2.roots (world_of m c p) d })
           (join m c come2 (wrote here))) (past v) at
       by_part None e at =
-          fails m c n _ done f (inr (inr (inr (inr (inr (inl (record {
+          let x = Plain (MismatchDataType (part_type s) (type_name_of held)) c.course.setting.position in
+          fails m c n x done f (inr (inr (inr (inr (inr (inl (record {
             spot = s;
             place = p;
             part = held;
@@ -324,6 +343,7 @@ module _ {S : Type 0} (m : Setup S) (c : ChainWalk S) where
             comes = come;
             none = e;
             is = refl;
+            last = f.falls n x;
           }))))))) (past v) at
     sets_back (OfIndex i q) p held u changed done f v come = by_change changed come where
       by_change : (b : Bool) →
@@ -361,7 +381,8 @@ module _ {S : Type 0} (m : Setup S) (c : ChainWalk S) where
         (join m c come (added here)))
 
     pub into_answer : (q : Position) (o : Origin) (next : Next) → Goes m c next → (p : Place)
-        (done : Rest) → Follows m c done → Answers (walks.into_answer c.course.setting n q false o next p done)
+        (done : Rest) → Follows m c done →
+        Answers (walks.into_answer c.course.setting n q false o next p done)
     into_answer q o next on p done f d =
         reads m c n q d done (λ u. walks.rooted c.course.setting n o (read_write u) next p done) f
         (λ v come u e at. roots o (read_write u) next on p done f v at)

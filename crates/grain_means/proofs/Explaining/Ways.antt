@@ -4,11 +4,12 @@ use Rattle.std.proofs.Common.{◌≡◌, ◌+◌, ℕ, Bool, true, false, List, 
 use Rattle.grain_value.specs.Cells.{flat}
 use Rattle.grain_value.specs.declared.values.Dynamic.{Dynamic}
 use Rattle.grain_value.specs.declared.values.Held.{Held}
-use Rattle.grain_fault.specs.Absences.{is_indexing_type}
-use Rattle.grain_fault.specs.Problems.{Problem, NoMemory}
+use Rattle.grain_fault.specs.Absences.{is_dot_expr, is_indexing_type}
+use Rattle.grain_fault.specs.Problems.{Problem, Plain, DataRace, NoMemory}
 use Rattle.grain_fault.specs.declared.places.Position.{Position}
 use Rattle.grain_means.specs.Worlds.{is_stop, Answer, Failed, Place, Setup, World}
 use Rattle.grain_means.specs.Places.{look, put}
+use Rattle.grain_means.specs.Rules.{race_text}
 use Rattle.grain_means.specs.Tasks.{Call, Task, Done, Mark, Look, Flatten, Write, Root, Drop, Need, Well, Ill}
 use Rattle.grain_means.specs.Walks as walks
 use Rattle.grain_means.specs.Walks.{Setting, Course, Rest, Next, Role, Passes, Reads, Writes, Operates, Origin, OfPart, OfIndex, OfProperty, OfNothing, at_mark, assigning, failing, flat_or_busy, flattening, is_indexed, key_of, origin_of_part, role_at_end, role_before, skips, with_key}
@@ -16,8 +17,8 @@ use Rattle.grain_means.specs.Causes.Spots.{ChainWalk, WalksTo, here, marked, loo
 
 module _ {S : Type 0} (m : Setup S) (c : ChainWalk S) where
   -- one way after another
-  pub join : {r u : Task} {x w : World S} {t : Task} {v : World S} → WalksTo m c u w t v → WalksTo m c r x u w →
-      WalksTo m c r x t v
+  pub join : {r u : Task} {x w : World S} {t : Task} {v : World S} → WalksTo m c u w t v →
+      WalksTo m c r x u w → WalksTo m c r x t v
   join here b = b
   join (marked e a) b = marked e (join a b)
   join (looked a) b = looked (join a b)
@@ -100,7 +101,8 @@ module _ {S : Type 0} (m : Setup S) (c : ChainWalk S) where
           by_content : (o : Option Dynamic) → flat v.cells u ≡ o →
               On (flat_or_busy n q done go o) v → Why (flat_or_busy n q done go o) v
           by_content None e arrived =
-              fails _ done f (inr (inr (inr (inr (inl (record {
+              let x = Plain (DataRace (race_text [])) q in
+              fails x done f (inr (inr (inr (inr (inl (record {
                 value = u;
                 position = q;
                 rest = done;
@@ -109,6 +111,7 @@ module _ {S : Type 0} (m : Setup S) (c : ChainWalk S) where
                 comes = come;
                 lent = e;
                 is = refl;
+                last = f.falls n x;
               })))))) v arrived
           by_content (Some d) e arrived = from v come d e arrived
 
@@ -148,13 +151,24 @@ module _ {S : Type 0} (m : Setup S) (c : ChainWalk S) where
     native_row x call last =
         inr (inr (inr (inr (inr (inr (inr (inl (record { fails = call; last = last }))))))))
 
+    -- after a call that failed because there is no such property, another call is made in its place
+    pub record IsReplaced {x : Problem} (first : CallFails m c n x) (call : Call)
+        (go : Answer → Task) : Type 0 where
+      pub none : is_dot_expr x ≡ true
+      pub out : Task
+      pub instead : first.go (Failed x) ≡ Mark out (Need call go)
+
     pub instead_row : (x y : Problem) (first : CallFails m c n x) (second : CallFails m c n y) →
-        is_indexing_type y ≡ true → Falls n x (second.go (Failed y)) → WalkRow m c n x
-    instead_row x y first second absent last =
+        IsReplaced first second.call second.go → is_indexing_type y ≡ true →
+        Falls n x (second.go (Failed y)) → WalkRow m c n x
+    instead_row x y first second replaced absent last =
         inr (inr (inr (inr (inr (inr (inr (inr (record {
           first = first;
+          no_property = replaced.none;
           other = y;
           second = second;
+          out = replaced.out;
+          instead = replaced.instead;
           absent = absent;
           last = last;
         }))))))))

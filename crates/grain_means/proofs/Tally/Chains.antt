@@ -9,7 +9,7 @@ use Rattle.grain_value.specs.declared.values.Dynamic.{Dynamic}
 use Rattle.grain_value.specs.declared.values.Held.{Held}
 use Rattle.grain_fault.specs.Problems.{Problem, Plain, AssignmentToConstant, DataRace, Malformed, NoMemory}
 use Rattle.grain_fault.specs.declared.faults.MalformedKind.TheVariants as kind
-use Rattle.grain_program.specs.Chains.{assigns, slot_of}
+use Rattle.grain_program.specs.Chains.{assigns, chain_takes, slot_of}
 use Rattle.grain_program.specs.Decoding.{op_at}
 use Rattle.grain_program.specs.View.{chain_of}
 use Rattle.grain_program.specs.declared.code.chains.Chain.{Chain}
@@ -20,7 +20,7 @@ use Rattle.grain_program.specs.declared.code.chains.Tail.TheVariants as tail
 use Rattle.grain_program.specs.declared.code.instruction_set.Op.{Op}
 use Rattle.grain_means.specs.Places.{look}
 use Rattle.grain_means.specs.Rules as rules
-use Rattle.grain_means.specs.Rules.{assigned_operand, back_from, chain_operands, course_of, held_at, is_read_only, is_stop, leave_by_fault, new_root, offered, position, race_text, root_name, stepped, without}
+use Rattle.grain_means.specs.Rules.{assigned_operand, back_from, course_of, held_at, is_read_only, is_stop, leave_by_fault, new_root, offered, position, race_text, root_name, stepped, without}
 use Rattle.grain_means.specs.Tasks.{Task, Well, Ill}
 use Rattle.grain_means.specs.Walks.{whole_walk}
 use Rattle.grain_means.specs.Worlds.{Act, Frame, Setup, World}
@@ -41,9 +41,9 @@ module _ {S : Type 0} {m : Setup S} (walk : Walk m) where
   -- The chain of this index, by an instruction that stands where the frame does: the frame goes on
   -- without the chain's operands and with one value more, and each fault has a reason by its row.
   module _ (o : Op) (width : ℕ) (stands : op_at m.program.code f.address ≡ Some (o, width))
-      (index : ℕ) (c : Chain) (after : Enough walk o (under (chain_operands c) f.operands))
+      (index : ℕ) (c : Chain) (after : Enough walk o (under (chain_takes c) f.operands))
       (on : (v : Dynamic) → Sits m whole_run k (stepped f (f.address + width)
-      (under (chain_operands c) f.operands ++ read_write v ∷ [])))
+      (under (chain_takes c) f.operands ++ read_write v ∷ [])))
       (reason : (n : ℕ) (x : Problem) → ChainRow m c (point walk o) n x → Reason walk x) where
     abbrev ran : ℕ
     ran = now.ran + 1
@@ -56,7 +56,7 @@ module _ {S : Type 0} {m : Setup S} (walk : Walk m) where
     rooting = record f { slot = Some (slot_of m.program index 0) }
 
     abbrev walking : Frame
-    walking = without (chain_operands c) f
+    walking = without (chain_takes c) f
 
     abbrev Here : World S → Type 0
     Here w = Steady walk ran w × (w.trace ≡ [])
@@ -71,8 +71,8 @@ module _ {S : Type 0} {m : Setup S} (walk : Walk m) where
     over_ill : (n : ℕ) (x : Problem) (w : World S) → ChainRow m c (point walk o) n x → Here w →
         Even walk ran (rules.chain_over m index next walking (Ill n x) w)
     over_ill n x w row s =
-        even_raised_at walk o width stands (Some (slot_of m.program index n)) f.position walking.operands after
-        ran x w s.0 (reason n x row)
+        even_raised_at walk o width stands (Some (slot_of m.program index n)) f.position
+        walking.operands after ran x w s.0 (reason n x row)
 
     over_out : (n : ℕ) (w : World S) → is_stop m.stop w.passed ≡ true → Here w →
         Even walk ran (rules.chain_over m index next walking (Ill n NoMemory) w)
@@ -257,9 +257,9 @@ module _ {S : Type 0} {m : Setup S} (walk : Walk m) where
 
   pub even_chain : (o : Op) (width : ℕ) → op_at m.program.code f.address ≡ Some (o, width) →
       (index : ℕ) → (let c = chain_of m.program index in
-      Enough walk o (under (chain_operands c) f.operands) →
+      Enough walk o (under (chain_takes c) f.operands) →
       ((v : Dynamic) → Sits m whole_run k (stepped f (f.address + width)
-      (under (chain_operands c) f.operands ++ read_write v ∷ []))) →
+      (under (chain_takes c) f.operands ++ read_write v ∷ []))) →
       ((n : ℕ) (x : Problem) → ChainRow m c (point walk o) n x → Reason walk x) →
       Even walk (now.ran + 1) (rules.chain m index (f.address + width) f (start walk)))
   even_chain o width stands index after on reason =

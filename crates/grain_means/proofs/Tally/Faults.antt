@@ -4,11 +4,13 @@ use Rattle.std.proofs.Common.{◌≡◌, ◌≤◌, ◌<◌, ◌⊎◌, ℕ, ◌
 use Rattle.std.proofs.lemmas.Bool.{ltb-true, ltb-false, leb-true}
 use Rattle.grain_value.specs.declared.values.Dynamic.{Dynamic}
 use Rattle.grain_value.specs.declared.values.Held.{Held}
-use Rattle.grain_fault.specs.Positions.{at_position_if_none}
+use Rattle.grain_fault.specs.Positions.{at_position_if_none, position_of_problem}
 use Rattle.grain_fault.specs.declared.places.Position.{Position}
 use Rattle.grain_fault.specs.Problems.{Problem, Plain, TooManyOperations}
 use Rattle.grain_fault.specs.Problems as problem
+use Rattle.grain_program.specs.View.{chain_of}
 use Rattle.grain_program.specs.declared.code.instruction_set.Op.{Op}
+use Rattle.grain_program.specs.declared.code.instruction_set.Op.TheVariants as op
 use Rattle.grain_program.specs.declared.code.effects.Handling.{Handling}
 use Rattle.grain_program.specs.declared.code.effects.Handling.TheVariants as handling
 use Rattle.grain_program.specs.Effects.{takes_of, gives_of, leads_of, handling_of}
@@ -18,10 +20,11 @@ use Rattle.grain_program.specs.Decoding.{op_at}
 use Rattle.grain_value.specs.Cells.{flat}
 use Rattle.grain_means.specs.Worlds.{Act, World, Setup, Frame}
 use Rattle.grain_host.specs.Law.{Verdict, GoOn, Stop}
-use Rattle.grain_means.proofs.Moving.{placed_if_none}
+use Rattle.grain_means.proofs.Moving.{placed_here, placed_if_none}
 use Rattle.grain_means.specs.Rules.{offered, on_verdict, progressed, stepped, marked, raised, charged, onward, jumped, position, flat_or_race, flat_all, all_or_race, data_race, race_text}
 use Rattle.grain_means.specs.Comes.{Meets, tries}
-use Rattle.grain_means.specs.Causes.{HostAnswers, HasPosition, Charges, IsCharged, Row, ReadsLent, AnswersLent, IsLent}
+use Rattle.grain_means.specs.Causes.{ChainRow, HostAnswers, RaisedByChain, HasPosition, Charges, IsCharged, Row, ReadsLent, AnswersLent, IsLent}
+use Rattle.grain_means.proofs.Chainless.{no_chain}
 use Rattle.grain_means.proofs.Standing.{Fitting, fits_next, fits_covered}
 use Rattle.grain_means.proofs.Footing.{Sits, by_test, unit_by_row, Offers}
 use Rattle.grain_means.proofs.Tally.Frames.{Walk, Even, Steady, start, steady, even_marked, even_marked_at, holding, stepping, even_offered, even_onward, point, Reason, Enough, all_there}
@@ -41,7 +44,7 @@ module _ {S : Type 0} {m : Setup S} (walk : Walk m) where
         point = point walk o;
         met = met;
         why = inl row;
-        tells = inl (level, inl p);
+        tells = inl (level, inl (no_chain m x o f now row, p));
       }),
       unit_by_row m root k.level (point walk o) met level x p row,
     )
@@ -55,15 +58,37 @@ module _ {S : Type 0} {m : Setup S} (walk : Walk m) where
           inl (record {
             point = point walk o;
             met = met;
-            why = inr (y, placed.0, answers, placed.1);
-            tells = inl (level, inr (y, answers, refl));
+            why = inr (y, placed.0, inl answers, placed.1);
+            tells = inl (level, inr (inl (y, answers, refl)));
           }),
           λ unit. (
             record {
               point = point walk o;
               met = met;
               own = level;
-              how = inr (x, unit, (y, answers, refl), refl);
+              how = inr (x, unit, inl (y, answers, refl), refl);
+            },
+            refl,
+          ),
+        )
+
+    -- why the run ends in the fault of a chain
+    pub why_chain : (k n : ℕ) (x : Problem) → o ≡ op.Chain k →
+        ChainRow m (chain_of m.program k) (point walk o) n x → Reason walk x
+    why_chain k n x is row =
+        let how : RaisedByChain m x (point walk o) = (k, n, is, row) in (
+          inl (record {
+            point = point walk o;
+            met = met;
+            why = inr (x, position_of_problem x, inr how, sym (placed_here x));
+            tells = inl (level, inr (inr how));
+          }),
+          λ unit. (
+            record {
+              point = point walk o;
+              met = met;
+              own = level;
+              how = inr (x, unit, inr how, refl);
             },
             refl,
           ),
@@ -149,8 +174,8 @@ module _ {S : Type 0} {m : Setup S} (walk : Walk m) where
     -- the frame goes on at an address to which the instruction leads, with as many operands and
     -- with such handlers as it leaves
     pub fits_on : (g : Frame) → In g.address (leads_of o (f.address + width)) →
-        (takes_of m.program o ≤ length f.operands → length g.operands ≡ length f.operands - takes_of m.program o +
-        gives_of o) →
+        (takes_of m.program o ≤ length f.operands →
+        length g.operands ≡ length f.operands - takes_of m.program o + gives_of o) →
         tries g.handlers ≡
         handled (handling_of o) (length f.operands - takes_of m.program o + gives_of o)
         (tries f.handlers) →
@@ -161,8 +186,9 @@ module _ {S : Type 0} {m : Setup S} (walk : Walk m) where
     -- the same with the handlers that it has
     pub sits_at : handling_of o ≡ handling.Keep → (a : ℕ) (operands : List Held) →
         In a (leads_of o (f.address + width)) →
-        (takes_of m.program o ≤ length f.operands → length operands ≡ length f.operands - takes_of m.program o +
-        gives_of o) → Sits m root k (stepped f a operands)
+        (takes_of m.program o ≤ length f.operands →
+        length operands ≡ length f.operands - takes_of m.program o + gives_of o) →
+        Sits m root k (stepped f a operands)
     sits_at kept a operands to many = (
       sits.0,
       sits.1,

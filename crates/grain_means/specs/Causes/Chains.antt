@@ -1,22 +1,27 @@
 -- Why a chain ends in a fault, at a point of a program.
-use Rattle.std.specs.Prelude.{◌≡◌, ◌≤◌, ◌+◌, ◌&&◌, ℕ, List, [], ◌∷◌, ◌++◌, Option, Some, None, true, false, length, slice_get, slice_set}
+use Rattle.std.specs.Prelude.{◌≡◌, ◌≤◌, ◌⊎◌, ◌+◌, ◌&&◌, ℕ, List, [], ◌∷◌, ◌++◌, Option, Some, None, true, false, length, slice_get, slice_set}
 use Rattle.grain_value.specs.Cells.{content, flat, lent}
 use Rattle.grain_value.specs.Looking.{cell_of}
 use Rattle.grain_value.specs.Operands.{top}
 use Rattle.grain_value.specs.declared.stores.Cell.{Cell}
 use Rattle.grain_value.specs.declared.values.Dynamic.{Dynamic}
 use Rattle.grain_value.specs.declared.values.Held.{Held}
+use Rattle.grain_fault.specs.Positions.{at_position}
+use Rattle.grain_fault.specs.declared.places.Position.{Position}
 use Rattle.grain_fault.specs.Problems.{Problem, Plain, AssignmentToConstant, DataRace, Malformed}
 use Rattle.grain_fault.specs.declared.faults.MalformedKind.TheVariants as kind
 use Rattle.grain_program.specs.Chains.{assigns}
+use Rattle.grain_program.specs.View.{chain_of}
 use Rattle.grain_program.specs.declared.code.chains.Chain.{Chain}
 use Rattle.grain_program.specs.declared.code.chains.Root.{Root}
 use Rattle.grain_program.specs.declared.code.chains.Root.TheVariants as root
 use Rattle.grain_program.specs.declared.code.chains.Tail.{Tail}
 use Rattle.grain_program.specs.declared.code.chains.Tail.TheVariants as tail
+use Rattle.grain_program.specs.declared.code.instruction_set.Op.TheVariants as op
 use Rattle.grain_means.specs.Comes.{ProgramPoint}
 use Rattle.grain_means.specs.Worlds.{Frame, Setup, World}
 use Rattle.grain_means.specs.Rules.{assigned_operand, course_of, held_at, is_read_only, new_root, position, race_text, root_name}
+use Rattle.grain_means.specs.Causes.Natives.{HostAnswers}
 use Rattle.grain_means.specs.Causes.Spots.{ChainWalk, WalkRow}
 
 -- what a chain's root holds
@@ -24,13 +29,15 @@ abbrev pub RootHolds : {S : Type 0} → Root → Frame → World S → Held → 
 RootHolds (root.Local name slot) f w h = held_at w.scope (f.base + slot) ≡ Some h
 RootHolds root.Temporary f w h = h ≡ top f.operands
 
--- what a chain assigns, as it is read
+-- what a chain assigns, as it is read, if it assigns something
 abbrev pub AssignsValue : {S : Type 0} → Tail → Held → World S → Option Dynamic → Type 0
 AssignsValue tail.Read h w v = v ≡ None
 AssignsValue (tail.Assign a) h w v =
     (u : Dynamic) × (v ≡ Some u) × (flat w.cells h.value ≡ Some u)
 
--- the root with which the walk begins, and the cells then, of which one is lent if it is one
+-- The root r with which the walk begins, and the cells then, where the chain's root holds h. If h is the
+-- cell of number i, its content is lent, and is r, which can only be read if h can only be read. Else r
+-- is h.
 abbrev pub RootLends : {S : Type 0} → Option ℕ → Held → World S → Held → List Cell → Type 0
 RootLends None h w r cells = (r ≡ h) × (cells ≡ w.cells)
 RootLends (Some i) h w r cells =
@@ -38,11 +45,12 @@ RootLends (Some i) h w r cells =
     (r ≡ record { value = a.held.value; read_only = is_read_only w h }) ×
     (cells ≡ slice_set w.cells i (lent a.held))
 
--- the instruction at the point begins in this world
+-- the world once the instruction at the point has begun: it is counted, and its mark is passed
 abbrev pub begun_at : {S : Type 0} → ProgramPoint S → World S
 begun_at at = record at.world { ran = at.world.ran + 1; passed = at.world.passed + 1 }
 
--- the chain comes so far that its root and its value are read
+-- The chain has found what its root holds, which is not read-only if the chain assigns, and has read the
+-- value that it assigns, if any.
 pub record ChainReads {S : Type 0} (m : Setup S) (c : Chain) (at : ProgramPoint S) : Type 0 where
   pub held : Held
   pub holds : RootHolds c.root at.frame at.world held
@@ -50,7 +58,7 @@ pub record ChainReads {S : Type 0} (m : Setup S) (c : Chain) (at : ProgramPoint 
   pub value : Option Dynamic
   pub reads : AssignsValue c.tail (assigned_operand c at.frame.operands) at.world value
 
--- the walk of a chain that has read them
+-- the walk of a chain that has read them, from the root r and beside these cells
 abbrev pub walk_of : {S : Type 0} → Setup S → Chain → ProgramPoint S → Option Dynamic → Held →
     List Cell → ChainWalk S
 walk_of m c at value r cells = record {
@@ -65,9 +73,9 @@ walk_of m c at value r cells = record {
   };
 }
 
--- Why a chain ends in this fault: its root is an entry that is not there; or it may only be read, and
--- the chain assigns; or the value that it assigns, or its root, is a cell whose content is lent; or its
--- walk ends so.
+-- Why a chain ends in this fault, for which the step of this number is blamed: the chain's root is an
+-- entry that is not there; or the chain assigns, and its root can only be read; or the value that it
+-- assigns, or its root, is a cell whose content is lent; or its walk ends in the fault.
 pub data ChainRow {S : Type 0} (m : Setup S) (c : Chain) (at : ProgramPoint S) : ℕ → Problem →
     Type 0 where
   past_scope : (name slot : ℕ) → c.root ≡ root.Local name slot →
@@ -89,3 +97,13 @@ pub data ChainRow {S : Type 0} (m : Setup S) (c : Chain) (at : ProgramPoint S) :
   by_walk : {n : ℕ} {x : Problem} (so_far : ChainReads m c at) (r : Held) (cells : List Cell) →
       RootLends (cell_of so_far.held.value) so_far.held at.world r cells →
       WalkRow m (walk_of m c at so_far.value r cells) n x → ChainRow m c at n x
+
+-- the instruction at the point is a chain, which ends in this fault
+abbrev pub RaisedByChain : {S : Type 0} → Setup S → Problem → ProgramPoint S → Type 0
+RaisedByChain m x at = (k : ℕ) × (n : ℕ) × (at.instruction ≡ op.Chain k)
+    × ChainRow m (chain_of m.program k) at n x
+
+-- this is a fault that the host answered, or in which a chain ended, maybe at another position since
+abbrev pub FromHostOrChain : {S : Type 0} → Setup S → Problem → ProgramPoint S → Type 0
+FromHostOrChain m x at = (y : Problem) × (p : Position) ×
+    (HostAnswers m y at ⊎ RaisedByChain m y at) × (x ≡ at_position p y)

@@ -7,8 +7,7 @@ use Rattle.grain_value.specs.declared.stores.Cell.{Cell}
 use Rattle.grain_value.specs.Cells.{flat}
 use Rattle.grain_value.specs.Looking.{cell_of}
 use Rattle.grain_value.specs.Operands.{top, values_in}
-use Rattle.grain_fault.specs.Positions.{at_position, at_position_if_none}
-use Rattle.grain_fault.specs.declared.places.Position.{Position}
+use Rattle.grain_fault.specs.Positions.{at_position_if_none}
 use Rattle.grain_fault.specs.Problems.{FaultKind, Problem, Plain}
 use Rattle.grain_program.specs.declared.code.instruction_set.Op.{Op}
 use Rattle.grain_program.specs.declared.code.instruction_set.Op.TheVariants as op
@@ -171,7 +170,3 @@ abbrev pub HostAnswers : {S : Type 0} → Setup S → Problem → ProgramPoint S
 HostAnswers m y at = (name : List ℕ) × (n : Native) × (c : FindsNative m name n at)
     × IsCalled c.question n × (reply_to m c.question n.key ≡ reply.Failed y)
     × AsksLast m (at_position_if_none (position m at.frame) y) c.question at
-
--- the host answered the fault, whatever its position
-abbrev pub FromHost : {S : Type 0} → Setup S → Problem → ProgramPoint S → Type 0
-FromHost m x at = (y : Problem) × (p : Position) × HostAnswers m y at × (x ≡ at_position p y)

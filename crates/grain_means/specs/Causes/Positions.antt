@@ -11,11 +11,14 @@ use Rattle.grain_fault.specs.Positions.{at_position, at_position_if_none, positi
 use Rattle.grain_fault.specs.declared.places.Position.{Position}
 use Rattle.grain_fault.specs.Problems.{Problem}
 use Rattle.grain_program.specs.declared.code.functions.Function.{Function}
+use Rattle.grain_program.specs.declared.code.instruction_set.Op.{Op}
+use Rattle.grain_program.specs.declared.code.instruction_set.Op.TheVariants as op
 use Rattle.grain_means.specs.Worlds.{Act, Go, World, Setup, Handler, Frame, InFrame}
 use Rattle.grain_means.specs.Rules.{throws_unit, bound, frame_at, position}
 use Rattle.grain_means.specs.Comes.{ProgramPoint, CatchPoint, Comes, ComesToCatch, Meets}
 use Rattle.grain_means.specs.Causes.Instructions.{CallsOn, Throws}
 use Rattle.grain_means.specs.Causes.Natives.{HostAnswers}
+use Rattle.grain_means.specs.Causes.Chains.{RaisedByChain}
 
 -- the instruction at the point calls this function; its run comes to the function's body, on its
 -- arguments and one level up, and of the run of the body this holds
@@ -44,16 +47,24 @@ pub record LeftCall {S : Type 0} (m : Setup S) (act : Act S) (level : ℕ) (Runs
 abbrev pub HasPosition : Position → Problem → Type 0
 HasPosition p x = at_position p x ≡ x
 
--- the host answered the fault at this position, or without one, and then it has the instruction's
+-- The host answered the fault to the instruction, and the fault has the position that the host gave it,
+-- or the instruction's if the host gave none. Or a chain ends in the fault, whose row says its position:
+-- that of an index, of a bracket or of a property, the instruction's, or one that the host gave.
 abbrev pub AnsweredSo : {S : Type 0} → Setup S → ProgramPoint S → Problem → Type 0
 AnsweredSo m at x =
-    (y : Problem) × HostAnswers m y at × (x ≡ at_position_if_none (position m at.frame) y)
+    ((y : Problem) × HostAnswers m y at × (x ≡ at_position_if_none (position m at.frame) y))
+    ⊎ RaisedByChain m x at
 
--- the fault was raised in a frame of this level, and has the position of the instruction that raised
--- it, or the one that the host gave it there
+-- the instruction is no chain
+abbrev pub IsNoChain : Op → Type 0
+IsNoChain (op.Chain k) = ⊥
+IsNoChain o = Unit {0}
+
+-- The fault was raised in a frame of this level. It has the position of the instruction that raised
+-- it, if that is no chain; or the one that the host, or the rule of a chain, gave it there.
 abbrev pub TellsHere : {S : Type 0} → Setup S → ℕ → ProgramPoint S → Problem → Type 0
 TellsHere m level at x = (at.world.level ≡ level)
-    × (HasPosition (position m at.frame) x ⊎ AnsweredSo m at x)
+    × ((IsNoChain at.instruction × HasPosition (position m at.frame) x) ⊎ AnsweredSo m at x)
 
 -- the last operand is unit, as it is read
 abbrev pub ThrowsUnitAt : {S : Type 0} → Frame → World S → Type 0
@@ -104,9 +115,9 @@ pub record ThrownAnew {S : Type 0} (m : Setup S) (act : Act S) (level : ℕ) (x 
     pub ended : throws_unit caught.fault ≡ true → FirstIsArmed around
     pub is : x ≡ at_position position caught.fault
 
--- The fault has the position of the instruction that raised it in a frame of this level, or the one
--- that the host gave it there; or, if no script may catch it, that of a call there, through which
--- it left; or it was caught in a frame of this level and thrown anew.
+-- The fault was raised in a frame of this level, and has the position of the instruction, or the one
+-- that the host or the rule of a chain gave it there; or, if no script may catch it, it has that of a
+-- call there, through which it left; or it was caught in a frame of this level and thrown anew.
 abbrev pub Tells : {S : Type 0} → Setup S → Act S → ℕ → ProgramPoint S → Problem → Type 0
 Tells m act level at x = TellsHere m level at x
     ⊎ (((catchable x ≡ false)

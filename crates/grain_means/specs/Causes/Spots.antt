@@ -12,7 +12,7 @@ use Rattle.grain_value.specs.declared.values.Dynamic.TheVariants as dynamic
 use Rattle.grain_value.specs.declared.values.Held.{Held}
 use Rattle.grain_value.specs.declared.values.locating.Spot.{Spot}
 use Rattle.grain_value.specs.declared.values.value_faults.ValueFault.TheVariants as fault
-use Rattle.grain_fault.specs.Absences.{is_indexing_type}
+use Rattle.grain_fault.specs.Absences.{is_dot_expr, is_indexing_type}
 use Rattle.grain_fault.specs.Positions.{at_position_if_none}
 use Rattle.grain_fault.specs.Problems.{FaultKind, Problem, Plain, InFunctionCall, InModule, SystemError, NoMemory, Arithmetic, ArrayBounds, BitFieldBounds, DataRace, DataTooLarge, MismatchDataType, NonPureCall, PropertyNotFound, StringBounds}
 use Rattle.grain_fault.specs.declared.places.Position.{Position}
@@ -31,8 +31,10 @@ use Rattle.grain_means.specs.Tasks.{Call, Task, Done, Mark, Look, Flatten, Write
 use Rattle.grain_means.specs.Walks.{Course, OfPart, Rest, assigning, flattening, index_type, key_of, operand, operating, out_of_bounds, role_before, set_back, taken, walked, whole_walk}
 use Rattle.grain_means.specs.Causes.Natives.{IsCalled, Question, native_asked, reply_to}
 
--- A walk of a chain in the world: what the chain took from the operands, and its steps, the place of the
--- walk's first root, how many roots there were, that one with them, and the world in which it begins.
+-- A walk of a chain in the world. `course` is what the chain took from the operands, and `steps` are
+-- its steps. `start` is the world in which the walk begins, and `place` is where the walk's first root
+-- stands in it. `others` is the number of all roots of that world: the walk's later roots come after
+-- these.
 pub record ChainWalk (S : Type 0) : Type 0 where
   pub course : Course
   pub steps : List Step
@@ -64,10 +66,10 @@ answered_world m key r args w = record w {
   passed = w.passed + 1 + 1;
 }
 
--- How what a walk needs ends where memory is not out, and the world then: an argument is a cell whose
--- content is lent, or there is no such native, or it writes its first argument, which can only be
--- read; or the host answers with a value, or with a fault, which has the call's position if it has
--- none.
+-- How a call of a native by a walk ends where memory is not out, and the world then. It ends with a
+-- fault if an argument is a cell whose content is lent, if there is no such native, or if the native
+-- writes its first argument and that can only be read. Else the host answers with a value, or with a
+-- fault, which gets the call's position if the host gave it none.
 pub data CallEnds {S : Type 0} (m : Setup S) (c : Call) (r : Option Receiver) (w : World S) :
     Answer → World S → Type 0 where
   lent : flat_all w.cells (map read_write c.values) ≡ None → Passes m w →
@@ -91,7 +93,7 @@ pub data CallEnds {S : Type 0} (m : Setup S) (c : Call) (r : Option Receiver) (w
       CallEnds m c r w (Failed (at_position_if_none c.position x))
       (past (answered_world m n.key r args w))
 
--- this is left, and it goes away over roots alone to the walk's end by the fault of the step
+-- what is left of the walk does nothing but drop roots, and then ends with the fault x of step n
 abbrev pub Falls : ℕ → Problem → Task → Type 0
 Falls n x (Done o) = o ≡ Ill n x
 Falls n x (Mark out go) = ⊥
@@ -159,7 +161,7 @@ module _ {S : Type 0} (m : Setup S) (c : ChainWalk S) where
     pub at : AtStep n (step.Index number flags q bracket)
     pub reads : flat at.world.cells (operand c.course number) ≡ Some index
 
-  -- nothing stands at the index
+  -- nothing stands at the index, and with that fault the walk ends
   pub record OutOfBounds (n : ℕ) (x : Problem) : Type 0 where
     pub index : Dynamic
     pub position : Position
@@ -168,16 +170,19 @@ module _ {S : Type 0} (m : Setup S) (c : ChainWalk S) where
     pub number : ℤ
     pub none : locate (value_at step.at) index ≡ Err (fault.Bounds size number)
     pub is : x ≡ Plain (out_of_bounds (value_at step.at) size number) position
+    pub last : Falls n x (step.at.rest (Ill n x))
 
-  -- the index is of a type by which the value is not indexed
+  -- the index is of a type by which the value is not indexed, and with that fault the walk ends
   pub record MistypesIndex (n : ℕ) (x : Problem) : Type 0 where
     pub index : Dynamic
     pub position : Position
     pub step : Indexes n index position
     pub none : locate (value_at step.at) index ≡ Err fault.WrongType
     pub is : x ≡ Plain (MismatchDataType (index_type (value_at step.at)) (type_name_of index)) position
+    pub last : Falls n x (step.at.rest (Ill n x))
 
-  -- a map lacks the key of an index, or of a property, which the chain does not assign
+  -- a map lacks the key of an index, or of a property, which the chain does not assign, and with that
+  -- fault the walk ends
   pub record LacksIndex (n : ℕ) (x : Problem) : Type 0 where
     pub index : Dynamic
     pub position : Position
@@ -186,6 +191,7 @@ module _ {S : Type 0} (m : Setup S) (c : ChainWalk S) where
     pub reads : assigning (role_before c.course step.at.left) ≡ false
     pub strict : c.course.setting.engine.strict_properties ≡ true
     pub is : x ≡ Plain (PropertyNotFound (key_of index)) position
+    pub last : Falls n x (step.at.rest (Ill n x))
 
   pub record LacksProperty (n : ℕ) (x : Problem) : Type 0 where
     pub name : ℕ
@@ -200,9 +206,10 @@ module _ {S : Type 0} (m : Setup S) (c : ChainWalk S) where
     pub reads : assigning (role_before c.course at.left) ≡ false
     pub strict : c.course.setting.engine.strict_properties ≡ true
     pub is : x ≡ Plain (PropertyNotFound (name_of c.course.setting.program name)) position
+    pub last : Falls n x (at.rest (Ill n x))
 
   -- an index, an answer in which the walk goes on, or what an operator answers is a cell whose content
-  -- is lent
+  -- is lent, and with that fault the walk ends
   pub record ReadsLentCell (n : ℕ) (x : Problem) : Type 0 where
     pub value : Dynamic
     pub position : Position
@@ -212,8 +219,10 @@ module _ {S : Type 0} (m : Setup S) (c : ChainWalk S) where
     pub comes : ComesTo (flattening n position value rest go) world
     pub lent : flat world.cells value ≡ None
     pub is : x ≡ Plain (DataRace (race_text [])) position
+    pub last : Falls n x (rest (Ill n x))
 
-  -- what is put back of a byte, a character or a bit is of another type
+  -- what is put back of a byte, a character or a bit is of another type, and with that fault the walk
+  -- ends
   pub record MistypesPart (n : ℕ) (x : Problem) : Type 0 where
     pub spot : Spot
     pub place : Place
@@ -226,8 +235,9 @@ module _ {S : Type 0} (m : Setup S) (c : ChainWalk S) where
     pub none : with_part (look world.roots (world_of place)).value spot part ≡ None
     pub is : x ≡ Plain (MismatchDataType (part_type spot) (type_name_of part))
         c.course.setting.position
+    pub last : Falls n x (rest (Ill n x))
 
-  -- a built-in op-assignment has no result, or it is too large
+  -- a built-in op-assignment has no result, or it is too large, and with that fault the walk ends
   pub record Calculates (n : ℕ) (x : Problem) : Type 0 where
     pub operator : AssignOp
     pub value : Dynamic
@@ -241,8 +251,9 @@ module _ {S : Type 0} (m : Setup S) (c : ChainWalk S) where
         (look world.roots (world_of place)).value value in
         ((outcome ≡ ArithmeticFault text) × (x ≡ Plain (Arithmetic text) position))
         ⊎ ((outcome ≡ TooLarge text) × (x ≡ Plain (DataTooLarge text) position))
+    pub last : Falls n x (rest (Ill n x))
 
-  -- the walk needs a call, which ends with a fault
+  -- the walk calls a native, and the call ends with a fault
   pub record CallFails (n : ℕ) (x : Problem) : Type 0 where
     pub call : Call
     pub go : Answer → Task
@@ -252,17 +263,21 @@ module _ {S : Type 0} (m : Setup S) (c : ChainWalk S) where
     pub after : World S
     pub ends : CallEnds m call (lent_for call world) world (Failed x) after
 
-  -- with that fault the walk ends
+  -- a call of the walk ends with that fault, and with it the walk ends
   pub record NativeFails (n : ℕ) (x : Problem) : Type 0 where
     pub fails : CallFails n x
     pub last : Falls n x (fails.go (Failed x))
 
-  -- with that fault, of an accessor, the walk ends, since the host's indexer, which was asked in its
-  -- place, failed for want of one
+  -- A call ends with that fault, which is `ErrorDotExpr` (there is no such property), and so the walk
+  -- calls the host's indexer in its place. That ends with `ErrorIndexingType` (there is no indexer), and
+  -- so the walk ends with the first fault.
   pub record InsteadFails (n : ℕ) (x : Problem) : Type 0 where
     pub first : CallFails n x
+    pub no_property : is_dot_expr x ≡ true
     pub other : Problem
     pub second : CallFails n other
+    pub out : Task
+    pub instead : first.go (Failed x) ≡ Mark out (Need second.call second.go)
     pub absent : is_indexing_type other ≡ true
     pub last : Falls n x (second.go (Failed other))
 
@@ -272,8 +287,8 @@ module _ {S : Type 0} (m : Setup S) (c : ChainWalk S) where
       (ReadsLentCell n x ⊎ (MistypesPart n x ⊎ (Calculates n x ⊎
       (NativeFails n x ⊎ InsteadFails n x)))))))
 
-  -- why the walk ends in a fault of this kind at this position, if neither the host answered it nor a
-  -- native was not to be had; it ends in no other kind than these
+  -- Why the walk ends in a fault of this kind at this position that is not the fault of a call. Such a
+  -- fault is of one of these kinds.
   abbrev pub KindRow : ℕ → FaultKind → Position → Type 0
   KindRow n (ArrayBounds size i) q = OutOfBounds n (Plain (ArrayBounds size i) q)
   KindRow n (StringBounds size i) q = OutOfBounds n (Plain (StringBounds size i) q)

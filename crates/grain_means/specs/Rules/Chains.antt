@@ -14,7 +14,7 @@ use Rattle.grain_program.specs.declared.code.chains.Root.TheVariants as root
 use Rattle.grain_program.specs.declared.code.chains.Tail.{Tail}
 use Rattle.grain_program.specs.declared.code.chains.Tail.TheVariants as tail
 use Rattle.grain_program.specs.declared.code.parts.AssignOp.{AssignOp}
-use Rattle.grain_program.specs.Chains.{assigns, slot_of}
+use Rattle.grain_program.specs.Chains.{assigns, chain_takes, slot_of}
 use Rattle.grain_program.specs.View.{View, name_of, chain_of, assign_op_of}
 use Rattle.grain_means.specs.Worlds.{Place, Frame, World, Act, Setup}
 use Rattle.grain_means.specs.Places.{look}
@@ -33,18 +33,10 @@ abbrev pub root_name : View → Root → List ℕ
 root_name p (root.Local name slot) = name_of p name
 root_name p root.Temporary = []
 
--- how many operands a root is, and how many a chain assigns
+-- how many operands a root is
 abbrev pub root_operands : Root → ℕ
 root_operands (root.Local name slot) = 0
 root_operands root.Temporary = 1
-
-abbrev pub assigned_operands : Tail → ℕ
-assigned_operands tail.Read = 0
-assigned_operands (tail.Assign op) = 1
-
--- how many operands a chain takes: what it assigns, what its steps use, and its root
-abbrev pub chain_operands : Chain → ℕ
-chain_operands c = assigned_operands c.tail + c.operands + root_operands c.root
 
 -- what its steps use
 abbrev pub steps_operands : Chain → List Held → List Held
@@ -64,7 +56,7 @@ operator_of p (tail.Assign (Some a)) = Some (assign_op_of p a)
 abbrev pub new_root : List Held → Place
 new_root roots = record { root = length roots; path = [] }
 
--- a root that is no cell goes back to its entry, and one that nothing holds goes away
+-- after the walk a root that is no cell goes back to the entry that held it; if no entry did, it goes
 abbrev pub back_from : {S : Type 0} → Root → Frame → Held → World S → World S
 back_from (root.Local name slot) f h w = record w { scope = set_held w.scope (f.base + slot) h }
 back_from root.Temporary f h w = w
@@ -96,8 +88,8 @@ module _ {S : Type 0} (m : Setup S) where
   chain_over k next f (Ill n x) w =
       raised m (record f { slot = Some (slot_of m.program k n) }) x w
 
-  -- The walk of the chain of index k, from a root that is added to those of the world. However it
-  -- ends, the root goes back to where it was held.
+  -- The walk of the chain of index k, from a root that is added to those of the world. However the walk
+  -- ends, `back` takes the root to where it was held.
   abbrev pub walk_from : ℕ → Task → ℕ → Frame → Held → (Held → World S → World S) → World S → Act S
   walk_from k task next f h back w =
       walks m k f (new_root w.roots) (length w.roots + 1) task
@@ -105,8 +97,9 @@ module _ {S : Type 0} (m : Setup S) where
       (back (look w1.roots (new_root w.roots)) (record w1 { roots = take (length w.roots) w1.roots })))
       (record w { roots = w.roots ++ h ∷ [] })
 
-  -- what a cell held is lent as a root, which can only be read where the flag says so, and goes back
-  -- to the cell
+  -- The walk from what the cell of number n holds. That is lent: it is added as a root, which can only be
+  -- read if the flag says so, and after the walk it goes back to the cell. If it is lent already, or the
+  -- cell is not there, that is a fault in the frame f.
   abbrev pub walk_cell : Option Cell → ℕ → Bool → ℕ → Task → ℕ → List ℕ → Frame → Frame →
       World S → Act S
   walk_cell None n read_only k task next name f g w = data_race m name f w
@@ -117,23 +110,25 @@ module _ {S : Type 0} (m : Setup S) where
       (λ h w1. record w1 { cells = slice_set w1.cells n (idle (record c.held { value = h.value })) })
       (record w { cells = slice_set w.cells n (lent c.held) })
 
-  -- the walk from what a root holds, or from what the cell holds that it is
+  -- the walk from what the chain's root holds, or, if that is a cell, from what the cell holds
   abbrev pub walk_root : Option ℕ → Held → ℕ → Chain → Task → ℕ → Frame → Frame → World S → Act S
   walk_root None h k c task next f g w = walk_from k task next g h (back_from c.root g) w
   walk_root (Some n) h k c task next f g w =
       walk_cell (slice_get w.cells n) n (is_read_only w h) k task next
       (root_name m.program c.root) f g w
 
-  -- A chain assigns to what its root holds: that may not be read-only.
+  -- a chain that assigns ends with a fault if its root can only be read
   abbrev pub unless_constant : Chain → Held → Frame → World S → Act S → Act S
   unless_constant c h f w go =
       if assigns c.tail && is_read_only w h
       then raised m f (Plain (AssignmentToConstant (root_name m.program c.root)) (position m f)) w
       else go
 
-  -- A chain, in a frame whose first step is blamed: the root is found, which may not be read-only
-  -- where the chain assigns; the value that it assigns is read, and the operands of its steps are
-  -- copied; a root that is a cell is lent; and then the walk, in the frame without the chain's operands.
+  -- The chain c, which has index k. In the frame f, in which the chain's first step is blamed, its root
+  -- is found; if the chain assigns, the root may not be read-only, and the value that it assigns is read;
+  -- and a mark is passed. Then comes the walk, on copies of the operands of the chain's steps, in the
+  -- frame g, from which the chain's operands are gone. If the root is a cell, its content is lent for the
+  -- walk.
   abbrev pub chain_in : ℕ → Chain → ℕ → Frame → Frame → World S → Act S
   chain_in k c next f g w =
       at_root c.root f w (λ h. unless_constant c h f w
@@ -146,4 +141,4 @@ module _ {S : Type 0} (m : Setup S) where
   chain k next f w =
       let c = chain_of m.program k in
       chain_in k c next (record f { slot = Some (slot_of m.program k 0) })
-      (without (chain_operands c) f) w
+      (without (chain_takes c) f) w

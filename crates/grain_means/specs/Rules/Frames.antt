@@ -48,9 +48,13 @@ abbrev pub flag_of_cell : Option ℕ → List Cell → Bool
 flag_of_cell None cells = false
 flag_of_cell (Some n) cells = content_flag (slice_get cells n)
 
--- whether what is held can only be read: by its own flag, or by that of the cell's content
+-- whether what is held can only be read: by its own flag, or by that of the content of its cell, if it is
+-- one of these cells
+abbrev pub only_read : List Cell → Held → Bool
+only_read cells h = h.read_only || flag_of_cell (cell_of h.value) cells
+
 abbrev pub is_read_only : {S : Type 0} → World S → Held → Bool
-is_read_only w h = h.read_only || flag_of_cell (cell_of h.value) w.cells
+is_read_only w h = only_read w.cells h
 
 -- what is held, or else the other
 abbrev pub held_or : Held → Option Held → Held

@@ -16,7 +16,9 @@ use Rattle.grain_means.specs.Rules.Faults.{race_text, marked_or}
 use Rattle.grain_means.specs.Rules.Reads.{flat_all}
 use Rattle.grain_means.specs.Rules.Natives.{AtPlace, Receiver, native_or}
 
--- the place in the world of a place in a walk that began at p, when there were n roots in the world
+-- Where a place of a walk lies in the world. The walk began at the place p of a world with n roots. So
+-- the walk's first root, which has number 0, is what stands at p, and the walk's root of number k + 1 is
+-- the world's root of number n + k.
 abbrev pub world_place : Place → ℕ → ℕ → List PathStep → Place
 world_place p n zero path = record p { path = p.path ++ path }
 world_place p n (suc k) path = record { root = n + k; path = path }
@@ -34,16 +36,16 @@ abbrev pub lent_at : List Held → Option Place → Option Receiver
 lent_at roots None = None
 lent_at roots (Some p) = Some (record { home = AtPlace p; held = look roots p })
 
--- what a walk needs comes to a fault, which is raised: the walk hears of it, or, where memory is out
--- there, of that
+-- A call that a walk needs ends with a fault: there is a mark, and then the walk goes on from that fault,
+-- or, if memory is out at the mark, from want of memory.
 abbrev pub failed_so : {S : Type 0} → Setup S → (Answer → World S → Act S) → Problem → World S → Act S
 failed_so m heard x w = marked_or m (heard (Failed NoMemory)) w (heard (Failed x))
 
 -- a walk of the chain of index k, in a frame
 module _ {S : Type 0} (m : Setup S) (k : ℕ) (f : Frame) where
-  -- The native that a walk needs, on arguments as they are read, and then what follows from its answer,
-  -- or from the fault that one of them is a cell whose content is lent. Where memory is out, the walk
-  -- hears so.
+  -- The native that a walk needs is called on its arguments as they are read. If one of them is a cell
+  -- whose content is lent, that is a fault. Then comes what follows from the answer, from the fault, or
+  -- from want of memory.
   abbrev pub needed : Call → Option Receiver → (Answer → World S → Act S) → World S →
       Option (List Held) → Act S
   needed c r heard w None = failed_so m heard (Plain (DataRace (race_text [])) c.position) w
@@ -51,13 +53,13 @@ module _ {S : Type 0} (m : Setup S) (k : ℕ) (f : Frame) where
       native_or m (heard (Failed NoMemory)) c.name r args
       (at_step m.program k c.step c.position f) w (λ v w1. heard (Came v) w1) (failed_so m heard)
 
-  -- what a walk needs, with the place that is lent
+  -- a call that a walk needs, to which the place is lent
   abbrev pub performed : Call → Option Place → (Answer → World S → Act S) → World S → Act S
   performed c p heard w =
       needed c (lent_at w.roots p) heard w (flat_all w.cells (map read_write c.values))
 
-  -- what is done, where the walk began at p, when there were n roots in the world; and then what
-  -- follows from how it ends
+  -- A task of a walk that began at the place p of a world with n roots, and then what follows from how the
+  -- walk ends.
   abbrev pub walks : Place → ℕ → Task → (Walked → World S → Act S) → World S → Act S
   walks p n (Done o) done w = done o w
   walks p n (Mark out go) done w =

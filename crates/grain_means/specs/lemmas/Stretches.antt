@@ -101,6 +101,21 @@ module _ {S : Type 0} {m : Setup S} where
         place;
   }
 
+  -- the same where memory may be out after the first
+  pub then_so : {old : LocalState S} {start : Computation S} {one : Bool} {mid : LocalState S}
+      {via : Computation S} {two : Bool} {new : LocalState S} {now : Computation S} →
+      SimulatesExactly m old start one mid via → SimulatesExactly m mid via two new now →
+      StopPersists one mid.passed two new.passed → SimulatesExactly m old start two new now
+  then_so {old} {start} {one} {mid} {via} {two} {new} {now} h k carries = record {
+    this = k.this ∙ h.this;
+    order = omega (arith, h.order, k.order);
+    equal = λ stop clear halts u place.
+        h.equal stop (clear_front stop old.passed mid.passed new.passed k.order clear)
+        (halts_front one two stop mid.passed new.passed carries halts) u place
+        ∙ k.equal stop (clear_back stop old.passed mid.passed new.passed h.order clear) halts u
+        place;
+  }
+
   -- a run that ends as another does
   pub before : {start first : Computation S} →
       ((n : Setup S) (place : Option Place) (w v : World S) (a : Answer) →

@@ -1,0 +1,73 @@
+-- An instruction that raises a fault by a row of instructions is no chain.
+use Rattle.std.proofs.Common.{◌≡◌, ◌⊎◌, ℕ, List, inl, inr}
+use Rattle.grain_fault.specs.Problems.{FaultKind, FunctionNotFound, MismatchDataType, AssignmentToConstant, DataRace, IndexingType, NonPureCall, DotExpr, Arithmetic, Runtime, TooManyOperations, TooManyVariables, StackOverflow, DataTooLarge, Terminated, Malformed, Problem, Plain, InFunctionCall, InModule, SystemError, NoMemory}
+use Rattle.grain_fault.specs.declared.faults.MalformedKind.TheVariants as kind
+use Rattle.grain_program.specs.declared.code.instruction_set.Op.{Op}
+use Rattle.grain_program.specs.declared.code.instruction_set.Op.TheVariants as op
+use Rattle.grain_means.specs.Worlds.{Frame, Setup, World}
+use Rattle.grain_means.specs.Rules.{position}
+use Rattle.grain_means.specs.Comes.{ProgramPoint}
+use Rattle.grain_means.specs.Causes.{AnswersLent, AsksLast, AsksNative, AsksOnCopies, IsNoChain, Mistypes, Question, Raises, ReadsLent, Row}
+
+other_op : {k slot name assigns : ℕ} → op.Chain k ≡ op.AssignLocalOp slot name assigns → ⊥
+other_op e = cc
+
+-- at a chain
+module _ {S : Type 0} (m : Setup S) (k : ℕ) (f : Frame) (w : World S) where
+  abbrev at : ProgramPoint S
+  at = record { instruction = op.Chain k; frame = f; world = w }
+
+  on_copies : (q : Question S) → AsksOnCopies m q at → ⊥
+  on_copies q h = neither h.3 where
+    neither : ⊥ ⊎ ⊥ → ⊥
+    neither (inl a) = a
+    neither (inr b) = b
+
+  asks_last : (x : Problem) (q : Question S) → AsksLast m x q at → ⊥
+  asks_last x q (inl a) = on_copies q a
+  asks_last x q (inr b) = other_op b.5.is
+
+  asks_native : (q : Question S) → AsksNative m q at → ⊥
+  asks_native q (inl a) = on_copies q a
+  asks_native q (inr b) = other_op b.5.is
+
+  races : (name : List ℕ) → ReadsLent m.program name (op.Chain k) f w ⊎ AnswersLent m name at → ⊥
+  races name (inl a) = a
+  races name (inr b) = other_op b.is
+
+  mistypes : (r a : List ℕ) → Mistypes r a (op.Chain k) f w → ⊥
+  mistypes r a (inl h) = h.5
+  mistypes r a (inr h) = h.6
+
+  no_kind : (x : FaultKind) → Raises m x at → ⊥
+  no_kind (FunctionNotFound s) row =
+      asks_last (Plain (FunctionNotFound s) (position m f)) row.0 row.2
+  no_kind (IndexingType s) row =
+      asks_last (Plain (IndexingType s) (position m f)) row.0 row.2
+  no_kind (DotExpr s) row = asks_last (Plain (DotExpr s) (position m f)) row.0 row.2
+  no_kind (NonPureCall s) row = asks_native row.1.question row.1.asks
+  no_kind (Terminated v) row = row.2
+  no_kind (MismatchDataType r a) row = mistypes r a row
+  no_kind (DataRace s) row = races row.0 row.2
+  no_kind (AssignmentToConstant s) row = row
+  no_kind (Arithmetic s) row = row.2
+  no_kind (Runtime v) row = row.1
+  no_kind TooManyOperations row = row.1
+  no_kind TooManyVariables row = row
+  no_kind StackOverflow row = row.2.2
+  no_kind (DataTooLarge t) row = row.2
+  no_kind (Malformed (kind.SlotPastScope i n)) row = row.2
+  no_kind (Malformed (kind.UnwindPastScope t n)) row = row.2
+  no_kind x row = row
+
+  no_row : (x : Problem) → Row m x at → ⊥
+  no_row (Plain x p) row = no_kind x row
+  no_row (InFunctionCall s source x p) row = row.2.2.calls
+  no_row (InModule s x p) row = row
+  no_row (SystemError s e) row = row
+  no_row NoMemory row = row
+
+pub no_chain : {S : Type 0} (m : Setup S) (x : Problem) (o : Op) (f : Frame) (w : World S) →
+    Row m x (record { instruction = o; frame = f; world = w }) → IsNoChain o
+no_chain m x (op.Chain k) f w row = no_row m k f w x row
+no_chain m x o f w row = tt
