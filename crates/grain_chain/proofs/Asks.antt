@@ -62,7 +62,7 @@ module _ (x : Context) where
   -- the call of a request
   made : (w : Walk) (q : Position) (name : List ℕ) (b : Bool) (o : Option Held) (args : List Tree) →
       Lends w b o →
-      call_of x.engine.now x.program.now w (record {
+      call_of w (record {
         step = w.step;
         pos = q;
         what = what.Native name;
@@ -76,14 +76,14 @@ module _ (x : Context) where
 
   request_made : (w : Walk) (q : Position) (name : List ℕ) (b : Bool) (args : List Tree)
       (r : Request) → IsRequest w q name b args r →
-      call_of x.engine.now x.program.now w r ≡ call w q name b args
+      call_of w r ≡ call w q name b args
   request_made w q name b args r is =
-      ap (λ (n : ℕ). call_of x.engine.now x.program.now w (record r { step = n })) is.step
-      ∙ ap (λ (n : Position). call_of x.engine.now x.program.now w
+      ap (λ (n : ℕ). call_of w (record r { step = n })) is.step
+      ∙ ap (λ (n : Position). call_of w
       (record r { step = w.step; pos = n })) is.pos
-      ∙ ap (λ (n : What). call_of x.engine.now x.program.now w
+      ∙ ap (λ (n : What). call_of w
       (record r { step = w.step; pos = q; what = n })) is.what
-      ∙ ap (λ (n : List Tree). call_of x.engine.now x.program.now w
+      ∙ ap (λ (n : List Tree). call_of w
       (record r { step = w.step; pos = q; what = what.Native name; arguments = n })) is.arguments
       ∙ made w q name b r.receiver args is.receiver
 

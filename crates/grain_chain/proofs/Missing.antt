@@ -19,7 +19,8 @@ use Rattle.grain_chain.specs.declared.requests.WalkAnswer.{WalkAnswer}
 use Rattle.grain_chain.specs.declared.walks.Walk.{Walk}
 use Rattle.grain_chain.proofs.Roots.{adds, roots_in}
 
-module _ (x : Context) (w v : Walk) (q : Position) (o : CodeOrigin) (role : Role) (key : List ℕ) (d : Dynamic) where
+module _ (x : Context) (w v : Walk) (q : Position) (o : CodeOrigin) (role : Role) (key : List ℕ)
+    (d : Dynamic) where
   abbrev adding : Task
   adding =
       at_mark w.step (rest x w) (Write (place_of w) (with_key key d)

@@ -108,7 +108,8 @@ module _ (x : Context) where
       (subst (λ (c : Bool). Takes x m (if c then flat_index m role operand q b t
       else host_index m role (operand_of m operand) q b) s v) (sym own)
       (then_takes x m v (flat_index m role operand q b t)
-      (flat_or_busy m.step q (rest x m) (own_index m role operand q b t) (flat x.cells.now (operand_of m operand)))
+      (flat_or_busy m.step q (rest x m) (own_index m role operand q b t)
+      (flat x.cells.now (operand_of m operand)))
       s (flattens x m (operand_of m operand)
       (flat_or_busy m.step q (rest x m) (own_index m role operand q b t)))
       (subst (λ (c : Option Dynamic). Takes x m

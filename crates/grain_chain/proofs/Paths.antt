@@ -42,7 +42,8 @@ ok-inj s t e = cc
 
 -- one value stands at a place
 pub one_value : (r : Result Tree ValueFault) (a v : Dynamic) → r ≡ Ok (tree a) → r ≡ Ok (tree v) → a ≡ v
-one_value r a v h i = sym (value_of-tree a) ∙ ap value_of (ok-inj (tree a) (tree v) (sym h ∙ i)) ∙ value_of-tree v
+one_value r a v h i = sym (value_of-tree a) ∙ ap value_of (ok-inj (tree a) (tree v) (sym h ∙ i))
+    ∙ value_of-tree v
 
 pub leading_put : (os : List Outer) (h : Held) (path : List PathStep) (v e : Dynamic) →
     e ≡ put_value path v h.value →

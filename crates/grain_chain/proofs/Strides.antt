@@ -64,7 +64,8 @@ module _ (x : Context) where
   -- a mark is passed
   pub passes : (w : Walk) (go : Task) →
       Reaches x w (at_mark w.step (rest x w) go) false (roots_of w) (w.marks + 1) go
-  passes w go = λ k. passed_by w.step (roots_of w) (k + w.marks) (k + (w.marks + 1)) (rest x w) go (omega arith)
+  passes w go = λ k. passed_by w.step (roots_of w) (k + w.marks) (k + (w.marks + 1)) (rest x w) go
+      (omega arith)
 
   pub passes_goes : (w w1 v : Walk) (f : Walk → Task) (r : Result WalkAnswer OutOfMemory) →
       f (marked w) ≡ f w → w1 ≡ marked w → Goes x w1 (f w1) r v →

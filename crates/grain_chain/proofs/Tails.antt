@@ -116,7 +116,8 @@ module _ (x : Context) where
   -- a value as it is read
   pub goes_flat : (w v : Walk) (q : Position) (d : Dynamic) (go : Dynamic → Task) (o : Option Dynamic)
       (r : Result WalkAnswer OutOfMemory) → o ≡ flat x.cells.now d →
-      Goes x w (flat_or_busy w.step q (rest x w) go o) r v → Goes x w (flattening w.step q d (rest x w) go) r v
+      Goes x w (flat_or_busy w.step q (rest x w) go o) r v →
+      Goes x w (flattening w.step q d (rest x w) go) r v
   goes_flat w v q d go o r same g =
       then_goes x w w v (flattening w.step q d (rest x w) go)
       (flat_or_busy w.step q (rest x w) go (flat x.cells.now d)) r

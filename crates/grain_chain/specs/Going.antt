@@ -29,12 +29,14 @@ use Rattle.grain_chain.specs.declared.requests.WalkAnswer.{WalkAnswer}
 use Rattle.grain_chain.specs.declared.requests.WalkAnswer.TheVariants as answer
 use Rattle.grain_chain.specs.declared.walks.Walk.{Walk}
 
--- A walk that went on, in the same root or in a newer one: but for its place it is as it was.
+-- A walk that went on, in the same root or in a newer one: but for its roots, its place and the marks
+-- that it passed it is as it was.
 pub record Went (w v : Walk) : Type 0 where
   pub same : v ≡ record w { trail = v.trail; marks = v.marks }
   pub grown : length v.trail.outer ≤ suc (length w.trail.outer)
 
--- a walk of which a root was set back: but for what stands in its newest root it is as it was
+-- A walk of which a root was set back: but for its newest root, the place in it and the marks that it
+-- passed it is as it was.
 pub record CameBack (w v : Walk) : Type 0 where
   pub same : v ≡ record w { trail = v.trail; marks = v.marks }
   pub outer : v.trail.outer ≡ w.trail.outer
@@ -104,7 +106,7 @@ module _ (x : Context) where
       × Went old new
   Takes old task (Err o) new = Reaches old task true (roots_of new) new.marks (given_up new)
 
--- what it needs next is less than this
+-- the walk still needs fewer things than this number, or is over, or memory is out
 abbrev pub Needs : View → Walk → Result WalkAnswer OutOfMemory → ℕ → Type 0
 Needs p w (Ok a) n = Falls p w a n
 Needs p w (Err o) n = Unit {0}
@@ -149,12 +151,12 @@ abbrev pub lent_place : Walk → Bool → Option Place
 lent_place w false = None
 lent_place w true = Some (place_of w)
 
--- the walk's answer; where there was no memory for the next mark, the walk is over
+-- The walk's answer; where memory was out, that is the fault `Memory`, and the newer roots are gone.
 abbrev pub Settles : Result WalkAnswer OutOfMemory → Walk → WalkAnswer → Walk → Type 0
 Settles (Ok a) w b v = (b ≡ a) × (v ≡ w)
 Settles (Err o) w b v = (b ≡ answer.Faulted fault.Memory w.step) × (v ≡ fallen w)
 
--- a walk one step further down in the same root
+-- a walk one step further down in the same root, a mark later
 abbrev pub deep : Walk → PathStep → Walk
 deep w s = record w {
   trail = record w.trail { path = w.trail.path ++ s ∷ [] };
@@ -165,7 +167,7 @@ deep w s = record w {
 abbrev pub aside : Walk → Origin → Outer
 aside w o = record { root = w.trail.here; path = w.trail.path; step = w.step; origin = o }
 
--- a walk in a newer root
+-- a walk in a newer root, a mark later
 abbrev pub in_root : Walk → Origin → Held → Walk
 in_root w o h = record w {
   trail = record { outer = w.trail.outer ++ aside w o ∷ []; here = h; path = [] };
@@ -179,7 +181,7 @@ WentIn w o h v = v ≡ in_root w o h
 abbrev pub with_value : Walk → Dynamic → Held
 with_value w v = record w.trail.here { value = v }
 
--- an op-assignment's fault at a position, or want of memory
+-- a fault is that of an op-assignment, at this position; or memory is out
 abbrev pub FailsAt : Position → Result EvalAltResult OutOfMemory → Outcome → Type 0
 FailsAt q (Ok y) NotBuiltIn = ⊥
 FailsAt q (Ok y) (Gave v) = ⊥
@@ -187,7 +189,8 @@ FailsAt q (Ok y) (ArithmeticFault text) = problem_of y ≡ Plain (Arithmetic tex
 FailsAt q (Ok y) (TooLarge what) = problem_of y ≡ Plain (DataTooLarge what) q
 FailsAt q (Err e) o = Unit {0}
 
--- a byte, a character or a bit was written where the walk stands, if the value with it is one
+-- A byte, a character or a bit of what stands where the walk stands was put back, a mark later; or, where
+-- what is put back is of another type, nothing was done.
 abbrev pub WrotePart : Walk → Option Dynamic → Bool → Walk → Type 0
 WrotePart w (Some d) b v =
     (b ≡ true) × (v ≡ record w { trail = put_there w.trail d; marks = w.marks + 1 })

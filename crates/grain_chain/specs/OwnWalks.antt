@@ -5,12 +5,8 @@ use Rattle.grain_value.specs.declared.stores.Cell.{Cell}
 use Rattle.grain_means.specs.Simulation.{NoStopWithin, StopsHere}
 use Rattle.grain_means.specs.Tasks.{Task, Own, play}
 
--- once memory is out, no mark is passed
-abbrev pub StopPersists : Bool → ℕ → Bool → ℕ → Type 0
-StopPersists false passed out later = Unit {0}
-StopPersists true passed out later = (out ≡ true) × (later ≡ passed)
-
--- from the first task on its roots to the second one, beside these cells
+-- A walk by itself, beside these cells, came from the first state to the second one, and from the first
+-- task to the second one, which is left. `out` says that memory is out there.
 pub record WalksOn (cells : List Cell) (old : Own) (start : Task) (out : Bool) (new : Own)
     (now : Task) : Type 0 where
   pub order : old.passed ≤ new.passed

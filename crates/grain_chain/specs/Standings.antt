@@ -43,7 +43,7 @@ abbrev pub oldest : List Outer → Held → Held
 oldest [] h = h
 oldest (o ∷ os) h = o.root
 
--- the newest root went, or there is none around it
+-- the newest root went, and the walk stands in the one around it; or there is none around it
 abbrev pub WentBack : Standing → Option Gone → Standing → Type 0
 WentBack s None t = (s.outer ≡ []) × (t ≡ s)
 WentBack s (Some g) t =
@@ -54,26 +54,27 @@ WentBack s (Some g) t =
 abbrev pub put_there : Standing → Dynamic → Standing
 put_there s v = record s { here = put_held s.path v s.here }
 
--- with one key more in the map at the place, and at its unit
+-- with one key more in the map at the place, at which unit stands; the place is then that key's
 abbrev pub key_added : Standing → List ℕ → Dynamic → Standing
 key_added s key v = record s {
   here = put_held s.path (with_key key v) s.here;
   path = s.path ++ Key key ∷ [];
 }
 
--- a byte, a character or a bit was put back, if the value with it is one
+-- A byte, a character or a bit of what stands at the place was put back. Where what is put back is of
+-- another type, and after want of memory, nothing was done.
 abbrev pub PartPut : Standing → Option Dynamic → Result Bool OutOfMemory → Standing → Type 0
 PartPut s (Some v) (Ok b) t = (b ≡ true) × (t ≡ put_there s v)
 PartPut s None (Ok b) t = (b ≡ false) × (t ≡ s)
 PartPut s d (Err e) t = t ≡ s
 
--- an op-assignment was done there, or nothing changed
+-- an op-assignment that is built in was done at the place, or nothing changed
 abbrev pub AssignedThere : Standing → AssignAnswer → Outcome → Standing → Type 0
 AssignedThere s assigned.NotBuiltIn o t = (o ≡ NotBuiltIn) × (t ≡ s)
 AssignedThere s assigned.Done o t = (r : Dynamic) × (o ≡ Gave r) × (t ≡ put_there s r)
 AssignedThere s (assigned.Failed x) o t = FailsSo x o × (t ≡ s)
 
--- whether a map has a key
+-- whether a map has a key; None of a value that is no map
 abbrev pub has_key : Dynamic → List ℕ → Option Bool
 has_key (dynamic.Map es) k = Some (is_some (entry_at k es))
 has_key v k = None

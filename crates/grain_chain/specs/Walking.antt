@@ -40,7 +40,7 @@ use Rattle.grain_chain.specs.declared.requests.WalkAnswer.{WalkAnswer}
 use Rattle.grain_chain.specs.declared.requests.WalkAnswer.TheVariants as answer
 use Rattle.grain_chain.specs.declared.walks.Walk.{Walk}
 
--- what a newer root is
+-- what a newer root of the code's walk is
 abbrev pub origin_of : CodeOrigin → Origin
 origin_of (origin.Part s) = OfPart s
 origin_of (origin.Index i q) = OfIndex i q
@@ -54,7 +54,7 @@ steps_of p k = (chain_of p k).steps
 abbrev pub count_of : View → ℕ → ℕ
 count_of p k = length (steps_of p k)
 
--- the op-assignment of a chain's tail is in its pool
+-- the op-assignment of a chain's tail, if it has one, is in its pool
 abbrev pub HasOperator : View → Tail → Type 0
 HasOperator p tail.Read = Unit {0}
 HasOperator p (tail.Assign None) = Unit {0}
@@ -122,6 +122,28 @@ place_in os path = record { root = length os; path = path }
 abbrev pub place_of : Walk → Place
 place_of w = place_in w.trail.outer w.trail.path
 
+-- the name of the native that is asked for
+abbrev pub name_asked : What → List ℕ
+name_asked (what.Native name) = name
+
+-- what a request asks for, with the place that is lent
+abbrev pub call_for : Request → Option Place → Call
+call_for r q = record {
+  step = r.step;
+  position = r.pos;
+  name = name_asked r.what;
+  receiver = q;
+  values = map value_of r.arguments;
+}
+
+-- the place of what is lent, if anything is: where the walk stands
+abbrev pub lent : Walk → Option Held → Option Place
+lent w None = None
+lent w (Some h) = Some (place_of w)
+
+abbrev pub call_of : Walk → Request → Call
+call_of w r = call_for r (lent w r.receiver)
+
 module _ (g : Setting) where
   -- the way back over one root more
   abbrev pub back_over : ℕ → Outer → Rest → Rest
@@ -169,22 +191,6 @@ module _ (e : Engine) (p : View) where
       was_op_assigned (setting_of e p w.pos) w.step q a w.value (place_of w) (rest_of w)
   resumed w (awaits.Operator q) = operator_answered w.step q (place_of w) (rest_of w)
 
-  abbrev pub name_in : What → List ℕ
-  name_in (what.Native name) = name
-
-  abbrev pub lent : Walk → Option Held → Option Place
-  lent w None = None
-  lent w (Some h) = Some (place_of w)
-
-  abbrev pub call_of : Walk → Request → Call
-  call_of w r = record {
-    step = r.step;
-    position = r.pos;
-    name = name_in r.what;
-    receiver = lent w r.receiver;
-    values = map value_of r.arguments;
-  }
-
   -- what a walk has left to do where it stands
   abbrev pub left_to_do : Walk → WalkAnswer → Task
   left_to_do w (answer.Need r) = Need (call_of w r) (resumed w w.awaits)
@@ -210,18 +216,13 @@ no_memory (InModule n x p) = false
 no_memory (SystemError s x) = false
 no_memory NoMemory = true
 
--- memory is out there
+-- the walk is over since memory is out
 abbrev pub is_out : WalkAnswer → Bool
 is_out (answer.Need r) = false
 is_out (answer.Ended v changed) = false
 is_out (answer.Faulted x n) = no_memory (problem_of x)
 
--- the first root is read-only, or not
-abbrev pub Rooted : Bool → List Held → Type 0
-Rooted b [] = ⊥
-Rooted b (r ∷ rs) = r.read_only ≡ b
-
--- an outcome is want of memory
+-- what was needed came to want of memory
 abbrev pub is_want : Result Dynamic EvalAltResult → Bool
 is_want (Ok v) = false
 is_want (Err x) = no_memory (problem_of x)
@@ -237,7 +238,7 @@ Did e p cells before passed task w a =
     (k : ℕ) → WalksOn cells (own before (k + passed)) task (is_out a)
     (own (roots_at w a) (k + w.marks)) (left_to_do e p w a)
 
--- whether a place is lent with the request after which this is awaited
+-- whether the place of the walk is lent with the request after which this is awaited
 abbrev pub lends : Awaits → Bool
 lends awaits.IndexSet = true
 lends (awaits.PropertySet name q assigned v) = true
@@ -257,7 +258,7 @@ operand_of w i = value_of (slice_index_or w.operands i unit)
 abbrev pub count : View → Walk → ℕ
 count p w = count_of p w.chain
 
--- what is awaited goes on in a new root after a step of the chain
+-- Where the walk may go on in what is awaited, the step that is taken is one of the chain's.
 abbrev pub IsAtStep : View → Walk → Awaits → Type 0
 IsAtStep p w awaits.IndexSet = Unit {0}
 IsAtStep p w (awaits.PropertySet name q assigned v) = Unit {0}
@@ -297,7 +298,8 @@ pub record Waits (p : View) (w : Walk) (receiver : Option Held) : Type 0 where
   pub lent : is_some receiver ≡ lends w.awaits
   pub flag : (h : Held) → receiver ≡ Some h → h.read_only ≡ w.trail.here.read_only
 
--- where something is needed, the walk waits, and it needs fewer things after it than this
+-- Where something is needed, the walk waits for it, and after it needs fewer things than this number. A
+-- walk that is over needs nothing.
 abbrev pub Falls : View → Walk → WalkAnswer → ℕ → Type 0
 Falls p w (answer.Need r) n = Waits p w r.receiver × (still p w w.awaits < n)
 Falls p w (answer.Ended v changed) n = Unit {0}

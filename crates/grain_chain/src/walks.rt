@@ -2,9 +2,10 @@
 
 ghost use Rattle.std.specs.Prelude.{◌≡◌, ◌+◌, ◌*◌, [], ◌∷◌, Bool};
 ghost use Rattle.grain_means.specs.Walks.{whole_walk};
+ghost use Rattle.grain_means.specs.lemmas.Spreading.{Rooted};
 ghost use Rattle.grain_program.specs.View.{chain_of};
-ghost use Rattle.grain_chain.specs.OwnWalks.{StopPersists};
-ghost use Rattle.grain_chain.specs.Walking.{Rooted, is_want, is_out, roots_of, roots_at, Did, Waits, Falls, HasOperator, new_course, steps_of, count_of, resumed, outcome_of, with_receiver, still, IsAtStep};
+ghost use Rattle.grain_means.specs.Simulation.{StopPersists};
+ghost use Rattle.grain_chain.specs.Walking.{is_want, is_out, roots_of, roots_at, Did, Waits, Falls, HasOperator, new_course, steps_of, count_of, resumed, outcome_of, with_receiver, still, IsAtStep};
 ghost use Rattle.grain_chain.specs.Going.{Goes, Needs, received};
 
 use crate::contexts::{Context, ending_of};
@@ -57,7 +58,7 @@ impl Walk {
             (whole_walk (new_course engine.now program.now pos chain operands value)
             (steps_of program.now chain)) result.0 result.1 }
         ensures falls { Falls program.now result.0 result.1 (4 * count_of program.now chain + 3) }
-        // The first root stays read-only, or not.
+        // The first root keeps its flag.
         ensures rooted { Rooted root.read_only (roots_at result.0 result.1) }
     {
         let context = Context {

@@ -6,9 +6,9 @@ use Rattle.grain_value.specs.declared.stores.Cell.{Cell}
 use Rattle.grain_fault.specs.Problems.{NoMemory}
 use Rattle.grain_means.specs.Tasks.{Task, Own, Ill, play}
 use Rattle.grain_means.specs.Worlds.{is_stop}
-use Rattle.grain_means.specs.Simulation.{NoStopWithin, StopsHere}
+use Rattle.grain_means.specs.Simulation.{NoStopWithin, StopsHere, StopPersists}
 use Rattle.grain_means.specs.Walks.{Rest, at_mark}
-use Rattle.grain_chain.specs.OwnWalks.{WalksOn, StopPersists, own}
+use Rattle.grain_chain.specs.OwnWalks.{WalksOn, own}
 
 clear_first : (stop : Option ℕ) (a b c : ℕ) → b ≤ c → NoStopWithin stop a c → NoStopWithin stop a b
 clear_first stop a b c h clear = λ k l m. clear k l (omega (arith, h, m))

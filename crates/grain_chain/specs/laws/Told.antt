@@ -1,7 +1,7 @@
 -- What is so of every walk that did what a task says: its first root keeps its flag, and want of memory
 -- that it is given is its answer.
-use Rattle.std.proofs.Common.{◌≡◌, ◌<◌, ℕ, zero, suc, ◌+◌, List, [], ◌∷◌, ◌++◌, Bool, true, false, Option, Some, None, Result, Ok, Err, take, refl, sym, ap, ◌∙◌, subst, arith}
-use Rattle.std.specs.Prelude.{nat_eq, slice_get, slice_set, if◌then◌else◌}
+use Rattle.std.proofs.Common.{◌≡◌, ◌<◌, ℕ, suc, ◌+◌, List, [], ◌∷◌, ◌++◌, Bool, true, false, Option, Some, None, Result, Ok, Err, take, refl, sym, ap, ◌∙◌, subst, arith}
+use Rattle.std.specs.Prelude.{nat_eq, if◌then◌else◌}
 use Rattle.std.proofs.lemmas.Bool.Decides.{nat_tests}
 use Rattle.grain_value.specs.declared.stores.Cell.{Cell}
 use Rattle.grain_value.specs.declared.values.Dynamic.{Dynamic}
@@ -10,12 +10,13 @@ use Rattle.grain_fault.specs.Problems.{Problem, problem_of, NoMemory, Plain, InF
 use Rattle.grain_fault.specs.declared.faults.EvalAltResult.{EvalAltResult}
 use Rattle.grain_program.specs.View.{View}
 use Rattle.grain_global.specs.declared.engines.Engine.{Engine}
-use Rattle.grain_means.specs.Worlds.{Place, Failed, is_stop}
-use Rattle.grain_means.specs.Simulation.{NoStopWithin, StopsHere}
-use Rattle.grain_means.specs.Places.{put, put_held, or_unit}
+use Rattle.grain_means.specs.Worlds.{Failed, is_stop}
+use Rattle.grain_means.specs.Simulation.{NoStopWithin, StopsHere, StopPersists}
+use Rattle.grain_means.specs.lemmas.Spreading.{Rooted, rooted-put, rooted-add, rooted-take}
+use Rattle.grain_means.specs.Places.{put, put_held}
 use Rattle.grain_means.specs.Tasks.{Task, Done, Mark, Look, Flatten, Write, Root, Drop, Need, Own, Play, Over, Asks, Well, Ill, play}
-use Rattle.grain_chain.specs.OwnWalks.{WalksOn, StopPersists, own}
-use Rattle.grain_chain.specs.Walking.{Rooted, Did, roots_of, place_of, roots_at, rest_of, setting_of, left_to_do, resumed, with_receiver, is_out, no_memory, is_want, outcome_of}
+use Rattle.grain_chain.specs.OwnWalks.{WalksOn, own}
+use Rattle.grain_chain.specs.Walking.{Did, roots_of, place_of, roots_at, rest_of, setting_of, left_to_do, resumed, with_receiver, is_out, no_memory, is_want, outcome_of}
 use Rattle.grain_chain.specs.Standings.{oldest}
 use Rattle.grain_chain.specs.laws.Ways.{put-here, fell}
 use Rattle.grain_chain.specs.declared.origins.Awaits.{Awaits}
@@ -56,28 +57,11 @@ abbrev state_of : Play → Own
 state_of (Over o s) = s
 state_of (Asks c f s) = s
 
--- the fault by which it is over
+-- the fault by which it is over; want of memory where there is none
 abbrev problem_in : Play → Problem
 problem_in (Over (Ill n x) s) = x
 problem_in (Over (Well v changed) s) = NoMemory
 problem_in (Asks c f s) = NoMemory
-
-rooted-put : (b : Bool) (rs : List Held) (p : Place) (v : Dynamic) → Rooted b rs →
-    Rooted b (put rs p v)
-rooted-put b [] p v h = absurd h
-rooted-put b (r ∷ rs) p v h = at_index p.root
-  where
-    at_index : (i : ℕ) → Rooted b (slice_set (r ∷ rs) i (put_held p.path v (or_unit (slice_get (r ∷ rs) i))))
-    at_index zero = h
-    at_index (suc i) = h
-
-rooted-add : (b : Bool) (rs : List Held) (h : Held) → Rooted b rs → Rooted b (rs ++ h ∷ [])
-rooted-add b [] h r = absurd r
-rooted-add b (a ∷ rs) h r = r
-
-rooted-take : (b : Bool) (rs : List Held) (n : ℕ) → Rooted b rs → Rooted b (take (suc n) rs)
-rooted-take b [] n r = absurd r
-rooted-take b (a ∷ rs) n r = r
 
 module _ (stop : Option ℕ) (cells : List Cell) (b : Bool) where
   abbrev Keeps : Play → Type 0
@@ -145,7 +129,8 @@ module _ (e : Engine) (p : View) (cells : List Cell) where
         subst (λ (rs : List Held). WalksOn cells (own rs k) (rest_of e p w (Ill n NoMemory)) false
             (own (oldest w.trail.outer here ∷ []) k) (Done (Ill n NoMemory)))
             (sym (put-here w.trail.outer w.trail.here r.value w.trail.path))
-            (fell (setting_of e p w.pos) cells n NoMemory w.trail.outer here (oldest w.trail.outer here) k refl),
+            (fell (setting_of e p w.pos) cells n NoMemory w.trail.outer here (oldest w.trail.outer here)
+            k refl),
       )
 
   is_over : (stop : Option ℕ) (w : Walk) (a : WalkAnswer) (n : ℕ) (s : Own) (rs : List Held) (k : ℕ) →

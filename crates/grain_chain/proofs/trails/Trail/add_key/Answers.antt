@@ -59,9 +59,11 @@ returns-in-Ok-clause-added c = λ v stands.
     let made : c.add-added.new.map ≡ with_key c.args.key v =
     c.in-Ok.ensures ∙ ap (with_key c.args.key) same in
     ap (λ (u : Standing). let t : Standing = record u { path = c.in_ok-path.path } in t) back
-    ∙ ap (λ (p : List PathStep). let t : Standing = record (put_there s c.add-added.new.map) { path = p } in t)
+    ∙ ap (λ (p : List PathStep). let t : Standing = record (put_there s c.add-added.new.map)
+    { path = p } in t)
     (c.in_ok-path.ensures ∙ ap (λ (k : List ℕ). s.path ++ Key k ∷ []) c.in_ok-copy.ensures)
-    ∙ ap (λ (d : Dynamic). let t : Standing = record (put_there s d) { path = s.path ++ Key c.args.key ∷ [] } in t) made
+    ∙ ap (λ (d : Dynamic). let t : Standing = record (put_there s d)
+    { path = s.path ++ Key c.args.key ∷ [] } in t) made
     ∙ ap (λ (u : Standing). key_added u c.args.key v) c.self.view_is
 
 pub returns-in-Err-clause-unchanged : goal.returns-in-Err-clause-unchanged

@@ -32,7 +32,8 @@ returns c =
           c.self.view_is (
             c.take_at-target.ensures.taken,
             part_put s t c.take_at-target.result c.put_part-is_put.new.self o c.put_part-is_put.result
-                c.take_at-target.ensures.taken back c.put_part-is_put.ensures.done c.put_part-is_put.ensures.left
+                c.take_at-target.ensures.taken back c.put_part-is_put.ensures.done
+                c.put_part-is_put.ensures.left
                 c.put_part-is_put.ensures.unchanged,
           ),
     )

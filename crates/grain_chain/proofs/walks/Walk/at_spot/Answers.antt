@@ -61,11 +61,13 @@ returns-in-Character-clause-takes c = λ x v i q b stands.
     subst (λ (s : Spot). Takes x c.args.self.now (Walks.indexed (setting x c.args.self.now)
     c.args.self.now.step q b (role_in c.args.role c.args.self.now.value) i c.args.index
     (with_value c.args.self.now v) (next_step x c.args.self.now) (place_of c.args.self.now)
-    (rest x c.args.self.now) (Ok s)) c.at_part-in-Character.result c.at_part-in-Character.new.self) (sym c.in-Character.is)
+    (rest x c.args.self.now) (Ok s)) c.at_part-in-Character.result c.at_part-in-Character.new.self)
+    (sym c.in-Character.is)
     (subst (λ (s : Spot). Takes x c.args.self.now (Walks.rooted (setting x c.args.self.now)
     c.args.self.now.step (Walks.origin_of_part (role_in c.args.role c.args.self.now.value) s)
     (record (with_value c.args.self.now v) { value = part v s }) (next_step x c.args.self.now)
-    (place_of c.args.self.now) (rest x c.args.self.now)) c.at_part-in-Character.result c.at_part-in-Character.new.self) c.in-Character.is
+    (place_of c.args.self.now) (rest x c.args.self.now)) c.at_part-in-Character.result
+    c.at_part-in-Character.new.self) c.in-Character.is
     (c.at_part-in-Character.ensures.takes x v stands))
 
 pub returns-in-Bit-clause-takes : goal.returns-in-Bit-clause-takes
@@ -77,5 +79,6 @@ returns-in-Bit-clause-takes c = λ x v i q b stands.
     (subst (λ (s : Spot). Takes x c.args.self.now (Walks.rooted (setting x c.args.self.now)
     c.args.self.now.step (Walks.origin_of_part (role_in c.args.role c.args.self.now.value) s)
     (record (with_value c.args.self.now v) { value = part v s }) (next_step x c.args.self.now)
-    (place_of c.args.self.now) (rest x c.args.self.now)) c.at_part-in-Bit.result c.at_part-in-Bit.new.self) c.in-Bit.is
+    (place_of c.args.self.now) (rest x c.args.self.now)) c.at_part-in-Bit.result
+    c.at_part-in-Bit.new.self) c.in-Bit.is
     (c.at_part-in-Bit.ensures.takes x v stands))

@@ -10,7 +10,8 @@ pub returns-in-Writes-clause-goes : goal.returns-in-Writes-clause-goes
 returns-in-Writes-clause-goes c = λ x.
     subst (λ (o : Role). Goes x c.args.self.now (Walks.by_indexer (setting x c.args.self.now)
     c.args.self.now.step c.args.pos c.args.bracket (role_in o c.args.self.now.value) c.args.index
-    (next_step x c.args.self.now) (place_of c.args.self.now) (rest x c.args.self.now)) c.set_value_by_index.result
+    (next_step x c.args.self.now) (place_of c.args.self.now) (rest x c.args.self.now))
+    c.set_value_by_index.result
     c.set_value_by_index.new.self) (sym c.in-Writes.is)
     (c.set_value_by_index.ensures.goes x)
 
@@ -31,7 +32,8 @@ pub returns-in-Reads-clause-goes : goal.returns-in-Reads-clause-goes
 returns-in-Reads-clause-goes c = λ x.
     subst (λ (o : Role). Goes x c.args.self.now (Walks.by_indexer (setting x c.args.self.now)
     c.args.self.now.step c.args.pos c.args.bracket (role_in o c.args.self.now.value) c.args.index
-    (next_step x c.args.self.now) (place_of c.args.self.now) (rest x c.args.self.now)) c.get_own_by_index.result
+    (next_step x c.args.self.now) (place_of c.args.self.now) (rest x c.args.self.now))
+    c.get_own_by_index.result
     c.get_own_by_index.new.self) (sym c.in-Reads.is)
     (c.get_own_by_index.ensures.goes x)
 
@@ -44,7 +46,8 @@ pub returns-in-Passes-clause-goes : goal.returns-in-Passes-clause-goes
 returns-in-Passes-clause-goes c = λ x.
     subst (λ (o : Role). Goes x c.args.self.now (Walks.by_indexer (setting x c.args.self.now)
     c.args.self.now.step c.args.pos c.args.bracket (role_in o c.args.self.now.value) c.args.index
-    (next_step x c.args.self.now) (place_of c.args.self.now) (rest x c.args.self.now)) c.get_own_by_index-in-Passes.result
+    (next_step x c.args.self.now) (place_of c.args.self.now) (rest x c.args.self.now))
+    c.get_own_by_index-in-Passes.result
     c.get_own_by_index-in-Passes.new.self) (sym c.in-Passes.is)
     (c.get_own_by_index-in-Passes.ensures.goes x)
 

@@ -33,5 +33,6 @@ returns-clause-takes c = λ v stands.
     (role_in c.args.role c.args.self.now.value) c.args.key v
     (sym (c.assigns.ensures c.args.self.now.value) ∙ c.if-assigns.false) c.if-context.false
     (c.in_ok-enter.ensures.entered
-    ∙ ap (λ (b : Bool). in_root c.args.self.now c.args.origin (record { value = dynamic.Unit; read_only = b }))
+    ∙ ap (λ (b : Bool). in_root c.args.self.now c.args.origin
+    (record { value = dynamic.Unit; read_only = b }))
     c.is_read_only-read_only.ensures)

@@ -11,5 +11,6 @@ returns-then-is_catchable-clause-goes c = λ x go.
 pub returns-clause-goes : goal.returns-clause-goes
 returns-clause-goes c = λ x go.
     pick_false x c.args.self.now c.failed.new.self _ _ _ (Ok c.failed.result)
-    (sym c.is_catchable.ensures ∙ c.if-is_catchable.false) (fails x c.args.self.now c.failed.new.self c.args.fault c.failed.result
+    (sym c.is_catchable.ensures ∙ c.if-is_catchable.false) (fails x c.args.self.now c.failed.new.self
+    c.args.fault c.failed.result
     c.failed.ensures.answer c.failed.ensures.left)

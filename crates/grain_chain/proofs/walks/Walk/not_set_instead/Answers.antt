@@ -11,5 +11,6 @@ returns-then-is_indexing_type-clause-goes c =
 pub returns-clause-goes : goal.returns-clause-goes
 returns-clause-goes c =
     pick_false c.args.context c.args.self.now c.failed.new.self _ _ _ (Ok c.failed.result)
-    (sym c.is_indexing_type.ensures ∙ c.if-is_indexing_type.false) (fails c.args.context c.args.self.now c.failed.new.self c.args.fault c.failed.result
+    (sym c.is_indexing_type.ensures ∙ c.if-is_indexing_type.false) (fails c.args.context c.args.self.now
+    c.failed.new.self c.args.fault c.failed.result
     c.failed.ensures.answer c.failed.ensures.left)

@@ -28,7 +28,8 @@ returns-in-Bounds-clause-takes c = λ v stands.
     (stops_takes x w c.raise.new.self _ c.raise.result c.stop.result c.stop.ensures
     (subst (λ (y : Problem). Goes x w (Walks.failing w.step y (rest x w)) c.raise.result c.raise.new.self)
     (rw (to_z-of_z w64 c.in-Bounds.place fits) at c.out_of_bounds-fault.ensures
-    ∙ ap (λ (d : Dynamic). Plain (Walks.out_of_bounds d c.in-Bounds.length c.in-Bounds.place) c.args.pos) same)
+    ∙ ap (λ (d : Dynamic). Plain (Walks.out_of_bounds d c.in-Bounds.length c.in-Bounds.place)
+    c.args.pos) same)
     (c.raise.ensures.goes x)))
 
 pub returns-in-Bounds-clause-needs : goal.returns-in-Bounds-clause-needs
@@ -43,17 +44,22 @@ returns-in_ok-fault-in-WrongType-clause-takes c = λ v stands.
     let same = same_target w.trail c.target-in-WrongType.result.now v c.target-in-WrongType.ensures stands in
     subst (λ (y : ValueFault). Takes x w (Walks.indexed (setting x w) w.step c.args.pos c.args.bracket
     (role_in c.args.role w.value) (operand_of w c.args.operand) c.args.index (with_value w v)
-    (next_step x w) (place_of w) (rest x w) (Err y)) c.stop-in-WrongType.result c.raise-in-WrongType.new.self) (sym c.in-WrongType.is)
-    (stops_takes x w c.raise-in-WrongType.new.self _ c.raise-in-WrongType.result c.stop-in-WrongType.result c.stop-in-WrongType.ensures
-    (subst (λ (y : Problem). Goes x w (Walks.failing w.step y (rest x w)) c.raise-in-WrongType.result c.raise-in-WrongType.new.self)
+    (next_step x w) (place_of w) (rest x w) (Err y)) c.stop-in-WrongType.result
+    c.raise-in-WrongType.new.self) (sym c.in-WrongType.is)
+    (stops_takes x w c.raise-in-WrongType.new.self _ c.raise-in-WrongType.result
+    c.stop-in-WrongType.result c.stop-in-WrongType.ensures
+    (subst (λ (y : Problem). Goes x w (Walks.failing w.step y (rest x w)) c.raise-in-WrongType.result
+    c.raise-in-WrongType.new.self)
     (c.in_ok-fault-in-WrongType.ensures
-    ∙ ap (λ (d : Dynamic). Plain (MismatchDataType (Walks.index_type d) (type_name_of c.args.index)) c.args.pos) same)
+    ∙ ap (λ (d : Dynamic). Plain (MismatchDataType (Walks.index_type d) (type_name_of c.args.index))
+    c.args.pos) same)
     (c.raise-in-WrongType.ensures.goes x)))
 
 pub returns-in_ok-fault-in-WrongType-clause-needs : goal.returns-in_ok-fault-in-WrongType-clause-needs
 returns-in_ok-fault-in-WrongType-clause-needs c = λ n.
-    stops_need c.args.context.program.now c.raise-in-WrongType.new.self c.raise-in-WrongType.result c.stop-in-WrongType.result n
-    c.stop-in-WrongType.ensures (c.raise-in-WrongType.ensures.needs c.args.context.program.now n)
+    stops_need c.args.context.program.now c.raise-in-WrongType.new.self c.raise-in-WrongType.result
+    c.stop-in-WrongType.result n c.stop-in-WrongType.ensures
+    (c.raise-in-WrongType.ensures.needs c.args.context.program.now n)
 
 pub missing_index-requires : goal.missing_index-requires
 missing_index-requires c =
@@ -66,7 +72,8 @@ returns-in-NoKey-clause-takes c = λ v stands.
     let x = c.args.context in
     subst (λ (y : ValueFault). Takes x w (Walks.indexed (setting x w) w.step c.args.pos c.args.bracket
     (role_in c.args.role w.value) (operand_of w c.args.operand) c.args.index (with_value w v)
-    (next_step x w) (place_of w) (rest x w) (Err y)) c.missing_index.result c.missing_index.new.self) (sym c.in-NoKey.is)
+    (next_step x w) (place_of w) (rest x w) (Err y)) c.missing_index.result c.missing_index.new.self)
+    (sym c.in-NoKey.is)
     (subst (λ (k : List ℕ). Takes x w (Walks.missing_key (setting x w) w.step c.args.pos
     (Walks.OfIndex (operand_of w c.args.operand) c.args.bracket) (role_in c.args.role w.value) k
     (with_value w v) (next_step x w) (place_of w) (rest x w)) c.missing_index.result

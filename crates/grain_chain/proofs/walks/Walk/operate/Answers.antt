@@ -31,10 +31,13 @@ returns-in-NotBuiltIn-clause-goes c =
     let x = c.args.context in
     let v0 = c.assign.ensures in
     let o = assignment x.engine.now.limits c.args.op.op_assign v0.0 w.value in
-    let h = subst (λ (a : AssignAnswer). AssignedThere w.trail a o c.assign.new.self) c.in-NotBuiltIn.is v0.1.1 in
-    operates_fast x w c.ask_op_assign-in-NotBuiltIn.new.self c.args.pos c.args.op c.ask_op_assign-in-NotBuiltIn.result v0.0 v0.1.0 c.if-not-context.false
+    let h = subst (λ (a : AssignAnswer). AssignedThere w.trail a o c.assign.new.self) c.in-NotBuiltIn.is
+    v0.1.1 in
+    operates_fast x w c.ask_op_assign-in-NotBuiltIn.new.self c.args.pos c.args.op
+    c.ask_op_assign-in-NotBuiltIn.result v0.0 v0.1.0 c.if-not-context.false
     (subst (λ (p : Outcome). Goes x w (Walks.stored (setting x w) w.step c.args.pos c.args.op w.value
-    (place_of w) (rest x w) p) c.ask_op_assign-in-NotBuiltIn.result c.ask_op_assign-in-NotBuiltIn.new.self) (sym h.0)
+    (place_of w) (rest x w) p) c.ask_op_assign-in-NotBuiltIn.result
+    c.ask_op_assign-in-NotBuiltIn.new.self) (sym h.0)
     (subst (λ (t : Standing). let w1 : Walk = record w { trail = t } in Goes x w1 (Walks.native_stored
     (setting x w1) w1.step c.args.pos c.args.op w1.value (place_of w1) (rest x w1))
     c.ask_op_assign-in-NotBuiltIn.result c.ask_op_assign-in-NotBuiltIn.new.self) h.1
@@ -53,7 +56,8 @@ returns-in-Done-clause-goes c =
     (goes_written x w c.well.new.self h.0 c.well.result
     (subst (λ (t : Standing). Goes x (written w t) (rest x (written w t) (Well dynamic.Unit true))
     c.well.result c.well.new.self) h.2
-    (subst (λ (m : ℕ). let w1 : Walk = record w { trail = c.assign.new.self; gives = dynamic.Unit; marks = m } in
+    (subst (λ (m : ℕ). let w1 : Walk =
+    record w { trail = c.assign.new.self; gives = dynamic.Unit; marks = m } in
     Goes x w1 (rest x w1 (Well dynamic.Unit true)) c.well.result c.well.new.self) c.in-Ok.ensures
     c.well.ensures.goes))))
 

@@ -12,7 +12,8 @@ returns-in-Part-clause-goes c =
     subst (λ (o : CodeOrigin). GoesBack c.args.context c.args.self.now (Walks.set_back
     (setting c.args.context c.args.self.now) c.args.self.now.step (origin_of o)
     (place_of c.args.self.now) c.args.inner c.args.self.now.gives c.args.changed
-    (rest c.args.context c.args.self.now)) c.args.changed c.put_part.result c.put_part.new.self) (sym c.in-Part.is)
+    (rest c.args.context c.args.self.now)) c.args.changed c.put_part.result c.put_part.new.self)
+    (sym c.in-Part.is)
     (c.put_part.ensures.goes c.args.context c.args.changed)
 
 pub returns-in-Index-clause-goes : goal.returns-in-Index-clause-goes
@@ -20,7 +21,8 @@ returns-in-Index-clause-goes c =
     subst (λ (o : CodeOrigin). GoesBack c.args.context c.args.self.now (Walks.set_back
     (setting c.args.context c.args.self.now) c.args.self.now.step (origin_of o)
     (place_of c.args.self.now) c.args.inner c.args.self.now.gives c.args.changed
-    (rest c.args.context c.args.self.now)) c.args.changed c.index_back.result c.index_back.new.self) (sym c.in-Index.is)
+    (rest c.args.context c.args.self.now)) c.args.changed c.index_back.result c.index_back.new.self)
+    (sym c.in-Index.is)
     (c.index_back.ensures.goes c.args.context)
 
 pub returns-in-Property-clause-goes : goal.returns-in-Property-clause-goes
@@ -28,7 +30,8 @@ returns-in-Property-clause-goes c =
     subst (λ (o : CodeOrigin). GoesBack c.args.context c.args.self.now (Walks.set_back
     (setting c.args.context c.args.self.now) c.args.self.now.step (origin_of o)
     (place_of c.args.self.now) c.args.inner c.args.self.now.gives c.args.changed
-    (rest c.args.context c.args.self.now)) c.args.changed c.property_back.result c.property_back.new.self) (sym c.in-Property.is)
+    (rest c.args.context c.args.self.now)) c.args.changed c.property_back.result
+    c.property_back.new.self) (sym c.in-Property.is)
     (c.property_back.ensures.goes)
 
 pub returns-in-Nothing-clause-goes : goal.returns-in-Nothing-clause-goes

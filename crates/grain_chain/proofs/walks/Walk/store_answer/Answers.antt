@@ -6,7 +6,8 @@ use Rattle.grain_chain.proofs.walks.Walk.store_answer.Goals as goal
 
 pub returns-in_default-clause-goes : goal.returns-in_default-clause-goes
 returns-in_default-clause-goes c =
-    flattening_halts c.args.context c.args.self.now c.args.pos c.args.value _ (λ u. halts c.args.context c.args.self.now _)
+    flattening_halts c.args.context c.args.self.now c.args.pos c.args.value _
+    (λ u. halts c.args.context c.args.self.now _)
 
 pub returns-in-Some-clause-goes : goal.returns-in-Some-clause-goes
 returns-in-Some-clause-goes c =

@@ -15,8 +15,9 @@ returns-in-Index-clause-takes c =
     subst (λ (s : Step). Takes x w (Walks.at_mark w.step (rest x w) (Walks.taken (course x w) s w.step
     (Walks.role_before (course x w) (drop (w.step + 1) (steps x w))) (next_step x w) (place_of w)
     (rest x w))) c.index.result c.index.new.self) (sym c.in-Index.is)
-    (subst (λ (o : Walks.Role). Takes x w (Walks.at_mark w.step (rest x w) (Walks.index_step (setting x w) w.step (operand_of w c.in-Index.operand)
-    c.in-Index.pos c.in-Index.bracket o (next_step x w) (place_of w) (rest x w))) c.index.result c.index.new.self)
+    (subst (λ (o : Walks.Role). Takes x w (Walks.at_mark w.step (rest x w)
+    (Walks.index_step (setting x w) w.step (operand_of w c.in-Index.operand) c.in-Index.pos
+    c.in-Index.bracket o (next_step x w) (place_of w) (rest x w))) c.index.result c.index.new.self)
     c.role-role.ensures c.index.ensures.takes)
 
 pub returns-in-Property-clause-takes : goal.returns-in-Property-clause-takes
@@ -26,6 +27,7 @@ returns-in-Property-clause-takes c =
     subst (λ (s : Step). Takes x w (Walks.at_mark w.step (rest x w) (Walks.taken (course x w) s w.step
     (Walks.role_before (course x w) (drop (w.step + 1) (steps x w))) (next_step x w) (place_of w)
     (rest x w))) c.property.result c.property.new.self) (sym c.in-Property.is)
-    (subst (λ (o : Walks.Role). Takes x w (Walks.at_mark w.step (rest x w) (Walks.property_step (setting x w) w.step c.in-Property.name
-    c.in-Property.getter c.in-Property.setter c.in-Property.pos o (next_step x w) (place_of w) (rest x w))) c.property.result c.property.new.self)
-    c.role-role.ensures c.property.ensures.takes)
+    (subst (λ (o : Walks.Role). Takes x w (Walks.at_mark w.step (rest x w)
+    (Walks.property_step (setting x w) w.step c.in-Property.name c.in-Property.getter
+    c.in-Property.setter c.in-Property.pos o (next_step x w) (place_of w) (rest x w)))
+    c.property.result c.property.new.self) c.role-role.ensures c.property.ensures.takes)
