@@ -1,5 +1,5 @@
 -- Each byte of a listing's code is given by a line, and no byte past it.
-use Rattle.std.proofs.Common.{◌≡◌, ◌⊎◌, ◌<◌, ◌≤◌, ◌&&◌, inl, inr, ℕ, ◌+◌, Bool, true, false, cond, nat_le, nat_lt, List, [], ◌∷◌, ◌++◌, length, Option, Some, None, IsSome, Result, Ok, Err, chars, refl, sym, ap, ◌∙◌, subst, arith, length-append}
+use Rattle.std.proofs.Common.{◌≡◌, ◌⊎◌, ◌<◌, ◌≤◌, inl, inr, ℕ, ◌+◌, true, nat_lt, is_some, List, [], ◌∷◌, ◌++◌, length, Option, Some, None, IsSome, Result, Ok, Err, chars, refl, sym, ap, ◌∙◌, subst, arith, length-append}
 use Rattle.std.proofs.lemmas.Bool.{cases_lt}
 use Rattle.std.proofs.lemmas.Bool.Decides.{nat_tests}
 use Rattle.std.specs.Int.{w32, to_le_bytes}
@@ -10,7 +10,7 @@ use Rattle.grain_program.specs.declared.code.parts.AssignOp.{AssignOp}
 use Rattle.grain_literals.specs.Steps.{and_then, present}
 use Rattle.grain_literals.specs.declared.reasons.Reason.TheVariants.{UnknownLabel}
 use Rattle.grain_listing.specs.Statements
-use Rattle.grain_listing.specs.Statements.{Piece, Byte, Goto, Statement, section, labels, pieces, width, address, assigns, label_address, code_of}
+use Rattle.grain_listing.specs.Statements.{Piece, Byte, Goto, Statement, section, labels, pieces, width, address, assigns, label_address, open_block, code_of}
 use Rattle.grain_listing.specs.LineMeanings.{says, statements}
 use Rattle.grain_listing.specs.Reading.{ListingView, set_up, set_up_of, complete, assign_ops_of, reads, meaning, most_bytes}
 use Rattle.grain_listing.specs.declared.reasons.BadLine.{BadLine}
@@ -31,7 +31,7 @@ use Rattle.grain_addresses.proofs.Readings.{tested, said_first, finds}
 -- where a walk ends
 abbrev last : Walk → List (List ℕ) → Walk
 last w [] = w
-last w (l ∷ ls) = last (stepped (line_kind l) w) ls
+last w (l ∷ ls) = last (stepped (line_kind w.in_block l) w) ls
 
 -- a line holds its own bytes
 own : (a : ℕ) (p : Place) → p.address ≤ a → a < p.address + p.width → holds a p ≡ true
@@ -69,8 +69,8 @@ held : (w : Walk) (ls : List (List ℕ)) (a : ℕ) → w.address ≤ a → a < (
     IsSome (found a (walked w ls))
 held w [] a low high = absurd (omega arith)
 held w (l ∷ ls) a low high =
-    one_held (line_kind l) w l (walked (stepped (line_kind l) w) ls) a low
-    (λ here. held (stepped (line_kind l) w) ls a here high)
+    one_held (line_kind w.in_block l) w l (walked (stepped (line_kind w.in_block l) w) ls) a low
+    (λ here. held (stepped (line_kind w.in_block l) w) ls a here high)
 
 rises : (k : LineKind) (w : Walk) → w.address ≤ (stepped k w).address
 rises (kinds.Code width position) w = omega arith
@@ -82,8 +82,8 @@ rises kinds.Other w = omega arith
 grows : (w : Walk) (ls : List (List ℕ)) → w.address ≤ (last w ls).address
 grows w [] = omega arith
 grows w (l ∷ ls) =
-    let one = rises (line_kind l) w in
-    let others = grows (stepped (line_kind l) w) ls in
+    let one = rises (line_kind w.in_block l) w in
+    let others = grows (stepped (line_kind w.in_block l) w) ls in
     omega (arith, one, others)
 
 one_past : (k : LineKind) (w : Walk) (l : List ℕ) (rest : List Place) (a : ℕ) →
@@ -100,9 +100,10 @@ none_past : (w : Walk) (ls : List (List ℕ)) (a : ℕ) → (last w ls).address 
     found a (walked w ls) ≡ None
 none_past w [] a h = refl
 none_past w (l ∷ ls) a h =
-    let others = grows (stepped (line_kind l) w) ls in
-    one_past (line_kind l) w l (walked (stepped (line_kind l) w) ls) a (omega (arith, others, h))
-    (none_past (stepped (line_kind l) w) ls a h)
+    let others = grows (stepped (line_kind w.in_block l) w) ls in
+    one_past (line_kind w.in_block l) w l (walked (stepped (line_kind w.in_block l) w) ls) a
+    (omega (arith, others, h))
+    (none_past (stepped (line_kind w.in_block l) w) ls a h)
 
 -- a walk ends after all that the lines have said
 ends : (before : List Statement) (ls : List (List ℕ)) (all : List Statement) →
@@ -111,7 +112,8 @@ ends before [] all e = let is : before ≡ all = cc in ap walk_after is
 ends before (l ∷ ls) all e =
     let t = taken (says (length before + 1) l before) (length before + 1)
     (λ s. statements (length before + 1) (s ∷ before) ls) all e in
-    let kind : kind_said t.0 ≡ line_kind l = gives (length before + 1) l before t.0 t.1.0 in
+    let kind : kind_said t.0 ≡ line_kind (is_some (open_block before)) l =
+    gives (length before + 1) l before t.0 t.1.0 in
     let rest : statements (length (t.0 ∷ before)) (t.0 ∷ before) ls ≡ Ok all =
     subst (λ (k : ℕ). statements k (t.0 ∷ before) ls ≡ Ok all) (counted t.0 before) t.1.1 in
     ap (λ (k : LineKind). last (stepped k (walk_after before)) ls) (sym kind) ∙

@@ -1,4 +1,4 @@
--- What a line says, where it is read, gives what its words alone give.
+-- What a line says, where it is read, gives what its words give, in a block or outside of one.
 use Rattle.std.proofs.Common.{◌≡◌, ℕ, ◌+◌, ◌-◌, ◌^◌, ◌||◌, ◌==◌, Bool, true, false, cond, nat_lt, codes, bytes_eq, is_some, List, [], ◌∷◌, ◌++◌, length, Option, Some, None, Result, Ok, Err, refl, sym, ap, ◌∙◌, subst, arith}
 use Rattle.std.specs.Str.{encode_utf8_all}
 use Rattle.std.specs.Int.{w16, w32, to_le_bytes}
@@ -10,7 +10,7 @@ use Rattle.grain_program.specs.InstructionSet.{tag_of, fields_of}
 use Rattle.grain_words.specs.Words.{is_over, trim_start, ends_word, up_to, onward_from, quoted, whole, behind, bare, skipped, next_word, after_word}
 use Rattle.grain_words.specs.Numerals.{number, begins_letter, is_empty}
 use Rattle.grain_literals.specs.Steps.{and_then, present}
-use Rattle.grain_literals.specs.Operands.{word_operand, behind_name, after_name, alone, number_operand, position_after, byte_of}
+use Rattle.grain_literals.specs.Operands.{behind_name, after_name, alone, number_operand, position_after, byte_of}
 use Rattle.grain_literals.specs.Literals.{constant_of, text_of, token_of, entry_of}
 use Rattle.grain_literals.specs.declared.reasons.Reason.{Reason}
 use Rattle.grain_literals.specs.declared.reasons.Reason.TheVariants.{MissingHeader, UnknownWord, OutOfPlace, TooMany, BadOperand, LabelTwice}
@@ -18,10 +18,11 @@ use Rattle.grain_listing.specs.Settings.{capability_bits, capabilities}
 use Rattle.grain_listing.specs.Flags.{flag_of}
 use Rattle.grain_listing.specs.HostLines.{fail_of, stop_of}
 use Rattle.grain_listing.specs.Headers.{stack_of, assign_of, header_of, is_crowded}
+use Rattle.grain_listing.specs.ChainWords.{chain_of, step_of}
 use Rattle.grain_listing.specs.Instructions
 use Rattle.grain_listing.specs.Instructions.{kinds_of}
 use Rattle.grain_listing.specs.Table.{line_of, own_line, stands, is_block}
-use Rattle.grain_listing.specs.Statements.{Piece, Byte, Goto, Statement, blank, header, caps_line, source_line, limit_line, flag_line, fail_line, stop_line, const_line, name_line, op_line, assign_line, scope_line, main_line, fn_line, end_line, code_line, label_line, section, caps, source, limits, consts, names, tokens, assigns, functions, labels, label_address, width}
+use Rattle.grain_listing.specs.Statements.{Piece, Byte, Goto, Statement, blank, header, caps_line, source_line, limit_line, flag_line, fail_line, stop_line, const_line, name_line, op_line, assign_line, chain_line, step_line, scope_line, main_line, fn_line, end_line, code_line, label_line, section, caps, source, limits, consts, names, tokens, assigns, chains, last_steps, is_chain_open, functions, labels, label_address, open_block, width}
 use Rattle.grain_listing.specs.LineMeanings.{bytes, operand, code_operand, operands, limit_set, statement, before_colon, labelled, known, header_end, header_number, begun_by, in_section, says}
 use Rattle.grain_listing.specs.declared.table.Line.{Line}
 use Rattle.grain_listing.specs.declared.table.Line.TheVariants as lines
@@ -262,6 +263,16 @@ line_gives lines.Assign n cs before =
     either kinds.Other (nat_lt (length (assigns before)) 65536)
     (and_then (assign_of n cs) (λ a. Ok (assign_line a))) (Err TooMany)
     (step kinds.Other (assign_of n cs) (λ a. assign_line a) (λ x. refl)) tt
+line_gives lines.Chain n cs before =
+    either kinds.Other (nat_lt (length (chains before)) 65536)
+    (and_then (chain_of cs) (λ c. Ok (chain_line c))) (Err TooMany)
+    (step kinds.Other (chain_of cs) (λ c. chain_line c) (λ x. refl)) tt
+line_gives lines.Step n cs before =
+    let read : Result Statement Reason = and_then (step_of cs) (λ s. Ok (step_line s)) in
+    let room : Bool = nat_lt (length (last_steps (chains before))) 65536 in
+    either kinds.Other (is_chain_open before) (cond room read (Err TooMany)) (Err OutOfPlace)
+    (either kinds.Other room read (Err TooMany)
+    (step kinds.Other (step_of cs) (λ s. step_line s) (λ x. refl)) tt) tt
 line_gives lines.Entry n cs before =
     step kinds.Other (entry_of cs) (λ x. scope_line x) (λ x. refl)
 line_gives lines.Flag n cs before =
@@ -304,46 +315,54 @@ known_gives (Some l) n w cs before =
     either (kind_of l cs) (stands l (section before)) (statement l n cs before) (Err OutOfPlace)
     (line_gives l n cs before) tt
 
+-- a block is open before the line
+abbrev in_block : List Statement → Bool
+in_block before = is_some (open_block before)
+
 begun_gives : (o : Option (List ℕ × List ℕ)) (n : ℕ) (before : List Statement) →
-    Gives (kind_begun o) (begun_by o n before)
+    Gives (kind_begun (in_block before) o) (begun_by o n before)
 begun_gives None n before = tt
-begun_gives (Some a) n before = known_gives (line_of a.0) n a.0 a.1 before
+begun_gives (Some a) n before =
+    known_gives (line_of (in_block before) a.0) n a.0 a.1 before
 
 -- the header
 end_gives : (o : Option (List ℕ)) → Gives kinds.Other (header_end o)
 end_gives None = tt
 end_gives (Some cs) = either kinds.Other (is_over cs) (Ok header) (Err MissingHeader) refl tt
 
-is_header : (w : List ℕ) → bytes_eq w (codes "grain") ≡ true → line_of w ≡ Some lines.Header
+is_header : (b : Bool) (w : List ℕ) → bytes_eq w (codes "grain") ≡ true →
+    line_of b w ≡ Some lines.Header
 unfolding line_of own_line
-is_header w e = rw e refl
+is_header b w e = rw e refl
 
-header_gives : (o : Option (List ℕ × List ℕ)) →
-    Gives (kind_begun o) (header_number (behind_name (codes "grain") o))
-header_gives None = tt
-header_gives (Some a) = at (bytes_eq a.0 (codes "grain")) refl where
-  at : (b : Bool) → bytes_eq a.0 (codes "grain") ≡ b →
-      Gives (kind_if (line_of a.0) a.1) (header_number (cond b (Some a.1) None))
+header_gives : (b : Bool) (o : Option (List ℕ × List ℕ)) →
+    Gives (kind_begun b o) (header_number (behind_name (codes "grain") o))
+header_gives b None = tt
+header_gives b (Some a) = at (bytes_eq a.0 (codes "grain")) refl where
+  at : (q : Bool) → bytes_eq a.0 (codes "grain") ≡ q →
+      Gives (kind_if (line_of b a.0) a.1) (header_number (cond q (Some a.1) None))
   at true e = subst (λ (l : Option Line). Gives (kind_if l a.1) (header_number (Some a.1)))
-      (sym (is_header a.0 e)) (end_gives (after_name (codes "1") a.1))
+      (sym (is_header b a.0 e)) (end_gives (after_name (codes "1") a.1))
   at false e = tt
 
 section_gives : (s : Section) (n : ℕ) (cs : List ℕ) (before : List Statement) →
-    Gives (line_kind cs) (in_section s n cs before)
-section_gives sections.Start n cs before = header_gives (next_word cs)
+    Gives (line_kind (in_block before) cs) (in_section s n cs before)
+section_gives sections.Start n cs before = header_gives (in_block before) (next_word cs)
 section_gives sections.Pools n cs before = begun_gives (next_word cs) n before
 section_gives sections.Block n cs before = begun_gives (next_word cs) n before
 section_gives sections.After n cs before = begun_gives (next_word cs) n before
 
 all_gives : (n : ℕ) (cs : List ℕ) (before : List Statement) →
-    Gives (line_kind cs) (says n cs before)
+    Gives (line_kind (in_block before) cs) (says n cs before)
 all_gives n cs before = at (is_over cs) (λ e. no_word cs e) where
   at : (b : Bool) → (b ≡ true → next_word cs ≡ None) →
-      Gives (kind_begun (next_word cs)) (cond b (Ok blank) (in_section (section before) n cs before))
-  at true over = sym (ap (λ (o : Option (List ℕ × List ℕ)). kind_begun o) (over refl))
+      Gives (kind_begun (in_block before) (next_word cs))
+      (cond b (Ok blank) (in_section (section before) n cs before))
+  at true over = sym (ap (λ (o : Option (List ℕ × List ℕ)). kind_begun (in_block before) o)
+      (over refl))
   at false over = section_gives (section before) n cs before
 
--- a line that is read gives what its words alone give
+-- a line that is read gives what its words give, in a block or outside of one
 pub gives : (n : ℕ) (cs : List ℕ) (before : List Statement) (s : Statement) →
-    says n cs before ≡ Ok s → kind_said s ≡ line_kind cs
-gives n cs before s e = subst (Gives (line_kind cs)) e (all_gives n cs before)
+    says n cs before ≡ Ok s → kind_said s ≡ line_kind (is_some (open_block before)) cs
+gives n cs before s e = subst (Gives (line_kind (in_block before) cs)) e (all_gives n cs before)

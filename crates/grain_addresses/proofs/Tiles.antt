@@ -1,5 +1,5 @@
 -- The lines that a walk finds give bytes that follow one another, and few.
-use Rattle.std.proofs.Common.{◌≡◌, ℕ, ◌+◌, ◌*◌, ◌≤◌, List, [], ◌∷◌, ◌++◌, Option, Some, None, refl, arith}
+use Rattle.std.proofs.Common.{ℕ, ◌+◌, ◌≤◌, Bool, List, [], ◌∷◌, ◌++◌, Option, Some, None, refl, arith}
 use Rattle.grain_program.specs.declared.code.instruction_set.Op.{Op}
 use Rattle.grain_program.specs.declared.code.instruction_set.Op.TheVariants as op
 use Rattle.grain_program.specs.InstructionSet.{fields_of}
@@ -31,12 +31,12 @@ if_narrow : (o : Option Line) (cs : List ℕ) → IsNarrow (kind_if o cs)
 if_narrow None cs = tt
 if_narrow (Some l) cs = line_narrow l cs
 
-begun_narrow : (o : Option (List ℕ × List ℕ)) → IsNarrow (kind_begun o)
-begun_narrow None = tt
-begun_narrow (Some a) = if_narrow (line_of a.0) a.1
+begun_narrow : (b : Bool) (o : Option (List ℕ × List ℕ)) → IsNarrow (kind_begun b o)
+begun_narrow b None = tt
+begun_narrow b (Some a) = if_narrow (line_of b a.0) a.1
 
-pub narrow : (cs : List ℕ) → IsNarrow (line_kind cs)
-narrow cs = begun_narrow (next_word cs)
+pub narrow : (b : Bool) (cs : List ℕ) → IsNarrow (line_kind b cs)
+narrow b cs = begun_narrow b (next_word cs)
 
 one_tile : (k : LineKind) (w : Walk) (l : List ℕ) (rest : List Place) → IsNarrow k →
     IsTiled (stepped k w).address rest → IsTiled w.address (place_in l w k ++ rest)
@@ -49,8 +49,9 @@ one_tile kinds.Other w l rest n t = t
 pub tiled : (w : Walk) (ls : List (List ℕ)) → IsTiled w.address (walked w ls)
 tiled w [] = tt
 tiled w (l ∷ ls) =
-    one_tile (line_kind l) w l (walked (stepped (line_kind l) w) ls) (narrow l)
-    (tiled (stepped (line_kind l) w) ls)
+    one_tile (line_kind w.in_block l) w l (walked (stepped (line_kind w.in_block l) w) ls)
+    (narrow w.in_block l)
+    (tiled (stepped (line_kind w.in_block l) w) ls)
 
 fewer : (b : Block) (n : ℕ) → functions_after b n ≤ n + 1
 fewer block.Main n = omega arith

@@ -1,5 +1,5 @@
 -- A walk by words alone finds the lines that give code where a listing is read.
-use Rattle.std.proofs.Common.{◌≡◌, ℕ, ◌+◌, List, [], ◌∷◌, ◌++◌, length, Option, Some, None, Result, Ok, Err, refl, sym, ap, ◌∙◌, subst, arith, append_assoc, length-append}
+use Rattle.std.proofs.Common.{◌≡◌, ℕ, ◌+◌, Bool, is_some, List, [], ◌∷◌, ◌++◌, length, Option, Some, None, Result, Ok, Err, refl, sym, ap, ◌∙◌, subst, arith, append_assoc, length-append}
 use Rattle.grain_literals.specs.Steps.{and_then}
 use Rattle.grain_literals.specs.declared.reasons.Reason.{Reason}
 use Rattle.grain_program.specs.declared.code.functions.Function.{Function}
@@ -16,19 +16,20 @@ use Rattle.grain_addresses.specs.declared.kinds.LineKind.{LineKind}
 use Rattle.grain_addresses.specs.declared.walks.Walk.{Walk}
 use Rattle.grain_addresses.proofs.Gives.{kind_said, gives, width-append}
 
-abbrev pub walk_at : ℕ → ℕ → Block → ℕ → Walk
-walk_at l a b f = record { lines = l; address = a; block = b; functions = f }
+abbrev pub walk_at : ℕ → ℕ → Block → Bool → ℕ → Walk
+walk_at l a b o f = record { lines = l; address = a; block = b; in_block = o; functions = f }
 
 -- where the next line stands, after lines that said this
 abbrev pub walk_after : List Statement → Walk
 walk_after before =
-    walk_at (length before) (address before) (block_after before) (length (functions before))
+    walk_at (length before) (address before) (block_after before) (is_some (open_block before))
+    (length (functions before))
 
-same : (l m a b f g : ℕ) (block : Block) → l ≡ m → a ≡ b → f ≡ g →
-    walk_at l a block f ≡ walk_at m b block g
-same l m a b f g block el ea ef =
-    ap (λ (x : ℕ). walk_at x a block f) el ∙ ap (λ (x : ℕ). walk_at m x block f) ea ∙
-    ap (λ (x : ℕ). walk_at m b block x) ef
+same : (l m a b f g : ℕ) (block : Block) (o : Bool) → l ≡ m → a ≡ b → f ≡ g →
+    walk_at l a block o f ≡ walk_at m b block o g
+same l m a b f g block o el ea ef =
+    ap (λ (x : ℕ). walk_at x a block o f) el ∙ ap (λ (x : ℕ). walk_at m x block o f) ea ∙
+    ap (λ (x : ℕ). walk_at m b block o x) ef
 
 pub counted : (s : Statement) (before : List Statement) → length before + 1 ≡ length (s ∷ before)
 counted s before = omega arith
@@ -45,12 +46,12 @@ ended (Some (blocks.Function entry h)) a fs =
 pub onward : (s : Statement) (before : List Statement) →
     stepped (kind_said s) (walk_after before) ≡ walk_after (s ∷ before)
 onward (code_line p ps at) before =
-    same _ _ _ _ _ _ (block_after before) (counted (code_line p ps at) before)
+    same _ _ _ _ _ _ (block_after before) (is_some (open_block before)) (counted (code_line p ps at) before)
     (sym (width-append (pieces before) (p ∷ ps))) refl
 onward end_line before =
-    same _ _ _ _ _ _ _ (counted end_line before) refl
+    same _ _ _ _ _ _ _ _ (counted end_line before) refl
     (ended (open_block before) (address before) (functions before))
-onward s before = same _ _ _ _ _ _ _ (counted s before) refl refl
+onward s before = same _ _ _ _ _ _ _ _ (counted s before) refl refl
 
 placed : (l : List ℕ) (s : Statement) (before : List Statement) →
     place_in l (walk_after before) (kind_said s) ≡ place_said l before s
@@ -71,7 +72,8 @@ found_in_order before [] all e = refl
 found_in_order before (l ∷ ls) all e =
     let t = taken (says (length before + 1) l before) (length before + 1)
     (λ s. statements (length before + 1) (s ∷ before) ls) all e in
-    let kind : kind_said t.0 ≡ line_kind l = gives (length before + 1) l before t.0 t.1.0 in
+    let kind : kind_said t.0 ≡ line_kind (is_some (open_block before)) l =
+    gives (length before + 1) l before t.0 t.1.0 in
     let rest : statements (length (t.0 ∷ before)) (t.0 ∷ before) ls ≡ Ok all =
     subst (λ (k : ℕ). statements k (t.0 ∷ before) ls ≡ Ok all) (counted t.0 before) t.1.1 in
     ap (λ (k : LineKind). place_in l (walk_after before) k ++
@@ -86,7 +88,7 @@ found_in_order before (l ∷ ls) all e =
 
 -- one more line of a walk
 pub one_more : (found : List Place) (w : Walk) (k : LineKind) (line : List ℕ)
-    (rest after : List (List ℕ)) (all : List Place) → rest ≡ line ∷ after → k ≡ line_kind line →
+    (rest after : List (List ℕ)) (all : List Place) → rest ≡ line ∷ after → k ≡ line_kind w.in_block line →
     found ++ walked w rest ≡ all →
     (found ++ place_in line w k) ++ walked (stepped k w) after ≡ all
 one_more found w k line rest after all first is so_far =

@@ -1,5 +1,6 @@
--- What a line gives, by its words alone. It is what the line says, where the line is read.
-use Rattle.std.specs.Prelude.{ℕ, ◌+◌, ◌≤◌, List, [], ◌∷◌, Option, Some, None, Result, Ok, Err}
+-- What a line gives, by its words and by whether it stands in a block. It is what the line says,
+-- where the line is read.
+use Rattle.std.specs.Prelude.{ℕ, ◌+◌, ◌≤◌, Bool, List, [], ◌∷◌, Option, Some, None, Result, Ok, Err}
 use Rattle.grain_fault.specs.declared.places.Position.{Position}
 use Rattle.grain_words.specs.Words.{next_word, after_word}
 use Rattle.grain_program.specs.declared.code.fields.Field.{Field}
@@ -43,12 +44,13 @@ abbrev pub kind_if : Option Line → List ℕ → LineKind
 kind_if None cs = kinds.Other
 kind_if (Some l) cs = kind_of l cs
 
-abbrev pub kind_begun : Option (List ℕ × List ℕ) → LineKind
-kind_begun None = kinds.Other
-kind_begun (Some a) = kind_if (line_of a.0) a.1
+abbrev pub kind_begun : Bool → Option (List ℕ × List ℕ) → LineKind
+kind_begun in_block None = kinds.Other
+kind_begun in_block (Some a) = kind_if (line_of in_block a.0) a.1
 
-abbrev pub line_kind : List ℕ → LineKind
-line_kind cs = kind_begun (next_word cs)
+-- in a block, or outside of one
+abbrev pub line_kind : Bool → List ℕ → LineKind
+line_kind in_block cs = kind_begun in_block (next_word cs)
 
 -- a line gives at most 13 bytes, and one of code at least one
 abbrev pub IsNarrow : LineKind → Type 0

@@ -33,7 +33,7 @@ abbrev pub stock_of : View → List Place → Stock
 stock_of parts places =
     record { bytes = length parts.code; named = named_in parts; places = places }
 
--- at the beginning of an instruction, of which none has slots
+-- at the beginning of an instruction; no slot is looked up so far
 abbrev pub begun_text : Named → Query → Place → Option ℕ → List ℕ
 begun_text named q p None = place_text named p
 begun_text named q p (Some slot) = no_slots_text q p

@@ -71,9 +71,10 @@ query_text q = decimal q.address ++ slot_text q.slot
 abbrev pub of_line_text : ℕ → List ℕ
 of_line_text n = codes " of line " ++ decimal n ++ codes "\n"
 
--- a slot is asked for, and the instruction that begins at the address has none
+-- a slot is asked for at the instruction that begins at the address: none is looked up so far
 abbrev pub no_slots_text : Query → Place → List ℕ
-no_slots_text q p = query_text q ++ codes "\tno slots in the instruction" ++ of_line_text p.line
+no_slots_text q p =
+    query_text q ++ codes "\tno slot is looked up in the instruction" ++ of_line_text p.line
 
 -- no instruction begins at the address, which is inside one
 abbrev pub inside_text : Query → Place → List ℕ

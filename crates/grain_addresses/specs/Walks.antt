@@ -1,5 +1,5 @@
--- A walk over lines, each of which gives something by its words alone.
-use Rattle.std.specs.Prelude.{ℕ, ◌+◌, ◌*◌, ◌≤◌, List, [], ◌∷◌, ◌++◌}
+-- A walk over lines, each of which gives something by its words and by whether a block is open.
+use Rattle.std.specs.Prelude.{ℕ, ◌+◌, ◌*◌, ◌≤◌, true, false, List, [], ◌∷◌, ◌++◌}
 use Rattle.grain_addresses.specs.Places.{Place}
 use Rattle.grain_addresses.specs.Kinds.{line_kind}
 use Rattle.grain_addresses.specs.declared.blocks.Block.{Block}
@@ -9,7 +9,7 @@ use Rattle.grain_addresses.specs.declared.kinds.LineKind.TheVariants as kinds
 use Rattle.grain_addresses.specs.declared.walks.Walk.{Walk}
 
 abbrev pub start : Walk
-start = record { lines = 0; address = 0; block = block.Main; functions = 0 }
+start = record { lines = 0; address = 0; block = block.Main; in_block = false; functions = 0 }
 
 -- a function's end is one more
 abbrev pub functions_after : Block → ℕ → ℕ
@@ -20,12 +20,14 @@ functions_after (block.Function number) n = n + 1
 abbrev pub stepped : LineKind → Walk → Walk
 stepped (kinds.Code width position) w =
     record w { lines = w.lines + 1; address = w.address + width }
-stepped kinds.Main w = record w { lines = w.lines + 1; block = block.Main }
-stepped kinds.Function w = record w { lines = w.lines + 1; block = block.Function w.functions }
+stepped kinds.Main w = record w { lines = w.lines + 1; block = block.Main; in_block = true }
+stepped kinds.Function w =
+    record w { lines = w.lines + 1; block = block.Function w.functions; in_block = true }
 stepped kinds.End w =
     record w {
       lines = w.lines + 1;
       block = block.Main;
+      in_block = false;
       functions = functions_after w.block w.functions;
     }
 stepped kinds.Other w = record w { lines = w.lines + 1 }
@@ -46,7 +48,8 @@ place_in l w kind = []
 -- the lines that give code among these
 abbrev pub walked : Walk → List (List ℕ) → List Place
 walked w [] = []
-walked w (l ∷ ls) = place_in l w (line_kind l) ++ walked (stepped (line_kind l) w) ls
+walked w (l ∷ ls) =
+    place_in l w (line_kind w.in_block l) ++ walked (stepped (line_kind w.in_block l) w) ls
 
 -- addresses and functions stay small
 abbrev pub IsBounded : Walk → Type 0

@@ -127,7 +127,7 @@ fn characters(alloc: Global, bytes: &[u8]) -> Result<Vec<char>, OutOfMemory>
 /// The lines of the listing whose code stands at the addresses, or all lines that give code if
 /// nothing is asked. The status, and the text:
 /// - 0, the code of a line begins at each address: those lines;
-/// - 1, at an address no line's code begins, or the slot is not there: the same, with a line that
+/// - 1, at an address no line's code begins, or a slot is asked for: the same, with a line that
 ///   says so;
 /// - 3, the bytes are no listing: the first line that is wrong, and why.
 ///

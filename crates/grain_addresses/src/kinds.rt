@@ -1,4 +1,4 @@
-//! What a line of a listing gives, by its words alone.
+//! What a line of a listing gives, by its words and by whether it stands in a block.
 
 ghost use Rattle.std.specs.Prelude.{◌≡◌, ◌≤◌};
 ghost use Rattle.grain_program.specs.Fields.{present, size_of, bytes_of};
@@ -94,6 +94,8 @@ fn kind_of(line: Line, rest: &[char]) -> LineKind
         | Line::Name
         | Line::Operator
         | Line::Assign
+        | Line::Chain
+        | Line::Step
         | Line::Entry
         | Line::Flag
         | Line::Fail
@@ -102,14 +104,14 @@ fn kind_of(line: Line, rest: &[char]) -> LineKind
     }
 }
 
-/// What a line gives, if the reader takes it.
-pub fn line_kind(line: &[char]) -> LineKind
-    ensures kind { result ≡ line_kind line.now }
+/// What a line gives, if the reader takes it, in a block or outside of one.
+pub fn line_kind(in_block: bool, line: &[char]) -> LineKind
+    ensures kind { result ≡ line_kind in_block line.now }
     ensures narrow { IsNarrow result }
 {
     match next_word(line) {
         None => LineKind::Other,
-        Some((word, rest)) => match line_of(word) {
+        Some((word, rest)) => match line_of(in_block, word) {
             None => LineKind::Other,
             Some(line) => kind_of(line, rest),
         },

@@ -136,12 +136,12 @@ fn push_of_line(out: &mut Text, line: usize) -> Result<(), OutOfMemory>
     out.push_str("\n")
 }
 
-/// A slot is asked for, and the instruction that begins at the address has none.
+/// A slot is asked for at the instruction that begins at the address: none is looked up so far.
 pub fn push_no_slots(out: &mut Text, query: Query, place: &Place) -> Result<(), OutOfMemory>
     ensures { IfOk result (λ _. out.new ≡ out.old ++ no_slots_text query place.now) }
 {
     push_query(out, query)?;
-    out.push_str("\tno slots in the instruction")?;
+    out.push_str("\tno slot is looked up in the instruction")?;
     push_of_line(out, place.line())
 }
 

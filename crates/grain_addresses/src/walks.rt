@@ -13,12 +13,13 @@ use grain_words::next_line;
 use std::alloc::Global;
 
 /// Where the next line stands: how many lines there are before it, its address, the block that is
-/// open, and how many functions ended before it.
+/// open, whether one is open, and how many functions ended before it.
 #[derive(Clone, Copy, Debug, PartialEq, Eq)]
 pub struct Walk {
     pub lines: usize,
     pub address: usize,
     pub block: Block,
+    pub in_block: bool,
     pub functions: usize,
 }
 
@@ -42,6 +43,7 @@ impl Walk {
             lines: 0,
             address: 0,
             block: Block::Main,
+            in_block: false,
             functions: 0,
         }
     }
@@ -63,16 +65,19 @@ impl Walk {
             LineKind::Main => Walk {
                 lines,
                 block: Block::Main,
+                in_block: true,
                 ..self
             },
             LineKind::Function => Walk {
                 lines,
                 block: Block::Function(self.functions),
+                in_block: true,
                 ..self
             },
             LineKind::End => Walk {
                 lines,
                 block: Block::Main,
+                in_block: false,
                 functions: functions_after(self.block, self.functions),
                 ..self
             },
@@ -115,7 +120,7 @@ pub fn walked(alloc: Global, text: &[char]) -> Result<Vec<Place<'_>>, OutOfMemor
     let mut rest = text;
     'lines: while !rest.is_empty() {
         let (line, after) = next_line(rest);
-        let kind = line_kind(line);
+        let kind = line_kind(walk.in_block, line);
         push_place(&mut found, walk, kind, line)?;
         walk = walk.stepped(kind);
         rest = after;

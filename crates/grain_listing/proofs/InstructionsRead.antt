@@ -1,5 +1,5 @@
 -- The lines of instructions are read as those instructions.
-use Rattle.std.proofs.Common.{◌≡◌, ℕ, suc, ◌+◌, ◌-◌, ◌^◌, ◌<◌, ◌≤◌, true, false, ◌&&◌, cond, List, [], ◌∷◌, ◌++◌, map, Option, Some, None, option_map, Result, Ok, Err, refl, sym, ap, ◌∙◌, arith, append_assoc, append-nil}
+use Rattle.std.proofs.Common.{◌≡◌, ℕ, suc, ◌+◌, ◌-◌, ◌^◌, ◌<◌, ◌≤◌, true, false, ◌&&◌, cond, is_some, List, [], ◌∷◌, ◌++◌, map, Option, Some, None, option_map, Result, Ok, Err, refl, sym, ap, ◌∙◌, arith, append_assoc, append-nil}
 use Rattle.std.specs.List.{flat_map, list_all, All, AllByRecursion}
 use Rattle.std.specs.Str.{encode_utf8_all}
 use Rattle.std.specs.Fmt.{decimal}
@@ -20,8 +20,8 @@ use Rattle.grain_literals.specs.declared.reasons.Reason.{Reason}
 use Rattle.grain_literals.specs.declared.reasons.Reason.TheVariants.{BadOperand, OutOfPlace}
 use Rattle.grain_listing.specs.Instructions.{word_of, kind_of, kinds_of, encoding_of, op_named}
 use Rattle.grain_listing.specs.InstructionLines.{numbers_of, instruction_line, instruction_text}
-use Rattle.grain_listing.specs.Table.{is_block, line_of, own_line, instruction_line_of, later_line, or_else}
-use Rattle.grain_listing.specs.Statements.{Piece, Byte, Goto, Statement, blank, code_line, section, pieces}
+use Rattle.grain_listing.specs.Table.{is_block, line_of, own_line, chain_line, instruction_line_of, later_line, or_else}
+use Rattle.grain_listing.specs.Statements.{Piece, Byte, Goto, Statement, blank, header, main_line, fn_line, end_line, code_line, section, open_block, pieces}
 use Rattle.grain_listing.specs.LineMeanings.{bytes, operand, operands, known, begun_by, in_section, says, at_line, statements}
 use Rattle.grain_listing.specs.declared.table.Line.{Line}
 use Rattle.grain_listing.specs.declared.table.Line.TheVariants as lines
@@ -29,6 +29,16 @@ use Rattle.grain_listing.specs.declared.table.OperandKind.{OperandKind}
 use Rattle.grain_listing.specs.declared.table.Section.TheVariants as sections
 use Rattle.grain_listing.specs.declared.reasons.BadLine.{BadLine}
 use Rattle.grain_listing.proofs.Spelled.{in_table}
+
+-- a block is open where the next line stands in one
+opened_in_block : (before : List Statement) → section before ≡ sections.Block →
+    is_some (open_block before) ≡ true
+opened_in_block [] e = absurd cc
+opened_in_block (header ∷ before) e = absurd cc
+opened_in_block (main_line n ∷ before) e = refl
+opened_in_block (fn_line h ∷ before) e = refl
+opened_in_block (end_line ∷ before) e = absurd cc
+opened_in_block (s ∷ before) e = opened_in_block before e
 
 -- no instruction's word begins another line
 other_line : (o : Op) → own_line (word_of o) ≡ None
@@ -42,7 +52,8 @@ plain_word _ = refl
 
 -- what is found has the same tag and operands
 abbrev IsFound : Op → Op → Type 0
-IsFound o i = (line_of (word_of o) ≡ Some (lines.Instruction i)) × (encoding_of i ≡ encoding_of o)
+IsFound o i =
+    (line_of true (word_of o) ≡ Some (lines.Instruction i)) × (encoding_of i ≡ encoding_of o)
 
 found : (r : Option Op) (x : ℕ × List OperandKind) → option_map encoding_of r ≡ Some x →
     (i : Op) × ((r ≡ Some i) × (encoding_of i ≡ x))
@@ -50,7 +61,7 @@ found None x e = absurd cc
 found (Some i) x e = (i, (refl, cc))
 
 its_line : (o : Op) → (i : Op) × IsFound o i
-unfolding line_of
+unfolding line_of chain_line
 its_line o =
     let it = found (op_named (word_of o)) (encoding_of o) (in_table o) in (
       it.0,
@@ -160,6 +171,7 @@ one_read laws n o before fits block =
     ap (λ s. in_section s n (instruction_line o) before) block ∙
     ap (λ a. begun_by a n before)
     (laws.first (word_of o) (numbers_of (fields_of o)) (plain_word o)) ∙
+    ap (λ b. known (line_of b (word_of o)) n (word_of o) cs before) (opened_in_block before block) ∙
     ap (λ l. known l n (word_of o) cs before) it.1.0 ∙
     ap (λ s. cond (is_block s) (with_encoding (encoding_of it.0)) (Err OutOfPlace)) block ∙
     ap with_encoding it.1.1 ∙

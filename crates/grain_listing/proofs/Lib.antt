@@ -5,6 +5,8 @@ pub mod Texts
 pub mod Spelled
 pub mod Assembled
 pub mod FoundLabels
+pub mod Opens
+pub mod LastChain
 pub mod Simulates
 pub mod Linked
 pub mod LinesRead

@@ -17,9 +17,10 @@ use Rattle.grain_listing.specs.Settings.{capability_bits, capabilities}
 use Rattle.grain_listing.specs.Flags.{flag_of}
 use Rattle.grain_listing.specs.HostLines.{fail_of, stop_of}
 use Rattle.grain_listing.specs.Headers.{stack_of, assign_of, header_of, is_crowded}
+use Rattle.grain_listing.specs.ChainWords.{chain_of, step_of}
 use Rattle.grain_listing.specs.Instructions.{kinds_of}
 use Rattle.grain_listing.specs.Table.{line_of, stands, is_block}
-use Rattle.grain_listing.specs.Statements.{Piece, Byte, Goto, Statement, blank, header, caps_line, source_line, limit_line, flag_line, fail_line, stop_line, const_line, name_line, op_line, assign_line, scope_line, main_line, fn_line, end_line, code_line, label_line, section, caps, source, limits, consts, names, tokens, assigns, functions, labels, label_address, pieces, width, address}
+use Rattle.grain_listing.specs.Statements.{Piece, Byte, Goto, Statement, blank, header, caps_line, source_line, limit_line, flag_line, fail_line, stop_line, const_line, name_line, op_line, assign_line, chain_line, step_line, scope_line, main_line, fn_line, end_line, code_line, label_line, section, caps, source, limits, consts, names, tokens, assigns, chains, last_steps, is_chain_open, functions, labels, label_address, pieces, width, address, open_block}
 use Rattle.grain_listing.specs.LineMeanings.{bytes, operand, code_operand, operands, limit_set, statement, before_colon, labelled, known, header_end, header_number, begun_by, in_section, says}
 use Rattle.grain_listing.specs.declared.table.Line.{Line}
 use Rattle.grain_listing.specs.declared.table.Line.TheVariants as lines
@@ -177,6 +178,16 @@ line_narrow lines.Assign n cs before =
     either_narrow (nat_lt (length (assigns before)) 65536)
     (and_then (assign_of n cs) (λ a. Ok (assign_line a))) (Err TooMany)
     (step_narrow (assign_of n cs) (λ a. assign_line a) (λ x e. tt)) tt
+line_narrow lines.Chain n cs before =
+    either_narrow (nat_lt (length (chains before)) 65536)
+    (and_then (chain_of cs) (λ c. Ok (chain_line c))) (Err TooMany)
+    (step_narrow (chain_of cs) (λ c. chain_line c) (λ x e. tt)) tt
+line_narrow lines.Step n cs before =
+    let read : Result Statement Reason = and_then (step_of cs) (λ s. Ok (step_line s)) in
+    let room : Bool = nat_lt (length (last_steps (chains before))) 65536 in
+    either_narrow (is_chain_open before) (cond room read (Err TooMany)) (Err OutOfPlace)
+    (either_narrow room read (Err TooMany)
+    (step_narrow (step_of cs) (λ s. step_line s) (λ x e. tt)) tt) tt
 line_narrow lines.Entry n cs before = step_narrow (entry_of cs) (λ x. scope_line x) (λ x e. tt)
 line_narrow lines.Flag n cs before = step_narrow (flag_of cs) (λ x. flag_line x) (λ x e. tt)
 line_narrow lines.Fail n cs before = step_narrow (fail_of cs) (λ x. fail_line x) (λ x e. tt)
@@ -219,7 +230,7 @@ begun_narrow : (o : Option (List ℕ × List ℕ)) (n : ℕ) (before : List Stat
     AreNarrow (begun_by o n before)
 begun_narrow None n before = tt
 begun_narrow (Some a) n before =
-    known_narrow (line_of a.0) n a.0 a.1 before
+    known_narrow (line_of (is_some (open_block before)) a.0) n a.0 a.1 before
 
 end_narrow : (o : Option (List ℕ)) → AreNarrow (header_end o)
 end_narrow None = tt

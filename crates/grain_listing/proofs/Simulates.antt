@@ -17,14 +17,15 @@ use Rattle.grain_host.specs.Tables.{failing_at, stopping_at}
 use Rattle.grain_listing.specs.Flags.{flag_of}
 use Rattle.grain_listing.specs.HostLines.{fail_of, stop_of}
 use Rattle.grain_listing.specs.Headers.{stack_of, assign_of, header_of, is_crowded}
+use Rattle.grain_listing.specs.ChainWords.{chain_of, step_of}
 use Rattle.grain_program.specs.declared.code.instruction_set.Op.{Op}
 use Rattle.grain_program.specs.InstructionSet.{tag_of, fields_of}
 use Rattle.grain_listing.specs.Instructions.{kinds_of}
 use Rattle.grain_listing.specs.Table.{line_of, stands, is_block}
-use Rattle.grain_listing.specs.Statements.{Piece, Byte, Goto, Statement, blank, header, caps_line, source_line, limit_line, flag_line, fail_line, stop_line, const_line, name_line, op_line, assign_line, scope_line, main_line, fn_line, end_line, code_line, label_line, section, caps, source, limits, flags, host, consts, names, tokens, assigns, functions, labels, label_address, address, open_block}
+use Rattle.grain_listing.specs.Statements.{Piece, Byte, Goto, Statement, blank, header, caps_line, source_line, limit_line, flag_line, fail_line, stop_line, const_line, name_line, op_line, assign_line, chain_line, step_line, scope_line, main_line, fn_line, end_line, code_line, label_line, section, caps, source, limits, flags, host, consts, names, tokens, assigns, chains, with_step, last_steps, is_chain_open, functions, labels, label_address, address, open_block}
 use Rattle.grain_listing.specs.LineMeanings.{bytes, operand, code_operand, operands, in_list, limit_set, statement, before_colon, label_said, labelled, known, header_end, header_number, header_said, begun_by, in_section, says}
 use Rattle.grain_listing.specs.views.Assembling
-use Rattle.grain_listing.specs.views.Assembling.{AssemblerView, with_code, with_fixup, with_position, put_operand_word, put_operand, put_operands, closed, opened, put_line, put_label, known_line, with_header, is_start, after_header, take_line}
+use Rattle.grain_listing.specs.views.Assembling.{AssemblerView, with_code, with_fixup, with_position, put_operand_word, put_operand, put_operands, closed, opened, put_line, put_label, known_line, opens_chain, put_known, with_header, is_start, after_header, take_line}
 use Rattle.grain_listing.specs.declared.blocks.OpenBlock.TheVariants as blocks
 use Rattle.grain_listing.specs.declared.headers.FunctionHeader.{FunctionHeader}
 use Rattle.grain_listing.specs.declared.table.Line.{Line}
@@ -35,6 +36,7 @@ use Rattle.grain_listing.specs.declared.table.Section.{Section}
 use Rattle.grain_listing.specs.declared.table.Section.TheVariants as sections
 use Rattle.grain_listing.proofs.Assembled.{assembled, with_pieces, bytes_put, put_twice, sized, blank_code, label_map}
 use Rattle.grain_listing.proofs.FoundLabels.{found}
+use Rattle.grain_listing.proofs.Opens.{Opens, known_opens}
 
 abbrev pub given : AssemblerView → Result AssemblerView Reason
 given v = Ok v
@@ -52,36 +54,43 @@ Outcome = Result AssemblerView Reason
 abbrev pub next : ℕ → List Statement → Statement → Outcome
 next n said s = Ok (assembled n (s ∷ said))
 
+-- the same, but that what may follow is as it was
+abbrev as_before : ℕ → List Statement → Statement → AssemblerView
+as_before n said s = record (assembled n (s ∷ said)) { in_chain = is_chain_open said }
+
+abbrev pub kept : ℕ → List Statement → Statement → Outcome
+kept n said s = Ok (as_before n said s)
+
 step : {A : Type 0} (n : ℕ) (said : List Statement) (r : Result A Reason) (put : A →
-    AssemblerView) (say : A → Statement) → ((x : A) → put x ≡ assembled n (say x ∷ said)) →
-    and_then r (λ x. given (put x)) ≡ and_then (and_then r (λ x. Ok (say x))) (next n said)
+    AssemblerView) (say : A → Statement) → ((x : A) → put x ≡ as_before n said (say x)) →
+    and_then r (λ x. given (put x)) ≡ and_then (and_then r (λ x. Ok (say x))) (kept n said)
 step n said (Ok x) put say same = ap given (same x)
 step n said (Err e) put say same = refl
 
 -- under a test, and under one that refuses
 if_so : (n : ℕ) (said : List Statement) (b : Bool) (e : Reason) (x : Outcome)
-    (y : Result Statement Reason) → x ≡ and_then y (next n said) →
-    cond b x (Err e) ≡ and_then (cond b y (Err e)) (next n said)
+    (y : Result Statement Reason) → x ≡ and_then y (kept n said) →
+    cond b x (Err e) ≡ and_then (cond b y (Err e)) (kept n said)
 if_so n said true e x y h = h
 if_so n said false e x y h = refl
 
 if_not : (n : ℕ) (said : List Statement) (b : Bool) (e : Reason) (x : Outcome)
-    (y : Result Statement Reason) → x ≡ and_then y (next n said) →
-    cond b (Err e) x ≡ and_then (cond b (Err e) y) (next n said)
+    (y : Result Statement Reason) → x ≡ and_then y (kept n said) →
+    cond b (Err e) x ≡ and_then (cond b (Err e) y) (kept n said)
 if_not n said true e x y h = refl
 if_not n said false e x y h = h
 
 -- at the address of what comes next
 at_next : (n : ℕ) (said : List Statement) (f : ℕ → Outcome) (y : Result Statement Reason) →
-    f (address said) ≡ and_then y (next n said) →
-    f (length (blank_code said)) ≡ and_then y (next n said)
+    f (address said) ≡ and_then y (kept n said) →
+    f (length (blank_code said)) ≡ and_then y (kept n said)
 at_next n said f y h = ap f (sized said) ∙ h
 
 alone_said : (n : ℕ) (said : List Statement) (cs : List ℕ) (v : AssemblerView) (s : Statement) →
-    v ≡ assembled n (s ∷ said) → alone cs v ≡ and_then (alone cs s) (next n said)
+    v ≡ as_before n said s → alone cs v ≡ and_then (alone cs s) (kept n said)
 alone_said n said cs v s e = at (is_over cs) where
   at : (b : Bool) → cond b (given v) (Err BadOperand) ≡
-      and_then (cond b (Ok s) (Err BadOperand)) (next n said)
+      and_then (cond b (Ok s) (Err BadOperand)) (kept n said)
   at true = ap given e
   at false = refl
 
@@ -173,13 +182,13 @@ operands_put a (k ∷ ks) cs v =
 -- code with a position or without one
 placed : (n : ℕ) (said : List Statement) (p : Piece) (ps : List Piece) (o : Option Position) →
     with_position (address said) o (with_pieces (p ∷ ps) (assembled n said)) ≡
-    assembled n (code_line p ps o ∷ said)
+    as_before n said (code_line p ps o)
 placed n said p ps None = refl
 placed n said p ps (Some x) = refl
 
 instruction_said : (n : ℕ) (said : List Statement) (i : Op) (cs : List ℕ) →
     put_line (lines.Instruction i) cs (assembled n said) ≡
-    and_then (statement (lines.Instruction i) n cs said) (next n said)
+    and_then (statement (lines.Instruction i) n cs said) (kept n said)
 instruction_said n said i cs =
     at_next n said (λ a. put_operands a (kinds_of (fields_of i)) cs
     (with_code (tag_of i ∷ []) (assembled n said)))
@@ -194,13 +203,13 @@ instruction_said n said i cs =
     at (operands n (kinds_of (fields_of i)) cs)) where
       at : (r : Result (List Piece × Option Position) Reason) →
           and_then (pieces_first (Byte (tag_of i) ∷ []) r) (put (address said) (assembled n said)) ≡
-          and_then (and_then r (λ o. Ok (code_line (Byte (tag_of i)) o.0 o.1))) (next n said)
+          and_then (and_then r (λ o. Ok (code_line (Byte (tag_of i)) o.0 o.1))) (kept n said)
       at (Ok x) = ap given (placed n said (Byte (tag_of i)) x.0 x.1)
       at (Err m) = refl
 
 byte_said : (n : ℕ) (said : List Statement) (cs : List ℕ) →
     put_line lines.Byte cs (assembled n said) ≡
-    and_then (statement lines.Byte n cs said) (next n said)
+    and_then (statement lines.Byte n cs said) (kept n said)
 byte_said n said cs =
     at_next n said (λ a. and_then (byte_of cs)
     (λ b. Ok (with_position a b.1 (with_code (b.0 ∷ []) (assembled n said)))))
@@ -229,7 +238,7 @@ abbrev label_added : ℕ → List Statement → List ℕ → ℕ → AssemblerVi
 label_added n said t a = record (assembled n said) { labels = with_label t a (label_map said) }
 
 line_said : (l : Line) (n : ℕ) (cs : List ℕ) (said : List Statement) →
-    put_line l cs (assembled n said) ≡ and_then (statement l n cs said) (next n said)
+    put_line l cs (assembled n said) ≡ and_then (statement l n cs said) (kept n said)
 line_said lines.Header n cs said = refl
 line_said lines.Capabilities n cs said =
     if_not n said (is_some (caps said)) OutOfPlace
@@ -280,6 +289,27 @@ line_said lines.Assign n cs said =
       assigns =
           assigns said ++ a ∷ [];
     }) (λ a. assign_line a) (λ a. refl))
+line_said lines.Chain n cs said =
+    if_so n said (nat_lt (length (chains said)) 65536) TooMany
+    (and_then (chain_of cs) (λ c.
+    Ok (record (assembled n said) { chains = chains said ++ c ∷ [] })))
+    (and_then (chain_of cs) (λ c. Ok (chain_line c)))
+    (step n said (chain_of cs) (λ c. record (assembled n said) {
+      chains =
+          chains said ++ c ∷ [];
+    }) (λ c. chain_line c) (λ c. refl))
+line_said lines.Step n cs said =
+    let room : Bool = nat_lt (length (last_steps (chains said))) 65536 in
+    let put : Outcome = and_then (step_of cs) (λ s.
+    Ok (record (assembled n said) { chains = with_step s (chains said) })) in
+    let read : Result Statement Reason = and_then (step_of cs) (λ s. Ok (step_line s)) in
+    if_so n said (is_chain_open said) OutOfPlace (cond room put (Err TooMany))
+    (cond room read (Err TooMany))
+    (if_so n said room TooMany put read
+    (step n said (step_of cs) (λ s. record (assembled n said) {
+      chains =
+          with_step s (chains said);
+    }) (λ s. step_line s) (λ s. refl)))
 line_said lines.Entry n cs said =
     step n said (entry_of cs) (λ e. record (assembled n said) {
       scope =
@@ -322,7 +352,7 @@ line_said (lines.Instruction i) n cs said = instruction_said n said i cs
 line_said lines.Later n cs said = refl
 
 label_put : (n : ℕ) (said : List Statement) (t : List ℕ) (cs : List ℕ) →
-    put_label t cs (assembled n said) ≡ and_then (label_said t cs said) (next n said)
+    put_label t cs (assembled n said) ≡ and_then (label_said t cs said) (kept n said)
 label_put n said t cs =
     let within : Result Statement Reason = alone cs (label_line t) in
     let inside : Outcome = alone cs (label_added n said t (length (blank_code said))) in
@@ -335,7 +365,7 @@ label_put n said t cs =
     (alone_said n said cs (label_added n said t (address said)) (label_line t) refl)))
 
 label_line_put : (n : ℕ) (said : List Statement) (t : Option (List ℕ)) (cs : List ℕ) →
-    Assembling.label_line t cs (assembled n said) ≡ and_then (labelled t cs said) (next n said)
+    Assembling.label_line t cs (assembled n said) ≡ and_then (labelled t cs said) (kept n said)
 label_line_put n said None cs = refl
 label_line_put n said (Some t) cs =
     if_so n said (begins_letter t) UnknownWord
@@ -343,7 +373,7 @@ label_line_put n said (Some t) cs =
     (label_said (encode_utf8_all t) cs said) (label_put n said (encode_utf8_all t) cs)
 
 known_put : (n : ℕ) (said : List Statement) (l : Option Line) (w : List ℕ) (cs : List ℕ) →
-    known_line l w cs (assembled n said) ≡ and_then (known l n w cs said) (next n said)
+    known_line l w cs (assembled n said) ≡ and_then (known l n w cs said) (kept n said)
 known_put n said None w cs = label_line_put n said (before_colon w) cs
 known_put n said (Some l) w cs =
     if_so n said (stands l (section said)) OutOfPlace (put_line l cs (assembled n said))
@@ -370,10 +400,27 @@ header_put : (n : ℕ) (said : List Statement) (cs : List ℕ) →
     with_header (header_said cs) (assembled n said) ≡ and_then (header_said cs) (next n said)
 header_put n said cs = number_line_put n said (after_name (codes "grain") cs)
 
+-- what a line says tells whether steps may follow
+opened_put : (n : ℕ) (said : List Statement) (b : Bool) (r : Result Statement Reason) →
+    Opens said b r →
+    and_then (and_then r (kept n said)) (λ u. given (record u { in_chain = b })) ≡
+    and_then r (next n said)
+opened_put n said b (Ok s) h =
+    ap (λ (q : Bool). given (record (assembled n (s ∷ said)) { in_chain = q })) (sym h)
+opened_put n said b (Err e) h = refl
+
+put_known_said : (n : ℕ) (said : List Statement) (l : Option Line) (w : List ℕ) (cs : List ℕ) →
+    put_known l w cs (assembled n said) ≡ and_then (known l n w cs said) (next n said)
+put_known_said n said l w cs =
+    ap (λ (r : Outcome). and_then r (λ u. given (record u { in_chain = opens_chain l })))
+    (known_put n said l w cs) ∙
+    opened_put n said (opens_chain l) (known l n w cs said) (known_opens l n w cs said)
+
 begun_put : (n : ℕ) (said : List Statement) (o : Option (List ℕ × List ℕ)) →
     after_header o (assembled n said) ≡ and_then (begun_by o n said) (next n said)
 begun_put n said None = refl
-begun_put n said (Some a) = known_put n said (line_of a.0) a.0 a.1
+begun_put n said (Some a) =
+    put_known_said n said (line_of (is_some (open_block said)) a.0) a.0 a.1
 
 section_put : (n : ℕ) (said : List Statement) (s : Section) (cs : List ℕ) →
     cond (is_start s) (with_header (header_said cs) (assembled n said))

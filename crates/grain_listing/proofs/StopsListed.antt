@@ -23,7 +23,7 @@ Constants = (cs : List ℕ) (v : Dynamic) → AllByRecursion IsScalar cs → con
 abbrev Stop : Type 0
 Stop = Result (ℕ × Dynamic) Reason
 
--- a number, and then the value behind it
+-- a number, and then the value after it
 abbrev valued : Result (ℕ × List ℕ) Reason → Stop
 valued r = and_then r (λ a. and_then (constant_of a.1) (λ v. Ok (a.0, v)))
 

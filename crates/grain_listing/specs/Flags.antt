@@ -17,7 +17,7 @@ abbrev pub flag_table : List (List ℕ × Flag)
 flag_table =
     (codes "shadowing", flag true false) ∷
     (codes "operators", flag true true) ∷
-    (codes "strict", flag false false) ∷ []
+    (codes "strict", flag false true) ∷ []
 
 -- a line turns a flag off that is on without it, and on otherwise
 abbrev pub turned : Flag → List ℕ

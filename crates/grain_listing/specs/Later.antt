@@ -8,7 +8,7 @@ is_among (t ∷ ts) w = bytes_eq w t || is_among ts w
 -- lines and blocks
 abbrev pub later_lines : List (List ℕ)
 later_lines =
-    codes "chain" ∷ codes "step" ∷ codes "switch" ∷ codes "case" ∷
+    codes "switch" ∷ codes "case" ∷
     codes "range" ∷ codes "range=" ∷ codes "site" ∷ codes "input" ∷
     codes "fragment" ∷ codes "module" ∷ codes "item" ∷ codes "var" ∷ codes "answer" ∷
     codes "forbid" ∷ codes "chunk" ∷ []
@@ -26,7 +26,8 @@ later_variables =
 -- instructions that call and make what is called
 abbrev pub later_calls : List (List ℕ)
 later_calls =
-    codes "call_local_ref" ∷ codes "call_named_ref" ∷ codes "call_this_ref" ∷ codes "make_fn_ptr" ∷ codes "call_fn_ptr_capture" ∷ codes "call_fn_ptr_method" ∷
+    codes "call_local_ref" ∷ codes "call_named_ref" ∷ codes "call_this_ref" ∷
+    codes "make_fn_ptr" ∷ codes "call_fn_ptr_capture" ∷ codes "call_fn_ptr_method" ∷
     codes "call_fn_ptr_on_local" ∷ codes "call_fn_ptr_on_named" ∷
     codes "call_fn_ptr_on_this" ∷ []
 

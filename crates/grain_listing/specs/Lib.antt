@@ -8,6 +8,7 @@ pub mod Settings
 pub mod Flags
 pub mod HostLines
 pub mod Headers
+pub mod ChainWords
 pub mod InstructionLines
 pub mod Statements
 pub mod LineMeanings

@@ -15,10 +15,11 @@ use Rattle.grain_listing.specs.Settings.{entry_named, limit_named, limit_number,
 use Rattle.grain_listing.specs.Flags.{flag_of}
 use Rattle.grain_listing.specs.HostLines.{fail_of, stop_of}
 use Rattle.grain_listing.specs.Headers.{stack_of, assign_of, header_of, is_crowded}
+use Rattle.grain_listing.specs.ChainWords.{chain_of, step_of}
 use Rattle.grain_program.specs.InstructionSet.{tag_of, fields_of}
 use Rattle.grain_listing.specs.Instructions.{kinds_of}
 use Rattle.grain_listing.specs.Table.{line_of, stands, is_block}
-use Rattle.grain_listing.specs.Statements.{Piece, Byte, Goto, Statement, blank, header, caps_line, source_line, limit_line, flag_line, fail_line, stop_line, const_line, name_line, op_line, assign_line, scope_line, main_line, fn_line, end_line, code_line, label_line, section, caps, source, limits, consts, names, tokens, assigns, functions, labels, label_address, bad_line}
+use Rattle.grain_listing.specs.Statements.{Piece, Byte, Goto, Statement, blank, header, caps_line, source_line, limit_line, flag_line, fail_line, stop_line, const_line, name_line, op_line, assign_line, chain_line, step_line, scope_line, main_line, fn_line, end_line, code_line, label_line, section, caps, source, limits, consts, names, tokens, assigns, chains, last_steps, is_chain_open, functions, labels, label_address, open_block, bad_line}
 use Rattle.grain_listing.specs.declared.table.Line.{Line}
 use Rattle.grain_listing.specs.declared.table.Line.TheVariants as lines
 use Rattle.grain_listing.specs.declared.table.OperandKind.{OperandKind}
@@ -53,7 +54,7 @@ operands line (k ∷ ks) cs =
     and_then (code_operand line k cs)
     (λ a. and_then (operands line ks a.1) (λ o. Ok (a.0 ++ o.0, o.1)))
 
--- a pool has at most 65,536 entries
+-- a pool has at most 65,536 entries, and so has a list of an entry
 abbrev pub in_pool : {A B : Type 0} → List A → Result B Reason → Result B Reason
 in_pool entries more = if nat_lt (length entries) 65536 then more else Err TooMany
 
@@ -90,6 +91,12 @@ statement lines.Operator n cs before =
     in_pool (tokens before) (and_then (token_of cs) (λ t. Ok (op_line t)))
 statement lines.Assign n cs before =
     in_pool (assigns before) (and_then (assign_of n cs) (λ a. Ok (assign_line a)))
+statement lines.Chain n cs before =
+    in_pool (chains before) (and_then (chain_of cs) (λ c. Ok (chain_line c)))
+statement lines.Step n cs before =
+    if is_chain_open before then
+    in_pool (last_steps (chains before)) (and_then (step_of cs) (λ s. Ok (step_line s)))
+    else Err OutOfPlace
 statement lines.Entry n cs before = and_then (entry_of cs) (λ e. Ok (scope_line e))
 statement lines.Flag n cs before = and_then (flag_of cs) (λ name. Ok (flag_line name))
 statement lines.Fail n cs before = and_then (fail_of cs) (λ k. Ok (fail_line k))
@@ -146,7 +153,7 @@ header_said cs = header_number (after_name (codes "grain") cs)
 -- after the header, by the line's first word, which has no quotes
 abbrev pub begun_by : Option (List ℕ × List ℕ) → ℕ → List Statement → Result Statement Reason
 begun_by None n before = Err UnknownWord
-begun_by (Some a) n before = known (line_of a.0) n a.0 a.1 before
+begun_by (Some a) n before = known (line_of (is_some (open_block before)) a.0) n a.0 a.1 before
 
 -- the first line that is not empty is the header
 abbrev pub in_section : Section → ℕ → List ℕ → List Statement → Result Statement Reason

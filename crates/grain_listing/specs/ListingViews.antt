@@ -11,6 +11,7 @@ set_up_of s = record {
   parts = view_of s.parts;
   limits = s.limits;
   fast_operators = s.fast_operators;
+  strict_properties = s.strict_properties;
   host = s.host;
   scope = s.scope;
 }

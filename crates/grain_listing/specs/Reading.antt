@@ -1,6 +1,6 @@
 -- What a listing says. It is lines; each says something after those before it; and what they say
--- makes the parts of a program, the limits of its run, a flag and a host for it, and the scope in
--- which it begins.
+-- makes the parts of a program, the limits of its run, two flags and a host for it, and the scope
+-- in which it begins.
 use Rattle.std.specs.Prelude.{ℕ, ◌+◌, Bool, List, [], ◌∷◌, length, take, count_by, Option, Some, None, Result, Ok, Err, ◌==◌, nat_lt, if◌then◌else◌, slice_get, chars, codes}
 use Rattle.std.specs.Str.{is_utf8}
 use Rattle.std.specs.Str.Lossy.{utf8_valid_len}
@@ -25,11 +25,12 @@ use Rattle.grain_listing.specs.declared.table.Section.TheVariants as sections
 use Rattle.grain_listing.specs.declared.reasons.BadLine.{BadLine}
 
 -- what a listing says: what may become a program, the limits of its run, whether operators are fast
--- in it, the host with which it begins, and the scope in which it begins
+-- and properties strict in it, the host with which it begins, and the scope in which it begins
 pub record ListingView : Type 0 where
   pub parts : View
   pub limits : Limits
   pub fast_operators : Bool
+  pub strict_properties : Bool
   pub host : TableHost
   pub scope : List Entry
 
@@ -89,12 +90,13 @@ set_up said assign_ops code =
         names = Statements.names said;
         tokens = Statements.tokens said;
         assign_ops = assign_ops;
-        chains = [];
+        chains = Statements.chains said;
         positions = positions said;
         source = Statements.source said;
       };
       limits = limits_of (limits said);
       fast_operators = is_on (codes "operators") (flags said);
+      strict_properties = is_on (codes "strict") (flags said);
       host = host said;
       scope = Statements.scope said;
     }

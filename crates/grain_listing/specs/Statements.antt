@@ -1,6 +1,6 @@
 -- What lines say, and what the lines up to some line say together. The lines up to there are a
 -- list with the last line first, so that what stands before a line is the rest of the list.
-use Rattle.std.specs.Prelude.{ℕ, ◌+◌, List, [], ◌∷◌, ◌++◌, Option, Some, None, Result, Ok, bytes_eq, if◌then◌else◌}
+use Rattle.std.specs.Prelude.{ℕ, ◌+◌, Bool, true, false, List, [], ◌∷◌, ◌++◌, Option, Some, None, Result, Ok, bytes_eq, if◌then◌else◌}
 use Rattle.std.specs.Int.{w32, to_le_bytes}
 use Rattle.grain_value.specs.Tree.{Tree}
 use Rattle.grain_value.specs.View.{tree}
@@ -11,6 +11,8 @@ use Rattle.grain_fault.specs.declared.places.Position.{Position}
 use Rattle.grain_host.specs.Tables as host_tables
 use Rattle.grain_host.specs.Tables.{failing_at, stopping_at}
 use Rattle.grain_host.specs.declared.tables.TableHost.{TableHost}
+use Rattle.grain_program.specs.declared.code.chains.Step.{Step}
+use Rattle.grain_program.specs.declared.code.chains.Chain.{Chain}
 use Rattle.grain_program.specs.declared.code.parts.Chunk.{Chunk}
 use Rattle.grain_program.specs.declared.code.parts.PositionEntry.{PositionEntry}
 use Rattle.grain_program.specs.declared.code.functions.Function.{Function}
@@ -45,11 +47,15 @@ pub data Statement : Type 0 where
   flag_line : List ℕ → Statement
   fail_line : ℕ → Statement
   stop_line : ℕ × Dynamic → Statement
-  -- an entry of a pool, and one of the starting scope
+  -- an entry of a pool
   const_line : Dynamic → Statement
   name_line : List ℕ → Statement
   op_line : Token → Statement
   assign_line : AssignLine → Statement
+  -- a chain without steps, and a step of the chain before it
+  chain_line : Chain → Statement
+  step_line : Step → Statement
+  -- an entry of the starting scope
   scope_line : Entry → Statement
   -- the beginning of a block, of which `main` may have this many operands, and the end of one
   main_line : ℕ → Statement
@@ -103,6 +109,32 @@ abbrev pub assigns : List Statement → List AssignLine
 assigns [] = []
 assigns (assign_line a ∷ before) = assigns before ++ a ∷ []
 assigns (s ∷ before) = assigns before
+
+-- the step at the end of the last chain
+abbrev pub with_step : Step → List Chain → List Chain
+with_step s [] = []
+with_step s (c ∷ []) = record c { steps = c.steps ++ s ∷ [] } ∷ []
+with_step s (c ∷ d ∷ cs) = c ∷ with_step s (d ∷ cs)
+
+abbrev pub chains : List Statement → List Chain
+chains [] = []
+chains (chain_line c ∷ before) = chains before ++ c ∷ []
+chains (step_line s ∷ before) = with_step s (chains before)
+chains (s ∷ before) = chains before
+
+-- the steps of the last chain
+abbrev pub last_steps : List Chain → List Step
+last_steps [] = []
+last_steps (c ∷ []) = c.steps
+last_steps (c ∷ d ∷ cs) = last_steps (d ∷ cs)
+
+-- steps may follow: after a chain and its steps, with empty lines between them
+abbrev pub is_chain_open : List Statement → Bool
+is_chain_open [] = false
+is_chain_open (blank ∷ before) = is_chain_open before
+is_chain_open (chain_line c ∷ before) = true
+is_chain_open (step_line s ∷ before) = true
+is_chain_open (s ∷ before) = false
 
 abbrev pub scope : List Statement → List Entry
 scope [] = []

@@ -19,6 +19,7 @@ own_line w =
     else (if bytes_eq w (codes "name") then Some lines.Name
     else (if bytes_eq w (codes "op") then Some lines.Operator
     else (if bytes_eq w (codes "assign") then Some lines.Assign
+    else (if bytes_eq w (codes "step") then Some lines.Step
     else (if bytes_eq w (codes "scope") then Some lines.Entry
     else (if bytes_eq w (codes "flag") then Some lines.Flag
     else (if bytes_eq w (codes "fail") then Some lines.Fail
@@ -27,7 +28,7 @@ own_line w =
     else (if bytes_eq w (codes "fn") then Some lines.Function
     else (if bytes_eq w (codes "byte") then Some lines.Byte
     else (if bytes_eq w (codes "end") then Some lines.End
-    else None)))))))))))))))
+    else None))))))))))))))))
 
 -- an instruction's line
 abbrev pub instruction_line_of : Option Op → Option Line
@@ -42,9 +43,16 @@ abbrev pub or_else : Option Line → Option Line → Option Line
 or_else None o = o
 or_else (Some l) o = Some l
 
--- the line that begins with the word
-unfoldable pub line_of : List ℕ → Option Line
-line_of w = or_else (own_line w) (or_else (instruction_line_of (op_named w)) (later_line w))
+-- `chain` begins an entry of a pool, and in a block it is an instruction
+unfoldable pub chain_line : Bool → List ℕ → Option Line
+chain_line in_block w =
+    if in_block then None else (if bytes_eq w (codes "chain") then Some lines.Chain else None)
+
+-- the line that begins with the word, in a block or outside of one
+unfoldable pub line_of : Bool → List ℕ → Option Line
+line_of in_block w =
+    or_else (own_line w) (or_else (chain_line in_block w)
+    (or_else (instruction_line_of (op_named w)) (later_line w)))
 
 abbrev pub is_pools : Section → Bool
 is_pools sections.Start = false
@@ -76,6 +84,8 @@ stands lines.Constant s = is_pools s
 stands lines.Name s = is_pools s
 stands lines.Operator s = is_pools s
 stands lines.Assign s = is_pools s
+stands lines.Chain s = is_pools s
+stands lines.Step s = is_pools s
 stands lines.Entry s = is_pools s
 stands lines.Flag s = is_pools s
 stands lines.Fail s = is_pools s

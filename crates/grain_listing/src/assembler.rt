@@ -9,7 +9,7 @@ use crate::limits::LimitLine;
 use crate::table::Section;
 use grain_fault::Position;
 use grain_host::TableHost;
-use grain_program::{Chunk, Functions, Names, PositionEntry, Positions, Tokens};
+use grain_program::{Chains, Chunk, Functions, Names, PositionEntry, Positions, Tokens};
 use grain_value::{Array, OutOfMemory, Scope, Text};
 use grain_words::Labels;
 use std::alloc::Global;
@@ -38,6 +38,9 @@ pub struct Assembler {
     pub names: Names,
     pub tokens: Tokens,
     pub assigns: Vec<AssignLine>,
+    pub chains: Chains,
+    /// Whether steps of the last chain may follow.
+    pub in_chain: bool,
     pub block: Option<OpenBlock>,
     pub main: Chunk,
     pub functions: Functions,
@@ -69,6 +72,8 @@ impl Assembler {
             names: Names::new(alloc),
             tokens: Tokens::new(alloc),
             assigns: Vec::new(alloc),
+            chains: Chains::new(alloc),
+            in_chain: false,
             block: None,
             main: Chunk {
                 entry: 0,

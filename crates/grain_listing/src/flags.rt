@@ -36,7 +36,7 @@ const FLAGS: [(&str, Flag); 3] = [
         "strict",
         Flag {
             default: false,
-            is_built: false,
+            is_built: true,
         },
     ),
 ];

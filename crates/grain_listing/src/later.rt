@@ -6,9 +6,9 @@ ghost use Rattle.grain_listing.specs.Later.{is_among, is_later_line, is_later_va
 use grain_words::is_word;
 
 /// Lines and blocks.
-const LINES: [&str; 15] = [
-    "chain", "step", "switch", "case", "range", "range=", "site", "input", "fragment", "module",
-    "item", "var", "answer", "forbid", "chunk",
+const LINES: [&str; 13] = [
+    "switch", "case", "range", "range=", "site", "input", "fragment", "module", "item", "var",
+    "answer", "forbid", "chunk",
 ];
 
 /// Instructions that read and write variables.

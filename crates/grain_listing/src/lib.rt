@@ -4,6 +4,8 @@
 mod assembler;
 mod block_lines;
 mod blocks;
+mod chain_lines;
+mod chain_words;
 mod code_lines;
 mod flags;
 mod headers;

@@ -2,10 +2,9 @@
 
 ghost use Rattle.std.specs.Prelude.{◌≡◌, IfOk, option_map};
 ghost use Rattle.grain_words.specs.Words.{next_word};
-ghost use Rattle.grain_listing.specs.Table.{line_of};
 ghost use Rattle.grain_listing.specs.LineMeanings.{before_colon, header_said};
 ghost use Rattle.grain_listing.specs.views.AssemblerView.{assembler_view, result_view};
-ghost use Rattle.grain_listing.specs.views.Assembling.{HasRoom, put_line, label_line, known_line, with_header, after_header, take_line, is_start};
+ghost use Rattle.grain_listing.specs.views.Assembling.{HasRoom, put_line, label_line, known_line, opens_chain, put_known, with_header, after_header, take_line, is_start};
 
 use crate::assembler::Assembler;
 use crate::table::{Line, Section, line_of, stands};
@@ -34,6 +33,16 @@ fn is_start(section: Section) -> bool
     }
 }
 
+/// Whether steps may follow the line.
+fn opens_chain(line: Option<Line>) -> bool
+    ensures { result ≡ opens_chain line }
+{
+    match line {
+        Some(Line::Chain) | Some(Line::Step) => true,
+        _ => false,
+    }
+}
+
 impl Assembler {
     /// A line that begins with a word of the table. Nothing is known of the assembler where it is
     /// refused.
@@ -56,6 +65,8 @@ impl Assembler {
             Line::Name => self.put_name(alloc, rest),
             Line::Operator => self.put_operator(alloc, rest),
             Line::Assign => self.put_assign(rest),
+            Line::Chain => self.put_chain(alloc, rest),
+            Line::Step => self.put_step(rest),
             Line::Entry => self.put_entry(alloc, rest),
             Line::Flag => self.put_flag(rest),
             Line::Fail => self.put_fail(rest),
@@ -103,6 +114,7 @@ impl Assembler {
         };
         if is_over(rest) {
             self.section = Section::Pools;
+            self.in_chain = false;
             Ok(())
         } else {
             Err(Reason::MissingHeader)
@@ -112,14 +124,15 @@ impl Assembler {
     fn known_line(
         &mut self,
         alloc: Global,
+        line: Option<Line>,
         word: &[char],
         rest: &[char],
     ) -> Result<Result<(), Reason>, OutOfMemory>
         requires { HasRoom (assembler_view self.old) }
         ensures { IfOk result (λ r. result_view r (assembler_view self.new) ≡
-            known_line (line_of word.now) word.now rest.now (assembler_view self.old)) }
+            known_line line word.now rest.now (assembler_view self.old)) }
     {
-        match line_of(word) {
+        match line {
             None => self.label_line(alloc, word, rest),
             Some(line) => {
                 if stands(line, self.section) {
@@ -127,6 +140,27 @@ impl Assembler {
                 } else {
                     Ok(Err(Reason::OutOfPlace))
                 }
+            }
+        }
+    }
+
+    /// A line after the header; it says whether steps may follow.
+    fn put_known(
+        &mut self,
+        alloc: Global,
+        line: Option<Line>,
+        word: &[char],
+        rest: &[char],
+    ) -> Result<Result<(), Reason>, OutOfMemory>
+        requires { HasRoom (assembler_view self.old) }
+        ensures { IfOk result (λ r. result_view r (assembler_view self.new) ≡
+            put_known line word.now rest.now (assembler_view self.old)) }
+    {
+        match self.known_line(alloc, line, word, rest)? {
+            Err(reason) => Ok(Err(reason)),
+            Ok(()) => {
+                self.in_chain = opens_chain(line);
+                Ok(Ok(()))
             }
         }
     }
@@ -142,7 +176,10 @@ impl Assembler {
     {
         match next_word(line) {
             None => Ok(Err(Reason::UnknownWord)),
-            Some((word, rest)) => self.known_line(alloc, word, rest),
+            Some((word, rest)) => {
+                let line = line_of(self.block.is_some(), word);
+                self.put_known(alloc, line, word, rest)
+            }
         }
     }
 

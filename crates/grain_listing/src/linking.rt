@@ -18,7 +18,7 @@ use crate::settings::number_of;
 use crate::table::Section;
 use bitflags::Flags;
 use grain_literals::Reason;
-use grain_program::{AssignOp, AssignOps, Caps, Chains, Parts, Tokens};
+use grain_program::{AssignOp, AssignOps, Caps, Parts, Tokens};
 use grain_value::{Blob, Limits, OutOfMemory, Token};
 use grain_words::Labels;
 use std::alloc::Global;
@@ -128,7 +128,7 @@ fn caps_of(bits: Option<u8>) -> Caps
 }
 
 /// What the assembler says, whose last block is over.
-fn set_up(alloc: Global, assembler: Assembler, assign_ops: AssignOps) -> Result<Listing, BadLine>
+fn set_up(assembler: Assembler, assign_ops: AssignOps) -> Result<Listing, BadLine>
     requires { IsOrdered (assembler_view assembler) }
     ensures setup { outcome result ≡ filled (assembler_view assembler) assign_ops }
     ensures ready { IfOk result IsReady }
@@ -146,6 +146,8 @@ fn set_up(alloc: Global, assembler: Assembler, assign_ops: AssignOps) -> Result<
         names,
         tokens,
         assigns: _,
+        chains,
+        in_chain: _,
         block: _,
         main,
         functions,
@@ -164,7 +166,7 @@ fn set_up(alloc: Global, assembler: Assembler, assign_ops: AssignOps) -> Result<
         names,
         tokens,
         assign_ops,
-        chains: Chains::new(alloc),
+        chains,
         positions,
         source,
     };
@@ -172,6 +174,7 @@ fn set_up(alloc: Global, assembler: Assembler, assign_ops: AssignOps) -> Result<
         parts,
         limits: limits_of(limits.as_slice()),
         fast_operators: is_on("operators", flags.as_slice()),
+        strict_properties: is_on("strict", flags.as_slice()),
         host,
         scope,
     })
@@ -184,12 +187,7 @@ fn last_line(n: usize) -> usize
 }
 
 /// What the assembler says after the nth line, which is its last one.
-fn finish(
-    alloc: Global,
-    n: usize,
-    assembler: Assembler,
-    assign_ops: AssignOps,
-) -> Result<Listing, BadLine>
+fn finish(n: usize, assembler: Assembler, assign_ops: AssignOps) -> Result<Listing, BadLine>
     requires { IsOrdered (assembler_view assembler) }
     ensures setup { outcome result ≡
         finish n assembler.section (assembler_view assembler) assign_ops }
@@ -208,7 +206,7 @@ fn finish(
             line: n,
             reason: Reason::UnfinishedChunk,
         }),
-        Section::After => set_up(alloc, assembler, assign_ops),
+        Section::After => set_up(assembler, assign_ops),
     }
 }
 
@@ -224,6 +222,6 @@ pub fn ending(
 {
     match assign_ops_of(alloc, &assembler.tokens, assembler.assigns.as_slice())? {
         Err(bad) => Ok(Err(bad)),
-        Ok(assign_ops) => Ok(finish(alloc, n, assembler, assign_ops)),
+        Ok(assign_ops) => Ok(finish(n, assembler, assign_ops)),
     }
 }

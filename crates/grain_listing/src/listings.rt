@@ -13,6 +13,8 @@ pub struct Listing {
     pub limits: Limits,
     /// Whether an operator goes to its built-in before any other function.
     pub fast_operators: bool,
+    /// Whether a property that is not there is a fault.
+    pub strict_properties: bool,
     /// The host with which the run begins: its `fail` and `stop` lines are in its tables.
     pub host: TableHost,
     /// The scope in which the run begins.

@@ -3,7 +3,7 @@
 ghost use Rattle.std.specs.Prelude.{◌≡◌, option_map, Some};
 ghost use Rattle.grain_program.specs.declared.code.instruction_set.Op.{Op};
 ghost use Rattle.grain_listing.specs.Instructions.{word_of, encoding_of, op_named};
-ghost use Rattle.grain_listing.specs.Table.{own_line, line_of, is_pools, is_block, is_after, stands};
+ghost use Rattle.grain_listing.specs.Table.{own_line, chain_line, line_of, is_pools, is_block, is_after, stands};
 
 use crate::later::is_later;
 use grain_program::Op;
@@ -44,6 +44,8 @@ pub enum Line {
     Name,
     Operator,
     Assign,
+    Chain,
+    Step,
     Entry,
     Flag,
     Fail,
@@ -94,6 +96,8 @@ fn own_line(word: &[char]) -> Option<Line>
         Some(Line::Operator)
     } else if is_word(word, "assign") {
         Some(Line::Assign)
+    } else if is_word(word, "step") {
+        Some(Line::Step)
     } else if is_word(word, "scope") {
         Some(Line::Entry)
     } else if is_word(word, "flag") {
@@ -115,12 +119,27 @@ fn own_line(word: &[char]) -> Option<Line>
     }
 }
 
-/// The line that begins with the word.
+/// A chain of the pool; in a block the word is an instruction's.
+#[tactic(auto, unfolding(crate::specs::Table::chain_line))]
+fn chain_line(in_block: bool, word: &[char]) -> Option<Line>
+    ensures { result ≡ chain_line in_block word.now }
+{
+    if !in_block && is_word(word, "chain") {
+        Some(Line::Chain)
+    } else {
+        None
+    }
+}
+
+/// The line that begins with the word, in a block or outside of one.
 #[tactic(auto, unfolding(crate::specs::Table::line_of))]
-pub fn line_of(word: &[char]) -> Option<Line>
-    ensures { result ≡ line_of word.now }
+pub fn line_of(in_block: bool, word: &[char]) -> Option<Line>
+    ensures { result ≡ line_of in_block word.now }
 {
     if let Some(line) = own_line(word) {
+        return Some(line);
+    }
+    if let Some(line) = chain_line(in_block, word) {
         return Some(line);
     }
     if let Some(op) = op_named(word) {
@@ -174,6 +193,8 @@ pub fn stands(line: Line, section: Section) -> bool
         | Line::Name
         | Line::Operator
         | Line::Assign
+        | Line::Chain
+        | Line::Step
         | Line::Entry
         | Line::Flag
         | Line::Fail

@@ -11,7 +11,7 @@ use Rattle.grain_words.specs.Spelled.{between_quotes, between_apostrophes}
 abbrev pub spell_text : List ℕ → List ℕ → List ℕ
 spell_text s rest = 34 ∷ (flat_map between_quotes (chars s) ++ 34 ∷ rest)
 
--- two numbers, and the bracket behind them
+-- two numbers, and the bracket after them
 abbrev pub spell_pair : List ℕ → List ℕ → List ℕ → List ℕ
 spell_pair a b rest = a ++ 44 ∷ 32 ∷ (b ++ 41 ∷ rest)
 

@@ -12,7 +12,7 @@ use Rattle.grain_words.specs.Bytes.{hex_bytes}
 abbrev pub Found : Type 0 → Type 0
 Found A = Option (A × List ℕ)
 
--- the piece that begins behind a text, where that text stands here, or else another
+-- the piece that begins after a text, where that text stands here, or else another
 abbrev pub behind : {A : Type 0} → Option (List ℕ) → (List ℕ → Found A) → Found A → Found A
 behind None here other = other
 behind (Some rest) here other = here rest
@@ -73,7 +73,7 @@ text_here cs = behind (after_text (codes "\"") cs) quoted None
 abbrev pub onto : {A : Type 0} → A → Found (List A) → Found (List A)
 onto x o = made (λ xs. x ∷ xs) o
 
--- what follows in a list, each thing behind a comma, up to the sign that ends the list; at most n
+-- what follows in a list, each thing after a comma, up to the sign that ends the list; at most n
 -- things and the sign
 unfoldable pub others : {A : Type 0} → List ℕ → (List ℕ → Found A) → ℕ → List ℕ → Found (List A)
 others end read zero cs = None
@@ -112,7 +112,7 @@ abbrev pub dict_here : (List ℕ → Found Tree) → List ℕ → Found Tree
 dict_here read cs =
     made (λ es. dict (pack_fields (put_all [] es))) (listed (codes "}") (entry_here read) cs)
 
--- after `fn(`: a name, and maybe values behind it
+-- after `fn(`: a name, and maybe values after it
 abbrev pub pointer_here : (List ℕ → Found Tree) → List ℕ → Found Tree
 pointer_here read cs =
     option_and_then (λ name. made (λ ts. pointer name.0 (pack ts))

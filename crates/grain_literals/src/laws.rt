@@ -18,7 +18,7 @@ ghost use Rattle.grain_literals.specs.Literals.{literal, constant_of, entry_of, 
 /// A value that a listing can hold is read from its quoted text as that value, and what follows it
 /// is left, where that begins with no digit and no minus. A `const` line with that text is read as
 /// that constant, and a `scope` line with the quoted text of a name and that text as that entry,
-/// which is read-only behind `const`.
+/// which is read-only after `const`.
 pub fn values_are_read()
     ensures read { (v : Dynamic) (rest : List ℕ) → IsListed 64 (tree v) →
         up_to ends_integer rest ≡ [] → literal (chars (quoted v) ++ rest) ≡ Ok (v, rest) }

@@ -12,6 +12,7 @@ pub use laws::{
 };
 pub use literals::{ScopeEntry, constant_of, entry_of, text_of, token_of};
 pub use operands::{
-    after_name, alone, byte_of, index, number_operand, position_after, word_operand,
+    after_name, alone, byte_of, index, number_operand, position_after, position_operand,
+    word_operand,
 };
 pub use reasons::Reason;

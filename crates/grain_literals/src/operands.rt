@@ -73,7 +73,8 @@ pub fn byte_of(line: &[char]) -> Result<(u8, Option<Position>), Reason>
     Ok((byte as u8, position))
 }
 
-fn position_operand(line: &[char]) -> Result<(Position, &[char]), Reason>
+/// A position.
+pub fn position_operand(line: &[char]) -> Result<(Position, &[char]), Reason>
     ensures { operand_view result ≡ position_operand line.now }
 {
     let (word, rest) = word_operand(line)?;

@@ -184,7 +184,7 @@ fn pointer_here(
     }
 }
 
-/// The values that follow these in a list, up to the sign that ends it, behind them.
+/// The values that follow in a list, up to the sign that ends it, after those that came before.
 #[cycle(values)]
 #[tactic(auto, using(crate::proofs::ListsRead::list_over, crate::proofs::ListsRead::no_sign, crate::proofs::ListsRead::no_thing, crate::proofs::ListsRead::no_room, crate::proofs::ListsRead::another_value))]
 fn other_values<'a>(

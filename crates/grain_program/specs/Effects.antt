@@ -1,5 +1,5 @@
 -- What each instruction takes and gives, where it leads, and what it does to the handlers of its
--- frame, by its row and by what the program has at its chain.
+-- frame. The instruction's row says it; what `chain` takes rests also on the chain of its index.
 use Rattle.std.specs.Prelude.{ℕ, ◌+◌, List, [], ◌∷◌, Option, Some, None, nat_lt, if◌then◌else◌}
 use Rattle.grain_program.specs.declared.code.instruction_set.Op.{Op}
 use Rattle.grain_program.specs.declared.code.effects.Effect.{Effect}

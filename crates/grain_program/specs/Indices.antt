@@ -67,7 +67,7 @@ InPool p (field.Number n) = Unit {0}
 abbrev pub InPools : View → Op → Type 0
 InPools p o = AllByRecursion (InPool p) (fields_of o)
 
--- there is a record, and both its names are below this number
+-- the op-assignment is there, and the indices of both its names are below this number
 abbrev pub record_named : ℕ → Option AssignOp → Bool
 record_named names None = false
 record_named names (Some r) = nat_lt r.op_assign_name names && nat_lt r.op_name names

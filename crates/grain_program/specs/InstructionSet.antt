@@ -112,6 +112,7 @@ row (op.Curry k) =
     entry (codes "curry") 0x29 (field.Count k ∷ []) (k + 1) 1 falls_through function_calls
 row (op.CallFnPtr k) =
     entry (codes "call_fn_ptr") 0x2a (field.Count k ∷ []) (k + 1) 1 falls_through function_calls
+row (op.Chain k) = plain (codes "chain") 0x37 (field.Chain k ∷ []) 0 1 falls_through
 row (op.UnwindTo d) = plain (codes "unwind_to") 0x38 (field.Number d ∷ []) 0 0 falls_through
 row op.Tick = plain (codes "tick") 0x39 [] 0 0 falls_through
 row op.Checkpoint = plain (codes "checkpoint") 0x3a [] 0 0 falls_through
@@ -164,6 +165,7 @@ instructions =
     (λ n. op.MakeClosure (first n)) ∷
     (λ n. op.Curry (first n)) ∷
     (λ n. op.CallFnPtr (first n)) ∷
+    (λ n. op.Chain (first n)) ∷
     (λ n. op.UnwindTo (first n)) ∷
     (λ n. op.Tick) ∷
     (λ n. op.Checkpoint) ∷

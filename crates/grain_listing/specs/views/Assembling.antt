@@ -10,6 +10,7 @@ use Rattle.grain_fault.specs.declared.places.Position.{Position}
 use Rattle.grain_host.specs.Tables as host_tables
 use Rattle.grain_host.specs.Tables.{failing_at, stopping_at}
 use Rattle.grain_host.specs.declared.tables.TableHost.{TableHost}
+use Rattle.grain_program.specs.declared.code.chains.Chain.{Chain}
 use Rattle.grain_program.specs.declared.code.parts.Chunk.{Chunk}
 use Rattle.grain_program.specs.declared.code.parts.PositionEntry.{PositionEntry}
 use Rattle.grain_program.specs.declared.code.functions.Function.{Function}
@@ -25,10 +26,11 @@ use Rattle.grain_listing.specs.Settings.{capability_bits, capabilities}
 use Rattle.grain_listing.specs.Flags.{flag_of}
 use Rattle.grain_listing.specs.HostLines.{fail_of, stop_of}
 use Rattle.grain_listing.specs.Headers.{stack_of, assign_of, header_of}
+use Rattle.grain_listing.specs.ChainWords.{chain_of, step_of}
 use Rattle.grain_program.specs.InstructionSet.{tag_of, fields_of}
 use Rattle.grain_listing.specs.Instructions.{kinds_of}
 use Rattle.grain_listing.specs.Table.{line_of, stands, is_block}
-use Rattle.grain_listing.specs.Statements.{Statement, main_ended, functions_ended}
+use Rattle.grain_listing.specs.Statements.{Statement, with_step, last_steps, main_ended, functions_ended}
 use Rattle.grain_listing.specs.LineMeanings
 use Rattle.grain_listing.specs.LineMeanings.{limit_set, in_pool, in_list, before_colon, header_said}
 use Rattle.grain_listing.specs.declared.assembler.Fixup.{Fixup}
@@ -56,6 +58,8 @@ pub record AssemblerView : Type 0 where
   pub names : List (List ℕ)
   pub tokens : List Token
   pub assigns : List AssignLine
+  pub chains : List Chain
+  pub in_chain : Bool
   pub block : Option OpenBlock
   pub main : Chunk
   pub functions : List Function
@@ -79,6 +83,8 @@ empty =
       names = [];
       tokens = [];
       assigns = [];
+      chains = [];
+      in_chain = false;
       block = None;
       main = record { entry = 0; end = 0; max_stack = 0 };
       functions = [];
@@ -182,6 +188,13 @@ put_line lines.Operator cs v = in_pool v.tokens
 put_line lines.Assign cs v =
     in_pool v.assigns (and_then (assign_of v.line cs)
     (λ a. Ok (record v { assigns = v.assigns ++ a ∷ [] })))
+put_line lines.Chain cs v = in_pool v.chains
+    (and_then (chain_of cs) (λ c. Ok (record v { chains = v.chains ++ c ∷ [] })))
+put_line lines.Step cs v =
+    if v.in_chain then
+    in_pool (last_steps v.chains)
+    (and_then (step_of cs) (λ s. Ok (record v { chains = with_step s v.chains })))
+    else Err OutOfPlace
 put_line lines.Entry cs v = and_then (entry_of cs)
     (λ e. Ok (record v { scope = v.scope ++ e ∷ [] }))
 put_line lines.Flag cs v = and_then (flag_of cs)
@@ -222,16 +235,27 @@ known_line (Some l) w cs v = if stands l v.section then put_line l cs v else Err
 
 -- the header: `grain 1`
 abbrev pub with_header : Result Statement Reason → AssemblerView → Result AssemblerView Reason
-with_header (Ok s) v = Ok (record v { section = sections.Pools })
+with_header (Ok s) v = Ok (record v { section = sections.Pools; in_chain = false })
 with_header (Err e) v = Err e
 
 abbrev pub is_start : Section → Bool
 is_start sections.Start = true
 is_start s = false
 
+-- steps may follow the line
+abbrev pub opens_chain : Option Line → Bool
+opens_chain (Some lines.Chain) = true
+opens_chain (Some lines.Step) = true
+opens_chain l = false
+
+-- a line after the header; it says whether steps may follow
+abbrev pub put_known : Option Line → List ℕ → List ℕ → AssemblerView → Result AssemblerView Reason
+put_known l w cs v =
+    and_then (known_line l w cs v) (λ u. Ok (record u { in_chain = opens_chain l }))
+
 abbrev pub after_header : Option (List ℕ × List ℕ) → AssemblerView → Result AssemblerView Reason
 after_header None v = Err UnknownWord
-after_header (Some a) v = known_line (line_of a.0) a.0 a.1 v
+after_header (Some a) v = put_known (line_of (is_some v.block) a.0) a.0 a.1 v
 
 -- one more line; one without a word gives nothing
 abbrev pub take_line : List ℕ → AssemblerView → Result AssemblerView Reason

@@ -40,12 +40,13 @@ set_up v assign_ops code =
         names = v.names;
         tokens = v.tokens;
         assign_ops = assign_ops;
-        chains = [];
+        chains = v.chains;
         positions = v.positions;
         source = v.source;
       };
       limits = limits_of v.limits;
       fast_operators = is_on (codes "operators") v.flags;
+      strict_properties = is_on (codes "strict") v.flags;
       host = v.host;
       scope = v.scope;
     }

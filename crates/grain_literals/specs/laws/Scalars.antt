@@ -1,4 +1,4 @@
--- Characters that are scalar values, and what is left of them behind a word.
+-- Characters that are scalar values, and what is left of them after a word.
 use Rattle.std.proofs.Common.{◌≡◌, ◌==◌, ◌&&◌, ℕ, Bool, true, false, cond, List, [], ◌∷◌, Option, Some, None, refl}
 use Rattle.std.proofs.Math.Utf8.{scalar, scalars}
 use Rattle.std.specs.Char.{IsScalar}

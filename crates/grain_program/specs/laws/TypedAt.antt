@@ -84,9 +84,11 @@ leads_to_start p c next o lands stays go b i =
 -- what a flow reaches is an address to which it leads, with the shape that the instruction leaves
 reached_in : (w : Flow) (next : ℕ) (s : Shape) (x : Arrival) → In x (arrivals w next s)
     → In x.address (leads w next) × (x.shape ≡ s)
-reached_in flow.Next next s x (inl e) = (inl (ap (λ (y : Arrival). y.address) e), ap (λ (y : Arrival). y.shape) e)
+reached_in flow.Next next s x (inl e) =
+    (inl (ap (λ (y : Arrival). y.address) e), ap (λ (y : Arrival). y.shape) e)
 reached_in flow.Next next s x (inr i) = absurd i
-reached_in (flow.Jump t) next s x (inl e) = (inl (ap (λ (y : Arrival). y.address) e), ap (λ (y : Arrival). y.shape) e)
+reached_in (flow.Jump t) next s x (inl e) =
+    (inl (ap (λ (y : Arrival). y.address) e), ap (λ (y : Arrival). y.shape) e)
 reached_in (flow.Jump t) next s x (inr i) = absurd i
 reached_in (flow.Branch t) next s x i = at (nat_lt t next) i where
   two : (a b : ℕ) → In x (arrival a s ∷ arrival b s ∷ [])

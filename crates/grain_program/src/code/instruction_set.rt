@@ -15,8 +15,8 @@ use crate::code::fields::{Field, Fields};
 use crate::code::numbers::{four_there, one_there, two_there};
 
 /// One instruction. Its operands stand in the order of its bytes: C a constant, N a name, S a slot,
-/// A an op-assignment, O an operator token, T a target address and d a plain number; a count or
-/// another number U is one byte.
+/// A an op-assignment, O an operator token, K a chain, T a target address and d a plain number; a
+/// count or another number U is one byte.
 #[derive(Clone, Copy, Debug, PartialEq, Eq)]
 pub enum Op {
     /// `load_const C`: a copy of the constant.
@@ -72,6 +72,8 @@ pub enum Op {
     /// `call_fn_ptr n`: the function of the pointer below the n last operands, on its values and
     /// on these.
     CallFnPtr(u8),
+    /// `chain K`: walks along the chain, and does there what its end says.
+    Chain(u16),
     /// `unwind_to d`: cuts the scope to d entries above the base.
     UnwindTo(u16),
     /// `tick`: costs an operation.
@@ -214,6 +216,10 @@ pub(crate) fn tagged(tag: u8, rest: &[u8], op: &mut Op) -> usize
             *op = Op::CallFnPtr(one_there(rest));
             2
         }
+        0x37 => {
+            *op = Op::Chain(two_there(rest));
+            3
+        }
         0x38 => {
             *op = Op::UnwindTo(two_there(rest));
             3
@@ -288,6 +294,7 @@ impl Op {
             Op::MakeClosure(_) => "make_closure",
             Op::Curry(_) => "curry",
             Op::CallFnPtr(_) => "call_fn_ptr",
+            Op::Chain(_) => "chain",
             Op::UnwindTo(_) => "unwind_to",
             Op::Tick => "tick",
             Op::Checkpoint => "checkpoint",
@@ -413,6 +420,10 @@ impl Op {
                 let taken = u32::from(count) + 1;
                 let pointer = plain(0x2a, fields, taken, 1, Flow::Next);
                 needing(Caps::FUNCTION, pointer)
+            }
+            Op::Chain(chain) => {
+                let fields = Fields::one(Field::Chain(chain));
+                plain(0x37, fields, 0, 1, Flow::Next)
             }
             Op::UnwindTo(depth) => {
                 let fields = Fields::one(Field::Number(depth));
