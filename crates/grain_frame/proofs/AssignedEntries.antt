@@ -1,5 +1,5 @@
 -- An op-assignment to the value of an entry is one to the entry.
-use Rattle.std.proofs.Common.{◌≡◌, ◌∙◌, ◌<◌, ℕ, zero, suc, List, [], ◌∷◌, Some, None, length, refl, ap, subst, arith}
+use Rattle.std.proofs.Common.{◌≡◌, ◌∙◌, ◌<◌, ℕ, zero, suc, List, [], ◌∷◌, Some, None, length, ap, arith}
 use Rattle.grain_value.specs.declared.values.Dynamic.{Dynamic}
 use Rattle.grain_value.specs.declared.values.Held.{Held}
 use Rattle.grain_value.specs.declared.scopes.Entry.{Entry}
@@ -10,14 +10,7 @@ use Rattle.grain_ops.specs.Answers.{Assigns}
 use Rattle.grain_ops.specs.declared.answers.AssignAnswer.{AssignAnswer}
 use Rattle.grain_ops.specs.declared.answers.AssignAnswer.TheVariants as assigned
 use Rattle.grain_frame.specs.Operated.{AssignedEntry}
-
--- an entry that is written with what it holds is as it was
-pub same_entry : (es : List Entry) (i : ℕ) (h : Held) → held_at es i ≡ Some h → set_held es i h ≡ es
-same_entry [] i h is = refl
-same_entry (e ∷ es) zero h is =
-    let same : e.held ≡ h = cc in
-    subst (λ (x : Held). (record e { held = x } ∷ es) ≡ e ∷ es) same refl
-same_entry (e ∷ es) (suc i) h is = ap (λ (l : List Entry). e ∷ l) (same_entry es i h is)
+use Rattle.grain_frame.specs.lemmas.Entries.{same_entry}
 
 -- a value into what is held
 abbrev with : Held → Dynamic → Held
@@ -43,9 +36,3 @@ pub is_there : (es : List Entry) (i : ℕ) → i < length es → held_at es i �
 is_there [] i within none = omega (arith, within)
 is_there (e ∷ es) zero within none = cc
 is_there (e ∷ es) (suc i) within none = is_there es i (omega (arith, within)) none
-
-pub is_within : (es : List Entry) (i : ℕ) (h : Held) → held_at es i ≡ Some h → i < length es
-is_within [] i h is = absurd cc
-is_within (e ∷ es) zero h is = omega arith
-is_within (e ∷ es) (suc i) h is =
-    let rest : i < length es = is_within es i h is in omega (arith, rest)

@@ -1,4 +1,4 @@
--- Operands that go behind the values of a pointer.
+-- Operands that go after the values of a pointer.
 use Rattle.std.proofs.Common.{◌≡◌, ◌+◌, ℕ, ◌++◌, Some, None, refl}
 use Rattle.grain_value.specs.Cells.{flat}
 use Rattle.grain_value.specs.Looking.{pointer_of}
@@ -15,7 +15,7 @@ pub curry_refused : {S : Type 0} (m : Setup S) (count next : ℕ) (f : Frame) (w
     pointer_of v ≡ None → curry m count next f w ≡ not_a_pointer m v f w
 curry_refused m count next f w v read none = rw (read, none) refl
 
--- the operands go behind the values of the pointer under them
+-- the operands go after the values of the pointer under them
 pub curry_adds : {S : Type 0} (m : Setup S) (count next : ℕ) (f : Frame) (w : World S)
     (v : Dynamic) (q : FnPtr) → flat w.cells (operand_under count f.operands).value ≡ Some v →
     pointer_of v ≡ Some q → curry m count next f w

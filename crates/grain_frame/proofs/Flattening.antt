@@ -13,7 +13,7 @@ use Rattle.grain_ops.specs.Operators.{operation}
 use Rattle.grain_ops.specs.Outcomes.{NotBuiltIn}
 use Rattle.grain_means.specs.Rules.{flat_all, flat_before}
 
--- where all could be read, the first one could, and those behind it
+-- where all could be read, the first one could, and those after it
 pub first_read : (o : Option Dynamic) (h : Held) (r : Option (List Held)) (args : List Held) →
     flat_before o h r ≡ Some args → (v : Dynamic) × (rest : List Held)
     × (args ≡ record h { value = v } ∷ rest) × (o ≡ Some v) × (r ≡ Some rest)
@@ -71,7 +71,7 @@ next_read cells hs i h v left within at read is =
       one_more : i + 1 ≡ suc i
       one_more = omega arith
 
--- one more behind those that were read
+-- one more after those that were read
 pub regrouped : (done : List Held) (h : Held) (rest : List Held) →
     done ++ h ∷ rest ≡ (done ++ h ∷ []) ++ rest
 regrouped [] h rest = refl

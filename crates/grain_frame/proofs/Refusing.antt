@@ -14,7 +14,7 @@ use Rattle.grain_frame.specs.Abstraction.{abstraction, frame_in}
 use Rattle.grain_frame.specs.Refusals.{FindsTarget, IsLentThere, Refuses, refusal_fault}
 use Rattle.grain_frame.specs.Targets.{AssignsHere, CanBeLent, content_at}
 use Rattle.grain_frame.specs.declared.targets.Target.{Target}
-use Rattle.grain_frame.proofs.AssignedEntries.{is_within}
+use Rattle.grain_frame.specs.lemmas.Entries.{is_within}
 use Rattle.grain_frame.proofs.Targeting.{content_read, left_plain, readable_free, right_plain}
 use Rattle.grain_frame.specs.declared.activations.Activation.{Activation}
 use Rattle.grain_frame.specs.declared.runs.Run.{Run}

@@ -95,7 +95,8 @@ module _ {H : Type 0} (law : Law H) (s : Run H) (n : StepsView) (host : H) (q : 
   }
 
   -- it is called
-  pub serves : KeepsRoots law lend → (key : ℕ) (values : List Tree) (r : Result NativeEnd OutOfMemory) (s' : Run H)
+  pub serves : KeepsRoots law lend → (key : ℕ) (values : List Tree) (r : Result NativeEnd OutOfMemory)
+      (s' : Run H)
       (n' : StepsView) (host' : H) → Seeks law host name lend args q (sought.Native key values) →
       Serves law s n host key lend values q r s' n' host' → Calls r s' n' host'
   serves still key values r s' n' host' seeks did =

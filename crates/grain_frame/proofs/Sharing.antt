@@ -18,7 +18,7 @@ use Rattle.grain_frame.specs.Abstraction.{moved, marked_once}
 use Rattle.grain_frame.specs.declared.activations.Activation.{Activation}
 use Rattle.grain_frame.specs.declared.runs.Progress.TheVariants as progress
 use Rattle.grain_frame.specs.declared.runs.Run.{Run}
-use Rattle.grain_frame.proofs.Targeting.{entry_twice}
+use Rattle.grain_frame.specs.lemmas.Entries.{entry_twice}
 
 pub shares : {H : Type 0} (law : Law H) (p : View) (engine : Engine) (f : Activation) (s : Run H)
     (n : StepsView) (host : H) (h : Held) (slot index next cell : ℕ) (mid : Run H)

@@ -4,7 +4,6 @@ use Rattle.std.specs.Prelude.{◌||◌, is_some, option_map, slice_get, slice_se
 use Rattle.grain_value.specs.Cells.{content, content_flag, flat, idle, is_busy, lent, standing}
 use Rattle.grain_value.specs.Looking.{cell_of}
 use Rattle.grain_value.specs.Operands.{read_write}
-use Rattle.grain_value.specs.Scopes.{set_held}
 use Rattle.grain_value.specs.declared.scopes.Entry.{Entry}
 use Rattle.grain_value.specs.declared.stores.Cell.{Cell}
 use Rattle.grain_value.specs.declared.values.Dynamic.{Dynamic}
@@ -26,7 +25,7 @@ use Rattle.grain_ops.specs.declared.answers.AssignAnswer.{AssignAnswer}
 use Rattle.grain_ops.specs.declared.answers.AssignAnswer.TheVariants as assigned
 use Rattle.grain_frame.specs.declared.runs.Run.{Run}
 use Rattle.grain_frame.specs.declared.targets.Target.{Target}
-use Rattle.grain_frame.proofs.AssignedEntries.{same_entry}
+use Rattle.grain_frame.specs.lemmas.Entries.{entry_twice, same_entry}
 use Rattle.grain_frame.proofs.Handing.{one_held}
 
 abbrev cell_held : Option Cell → Held → Held
@@ -41,12 +40,6 @@ one_at s i (Some n) a b first second =
     ap (λ (o : Option Cell). cell_held o a) (sym first ∙ second)
 
 -- of two writes the second counts
-pub entry_twice : (es : List Entry) (i : ℕ) (a b : Held) →
-    set_held (set_held es i a) i b ≡ set_held es i b
-entry_twice [] i a b = refl
-entry_twice (e ∷ es) zero a b = refl
-entry_twice (e ∷ es) (suc i) a b = ap (λ (l : List Entry). e ∷ l) (entry_twice es i a b)
-
 cell_twice : (cs : List Cell) (n : ℕ) (a b : Cell) →
     slice_set (slice_set cs n a) n b ≡ slice_set cs n b
 cell_twice [] n a b = refl
@@ -236,7 +229,8 @@ module _ {H : Type 0} (s : Run H) (n i : ℕ) (h : Held) (v : Dynamic) (mid afte
     (back : after ≡ slice_set mid n (idle (record h { value = v }))) where
   written_once : after ≡ slice_set s.cells n (idle (record h { value = v }))
   written_once = back ∙
-      (ap (λ (cs : List Cell). slice_set cs n (idle (record h { value = v }))) taken ∙ cell_twice s.cells n (lent h) (idle (record h { value = v })))
+      (ap (λ (cs : List Cell). slice_set cs n (idle (record h { value = v }))) taken
+      ∙ cell_twice s.cells n (lent h) (idle (record h { value = v })))
 
   as_before : v ≡ h.value → record s { cells = after } ≡ s
   as_before same =

@@ -280,10 +280,9 @@ abbrev pub IsNoCall : Op → Type 0
 IsNoCall o = ((name count : ℕ) → o ≡ op.Call name count → ⊥)
     × ((count : ℕ) → o ≡ op.CallFnPtr count → ⊥)
 
--- the instruction at which the frame stands calls no function
-abbrev pub CallsNothing : View → Activation → Type 0
-CallsNothing program f =
-    (o : Op) (width : ℕ) → op_at program.code f.address ≡ Some (o, width) → IsNoCall o
+-- the instruction walks along no place
+abbrev pub IsNoWalk : Op → Type 0
+IsNoWalk o = (index : ℕ) → o ≡ op.Chain index → ⊥
 
 -- the frame at another address
 abbrev pub moved : Activation → ℕ → Activation

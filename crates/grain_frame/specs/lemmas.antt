@@ -1,5 +1,6 @@
 -- What the crate above cites: from what a method did to a turn of the frame (Arms), faults that are
--- raised (Failing), and operations that are asked for (Charging).
+-- raised (Failing), operations that are asked for (Charging), and entries that are written (Entries).
 pub mod Arms
 pub mod Failing
 pub mod Charging
+pub mod Entries

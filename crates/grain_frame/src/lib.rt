@@ -22,6 +22,7 @@ mod transfers;
 
 pub use activations::Activation;
 pub use contexts::Context;
+pub use native_calls::{Arguments, NativeEnd, Sought, served};
 pub use operated::{quick_assigned, quick_assigned_with};
 pub use pointers::Under;
 pub use runs::{Progress, Run};

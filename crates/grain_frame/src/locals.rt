@@ -265,10 +265,10 @@ impl<H: Host> Run<H> {
         }
     }
 
-    // A copy of what a cell holds, which is there and not lent.
+    /// A copy of what a cell holds, which is there and not lent.
     #[cold]
     #[inline(never)]
-    pub(crate) fn copy_of_cell(&self, cell: usize) -> Result<Dynamic, OutOfMemory>
+    pub fn copy_of_cell(&self, cell: usize) -> Result<Dynamic, OutOfMemory>
         requires { is_some (content (slice_get self.now.cells cell)) ≡ true }
         ensures { IfOk result (λ v. content (slice_get self.now.cells cell) ≡ Some v) }
     {

@@ -24,9 +24,9 @@ use grain_value::{Dynamic, Held, OutOfMemory};
 use std::sync::ledger::Ledger;
 
 impl<H: Host> Run<H> {
-    // Gives a value, as the frame's last operand, and goes on at the next instruction.
+    /// Gives a value, as the frame's last operand, and goes on at the next instruction.
     #[inline(always)]
-    pub(crate) fn push_on<L: Ledger>(
+    pub fn push_on<L: Ledger>(
         &mut self,
         steps: &mut Steps<L>,
         frame: &mut Activation,

@@ -41,10 +41,10 @@ impl<H: Host> Run<H> {
         self.raise(steps, fault)
     }
 
-    // A slot past the scope.
+    /// Raises the fault of a slot past the scope, at this index of the scope.
     #[cold]
     #[inline(never)]
-    pub(crate) fn slot_past_scope<L: Ledger>(
+    pub fn slot_past_scope<L: Ledger>(
         &mut self,
         context: Context<'_>,
         steps: &mut Steps<L>,

@@ -1,7 +1,7 @@
-//! One instruction of a frame that calls no function.
+//! One instruction of a frame that calls no function and walks along no place.
 
 ghost use Rattle.grain_program.specs.Indices.{InPools};
-ghost use Rattle.grain_frame.specs.Abstraction.{Runs, ReadyIn, StandsAt, Stepped, CallsNothing, IsNoCall, setup_of, moment};
+ghost use Rattle.grain_frame.specs.Abstraction.{Runs, ReadyIn, StandsAt, Stepped, IsNoCall, IsNoWalk, setup_of, moment};
 
 use crate::activations::Activation;
 use crate::contexts::Context;
@@ -13,31 +13,10 @@ use grain_value::{Dynamic, OutOfMemory};
 use std::sync::ledger::Ledger;
 
 impl<H: Host> Run<H> {
-    /// Does the instruction at which the frame stands, which calls no function.
-    #[cold]
-    #[inline(never)]
-    pub fn step<L: Ledger>(
-        &mut self,
-        context: Context<'_>,
-        host: &mut H,
-        steps: &mut Steps<L>,
-        frame: &mut Activation,
-    ) -> Result<Progress, OutOfMemory>
-        requires runs { Runs context.program.now frame.old self.old }
-        requires calls_nothing { CallsNothing context.program.now frame.old }
-        ensures stepped { Stepped (setup_of H.law context.entry)
-            (moment frame.old self.old steps.old host.old) result
-            (moment frame.new self.new steps.new host.new) }
-    {
-        let address = frame.address;
-        let depth = self.stacks.height();
-        let (op, width) = context.program.fetch(frame.chunk, address, depth);
-        self.perform(context, host, steps, frame, op, address + width)
-    }
-
-    // Does this instruction, at which the frame stands, and which calls no function.
+    /// Does this instruction, at which the frame stands, which calls no function and walks along no place,
+    /// and after which the address `next` comes.
     #[inline(always)]
-    fn perform<L: Ledger>(
+    pub fn perform<L: Ledger>(
         &mut self,
         context: Context<'_>,
         host: &mut H,
@@ -51,6 +30,7 @@ impl<H: Host> Run<H> {
         requires ready { ReadyIn context.program.now frame.old self.old op next }
         requires pools { InPools context.program.now op }
         requires calls_nothing { IsNoCall op }
+        requires walks_nowhere { IsNoWalk op }
         ensures stepped { Stepped (setup_of H.law context.entry)
             (moment frame.old self.old steps.old host.old) result
             (moment frame.new self.new steps.new host.new) }
@@ -95,6 +75,7 @@ impl<H: Host> Run<H> {
             Op::MakeClosure(name) => self.make_closure(context, steps, frame, name, next),
             Op::Curry(count) => self.curry(context, steps, frame, count, next),
             Op::CallFnPtr(_) => unreachable!(),
+            Op::Chain(_) => unreachable!(),
             Op::UnwindTo(depth) => Ok(self.unwind_to(context, steps, frame, depth, next)),
             Op::Tick => self.tick(context, host, steps, frame, next),
             Op::Checkpoint => Ok(self.checkpoint(steps, frame, next)),

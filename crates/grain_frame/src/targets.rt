@@ -86,9 +86,9 @@ impl<H: Host> Run<H> {
         }
     }
 
-    // Whether the content of a cell, if it is one, can only be read.
+    /// Whether the content of a cell, if it is one, can only be read.
     #[inline(always)]
-    pub(crate) fn is_constant(&self, cell: Option<usize>) -> bool
+    pub fn is_constant(&self, cell: Option<usize>) -> bool
         ensures { result ≡ flag_of_cell cell self.now.cells }
     {
         match cell {

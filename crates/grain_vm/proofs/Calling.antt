@@ -110,7 +110,8 @@ pub refused_here : {H : Type 0} {m : Setup H} {old new : LocalState H} {start : 
 refused_here f s s1 kept h = record {
   this = h.this;
   order = h.order;
-  equal = λ stop clear halts u place. h.equal stop clear halts u place ∙ rw (kept.operands, kept.handlers) refl;
+  equal = λ stop clear halts u place. h.equal stop clear halts u place
+      ∙ rw (kept.operands, kept.handlers) refl;
 }
 
 -- want of memory in a body leaves the caller too, whatever its handlers are

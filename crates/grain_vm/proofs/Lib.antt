@@ -12,3 +12,9 @@ mod Found
 mod Offering
 mod CatchSteps
 mod CaughtFrames
+mod Reading
+mod Performing
+mod Driven
+mod Rooting
+mod Walked
+mod Chaining

@@ -1,5 +1,5 @@
--- A load of an integer with the instruction behind it: the load is what its rule says, and the state
--- behind it is one in which the frame runs.
+-- A load of an integer with the instruction after it: the load is what its rule says, and the state
+-- after it is one in which the frame runs.
 use Rattle.std.proofs.Common.{◌≡◌, ◌≤◌, ◌+◌, ◌-◌, ℕ, ℤ, List, [], ◌∷◌, ◌++◌, false, inl, inr, Ok, Some, length, refl, arith, length-append}
 use Rattle.std.proofs.lemmas.List.{length-take-le, take-append-le}
 use Rattle.grain_value.specs.declared.values.Held.{Held}

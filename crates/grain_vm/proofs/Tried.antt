@@ -15,8 +15,8 @@ use Rattle.grain_global.specs.declared.engines.Engine.{Engine}
 use Rattle.grain_means.specs.Rules.{or_return}
 use Rattle.grain_means.specs.Means.{setup}
 use Rattle.grain_global.specs.StepsView.{StepsView}
-use Rattle.grain_frame.specs.Abstraction.{Runs, Performs, Stepped, CallsNothing, IsNoCall, moment}
-use Rattle.grain_vm.specs.Attempts.{OnTrue, OnFalse, Unchanged, Attempted, StandsAtJump, attempt_of, attempt_or}
+use Rattle.grain_frame.specs.Abstraction.{Runs, Performs, Stepped, IsNoCall, moment}
+use Rattle.grain_vm.specs.Attempts.{CallsNothing, OnTrue, OnFalse, Unchanged, Attempted, StandsAtJump, attempt_of, attempt_or}
 use Rattle.grain_frame.specs.declared.activations.Activation.{Activation}
 use Rattle.grain_frame.specs.declared.runs.Progress.{Progress}
 use Rattle.grain_frame.specs.declared.runs.Progress.TheVariants as progress

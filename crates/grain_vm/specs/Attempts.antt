@@ -1,5 +1,7 @@
 -- What came of an instruction that the loop tried first.
-use Rattle.std.specs.Prelude.{◌≡◌, ℕ, Bool, true, false, Ok}
+use Rattle.std.specs.Prelude.{◌≡◌, ℕ, Bool, true, false, Ok, Some}
+use Rattle.grain_program.specs.Decoding.{op_at}
+use Rattle.grain_program.specs.declared.code.instruction_set.Op.{Op}
 use Rattle.grain_program.specs.declared.code.instruction_set.Op.TheVariants as op
 use Rattle.grain_program.specs.View.{View}
 use Rattle.grain_means.specs.Worlds.{Setup}
@@ -11,7 +13,7 @@ use Rattle.grain_vm.specs.declared.attempts.Attempt.{Attempt}
 use Rattle.grain_vm.specs.declared.attempts.Attempt.TheVariants as attempt
 use Rattle.grain_vm.specs.declared.attempts.Pending.{Pending}
 use Rattle.grain_vm.specs.declared.attempts.Pending.TheVariants as pending
-use Rattle.grain_frame.specs.Abstraction.{moment, Stepped, StandsAt, CallsNothing}
+use Rattle.grain_frame.specs.Abstraction.{moment, IsNoCall, Stepped, StandsAt}
 
 -- where a try did what it tried, and where it did not
 abbrev pub OnTrue : Bool → Type 0 → Type 0
@@ -30,6 +32,11 @@ Unchanged f s n f' s' n' = (s' ≡ s) × (f' ≡ f) × (n' ≡ n)
 -- the frame stands at a jump to this address
 abbrev pub StandsAtJump : {H : Type 0} → View → Activation → Run H → ℕ → Type 0
 StandsAtJump program f s target = (next : ℕ) × StandsAt program f s (op.Jump target) next
+
+-- the instruction at which the frame stands calls no function
+abbrev pub CallsNothing : View → Activation → Type 0
+CallsNothing program f =
+    (o : Op) (width : ℕ) → op_at program.code f.address ≡ Some (o, width) → IsNoCall o
 
 -- what is known of an instruction that is still to be done
 abbrev pub IsPending : {H : Type 0} → View → Activation → Run H → Pending → Type 0

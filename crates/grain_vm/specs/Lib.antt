@@ -9,6 +9,8 @@ pub mod Following
 pub mod Finding
 pub mod Calls
 pub mod Catching
+pub mod Driving
+pub mod Chains
 pub use Rattle.grain_global.specs.StepsView
 pub use Rattle.grain_means.specs.Worlds
 pub use Rattle.grain_means.specs.Rules

@@ -1,17 +1,22 @@
-//! The machine that an embedder calls: the loop, how functions are called and faults are caught, and
-//! how main is run.
+//! The machine that an embedder calls: the loop, how functions are called and faults are caught, how a
+//! place is walked, and how main is run.
 #![tactic(auto)]
 
 mod attempts;
 mod branches;
 mod calls;
 mod catching;
+mod chain_operands;
+mod chains;
+mod driving;
 mod finding;
 mod loaded;
 mod loops;
 mod machines;
 mod main_runs;
 mod quick;
+mod roots;
+mod stepping;
 mod vms;
 
 pub use grain_global::{Engine, GlobalRuntimeState, Steps};

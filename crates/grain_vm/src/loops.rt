@@ -16,6 +16,7 @@ use crate::attempts::{Attempt, Pending, quick};
 use crate::calls::{FrameEnd, enter_function, resume_caller};
 use crate::catching::catch;
 use crate::finding::{Found, find_named, find_pointed};
+use crate::stepping::step;
 use grain_fault::Fault;
 use grain_frame::{Activation, Context, Progress, Run};
 use grain_global::Steps;
@@ -115,7 +116,7 @@ fn do_or_find<H: Host, L: Ledger>(
         }
         Pending::Other => {
             let mut copy = *frame;
-            let progress = run.step(context, host, steps, &mut copy);
+            let progress = step(run, context, host, steps, &mut copy);
             frame.address = copy.address;
             frame.floor = copy.floor;
             frame.slot = copy.slot;

@@ -147,7 +147,8 @@ module _ {H : Type 0} (law : Law H) (p : View) (engine : Engine) (f : Activation
 
     -- memory is out
     pub charge_wants : {ts : List ℕ} {takes gives : ℕ} {hs : List Handler} (e : OutOfMemory)
-        (r : Result Progress OutOfMemory) → is_out r ≡ true → SimulatesCharge law p engine f.address s n host (Err e) s' n' host' →
+        (r : Result Progress OutOfMemory) → is_out r ≡ true →
+        SimulatesCharge law p engine f.address s n host (Err e) s' n' host' →
         ChargeResult engine s s' (Err e) →
         Implements (setup law p engine) (moment f s n host) rule ts takes gives hs r
         (moment f s' n' host')

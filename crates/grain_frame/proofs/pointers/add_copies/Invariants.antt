@@ -1,4 +1,4 @@
--- What is left to add goes behind what was added.
+-- What is left to add goes after what was added.
 use Rattle.std.proofs.Common.{◌≡◌, ◌++◌, drop}
 use Rattle.grain_means.specs.Rules.{trees_in}
 use Rattle.grain_frame.proofs.pointers.add_copies.Given as goal

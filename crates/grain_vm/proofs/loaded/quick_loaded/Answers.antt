@@ -1,4 +1,4 @@
--- What stands behind the load is done from where the load would have left the frame.
+-- What stands after the load is done from where the load would have left the frame.
 use Rattle.std.proofs.Common.{rules, ◌≡◌, ◌+◌, List, inl, length, refl, ap, arith, w64, FitsSigned}
 use Rattle.std.proofs.lemmas.Int.{to_z-of_z}
 use Rattle.grain_value.specs.declared.values.Held.{Held}

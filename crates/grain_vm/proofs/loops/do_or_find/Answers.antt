@@ -61,8 +61,8 @@ returns-in-Other g c =
       finds =
           subst (λ (a : Activation). FindsHere (setup g.H.Host.law p c.args.context.engine.now)
           (moment f s c.args.steps.now c.args.host.now) (found_of c.step-progress.result) (moment a
-          c.step-progress.new.self c.step-progress.new.steps c.step-progress.new.host)) same
+          c.step-progress.new.run c.step-progress.new.steps c.step-progress.new.host)) same
           (done_here g.H.Host.law p c.args.context.engine.now f c.step-progress.new.frame s
-          c.step-progress.new.self c.args.steps.now c.step-progress.new.steps c.args.host.now
+          c.step-progress.new.run c.args.steps.now c.step-progress.new.steps c.args.host.now
           c.step-progress.new.host c.step-progress.result did);
     })

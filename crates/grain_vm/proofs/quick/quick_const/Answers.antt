@@ -1,4 +1,4 @@
--- The load is done with what stands behind it.
+-- The load is done with what stands after it.
 use Rattle.std.proofs.Common.{rules, ◌≡◌, ◌∙◌, inl, inr, sym, ap, w64, FitsSigned}
 use Rattle.std.proofs.lemmas.Int.{to_z-of_z}
 use Rattle.grain_value.specs.declared.values.Dynamic.TheVariants as dynamic

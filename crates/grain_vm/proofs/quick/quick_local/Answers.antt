@@ -1,4 +1,4 @@
--- The load is done with what stands behind it.
+-- The load is done with what stands after it.
 use Rattle.std.proofs.Common.{rules, ◌≡◌, ◌+◌, inl, inr, Some, w64, FitsSigned}
 use Rattle.std.proofs.lemmas.Int.{to_z-of_z}
 use Rattle.grain_means.specs.Rules.{held_at}

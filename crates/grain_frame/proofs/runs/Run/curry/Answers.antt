@@ -1,4 +1,4 @@
--- The operands go behind the values of the pointer under them.
+-- The operands go after the values of the pointer under them.
 use Rattle.std.proofs.Common.{◌≡◌, ◌∙◌, ◌+◌, ◌-◌, ◌++◌, [], None, Some, length, refl, arith, rules}
 use Rattle.std.proofs.lemmas.List.{length-take}
 use Rattle.std.specs.Prelude.{codes}

@@ -3,8 +3,7 @@ use Rattle.std.proofs.Common.{◌≡◌, ◌∙◌, refl, rules}
 use Rattle.grain_value.specs.Operands.{read_write}
 use Rattle.grain_value.specs.Scopes.{set_held}
 use Rattle.grain_value.specs.declared.values.Dynamic.TheVariants as dynamic
-use Rattle.grain_frame.proofs.AssignedEntries.{same_entry}
-use Rattle.grain_frame.proofs.Targeting.{entry_twice}
+use Rattle.grain_frame.specs.lemmas.Entries.{entry_twice, same_entry}
 use Rattle.grain_frame.proofs.runs.Run.make_cell.Goals as goal
 
 pub returns-in-Err-clause-made : goal.returns-in-Err-clause-made

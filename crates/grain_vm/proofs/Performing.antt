@@ -1,0 +1,228 @@
+-- What a walk needs was asked of the host.
+use Rattle.std.proofs.Common.{◌≡◌, ◌∙◌, ◌&&◌, ℕ, ◌+◌, List, [], Option, Some, None, Bool, true, false, Result, Ok, Err, map, inl, inr, refl, sym, ap, subst, if◌then◌else◌}
+use Rattle.grain_value.specs.Tree.{Tree}
+use Rattle.grain_value.specs.View.{value_of}
+use Rattle.grain_value.specs.Operands.{read_write, values_in}
+use Rattle.grain_value.specs.declared.values.Dynamic.{Dynamic}
+use Rattle.grain_value.specs.declared.values.Held.{Held}
+use Rattle.grain_value.specs.declared.scopes.Entry.{Entry}
+use Rattle.grain_value.specs.declared.natives.Native.{Native}
+use Rattle.grain_fault.specs.declared.places.Position.{Position}
+use Rattle.grain_fault.specs.Positions.{at_position, at_position_if_none, position_of_problem}
+use Rattle.grain_fault.specs.Places.{is_nowhere}
+use Rattle.grain_fault.specs.declared.faults.EvalAltResult.{EvalAltResult}
+use Rattle.grain_fault.specs.Problems.{Problem, Plain, InFunctionCall, InModule, SystemError, DataRace, NonPureCall, NoMemory, problem_of}
+use Rattle.grain_host.specs.Faults.{handed_back}
+use Rattle.grain_host.specs.Law.{Law, IsLawful, MayBeAnswered, native_of, receiver_after, written}
+use Rattle.grain_host.specs.Law as reply
+use Rattle.grain_host.specs.Signatures.{not_found}
+use Rattle.grain_means.specs.Worlds.{Act, Answer, Failed, Frame, Place, Setup, World}
+use Rattle.grain_means.specs.Tasks.{Task, Need, Walked}
+use Rattle.grain_means.specs.Rules.{race_text, flat_all, kinds_in, trees_in, first_is_read_only}
+use Rattle.grain_means.specs.Rules.Natives.{Home, given}
+use Rattle.grain_means.specs.Driving.{walk_act, LentAt, lent_back, all_given}
+use Rattle.grain_means.specs.Simulation.{LocalState, Computation, SimulatesExactly}
+use Rattle.grain_means.specs.lemmas.Spreading.{Rooted}
+use Rattle.grain_means.specs.lemmas.Driving.{hears_race, hears_memory, hears_none, hears_constant, hears_value, hears_fault}
+use Rattle.grain_global.specs.StepsView.{StepsView}
+use Rattle.grain_chain.specs.Walking.{call_for, no_memory, outcome_of, is_want}
+use Rattle.grain_chain.specs.declared.requests.Request.{Request}
+use Rattle.grain_vm.specs.Driving.{beside, lent_from, RaisesOne, HearsHost, SameFlag}
+use Rattle.grain_frame.specs.Natives.{Seeks}
+use Rattle.grain_frame.specs.declared.native_calls.Sought.TheVariants as sought
+use Rattle.grain_frame.specs.declared.runs.Run.{Run}
+use Rattle.grain_vm.proofs.Reading.{given_from}
+
+-- a fault at another position is no want of memory, if it was none
+moved_fault : (p : Position) (y : Problem) → no_memory y ≡ false → no_memory (at_position p y) ≡ false
+moved_fault p (Plain k q) e = refl
+moved_fault p (InFunctionCall f s x q) e = refl
+moved_fault p (InModule n x q) e = refl
+moved_fault p (SystemError s x) e = refl
+moved_fault p NoMemory e = e
+
+placed_fault : (p : Position) (y : Problem) → no_memory y ≡ false →
+    no_memory (at_position_if_none p y) ≡ false
+placed_fault p y e = at (is_nowhere (position_of_problem y)) where
+  at : (b : Bool) → no_memory (if b then at_position p y else y) ≡ false
+  at true = moved_fault p y e
+  at false = e
+
+may_answer : (y : Problem) → handed_back y ≡ false → no_memory y ≡ false
+may_answer (Plain k q) e = refl
+may_answer (InFunctionCall f s x q) e = refl
+may_answer (InModule n x q) e = refl
+may_answer (SystemError s x) e = refl
+may_answer NoMemory e = absurd cc
+
+module _ {H : Type 0} (law : Law H) (lawful : IsLawful law) (m : Setup H) (own : m.law ≡ law) (k : ℕ)
+    (f : Option Place → Frame) (h : Held)
+    (done : Setup H → Option Place → ℕ → Walked → World H → Act H) (r : Request) (q : Option Place)
+    (go : Answer → Task) (rs : List Held) (scope : List Entry) (s : Run H) (n : StepsView) (host : H)
+    (rooted : Rooted h.read_only rs) (at : LentAt rs q r.receiver)
+    (still : lent_back rs q r.receiver ≡ rs) where
+  abbrev ls : LocalState H
+  ls = beside scope s n host
+
+  abbrev before : Computation H
+  before = walk_act k f h done (Need (call_for r q) go) rs
+
+  abbrev after : Answer → List Held → Computation H
+  after a us = walk_act k f h done (go a) us
+
+  -- what the code says of what came of it
+  abbrev pub Performed : Result Dynamic EvalAltResult → Option Held → StepsView → H → Type 0
+  Performed o left n' host' =
+      SimulatesExactly m ls before (is_want o) (beside scope s n' host')
+      (after (outcome_of o) (lent_back rs q left))
+
+  wants : SimulatesExactly m ls before true ls (after (Failed NoMemory) (lent_back rs q r.receiver))
+  wants =
+      subst (λ us. SimulatesExactly m ls before true ls (after (Failed NoMemory) us)) (sym still)
+      (hears_memory m k f h done (call_for r q) go rs r.receiver rooted at ls)
+
+  -- memory is out
+  pub performs_memory : (e : EvalAltResult) → problem_of e ≡ NoMemory →
+      Performed (Err e) r.receiver n host
+  performs_memory e is =
+      subst (λ (y : Problem). SimulatesExactly m ls before (no_memory y) ls
+      (after (Failed y) (lent_back rs q r.receiver))) (sym is) wants
+
+  fails : (e : EvalAltResult) (y : Problem) (us : List Held) (n' : StepsView) (host' : H) →
+      no_memory y ≡ false → problem_of e ≡ y →
+      SimulatesExactly m ls before false (beside scope s n' host') (after (Failed y) us) →
+      SimulatesExactly m ls before (no_memory (problem_of e)) (beside scope s n' host')
+      (after (Failed (problem_of e)) us)
+  fails e y us n' host' wants_none is does =
+      subst (λ (z : Problem). SimulatesExactly m ls before (no_memory z) (beside scope s n' host')
+      (after (Failed z) us)) (sym is)
+      (subst (λ (b : Bool). SimulatesExactly m ls before b (beside scope s n' host')
+      (after (Failed y) us)) (sym wants_none) does)
+
+  fails_here : (e : EvalAltResult) (y : Problem) → no_memory y ≡ false → problem_of e ≡ y →
+      SimulatesExactly m ls before false
+      (beside scope s (record n { passed = n.passed + 1 }) host) (after (Failed y) rs) →
+      Performed (Err e) r.receiver (record n { passed = n.passed + 1 }) host
+  fails_here e y wants_none is does =
+      subst (λ us. SimulatesExactly m ls before (no_memory (problem_of e))
+      (beside scope s (record n { passed = n.passed + 1 }) host) (after (Failed (problem_of e)) us))
+      (sym still) (fails e y rs (record n { passed = n.passed + 1 }) host wants_none is does)
+
+  -- one of the arguments is a cell whose content is lent
+  pub performs_race : (e : EvalAltResult) (n' : StepsView) →
+      flat_all s.cells (map read_write (map value_of r.arguments)) ≡ None →
+      RaisesOne (Plain (DataRace (race_text [])) r.pos) e n n' → Performed (Err e) r.receiver n' host
+  performs_race e n' none (inl memory) =
+      subst (λ (l : StepsView). Performed (Err e) r.receiver l host) (sym memory.1)
+      (performs_memory e memory.0)
+  performs_race e n' none (inr raised) =
+      subst (λ (l : StepsView). Performed (Err e) r.receiver l host) (sym raised.1)
+      (fails_here e (Plain (DataRace (race_text [])) r.pos) refl raised.0
+      (hears_race m k f h done (call_for r q) go rs r.receiver rooted at ls none))
+
+  module _ (args : List Held)
+      (flat : flat_all s.cells (map read_write (map value_of r.arguments)) ≡ Some args) (home : Home)
+    where
+      found : (o : Option Native) →
+          native_of law host (call_for r q).name (kinds_in (given (lent_from home r.receiver) args)) ≡ o →
+          native_of m.law host (call_for r q).name (kinds_in (all_given r.receiver args)) ≡ o
+      found o is =
+          ap (λ (l : Law H). native_of l host (call_for r q).name (kinds_in (all_given r.receiver args))) own
+          ∙ ap (λ (l : List Held). native_of law host (call_for r q).name (kinds_in l))
+          (sym (given_from home r.receiver args)) ∙ is
+
+      flag : (one : Native) (b : Bool) →
+          (one.writes && first_is_read_only (given (lent_from home r.receiver) args)) ≡ b →
+          (one.writes && first_is_read_only (all_given r.receiver args)) ≡ b
+      flag one b is =
+          ap (λ (l : List Held). one.writes && first_is_read_only l)
+          (sym (given_from home r.receiver args)) ∙ is
+
+      -- there is no such native, or it may not be called
+      pub performs_refused : (e : EvalAltResult) →
+          Seeks law host (call_for r q).name (lent_from home r.receiver) args r.pos (sought.Fault e) →
+          Performed (Err e) r.receiver (record n { passed = n.passed + 1 }) host
+      performs_refused e (inl none) =
+          fails_here e (not_found (call_for r q).name (values_in (all_given r.receiver args)) r.pos) refl
+          (none.1 ∙ ap (λ (l : List Held). not_found (call_for r q).name (values_in l) r.pos)
+          (given_from home r.receiver args))
+          (hears_none m k f h done (call_for r q) go rs r.receiver rooted at ls args flat
+          (found None none.0))
+      performs_refused e (inr one) =
+          fails_here e (Plain (NonPureCall (call_for r q).name) r.pos) refl one.3
+          (hears_constant m k f h done (call_for r q) go rs r.receiver rooted at ls args flat one.0
+          (found (Some one.0) one.1) (flag one.0 true one.2))
+
+      -- it was called
+      pub performs_called : (key : ℕ) (values : List Tree) (o : Result Dynamic EvalAltResult)
+          (n' : StepsView) (host' : H) (left : Option Held) →
+          Seeks law host (call_for r q).name (lent_from home r.receiver) args r.pos
+          (sought.Native key values) →
+          HearsHost law host key r.receiver values r.pos n o n' host' left →
+          Performed o left n' host'
+      performs_called key values o n' host' left seeks heard =
+          by o (subst (λ (l : Law H). HearsHost l host seeks.0.key r.receiver (trees_in args) r.pos n o n'
+          host' left) (sym own)
+          (subst (λ (ts : List Tree). HearsHost law host seeks.0.key r.receiver ts r.pos n o n' host' left)
+          seeks.4
+          (subst (λ (j : ℕ). HearsHost law host j r.receiver values r.pos n o n' host' left) seeks.3
+          heard))) where
+            is : native_of m.law host (call_for r q).name (kinds_in (all_given r.receiver args))
+                ≡ Some seeks.0
+            is = found (Some seeks.0) seeks.1
+
+            writes : (seeks.0.writes && first_is_read_only (all_given r.receiver args)) ≡ false
+            writes = flag seeks.0 false seeks.2
+
+            may : (y : Problem) →
+                reply.Failed y ≡ m.law.call_reply host seeks.0.key r.receiver (trees_in args) →
+                handed_back y ≡ false
+            may y said =
+                subst MayBeAnswered
+                (ap (λ (l : Law H). l.call_reply host seeks.0.key r.receiver (trees_in args)) (sym own)
+                ∙ sym said) (lawful.faults host seeks.0.key r.receiver (trees_in args))
+
+            by : (o : Result Dynamic EvalAltResult) →
+                HearsHost m.law host seeks.0.key r.receiver (trees_in args) r.pos n o n' host' left →
+                Performed o left n' host'
+            by (Ok v) did =
+                rw (did.1, did.2, did.3) (hears_value m k f h done (call_for r q) go rs r.receiver rooted
+                at ls args flat seeks.0 is writes v did.0)
+            by (Err e) (inl memory) =
+                rw (memory.1, memory.2, memory.3) (performs_memory e memory.0)
+            by (Err e) (inr did) =
+                rw (did.3, did.4, did.5) (fails e (at_position_if_none r.pos did.0)
+                (lent_back rs q (receiver_after m.law host seeks.0.key r.receiver (trees_in args)))
+                (record n { passed = n.passed + 1 + 1 + 1 })
+                (m.law.call_after host seeks.0.key r.receiver (trees_in args))
+                (placed_fault r.pos did.0 (may_answer did.0 (may did.0 did.1))) did.2
+                (hears_fault m k f h done (call_for r q) go rs r.receiver rooted at ls args flat seeks.0
+                is writes did.0 did.1))
+
+pub same_flag : (x : Option Held) → SameFlag x x
+same_flag None = tt
+same_flag (Some h) = refl
+
+written_flag : {H : Type 0} (law : Law H) (host : H) (key : ℕ) (values : List Tree) (h : Held) →
+    (written law host key values h).read_only ≡ h.read_only
+written_flag law host key values h = at (law.writes host key) where
+  at : (b : Bool) →
+      (if b then record h { value = law.call_written host key h values } else h).read_only ≡ h.read_only
+  at true = refl
+  at false = refl
+
+after_flag : {H : Type 0} (law : Law H) (host : H) (key : ℕ) (values : List Tree) (x : Option Held) →
+    SameFlag x (receiver_after law host key x values)
+after_flag law host key values None = tt
+after_flag law host key values (Some h) = written_flag law host key values h
+
+-- what was lent to the host has its flag
+pub heard_flag : {H : Type 0} (law : Law H) (host : H) (key : ℕ) (x : Option Held) (values : List Tree)
+    (p : Position) (n : StepsView) (o : Result Dynamic EvalAltResult) (n' : StepsView) (host' : H)
+    (left : Option Held) → HearsHost law host key x values p n o n' host' left → SameFlag x left
+heard_flag law host key x values p n (Ok v) n' host' left did =
+    subst (SameFlag x) (sym did.2) (after_flag law host key values x)
+heard_flag law host key x values p n (Err e) n' host' left (inl memory) =
+    subst (SameFlag x) (sym memory.2) (same_flag x)
+heard_flag law host key x values p n (Err e) n' host' left (inr did) =
+    subst (SameFlag x) (sym did.4) (after_flag law host key values x)
