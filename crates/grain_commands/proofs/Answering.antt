@@ -36,7 +36,8 @@ answers_refusal s e (Ok x) status text other complete first =
     rw (status, text) (refused refl (λ p. other (complete p)) (is_refusal s.parts e other first))
 
 pub answers_end : (s : ListingView) (r : Result Reply OutOfMemory) → IsProgram s.parts →
-    IfOk r (λ x. Reported s.parts (engine_of s.limits s.fast_operators) (start s.scope s.host)
+    IfOk r (λ x. Reported s.parts (engine_of s.limits s.fast_operators s.strict_properties)
+    (start s.scope s.host)
     x.status x.text) →
     IfOk r (λ x. Replies (Ok s) x.status x.text)
 answers_end s (Err m) valid told = tt

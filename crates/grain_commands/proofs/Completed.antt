@@ -31,11 +31,13 @@ same_set_up said s t one other = cc
 
 -- the end that is reported is the end that the program means
 same_report : MeansOne → (s : ListingView) (end : Finish TableHost) (n status : ℕ) (text : List ℕ) →
-    Means table_law s.parts (engine_of s.limits s.fast_operators) (start s.scope s.host) end n →
-    Reported s.parts (engine_of s.limits s.fast_operators) (start s.scope s.host) status text →
+    Means table_law s.parts (engine_of s.limits s.fast_operators s.strict_properties)
+    (start s.scope s.host) end n →
+    Reported s.parts (engine_of s.limits s.fast_operators s.strict_properties)
+    (start s.scope s.host) status text →
     (status ≡ status_of end.answer) × (text ≡ report end)
 same_report law s end n status text means told =
-    let one = law s.parts (engine_of s.limits s.fast_operators)
+    let one = law s.parts (engine_of s.limits s.fast_operators s.strict_properties)
     (start s.scope s.host) end told.end n told.instructions means told.means in (
       told.number ∙ ap (λ (x : Finish TableHost). status_of x.answer) (sym one.0),
       told.written ∙
@@ -45,7 +47,8 @@ same_report law s end n status text means told =
 same_end : MeansOne → (said : Result ListingView BadLine) (s : ListingView) (end : Finish TableHost)
     (n status : ℕ)
     (text : List ℕ) → said ≡ Ok s → IsProgram s.parts →
-    Means table_law s.parts (engine_of s.limits s.fast_operators) (start s.scope s.host) end n →
+    Means table_law s.parts (engine_of s.limits s.fast_operators s.strict_properties)
+    (start s.scope s.host) end n →
     Replies said status text →
     (status ≡ status_of end.answer) × (text ≡ report end)
 same_end law said s end n status text is valid means (no_listing e) = absurd cc
@@ -53,7 +56,7 @@ same_end law said s end n status text is valid means (refused {s = t} e invalid 
     absurd (invalid (subst (λ (x : ListingView). IsProgram x.parts) (same_set_up said t s e is) valid))
 same_end law said s end n status text is valid means (reported {s = t} e v h) =
     same_report law s end n status text means
-    (subst (λ (x : ListingView). Reported x.parts (engine_of x.limits x.fast_operators)
+    (subst (λ (x : ListingView). Reported x.parts (engine_of x.limits x.fast_operators x.strict_properties)
     (start x.scope x.host) status text)
     (same_set_up said s t is e) h)
 

@@ -1,5 +1,5 @@
 -- A call of the machine, as the end that the program means.
-use Rattle.std.proofs.Common.{◌≡◌, ◌≢◌, ◌++◌, ℕ, Bool, false, List, [], Result, Ok, Err, IfOk, refl, ap, ◌∙◌}
+use Rattle.std.proofs.Common.{◌≡◌, ◌≢◌, ◌++◌, ℕ, Bool, List, [], Result, Ok, Err, IfOk, refl, ap, ◌∙◌}
 use Rattle.grain_value.specs.declared.memory.OutOfMemory.{OutOfMemory}
 use Rattle.grain_value.specs.declared.values.Dynamic.{Dynamic}
 use Rattle.grain_value.specs.declared.values.Limits.{Limits}
@@ -40,12 +40,10 @@ abbrev pub EndsAs : (Answer → Finish TableHost) → List ℕ → List Fault �
 EndsAs finish printed trace cells = (a : Answer) → ((finish a).answer ≡ a) ×
     ((finish a).trace ≡ trace) × ((finish a).host.printed ≡ printed) × ((finish a).cells ≡ cells)
 
--- an engine whose flag is written
-pub engine_is : (e : Engine) (l : Limits) (fast : Bool) → e.limits ≡ l →
-    e.strict_properties ≡ false → record e { fast_operators = fast } ≡ engine_of l fast
-engine_is e l fast limits lax =
-    ap (λ (x : Limits). record (engine_of x fast) { strict_properties = e.strict_properties }) limits ∙
-    ap (λ (b : Bool). record (engine_of l fast) { strict_properties = b }) lax
+-- an engine whose flags are written
+pub engine_is : (e : Engine) (l : Limits) (fast strict : Bool) → e.limits ≡ l →
+    record e { fast_operators = fast; strict_properties = strict } ≡ engine_of l fast strict
+engine_is e l fast strict limits = ap (λ (x : Limits). engine_of x fast strict) limits
 
 pub begin_is : (scope : List Entry) (cells : List Cell) (host : TableHost) (m : VmView)
     (e : Engine) → cells ≡ [] →

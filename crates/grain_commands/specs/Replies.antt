@@ -40,7 +40,8 @@ pub data Replies (said : Result ListingView BadLine) : ℕ → List ℕ → Type
       IsRefusal s.parts r → Replies said 4 (refusal_text r)
   -- its program is run
   reported : {s : ListingView} {status : ℕ} {text : List ℕ} → said ≡ Ok s → IsProgram s.parts →
-      Reported s.parts (engine_of s.limits s.fast_operators) (start s.scope s.host) status text →
+      Reported s.parts (engine_of s.limits s.fast_operators s.strict_properties)
+      (start s.scope s.host) status text →
       Replies said status text
 
 -- what is answered to the words and to the bytes of the source, if it says them

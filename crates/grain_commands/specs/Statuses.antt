@@ -16,14 +16,15 @@ use Rattle.grain_commands.specs.Runs.{engine_of, start}
 use Rattle.grain_streams.specs.Streams.{Rose, IsSpent, added, PartAdded}
 use Rattle.grain_listing.specs.declared.reasons.BadLine.{BadLine}
 
--- the bytes are a listing whose parts are a program, and with the listing's limits, flag, scope and
+-- the bytes are a listing whose parts are a program, and with the listing's limits, flags, scope and
 -- host the program means this end
 pub record RunEnds (bytes : List ℕ) (end : Finish TableHost) : Type 0 where
   pub set_up : ListingView
   pub said : reads bytes ≡ Ok set_up
   pub valid : IsProgram set_up.parts
   pub instructions : ℕ
-  pub means : Means table_law set_up.parts (engine_of set_up.limits set_up.fast_operators)
+  pub means : Means table_law set_up.parts
+      (engine_of set_up.limits set_up.fast_operators set_up.strict_properties)
       (start set_up.scope set_up.host) end instructions
 
 -- the bytes are a listing whose parts are no program: this is the first rule that they break

@@ -23,16 +23,18 @@ fn run_program<L: Ledger>(
     program: &Program,
     limits: Limits,
     fast_operators: bool,
+    strict_properties: bool,
     host: TableHost,
     scope: Scope,
     steps: &mut Steps<L>,
 ) -> Result<Reply, OutOfMemory>
     requires { 0 < limits.operations }
-    ensures { IfOk result (λ r. Reported program.now (engine_of limits fast_operators)
-        (start scope host) r.status r.text) }
+    ensures { IfOk result (λ r. Reported program.now (engine_of limits fast_operators
+        strict_properties) (start scope host) r.status r.text) }
 {
     let mut engine = Engine::new(alloc, limits);
     engine.fast_operators = fast_operators;
+    engine.strict_properties = strict_properties;
     let mut vm = Vm::new(alloc, &engine)?;
     let mut scope = scope;
     let mut cells = Store::new(alloc);
@@ -56,12 +58,22 @@ fn run_set_up<L: Ledger>(
         parts,
         limits,
         fast_operators,
+        strict_properties,
         host,
         scope,
     } = setup;
     match verify(alloc, parts) {
         Err(refusal) => refused(alloc, refusal),
-        Ok(program) => run_program(alloc, &program, limits, fast_operators, host, scope, steps),
+        Ok(program) => run_program(
+            alloc,
+            &program,
+            limits,
+            fast_operators,
+            strict_properties,
+            host,
+            scope,
+            steps,
+        ),
     }
 }
 

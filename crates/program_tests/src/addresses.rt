@@ -84,7 +84,7 @@ fn lines_are_found_or_not(rt: HostRuntime) -> Result<(), OutOfMemory> {
         (
             Some("0:7"),
             1,
-            "0:7\tno slots in the instruction of line 3\n",
+            "0:7\tno slot is looked up in the instruction of line 3\n",
         ),
     ];
     for (word, status, text) in rows {

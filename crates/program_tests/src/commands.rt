@@ -104,7 +104,7 @@ fn check(
 #[test]
 fn words_and_lines_that_are_not_there(rt: HostRuntime) -> Result<(), OutOfMemory> {
     let not_built = Call {
-        listing: "grain 1\nchain 1\n",
+        listing: "grain 1\nswitch 1\n",
         ..RUN
     };
     let text = "listing line 2: not built\n";

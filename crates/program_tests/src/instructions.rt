@@ -10,7 +10,8 @@ const LINES: &str = "grain 1\nmain 1\n\
     store_shared 513\ndeclare_local 513\ndeclare_const 513\nassign_local 513 1027\n\
     assign_local_op 513 1027 1541\nload_shared 513\nshare 513\nis_shared\npop\nrotate 1\n\
     jump 67305985\njump_if_false 67305985\njump_if_true 67305985\nskip_if_not_unit 67305985\n\
-    call 513 3\ncall_op 513 3 1284\nmake_closure 513\ncurry 1\ncall_fn_ptr 1\nunwind_to 513\n\
+    call 513 3\ncall_op 513 3 1284\nmake_closure 513\ncurry 1\ncall_fn_ptr 1\nchain 513\n\
+    unwind_to 513\n\
     tick\ncheckpoint\nstatement 513\npush_handler 67305985\npush_handler_var 67305985 1541\n\
     pop_handler\nthrow\nreturn\nend\n";
 
@@ -19,7 +20,8 @@ const BYTES: &[u8] = b"\x01\x01\x02\x02\x03\x04\x05\x01\x02\x06\x01\x02\x07\x01\
     \x08\x01\x02\x0d\x01\x02\x0e\x01\x02\x10\x01\x02\x03\x04\
     \x11\x01\x02\x03\x04\x05\x06\x17\x01\x02\x18\x01\x02\x1a\x1b\x1c\x01\
     \x1d\x01\x02\x03\x04\x1e\x01\x02\x03\x04\x1f\x01\x02\x03\x04\x20\x01\x02\x03\x04\
-    \x22\x01\x02\x03\x23\x01\x02\x03\x04\x05\x27\x01\x02\x29\x01\x2a\x01\x38\x01\x02\
+    \x22\x01\x02\x03\x23\x01\x02\x03\x04\x05\x27\x01\x02\x29\x01\x2a\x01\x37\x01\x02\
+    \x38\x01\x02\
     \x39\x3a\x3b\x01\x02\x3c\x01\x02\x03\x04\x3d\x01\x02\x03\x04\x05\x06\
     \x3e\x49\x4a";
 
@@ -30,7 +32,7 @@ const OPS: &str = "\
     AssignLocalOp(513, 1027, 1541)\nLoadShared(513)\nShare(513)\nIsShared\nPop\nRotate(1)\n\
     Jump(67305985)\nJumpIfFalse(67305985)\nJumpIfTrue(67305985)\nSkipIfNotUnit(67305985)\n\
     Call(513, 3)\nCallOp(513, 3, 1284)\nMakeClosure(513)\nCurry(1)\nCallFnPtr(1)\n\
-    UnwindTo(513)\nTick\nCheckpoint\nStatement(513)\nPushHandler(67305985)\n\
+    Chain(513)\nUnwindTo(513)\nTick\nCheckpoint\nStatement(513)\nPushHandler(67305985)\n\
     PushHandlerVar(67305985, 1541)\nPopHandler\nThrow\nReturn\n";
 
 #[test]
@@ -44,7 +46,7 @@ fn lines_and_bytes_of_instructions(rt: HostRuntime) -> Result<(), Fail> {
     let mut ops = Vec::new(alloc);
     let mut written = String::new(alloc);
     let mut address = 0usize;
-    for _ in 0..35u32 {
+    for _ in 0..36u32 {
         let Some((op, width)) = decode(code, address) else {
             return Err("no instruction".into());
         };

@@ -129,6 +129,30 @@ fn full_pools(rt: HostRuntime) -> Result<(), OutOfMemory> {
     check_rows(&rt, rt.alloc(), &FULL_POOLS)
 }
 
+const FULL_CHAINS: [Row; 2] = [
+    (
+        "grain 1\n",
+        "chain 0 temporary read\n",
+        65_536,
+        "chain x",
+        65_538,
+        "too many",
+    ),
+    (
+        "grain 1\nchain 0 temporary read\n",
+        "step property 0 0 0\n",
+        65_536,
+        "step x",
+        65_539,
+        "too many",
+    ),
+];
+
+#[test]
+fn full_chains(rt: HostRuntime) -> Result<(), OutOfMemory> {
+    check_rows(&rt, rt.alloc(), &FULL_CHAINS)
+}
+
 const LONG_LINES: [Row; 10] = [
     (
         "grain 1\nmain 1\nend\nfn 0 1",
@@ -212,9 +236,8 @@ fn long_lines(rt: HostRuntime) -> Result<(), OutOfMemory> {
 
 /// Lines of later versions of the format, up to the word that decides.
 const LATER_LINES: &str = "\
-    chain \"x\"\nstep\nswitch\ncase\nrange\nrange=\nsite\ninput\nfragment\nmodule\nitem\nvar\n\
+    switch\ncase\nrange\nrange=\nsite\ninput\nfragment\nmodule\nitem\nvar\n\
     answer\nforbid\nchunk 1\nlimit modules 1\nlimit array x\nlimit map 1\nflag shadowing off\n\
-    flag strict on on\n\
     load_named\nload_shared_named\nassign_named\nassign_named_op\ndeclare_global_const\n\
     load_this\nload_this_shared\nrequire_this\nassign_this\nassign_this_op\nshare_named\n\
     call_local_ref\ncall_named_ref\ncall_this_ref\nmake_fn_ptr\ncall_fn_ptr_capture\n\
@@ -270,6 +293,7 @@ fn limits_without_lines(rt: HostRuntime) -> Result<(), OutOfMemory> {
     };
     assert_eq!(rt; setup.limits, limits);
     assert!(rt; setup.fast_operators);
+    assert!(rt; !setup.strict_properties);
     assert!(rt; setup.parts.source.is_none());
     Ok(())
 }

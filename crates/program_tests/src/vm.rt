@@ -108,3 +108,43 @@ fn an_exit_two_calls_deep_cuts_the_scope(rt: HostRuntime) -> Result<(), Fail> {
     assert_eq!(rt; ended.global.level, 0);
     Ok(())
 }
+
+/// A listing whose variable becomes an array of itself 1,024 times, and which then reads what stands
+/// this many steps inside it.
+fn deep_listing(alloc: Global, steps: u32) -> Result<String, OutOfMemory> {
+    let mut text = String::from_str(
+        alloc,
+        "grain 1\nconst [0]\nconst 0\nconst 1024\nconst 1\nname \"v\"\nname \"i\"\nname \"+=\"\nname \"+\"\n\
+        name \"<=\"\nop \"+=\"\nop \"+\"\nop \"<=\"\nassign 0 2 1 3\n\
+        chain 1 local 0 0 assign\nstep index 0\nchain 1 local 0 0 read\n",
+    )?;
+    for _ in 0..steps {
+        text.push_str("step index 0\n")?;
+    }
+    text.push_str(
+        "main 4\nload_const 0\ndeclare_local 0\nload_const 3\ndeclare_local 1\n\
+        top:\nload_local 1\nload_const 2\ncall_op 4 2 2\njump_if_false done\n\
+        load_local 0\nload_const 1\nchain 0\npop\nload_const 3\nassign_local_op 1 1 0\njump top\n\
+        done:\nload_const 1\nchain 1\nreturn\nend\n",
+    )?;
+    Ok(text)
+}
+
+#[test]
+fn no_place_is_deeper_than_1024_steps(rt: HostRuntime) -> Result<(), Fail> {
+    let Some(ended) = run_of(rt.alloc(), deep_listing(rt.alloc(), 1024)?.as_str())? else {
+        return Err("refused".into());
+    };
+    match &ended.answer {
+        Ok(Dynamic::Array(inner)) => assert_eq!(rt; inner.len(), 1),
+        _ => return Err("no array".into()),
+    }
+    let Some(ended) = run_of(rt.alloc(), deep_listing(rt.alloc(), 1025)?.as_str())? else {
+        return Err("refused".into());
+    };
+    match &ended.answer {
+        Err(fault) => assert_eq!(rt; fault.name(), "Memory"),
+        Ok(_) => return Err("a value".into()),
+    }
+    Ok(())
+}

@@ -18,11 +18,11 @@ shipped_list = listed (codes "plum") (pos 250) (listed (codes "pear") (pos 120) 
 -- budget of 50 operations
 abbrev pub ReportedOver : ExampleHost → Rule → List ℕ → Type 0
 ReportedOver host.Table r text =
-    Reported table_law printed_by r.program (engine_of r.limits r.fast_operators)
+    Reported table_law printed_by r.program (engine_of r.limits r.fast_operators r.strict_properties)
     (start r.scope r.host) text
 ReportedOver host.Prices r text =
-    Reported price_law charged_to r.program (engine_of r.limits r.fast_operators)
+    Reported price_law charged_to r.program (engine_of r.limits r.fast_operators r.strict_properties)
     (start r.scope shipped_list) text
 ReportedOver host.Budget r text =
-    Reported budget_law left_of r.program (engine_of r.limits r.fast_operators)
+    Reported budget_law left_of r.program (engine_of r.limits r.fast_operators r.strict_properties)
     (start r.scope (budget_of 50)) text

@@ -31,8 +31,8 @@ capped limits = record {
   map = limits.map;
 }
 
--- what the bytes read to is this rule: a valid program, with its limits, its flag, its host and its
--- scope
+-- what the bytes read to is this rule: a valid program, with its limits, its flags, its host and
+-- its scope
 pub record IsRule (said : Result ListingView BadLine) (rule : Rule) : Type 0 where
   pub set_up : ListingView
   pub read : said ≡ Ok set_up
@@ -40,6 +40,7 @@ pub record IsRule (said : Result ListingView BadLine) (rule : Rule) : Type 0 whe
   pub valid : IsProgram set_up.parts
   pub limited : rule.limits ≡ capped set_up.limits
   pub flagged : rule.fast_operators ≡ set_up.fast_operators
+  pub strict : rule.strict_properties ≡ set_up.strict_properties
   pub hosted : rule.host ≡ set_up.host
   pub begun : rule.scope ≡ set_up.scope
 
@@ -49,12 +50,12 @@ IsReason said (NoListing bad) = said ≡ Err bad
 IsReason said (Refused refusal) = (s : ListingView) × (said ≡ Ok s) × IsRefusal s.parts refusal
 IsReason said OutOfMemory = ⊤
 
--- limits, and whether operators are fast
-abbrev pub engine_of : Limits → Bool → Engine
-engine_of limits fast_operators = record {
+-- limits, and whether operators are fast and properties strict
+abbrev pub engine_of : Limits → Bool → Bool → Engine
+engine_of limits fast_operators strict_properties = record {
   limits = limits;
   fast_operators = fast_operators;
-  strict_properties = false;
+  strict_properties = strict_properties;
 }
 
 -- The scope, without cells, with a host. Nothing was run before.

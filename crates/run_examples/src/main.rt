@@ -67,7 +67,7 @@ fn report_of<L: Ledger>(
 ) -> Result<Text, OutOfMemory>
     requires { 0 < rule.limits.operations }
     ensures { IfOk result (Reported table_law printed_by rule.program
-        (engine_of rule.limits rule.fast_operators) (start rule.scope rule.host)) }
+        (engine_of rule.limits rule.fast_operators rule.strict_properties) (start rule.scope rule.host)) }
 {
     let mut host = rule.host;
     let mut scope = rule.scope;
@@ -76,6 +76,7 @@ fn report_of<L: Ledger>(
         &rule.program,
         rule.limits,
         rule.fast_operators,
+        rule.strict_properties,
         &mut host,
         &mut scope,
         steps,
@@ -102,7 +103,7 @@ fn charges_of<L: Ledger>(
 ) -> Result<Text, OutOfMemory>
     requires { 0 < rule.limits.operations }
     ensures { IfOk result (Reported price_law charged_to rule.program
-        (engine_of rule.limits rule.fast_operators) (start rule.scope list)) }
+        (engine_of rule.limits rule.fast_operators rule.strict_properties) (start rule.scope list)) }
 {
     let mut list = list;
     let mut scope = rule.scope;
@@ -111,6 +112,7 @@ fn charges_of<L: Ledger>(
         &rule.program,
         rule.limits,
         rule.fast_operators,
+        rule.strict_properties,
         &mut list,
         &mut scope,
         steps,
@@ -138,7 +140,7 @@ fn budget_report<L: Ledger>(
 ) -> Result<Text, OutOfMemory>
     requires { 0 < rule.limits.operations }
     ensures { IfOk result (Reported budget_law left_of rule.program
-        (engine_of rule.limits rule.fast_operators) (start rule.scope budget)) }
+        (engine_of rule.limits rule.fast_operators rule.strict_properties) (start rule.scope budget)) }
 {
     let mut budget = budget;
     let mut scope = rule.scope;
@@ -147,6 +149,7 @@ fn budget_report<L: Ledger>(
         &rule.program,
         rule.limits,
         rule.fast_operators,
+        rule.strict_properties,
         &mut budget,
         &mut scope,
         steps,

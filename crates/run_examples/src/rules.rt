@@ -28,6 +28,8 @@ pub struct Rule {
     pub limits: Limits,
     /// Whether an operator goes to its built-in before any other function.
     pub fast_operators: bool,
+    /// Whether a property that is not there is a fault.
+    pub strict_properties: bool,
     /// The host in memory with which its run begins.
     pub host: TableHost,
     /// The scope in which its run begins.
@@ -105,6 +107,7 @@ fn verified(alloc: Global, setup: Listing) -> Result<Rule, RuleError>
         parts,
         limits,
         fast_operators,
+        strict_properties,
         host,
         scope,
     } = setup;
@@ -113,6 +116,7 @@ fn verified(alloc: Global, setup: Listing) -> Result<Rule, RuleError>
             program,
             limits: capped(limits),
             fast_operators,
+            strict_properties,
             host,
             scope,
         }),
@@ -133,24 +137,26 @@ pub fn load(alloc: Global, listing: &[u8]) -> Result<Rule, RuleError>
     }
 }
 
-/// Runs a program within limits, with operators that are fast or not, over a host and on a scope,
-/// which then holds what the run left. At least one operation is allowed.
+/// Runs a program within limits, with operators that are fast or not and properties that are strict
+/// or not, over a host and on a scope, which then holds what the run left. At least one operation is allowed.
 pub fn run<H: Host, L: Ledger>(
     alloc: Global,
     program: &Program,
     limits: Limits,
     fast_operators: bool,
+    strict_properties: bool,
     host: &mut H,
     scope: &mut Scope,
     steps: &mut Steps<L>,
 ) -> Result<Outcome, OutOfMemory>
     requires { 0 < limits.operations }
-    ensures { IfOk result (λ o. Ran H.law program.now (engine_of limits fast_operators)
-        (start scope.old host.old) scope.new o.cells host.new o.result
+    ensures { IfOk result (λ o. Ran H.law program.now (engine_of limits fast_operators
+        strict_properties) (start scope.old host.old) scope.new o.cells host.new o.result
         o.trace.items) }
 {
     let mut engine = Engine::new(alloc, limits);
     engine.fast_operators = fast_operators;
+    engine.strict_properties = strict_properties;
     let mut vm = Vm::new(alloc, &engine)?;
     let mut cells = Store::new(alloc);
     let result = vm.eval_with_callbacks(alloc, host, &mut cells, scope, program, steps);

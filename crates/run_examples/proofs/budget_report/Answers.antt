@@ -8,7 +8,7 @@ pub returns : goal.returns
 returns g c =
     let outcome = c.in_ok-outcome.outcome in
     reported budget_law left_of c.args.rule.program
-    (engine_of c.args.rule.limits c.args.rule.fast_operators)
+    (engine_of c.args.rule.limits c.args.rule.fast_operators c.args.rule.strict_properties)
     (start c.args.rule.scope c.args.budget) c.run.new.scope outcome.cells c.run.new.host
     c.in_ok-said.said outcome.result outcome.trace.items c.in_ok-outcome.ensures
     c.in_ok-said.ensures c.report.result c.report.ensures

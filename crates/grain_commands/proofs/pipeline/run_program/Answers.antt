@@ -9,12 +9,15 @@ use Rattle.grain_commands.proofs.pipeline.run_program.Goals as goal
 
 pub returns-in-Ok : goal.returns-in-Ok
 returns-in-Ok g c =
-    let under : Engine = engine_of c.args.limits c.args.fast_operators in
+    let under : Engine = engine_of c.args.limits c.args.fast_operators c.args.strict_properties in
     let first : Begin TableHost = start c.args.scope c.args.host in
-    let written : Engine = record c.new-engine.result { fast_operators = c.args.fast_operators } in
+    let written : Engine = record c.new-engine.result {
+      fast_operators = c.args.fast_operators;
+      strict_properties = c.args.strict_properties;
+    } in
     let engine : c.in_ok-vm.vm.engine ≡ under = ap (λ m. m.engine) c.in_ok-vm.ensures ∙
-    engine_is c.new-engine.result c.args.limits c.args.fast_operators c.new-engine.ensures.limits
-    c.new-engine.ensures.properties in
+    engine_is c.new-engine.result c.args.limits c.args.fast_operators c.args.strict_properties
+    c.new-engine.ensures.limits in
     let begun : begin c.args.scope c.new-cells.result c.args.host c.in_ok-vm.vm.global ≡ first =
     begin_is c.args.scope c.new-cells.result c.args.host c.in_ok-vm.vm written c.new-cells.ensures
     c.in_ok-vm.ensures in
@@ -25,18 +28,22 @@ returns-in-Ok g c =
     (finish c.eval_with_callbacks.new.self.trace c.eval_with_callbacks.new.scope
     c.eval_with_callbacks.new.cells c.eval_with_callbacks.new.host
     c.eval_with_callbacks.new.self.global) c.eval_with_callbacks.new.host.printed
-    c.eval_with_callbacks.new.self.trace c.eval_with_callbacks.new.cells run.0 c.value_reply.result engine begun
+    c.eval_with_callbacks.new.self.trace c.eval_with_callbacks.new.cells run.0
+    c.value_reply.result engine begun
     (λ a. (refl, refl, refl, refl))
     run.1.0 c.value_reply.ensures.status text
 
 pub returns : goal.returns
 returns g c =
-    let under : Engine = engine_of c.args.limits c.args.fast_operators in
+    let under : Engine = engine_of c.args.limits c.args.fast_operators c.args.strict_properties in
     let first : Begin TableHost = start c.args.scope c.args.host in
-    let written : Engine = record c.new-engine.result { fast_operators = c.args.fast_operators } in
+    let written : Engine = record c.new-engine.result {
+      fast_operators = c.args.fast_operators;
+      strict_properties = c.args.strict_properties;
+    } in
     let engine : c.in_ok-vm.vm.engine ≡ under = ap (λ m. m.engine) c.in_ok-vm.ensures ∙
-    engine_is c.new-engine.result c.args.limits c.args.fast_operators c.new-engine.ensures.limits
-    c.new-engine.ensures.properties in
+    engine_is c.new-engine.result c.args.limits c.args.fast_operators c.args.strict_properties
+    c.new-engine.ensures.limits in
     let begun : begin c.args.scope c.new-cells.result c.args.host c.in_ok-vm.vm.global ≡ first =
     begin_is c.args.scope c.new-cells.result c.args.host c.in_ok-vm.vm written c.new-cells.ensures
     c.in_ok-vm.ensures in
@@ -47,6 +54,7 @@ returns g c =
     (finish c.eval_with_callbacks.new.self.trace c.eval_with_callbacks.new.scope
     c.eval_with_callbacks.new.cells c.eval_with_callbacks.new.host
     c.eval_with_callbacks.new.self.global) c.eval_with_callbacks.new.host.printed
-    c.eval_with_callbacks.new.self.trace c.eval_with_callbacks.new.cells run.0 c.fault_reply.result engine begun
+    c.eval_with_callbacks.new.self.trace c.eval_with_callbacks.new.cells run.0
+    c.fault_reply.result engine begun
     (λ a. (refl, refl, refl, refl))
     run.1.0 c.fault_reply.ensures.status text c.fault_reply.ensures.memory

@@ -1,4 +1,4 @@
-use Rattle.std.proofs.Common.{◌≡◌, ◌∙◌, ℕ, Bool, false, List, [], Result, ap}
+use Rattle.std.proofs.Common.{◌≡◌, ◌∙◌, ℕ, Bool, List, [], Result, ap}
 use Rattle.grain_value.specs.declared.values.Dynamic.{Dynamic}
 use Rattle.grain_value.specs.declared.values.Limits.{Limits}
 use Rattle.grain_value.specs.declared.scopes.Entry.{Entry}
@@ -14,12 +14,10 @@ use Rattle.grain_means.specs.Means.{Begin, Evaluates}
 use Rattle.run_examples.specs.Rules.{engine_of, start, Ran}
 use Rattle.run_examples.proofs.rules.run.Goals as goal
 
--- an engine whose flag is written
-engine_is : (e : Engine) (l : Limits) (fast : Bool) → e.limits ≡ l →
-    e.strict_properties ≡ false → record e { fast_operators = fast } ≡ engine_of l fast
-engine_is e l fast limits lax =
-    ap (λ (x : Limits). record (engine_of x fast) { strict_properties = e.strict_properties }) limits ∙
-    ap (λ (b : Bool). record (engine_of l fast) { strict_properties = b }) lax
+-- an engine whose flags are written
+engine_is : (e : Engine) (l : Limits) (fast strict : Bool) → e.limits ≡ l →
+    record e { fast_operators = fast; strict_properties = strict } ≡ engine_of l fast strict
+engine_is e l fast strict limits = ap (λ (x : Limits). engine_of x fast strict) limits
 
 begin_is : {S : Type 0} (scope : List Entry) (cells : List Cell) (host : S) (m : VmView)
     (e : Engine) → cells ≡ [] →
@@ -46,16 +44,20 @@ pub returns : goal.returns
 returns g c =
     let vm = c.in_ok-vm.vm in
     let call = c.eval_with_callbacks-result in
-    let written : Engine = record c.new-engine.result { fast_operators = c.args.fast_operators } in
+    let written : Engine = record c.new-engine.result {
+      fast_operators = c.args.fast_operators;
+      strict_properties = c.args.strict_properties;
+    } in
     let engine = ap (λ (m : VmView). m.engine) c.in_ok-vm.ensures ∙
-    engine_is c.new-engine.result c.args.limits c.args.fast_operators
-    c.new-engine.ensures.limits c.new-engine.ensures.properties in
+    engine_is c.new-engine.result c.args.limits c.args.fast_operators c.args.strict_properties
+    c.new-engine.ensures.limits in
     let begun =
     begin_is c.args.scope.now c.new-cells.result c.args.host.now vm written c.new-cells.ensures
     c.in_ok-vm.ensures in
     let trace : c.in_ok-trace.trace.items ≡ call.new.self.trace = c.in_ok-trace.ensures.items ∙
     c.fault_trace.ensures in
-    ran g.H.Host.law c.args.program.now (engine_of c.args.limits c.args.fast_operators)
+    ran g.H.Host.law c.args.program.now
+    (engine_of c.args.limits c.args.fast_operators c.args.strict_properties)
     (start c.args.scope.now c.args.host.now) call.new.scope call.result vm.engine
     (begin c.args.scope.now c.new-cells.result c.args.host.now vm.global) call.new.self
     call.new.cells call.new.host c.in_ok-trace.trace.items
