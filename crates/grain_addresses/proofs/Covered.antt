@@ -63,6 +63,8 @@ one_held (kinds.Code width position) w l rest a low more =
 one_held kinds.Main w l rest a low more = more low
 one_held kinds.Function w l rest a low more = more low
 one_held kinds.End w l rest a low more = more low
+one_held kinds.Chain w l rest a low more = more low
+one_held (kinds.Step slots) w l rest a low more = more low
 one_held kinds.Other w l rest a low more = more low
 
 held : (w : Walk) (ls : List (List ℕ)) (a : ℕ) → w.address ≤ a → a < (last w ls).address →
@@ -77,6 +79,8 @@ rises (kinds.Code width position) w = omega arith
 rises kinds.Main w = omega arith
 rises kinds.Function w = omega arith
 rises kinds.End w = omega arith
+rises kinds.Chain w = omega arith
+rises (kinds.Step slots) w = omega arith
 rises kinds.Other w = omega arith
 
 grows : (w : Walk) (ls : List (List ℕ)) → w.address ≤ (last w ls).address
@@ -94,6 +98,8 @@ one_past (kinds.Code width position) w l rest a h none =
 one_past kinds.Main w l rest a h none = none
 one_past kinds.Function w l rest a h none = none
 one_past kinds.End w l rest a h none = none
+one_past kinds.Chain w l rest a h none = none
+one_past (kinds.Step slots) w l rest a h none = none
 one_past kinds.Other w l rest a h none = none
 
 none_past : (w : Walk) (ls : List (List ℕ)) (a : ℕ) → (last w ls).address ≤ a →

@@ -10,15 +10,17 @@ use Rattle.grain_program.specs.InstructionSet.{tag_of, fields_of}
 use Rattle.grain_words.specs.Words.{is_over, trim_start, ends_word, up_to, onward_from, quoted, whole, behind, bare, skipped, next_word, after_word}
 use Rattle.grain_words.specs.Numerals.{number, begins_letter, is_empty}
 use Rattle.grain_literals.specs.Steps.{and_then, present}
-use Rattle.grain_literals.specs.Operands.{behind_name, after_name, alone, number_operand, position_after, byte_of}
+use Rattle.grain_literals.specs.Operands.{behind_name, after_name, alone, number_operand, index, position_after, byte_of}
 use Rattle.grain_literals.specs.Literals.{constant_of, text_of, token_of, entry_of}
 use Rattle.grain_literals.specs.declared.reasons.Reason.{Reason}
-use Rattle.grain_literals.specs.declared.reasons.Reason.TheVariants.{MissingHeader, UnknownWord, OutOfPlace, TooMany, BadOperand, LabelTwice}
+use Rattle.grain_literals.specs.declared.reasons.Reason.TheVariants.{MissingHeader, UnknownWord, OutOfPlace, TooMany, NotBuilt, BadOperand, LabelTwice}
 use Rattle.grain_listing.specs.Settings.{capability_bits, capabilities}
 use Rattle.grain_listing.specs.Flags.{flag_of}
 use Rattle.grain_listing.specs.HostLines.{fail_of, stop_of}
 use Rattle.grain_listing.specs.Headers.{stack_of, assign_of, header_of, is_crowded}
-use Rattle.grain_listing.specs.ChainWords.{chain_of, step_of}
+use Rattle.grain_program.specs.Chains.{step_slots}
+use Rattle.grain_program.specs.declared.code.chains.Step.TheVariants as steps
+use Rattle.grain_listing.specs.ChainWords.{chain_of, step_of, step_named, index_step, index_ended, property_step, property_ended, flags_of, first_position, last_position}
 use Rattle.grain_listing.specs.Instructions
 use Rattle.grain_listing.specs.Instructions.{kinds_of}
 use Rattle.grain_listing.specs.Table.{line_of, own_line, stands, is_block}
@@ -28,7 +30,7 @@ use Rattle.grain_listing.specs.declared.table.Line.{Line}
 use Rattle.grain_listing.specs.declared.table.Line.TheVariants as lines
 use Rattle.grain_listing.specs.declared.table.Section.{Section}
 use Rattle.grain_listing.specs.declared.table.Section.TheVariants as sections
-use Rattle.grain_addresses.specs.Kinds.{fields_width, after_fields, position_or_none, instruction_kind, kind_of, kind_if, kind_begun, line_kind}
+use Rattle.grain_addresses.specs.Kinds.{fields_width, after_fields, position_or_none, instruction_kind, slots_begun, step_kind, kind_of, kind_if, kind_begun, line_kind}
 use Rattle.grain_addresses.specs.declared.kinds.LineKind.{LineKind}
 use Rattle.grain_addresses.specs.declared.kinds.LineKind.TheVariants as kinds
 
@@ -38,6 +40,8 @@ kind_said (code_line p ps at) = kinds.Code (width (p ∷ ps)) at
 kind_said (main_line n) = kinds.Main
 kind_said (fn_line h) = kinds.Function
 kind_said end_line = kinds.End
+kind_said (chain_line c) = kinds.Chain
+kind_said (step_line s) = kinds.Step (step_slots s)
 kind_said s = kinds.Other
 
 -- what is said, if anything is, gives this
@@ -234,6 +238,59 @@ byte_gives cs = at (number_operand 255 cs) (number_leaves cs) where
       (λ x. Ok (code_line (Byte x.0) [] x.1)))) left (byte_at a.0 (position_after a.1))
   at (Err e) left = tt
 
+-- what is read further on
+further : {A B : Type 0} (k : LineKind) (r : Result A Reason) (go : A → Result B Reason)
+    (say : B → Statement) → ((x : A) → Gives k (and_then (go x) (λ y. Ok (say y)))) →
+    Gives k (and_then (and_then r go) (λ y. Ok (say y)))
+further k (Ok x) go say h = h x
+further k (Err e) go say h = tt
+
+-- a step has a slot for each of its positions
+index_gives : (cs : List ℕ) →
+    Gives (kinds.Step 2) (and_then (index_step cs) (λ s. Ok (step_line s)))
+index_gives cs =
+    further (kinds.Step 2) (index cs) (λ a. index_ended a.0 (flags_of a.1)) (λ s. step_line s)
+    (λ a. let f = flags_of a.1 in
+    further (kinds.Step 2) (first_position f.1)
+    (λ p. and_then (last_position p.1) (λ q. Ok (steps.Index a.0 f.0 p.0 q))) (λ s. step_line s)
+    (λ p. further (kinds.Step 2) (last_position p.1) (λ q. Ok (steps.Index a.0 f.0 p.0 q))
+    (λ s. step_line s) (λ q. refl)))
+
+property_gives : (cs : List ℕ) →
+    Gives (kinds.Step 1) (and_then (property_step cs) (λ s. Ok (step_line s)))
+property_gives cs =
+    further (kinds.Step 1) (index cs)
+    (λ a. and_then (index a.1) (λ b. and_then (index b.1)
+    (λ c. property_ended a.0 b.0 c.0 (flags_of c.1)))) (λ s. step_line s)
+    (λ a. further (kinds.Step 1) (index a.1)
+    (λ b. and_then (index b.1) (λ c. property_ended a.0 b.0 c.0 (flags_of c.1))) (λ s. step_line s)
+    (λ b. further (kinds.Step 1) (index b.1) (λ c. property_ended a.0 b.0 c.0 (flags_of c.1))
+    (λ s. step_line s)
+    (λ c. let f = flags_of c.1 in
+    further (kinds.Step 1) (last_position f.1)
+    (λ p. Ok (steps.Property a.0 b.0 c.0 f.0 p)) (λ s. step_line s) (λ p. refl))))
+
+step_begun : (a : List ℕ × List ℕ) → Gives (kinds.Step (slots_begun (Some a)))
+    (and_then (step_named a.0 a.1) (λ s. Ok (step_line s)))
+unfolding step_named
+step_begun a = at (bytes_eq a.0 (codes "index")) (bytes_eq a.0 (codes "property"))
+    (bytes_eq a.0 (codes "method")) where
+      at : (i p m : Bool) → Gives (kinds.Step (cond i 2 1))
+          (and_then (cond i (index_step a.1) (cond p (property_step a.1)
+          (cond m (Err NotBuilt) (Err BadOperand)))) (λ s. Ok (step_line s)))
+      at true p m = index_gives a.1
+      at false true m = property_gives a.1
+      at false false true = tt
+      at false false false = tt
+
+step_gives : (cs : List ℕ) → Gives (step_kind cs) (and_then (step_of cs) (λ s. Ok (step_line s)))
+step_gives cs = at (next_word cs) where
+  at : (o : Option (List ℕ × List ℕ)) → Gives (kinds.Step (slots_begun o))
+      (and_then (and_then (present BadOperand o) (λ a. step_named a.0 a.1))
+      (λ s. Ok (step_line s)))
+  at None = tt
+  at (Some a) = step_begun a
+
 line_gives : (l : Line) (n : ℕ) (cs : List ℕ) (before : List Statement) →
     Gives (kind_of l cs) (statement l n cs before)
 line_gives lines.Header n cs before = tt
@@ -264,15 +321,14 @@ line_gives lines.Assign n cs before =
     (and_then (assign_of n cs) (λ a. Ok (assign_line a))) (Err TooMany)
     (step kinds.Other (assign_of n cs) (λ a. assign_line a) (λ x. refl)) tt
 line_gives lines.Chain n cs before =
-    either kinds.Other (nat_lt (length (chains before)) 65536)
+    either kinds.Chain (nat_lt (length (chains before)) 65536)
     (and_then (chain_of cs) (λ c. Ok (chain_line c))) (Err TooMany)
-    (step kinds.Other (chain_of cs) (λ c. chain_line c) (λ x. refl)) tt
+    (step kinds.Chain (chain_of cs) (λ c. chain_line c) (λ x. refl)) tt
 line_gives lines.Step n cs before =
     let read : Result Statement Reason = and_then (step_of cs) (λ s. Ok (step_line s)) in
     let room : Bool = nat_lt (length (last_steps (chains before))) 65536 in
-    either kinds.Other (is_chain_open before) (cond room read (Err TooMany)) (Err OutOfPlace)
-    (either kinds.Other room read (Err TooMany)
-    (step kinds.Other (step_of cs) (λ s. step_line s) (λ x. refl)) tt) tt
+    either (step_kind cs) (is_chain_open before) (cond room read (Err TooMany)) (Err OutOfPlace)
+    (either (step_kind cs) room read (Err TooMany) (step_gives cs) tt) tt
 line_gives lines.Entry n cs before =
     step kinds.Other (entry_of cs) (λ x. scope_line x) (λ x. refl)
 line_gives lines.Flag n cs before =

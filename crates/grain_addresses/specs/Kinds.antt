@@ -1,6 +1,6 @@
 -- What a line gives, by its words and by whether it stands in a block. It is what the line says,
 -- where the line is read.
-use Rattle.std.specs.Prelude.{ℕ, ◌+◌, ◌≤◌, Bool, List, [], ◌∷◌, Option, Some, None, Result, Ok, Err}
+use Rattle.std.specs.Prelude.{ℕ, ◌+◌, ◌≤◌, Bool, List, [], ◌∷◌, Option, Some, None, Result, Ok, Err, bytes_eq, codes, if◌then◌else◌}
 use Rattle.grain_fault.specs.declared.places.Position.{Position}
 use Rattle.grain_words.specs.Words.{next_word, after_word}
 use Rattle.grain_program.specs.declared.code.fields.Field.{Field}
@@ -31,6 +31,14 @@ abbrev pub instruction_kind : List Field → List ℕ → LineKind
 instruction_kind fs cs =
     kinds.Code (1 + fields_width fs) (position_or_none (position_after (after_fields fs cs)))
 
+-- how many slots a step has, by its first word
+abbrev pub slots_begun : Option (List ℕ × List ℕ) → ℕ
+slots_begun None = 1
+slots_begun (Some a) = if bytes_eq a.0 (codes "index") then 2 else 1
+
+abbrev pub step_kind : List ℕ → LineKind
+step_kind cs = kinds.Step (slots_begun (next_word cs))
+
 -- a line that begins with a word of the table, by what is left after the word
 abbrev pub kind_of : Line → List ℕ → LineKind
 kind_of lines.Main cs = kinds.Main
@@ -38,6 +46,8 @@ kind_of lines.Function cs = kinds.Function
 kind_of lines.Byte cs = kinds.Code 1 (position_or_none (position_after (after_word cs)))
 kind_of lines.End cs = kinds.End
 kind_of (lines.Instruction o) cs = instruction_kind (fields_of o) cs
+kind_of lines.Chain cs = kinds.Chain
+kind_of lines.Step cs = step_kind cs
 kind_of l cs = kinds.Other
 
 abbrev pub kind_if : Option Line → List ℕ → LineKind
@@ -52,7 +62,8 @@ kind_begun in_block (Some a) = kind_if (line_of in_block a.0) a.1
 abbrev pub line_kind : Bool → List ℕ → LineKind
 line_kind in_block cs = kind_begun in_block (next_word cs)
 
--- a line gives at most 13 bytes, and one of code at least one
+-- a line gives at most 13 bytes, and one of code at least one; and at most 2 slots
 abbrev pub IsNarrow : LineKind → Type 0
 IsNarrow (kinds.Code width position) = (1 ≤ width) × (width ≤ 13)
+IsNarrow (kinds.Step slots) = slots ≤ 2
 IsNarrow kind = Unit {0}

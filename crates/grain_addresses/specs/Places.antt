@@ -42,7 +42,7 @@ place_said l before (code_line p ps position) =
     } ∷ []
 place_said l before s = []
 
-abbrev pub on_said : Result Statement Reason → (Statement → List Place) → List Place
+abbrev pub on_said : {A : Type 0} → Result Statement Reason → (Statement → List A) → List A
 on_said (Ok s) go = go s
 on_said (Err e) go = []
 

@@ -7,6 +7,7 @@ use Rattle.grain_fault.specs.Places.{line_of, column_of}
 use Rattle.grain_fault.specs.declared.places.Position.{Position}
 use Rattle.grain_program.specs.declared.code.functions.Function.{Function}
 use Rattle.grain_addresses.specs.Places.{Place}
+use Rattle.grain_addresses.specs.StepLines.{StepLine}
 use Rattle.grain_addresses.specs.declared.blocks.Block.{Block}
 use Rattle.grain_addresses.specs.declared.blocks.Block.TheVariants as block
 use Rattle.grain_addresses.specs.declared.queries.Query.{Query}
@@ -71,10 +72,15 @@ query_text q = decimal q.address ++ slot_text q.slot
 abbrev pub of_line_text : ℕ → List ℕ
 of_line_text n = codes " of line " ++ decimal n ++ codes "\n"
 
--- a slot is asked for at the instruction that begins at the address: none is looked up so far
-abbrev pub no_slots_text : Query → Place → List ℕ
-no_slots_text q p =
-    query_text q ++ codes "\tno slot is looked up in the instruction" ++ of_line_text p.line
+-- the line of a step: what was asked for, the line's number, and the line itself
+abbrev pub step_text : Query → StepLine → List ℕ
+step_text q s =
+    query_text q ++ codes "\tline " ++ decimal s.line ++ codes "\t" ++ source_text s.text
+
+-- no step of the instruction that begins at the address has the slot
+abbrev pub no_step_text : Query → Place → List ℕ
+no_step_text q p =
+    query_text q ++ codes "\tno step has this slot in the instruction" ++ of_line_text p.line
 
 -- no instruction begins at the address, which is inside one
 abbrev pub inside_text : Query → Place → List ℕ

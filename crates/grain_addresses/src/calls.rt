@@ -93,9 +93,10 @@ fn write_usage<E: Sink>(alloc: Global, errors: &mut E) -> Status
 /// Reads a listing from the source, and writes the lines whose code stands at the addresses that
 /// the words say, or all lines that give code if there are no words. At most 16,777,217 bytes are
 /// read. The status, and what is written:
-/// - 0, the code of a line begins at each address: those lines;
-/// - 1, at an address no line's code begins, or a slot is asked for: the same, with a line that
-///   says so;
+/// - 0, the code of a line begins at each address, and where a slot is asked for a step has it: those
+///   lines, and the lines of the steps;
+/// - 1, at an address no line's code begins, or no step there has the slot that is asked for: the
+///   same, with a line that says so;
 /// - 2, a word is no address: the usage, to the sink of errors;
 /// - 3, the source holds no listing: the reason;
 /// - 5, the source failed: nothing;

@@ -4,22 +4,25 @@ ghost use Rattle.std.specs.Prelude.{◌≡◌, ◌≤◌};
 ghost use Rattle.grain_program.specs.Fields.{present, size_of, bytes_of};
 ghost use Rattle.grain_program.specs.InstructionSet.{fields_of};
 ghost use Rattle.grain_literals.specs.Operands.{position_after};
-ghost use Rattle.grain_addresses.specs.Kinds.{fields_width, after_fields, position_or_none, instruction_kind, kind_of, line_kind, IsNarrow};
+ghost use Rattle.grain_addresses.specs.Kinds.{fields_width, after_fields, position_or_none, instruction_kind, step_kind, kind_of, line_kind, IsNarrow};
 
 use grain_fault::Position;
 use grain_listing::{Line, line_of};
 use grain_literals::position_after;
 use grain_program::{Field, Op};
-use grain_words::{after_word, next_word};
+use grain_words::{after_word, is_word, next_word};
 
 /// What a line gives: code, of n bytes with a position if it has one; the beginning of the main
-/// block or of a function; the end of a block; or something that changes no address.
+/// block or of a function; the end of a block; a chain, whose root has no slot; a step, of n slots;
+/// or something that changes no address and no slot.
 #[derive(Clone, Copy, Debug, PartialEq, Eq)]
 pub enum LineKind {
     Code(usize, Option<Position>),
     Main,
     Function,
     End,
+    Chain,
+    Step(usize),
     Other,
 }
 
@@ -76,6 +79,23 @@ fn instruction_kind(op: Op, line: &[char]) -> LineKind
     LineKind::Code(1 + width, position_here(rest))
 }
 
+/// What a step's line gives, by what stands after `step`: a step has a slot for each of its
+/// positions.
+fn step_kind(line: &[char]) -> LineKind
+    ensures { result ≡ step_kind line.now }
+{
+    match next_word(line) {
+        None => LineKind::Step(1),
+        Some((word, _)) => {
+            if is_word(word, "index") {
+                LineKind::Step(2)
+            } else {
+                LineKind::Step(1)
+            }
+        }
+    }
+}
+
 /// What a line gives that begins with a word of the table, by what stands after the word.
 fn kind_of(line: Line, rest: &[char]) -> LineKind
     ensures { result ≡ kind_of line rest.now }
@@ -86,6 +106,8 @@ fn kind_of(line: Line, rest: &[char]) -> LineKind
         Line::Byte => LineKind::Code(1, position_here(after_word(rest))),
         Line::End => LineKind::End,
         Line::Instruction(op) => instruction_kind(op, rest),
+        Line::Chain => LineKind::Chain,
+        Line::Step => step_kind(rest),
         Line::Header
         | Line::Capabilities
         | Line::Source
@@ -94,8 +116,6 @@ fn kind_of(line: Line, rest: &[char]) -> LineKind
         | Line::Name
         | Line::Operator
         | Line::Assign
-        | Line::Chain
-        | Line::Step
         | Line::Entry
         | Line::Flag
         | Line::Fail

@@ -11,6 +11,7 @@ mod places;
 mod program;
 mod queries;
 mod replies;
+mod step_lines;
 mod texts;
 mod walks;
 

@@ -4,11 +4,12 @@ ghost use Rattle.std.specs.Prelude.{◌≡◌, ◌++◌, IfOk, slice_get};
 ghost use Rattle.std.specs.Str.{encode_utf8_all};
 ghost use Rattle.grain_program.specs.View.{view_of};
 ghost use Rattle.grain_addresses.specs.Replies.{named_in};
-ghost use Rattle.grain_addresses.specs.Texts.{name_text, function_text, block_text, position_text, code_text, source_text, place_text, table_text, slot_text, query_text, of_line_text, no_slots_text, inside_text, past_text};
+ghost use Rattle.grain_addresses.specs.Texts.{name_text, function_text, block_text, position_text, code_text, source_text, place_text, table_text, slot_text, query_text, of_line_text, step_text, no_step_text, inside_text, past_text};
 
 use crate::blocks::Block;
 use crate::places::Place;
 use crate::queries::Query;
+use crate::step_lines::StepLine;
 use grain_fault::Position;
 use grain_program::{Function, Names, Parts};
 use grain_value::{OutOfMemory, Text};
@@ -136,12 +137,23 @@ fn push_of_line(out: &mut Text, line: usize) -> Result<(), OutOfMemory>
     out.push_str("\n")
 }
 
-/// A slot is asked for at the instruction that begins at the address: none is looked up so far.
-pub fn push_no_slots(out: &mut Text, query: Query, place: &Place) -> Result<(), OutOfMemory>
-    ensures { IfOk result (λ _. out.new ≡ out.old ++ no_slots_text query place.now) }
+/// The line of a step: what was asked for, the line's number, and the line itself.
+pub fn push_step(out: &mut Text, query: Query, step: &StepLine) -> Result<(), OutOfMemory>
+    ensures { IfOk result (λ _. out.new ≡ out.old ++ step_text query step.now) }
 {
     push_query(out, query)?;
-    out.push_str("\tno slot is looked up in the instruction")?;
+    out.push_str("\tline ")?;
+    out.push_number(step.line() as u64)?;
+    out.push_str("\t")?;
+    push_source(out, step.text())
+}
+
+/// No step of the instruction that begins at the address has the slot.
+pub fn push_no_step(out: &mut Text, query: Query, place: &Place) -> Result<(), OutOfMemory>
+    ensures { IfOk result (λ _. out.new ≡ out.old ++ no_step_text query place.now) }
+{
+    push_query(out, query)?;
+    out.push_str("\tno step has this slot in the instruction")?;
     push_of_line(out, place.line())
 }
 

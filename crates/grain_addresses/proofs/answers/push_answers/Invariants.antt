@@ -6,9 +6,9 @@ use Rattle.grain_addresses.proofs.answers.push_answers.Given as goal
 abbrev pub invariant-loop-query : goal.invariant-loop-query
 invariant-loop-query l = record {
   text : l.out ++
-      answers_text (stock_of (view_of l.parts) l.places) (drop l.query-index l.queries) ≡
-      l.initial.out ++ answers_text (stock_of (view_of l.parts) l.places) l.queries;
+      answers_text (stock_of (view_of l.parts) l.places l.steps) (drop l.query-index l.queries) ≡
+      l.initial.out ++ answers_text (stock_of (view_of l.parts) l.places l.steps) l.queries;
   begun : (l.all &&
-      are_begun (stock_of (view_of l.parts) l.places) (drop l.query-index l.queries)) ≡
-      are_begun (stock_of (view_of l.parts) l.places) l.queries;
+      are_begun (stock_of (view_of l.parts) l.places l.steps) (drop l.query-index l.queries)) ≡
+      are_begun (stock_of (view_of l.parts) l.places l.steps) l.queries;
 }
