@@ -63,22 +63,36 @@ text_at vs i = option_and_then text_of (slice_get vs i)
 abbrev pub discounted : List Dynamic → Result ℤ Reason
 discounted vs = given (integer_at vs 0) (λ amount. given (integer_at vs 1) (discount amount))
 
--- the natives by their keys: 1 `price`, 2 `discount`, 3 `charge`
+-- the property of an article that is read
+abbrev pub property : List ℕ → List ℕ → List Line → Result ℤ Reason
+property article name lines =
+    if bytes_eq name (codes "price") then price article lines else Err reason.Unknown
+
+-- an amount is assigned to a property, which charges it: the new total
+abbrev pub assigned : List ℕ → ℤ → PriceList → Result ℤ Reason
+assigned name amount s =
+    if bytes_eq name (codes "charged") then fitting (s.total +ℤ amount) else Err reason.Unknown
+
+-- the natives by their keys: 1 `price`, 2 `discount`, 3 `charge`, and 4 and 5 read and assign properties
 abbrev pub gives : PriceList → ℕ → List Dynamic → Result ℤ Reason
 gives s key vs =
     if key == 1 then given (text_at vs 0) (λ article. price article s.lines)
     else (if key == 2 then discounted vs
     else (if key == 3 then given (integer_at vs 0) (λ amount. fitting (s.total +ℤ amount))
-    else Err reason.Unknown))
+    else (if key == 4 then given (text_at vs 0) (λ article. given (text_at vs 1)
+    (λ name. property article name s.lines))
+    else (if key == 5 then given (text_at vs 1) (λ name. given (integer_at vs 2)
+    (λ amount. assigned name amount s))
+    else Err reason.Unknown))))
 
 -- what `charge` leaves: the total that it gave, or all as it was
 abbrev pub charged : PriceList → Result ℤ Reason → PriceList
 charged s (Ok total) = record s { total = total }
 charged s (Err r) = s
 
--- `charge` alone changes the list
+-- `charge` and the assignment to a property alone change the list
 abbrev pub leaves : PriceList → ℕ → List Dynamic → PriceList
-leaves s key vs = if key == 3 then charged s (gives s key vs) else s
+leaves s key vs = if key == 3 || key == 5 then charged s (gives s key vs) else s
 
 -- the natives by their names and kinds: a text is of kind 4, an integer of kind 2
 abbrev pub key_of : List ℕ → List ℕ → Option ℕ
@@ -86,7 +100,9 @@ key_of name kinds =
     if bytes_eq name (codes "price") && bytes_eq kinds (4 ∷ []) then Some 1
     else (if bytes_eq name (codes "discount") && bytes_eq kinds (2 ∷ 2 ∷ []) then Some 2
     else (if bytes_eq name (codes "charge") && bytes_eq kinds (2 ∷ []) then Some 3
-    else None))
+    else (if bytes_eq name (codes "index$get$") && bytes_eq kinds (4 ∷ 4 ∷ []) then Some 4
+    else (if bytes_eq name (codes "index$set$") && bytes_eq kinds (4 ∷ 4 ∷ 2 ∷ []) then Some 5
+    else None))))
 
 -- the fault of a call that has no value
 abbrev pub reason_text : Reason → List ℕ

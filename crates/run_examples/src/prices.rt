@@ -4,7 +4,7 @@ ghost use Rattle.std.specs.Prelude.{◌≡◌, ◌+ℤ◌, Some, IfOk, is_ok, if
 ghost use Rattle.grain_host.specs.Answers.{reply_of};
 ghost use Rattle.grain_host.specs.Law.{Failed};
 ghost use Rattle.grain_host.specs.Tables.{arguments};
-ghost use Rattle.run_examples.specs.Prices.{empty, listed, price, fitting, discount, integer_at, text_at, gives, charged, leaves, reason_text, problem, price_law, price_lawful};
+ghost use Rattle.run_examples.specs.Prices.{empty, listed, price, fitting, discount, integer_at, text_at, property, assigned, gives, charged, leaves, reason_text, problem, price_law, price_lawful};
 
 use grain_fault::{EvalAltResult, Position};
 use grain_host::{Args, Host, HostAnswer, HostFault, ProgressAnswer};
@@ -17,6 +17,10 @@ const PRICE: u64 = 1;
 const DISCOUNT: u64 = 2;
 
 const CHARGE: u64 = 3;
+
+const GET_PROPERTY: u64 = 4;
+
+const SET_PROPERTY: u64 = 5;
 
 // The kinds of values that they take.
 const INTEGER: u32 = 2;
@@ -31,7 +35,8 @@ struct Line {
 }
 
 /// A price list, and the total that scripts have charged. Scripts call `price(article)`,
-/// `discount(amount, percent)` and `charge(amount)`.
+/// `discount(amount, percent)` and `charge(amount)`, and an article has the properties `price`, which
+/// they read, and `charged`, to which they assign an amount that is charged.
 #[derive(Drop)]
 pub struct PriceList {
     lines: List<Line>,
@@ -109,6 +114,29 @@ impl PriceList {
         Ok(total)
     }
 
+    // A property of an article that scripts read.
+    fn property(&self, article: &str, name: &str) -> Result<i64, Reason>
+        ensures { result ≡ property article.now name.now self.now.lines }
+    {
+        if name == "price" {
+            self.price(article)
+        } else {
+            Err(Reason::Unknown)
+        }
+    }
+
+    // A property to which scripts assign an amount.
+    fn set_property(&mut self, name: &str, amount: i64) -> Result<i64, Reason>
+        ensures value { result ≡ assigned name.now amount self.old }
+        ensures state { self.new ≡ charged self.old result }
+    {
+        if name == "charged" {
+            self.charge(amount)
+        } else {
+            Err(Reason::Unknown)
+        }
+    }
+
     // Does what the native of this key does.
     fn perform(&mut self, key: u64, args: &Args) -> Result<i64, Reason>
         ensures value { result ≡ gives self.old key (arguments args.now.receiver args.now.values) }
@@ -123,6 +151,14 @@ impl PriceList {
                 discount(amount, percent)
             }
             CHARGE => self.charge(integer(args, 0).ok_or(Reason::Unknown)?),
+            GET_PROPERTY => {
+                let article = text(args, 0).ok_or(Reason::Unknown)?;
+                self.property(article, text(args, 1).ok_or(Reason::Unknown)?)
+            }
+            SET_PROPERTY => {
+                let name = text(args, 1).ok_or(Reason::Unknown)?;
+                self.set_property(name, integer(args, 2).ok_or(Reason::Unknown)?)
+            }
             _ => Err(Reason::Unknown),
         }
     }
@@ -193,6 +229,8 @@ impl Host for PriceList {
             ("price", [TEXT]) => PRICE,
             ("discount", [INTEGER, INTEGER]) => DISCOUNT,
             ("charge", [INTEGER]) => CHARGE,
+            ("index$get$", [TEXT, TEXT]) => GET_PROPERTY,
+            ("index$set$", [TEXT, TEXT, INTEGER]) => SET_PROPERTY,
             _ => return None,
         };
         Some(Native { key, writes: false })
