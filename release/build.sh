@@ -131,7 +131,7 @@ say_how_far() {
 
 # the crates that are proved, by the log: rt ci names each as it ends, and rt run each as it begins
 proved_crates() {
-    sed -n 's/^rt: \([a-z0-9_]*\) proved$/\1/p' "$log"
+    sed -n -e 's/^rt: \([a-z0-9_]*\) proved$/\1/p' -e 's/^rt: \([a-z0-9_]*\) is kept: .*/\1/p' "$log"
     begun=$(sed -n 's/^rt: chose .* for \([a-z0-9_]*\)$/\1/p' "$log" | tail -n 1)
     if [ -n "$begun" ]; then crates_of $(programs) | sed "/^$begun\$/,\$d"; fi
 }
