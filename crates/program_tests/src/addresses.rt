@@ -93,48 +93,6 @@ fn lines_are_found_or_not(rt: HostRuntime) -> Result<(), OutOfMemory> {
     Ok(())
 }
 
-/// A listing of two chains. The second one has the slots from 2 on: one for its property, and two for
-/// its index.
-const CHAINS: &str = "\
-    grain 1\nchain 1 temporary read\nstep index 0 ; first\nchain 1 temporary read\n\n\
-    step property 0 0 0\nstep index 0 ; last\nmain 1\nunit\nunit\nchain 1\nreturn\nend\n";
-
-#[test]
-fn steps_are_found_or_not(rt: HostRuntime) -> Result<(), OutOfMemory> {
-    let rows = [
-        (
-            "2:2",
-            0,
-            "2\tline 11\tmain\t-\tchain 1\n2:2\tline 6\tstep property 0 0 0\n",
-        ),
-        (
-            "2:3",
-            0,
-            "2\tline 11\tmain\t-\tchain 1\n2:3\tline 7\tstep index 0 ; last\n",
-        ),
-        (
-            "2:4",
-            1,
-            "2:4\tno step has this slot in the instruction of line 11\n",
-        ),
-        (
-            "2:0",
-            1,
-            "2:0\tno step has this slot in the instruction of line 11\n",
-        ),
-        ("3:2", 1, "3:2\tinside the instruction at 2 of line 11\n"),
-    ];
-    for (word, status, text) in rows {
-        let call = Call {
-            word: Some(word),
-            listing: CHAINS,
-            ..TABLE
-        };
-        check(&rt, rt.alloc(), call, status, text, "")?;
-    }
-    Ok(())
-}
-
 #[test]
 fn words_that_are_no_addresses(rt: HostRuntime) -> Result<(), OutOfMemory> {
     for word in [
