@@ -10,7 +10,8 @@ use Rattle.grain_program.specs.declared.code.chains.Step.TheVariants as step
 use Rattle.grain_program.specs.declared.code.chains.Tail.{Tail}
 use Rattle.grain_program.specs.declared.code.chains.Tail.TheVariants as tail
 use Rattle.grain_program.specs.declared.code.chains.Chain.{Chain}
-use Rattle.grain_words.specs.Words.{is_over}
+use Rattle.grain_words.specs.Words.{next_word, is_over}
+use Rattle.grain_words.specs.PositionWords.{position_word}
 use Rattle.grain_literals.specs.Steps.{and_then}
 use Rattle.grain_literals.specs.Operands.{word_operand, after_name, alone, number_operand, index, position_operand, position_after}
 use Rattle.grain_literals.specs.declared.reasons.Reason.{Reason}
@@ -24,13 +25,33 @@ local_root cs =
     and_then (index cs)
     (λ a. and_then (number_operand 65535 a.1) (λ b. Ok (root.Local a.0 b.0, b.1)))
 
--- a root by its first word; two kinds are not read yet
+-- a position, if the word is one
+abbrev pub position_by : Option Position → List ℕ → List ℕ → Position × List ℕ
+position_by None rest cs = (nowhere, cs)
+position_by (Some p) rest cs = (p, rest)
+
+abbrev pub position_in_front : Option (List ℕ × List ℕ) → List ℕ → Position × List ℕ
+position_in_front None cs = (nowhere, cs)
+position_in_front (Some a) cs = position_by (position_word a.0) a.1 cs
+
+-- a position, if the next word is one, and what is then left
+abbrev pub position_here : List ℕ → Position × List ℕ
+position_here cs = position_in_front (next_word cs) cs
+
+-- after `this`: a position, or nothing
+abbrev pub this_at : Position × List ℕ → Root × List ℕ
+this_at p = (root.This p.0, p.1)
+
+abbrev pub this_root : List ℕ → Root × List ℕ
+this_root cs = this_at (position_here cs)
+
+-- a root by its first word; one kind is not read yet
 unfoldable pub root_named : List ℕ → List ℕ → Result (Root × List ℕ) Reason
 root_named w cs =
     if bytes_eq w (codes "local") then local_root cs
     else (if bytes_eq w (codes "temporary") then Ok (root.Temporary, cs)
     else (if bytes_eq w (codes "named") then Err NotBuilt
-    else (if bytes_eq w (codes "this") then Err NotBuilt
+    else (if bytes_eq w (codes "this") then Ok (this_root cs)
     else Err BadOperand)))
 
 abbrev pub root_operand : List ℕ → Result (Root × List ℕ) Reason
@@ -102,12 +123,22 @@ property_step cs =
     and_then (index cs) (λ a. and_then (index a.1) (λ b. and_then (index b.1)
     (λ c. property_ended a.0 b.0 c.0 (flags_of c.1))))
 
--- a step by its first word; one kind is not read yet
+-- after `method`, a name, a number of arguments and the number of an operand: flags and a position
+abbrev pub method_ended : ℕ → ℕ → ℕ → StepFlags × List ℕ → Result Step Reason
+method_ended name argc operand f =
+    and_then (last_position f.1) (λ p. Ok (step.Method name argc operand f.0 p))
+
+abbrev pub method_step : List ℕ → Result Step Reason
+method_step cs =
+    and_then (index cs) (λ a. and_then (number_operand 255 a.1) (λ b. and_then (index b.1)
+    (λ c. method_ended a.0 b.0 c.0 (flags_of c.1))))
+
+-- a step by its first word
 unfoldable pub step_named : List ℕ → List ℕ → Result Step Reason
 step_named w cs =
     if bytes_eq w (codes "index") then index_step cs
     else (if bytes_eq w (codes "property") then property_step cs
-    else (if bytes_eq w (codes "method") then Err NotBuilt
+    else (if bytes_eq w (codes "method") then method_step cs
     else Err BadOperand))
 
 -- after `step`

@@ -18,10 +18,7 @@ abbrev pub later_variables : List (List ℕ)
 later_variables =
     codes "load_named" ∷ codes "load_shared_named" ∷ codes "assign_named" ∷
     codes "assign_named_op" ∷
-    codes "declare_global_const" ∷ codes "load_this" ∷ codes "load_this_shared" ∷
-    codes "require_this" ∷ codes "assign_this" ∷
-    codes "assign_this_op" ∷ codes "share_named" ∷
-    []
+    codes "declare_global_const" ∷ codes "share_named" ∷ []
 
 -- instructions that call and make what is called
 abbrev pub later_calls : List (List ℕ)

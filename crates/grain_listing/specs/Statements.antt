@@ -205,7 +205,7 @@ abbrev pub function_of : ℕ → FunctionHeader → ℕ → Function
 function_of entry h a = record {
   name = h.name;
   params = h.params;
-  this_type = None;
+  this_type = h.this_type;
   chunk =
       record { entry = entry; end = a; max_stack = h.stack };
 }

@@ -86,6 +86,7 @@ impl Assembler {
                     name,
                     stack: max_stack,
                     params,
+                    this_type,
                 } = header;
                 let chunk = Chunk {
                     entry,
@@ -95,7 +96,7 @@ impl Assembler {
                 self.functions.push(Function {
                     name,
                     params,
-                    this_type: None,
+                    this_type,
                     chunk,
                 })?;
                 Ok(())

@@ -2,8 +2,8 @@
 
 ghost use Rattle.std.specs.Prelude.{◌≡◌};
 ghost use Rattle.grain_literals.specs.Results.{operand_view};
-ghost use Rattle.grain_listing.specs.ChainWords.{local_root, root_named, root_operand, assigning, tail_named, tail_of, flags_of, first_position, last_position, index_step, property_step, step_named, step_of, chain_of};
-ghost use Rattle.grain_listing.specs.views.Chains.{flags_view};
+ghost use Rattle.grain_listing.specs.ChainWords.{local_root, position_here, this_root, root_named, root_operand, assigning, tail_named, tail_of, flags_of, first_position, last_position, index_step, property_step, method_step, step_named, step_of, chain_of};
+ghost use Rattle.grain_listing.specs.views.Chains.{flags_view, position_view, root_view};
 
 use bitflags::Flags;
 use grain_fault::Position;
@@ -12,7 +12,7 @@ use grain_literals::{
     word_operand,
 };
 use grain_program::{Chain, Root, Step, StepFlags, Steplist, Tail};
-use grain_words::{is_over, is_word};
+use grain_words::{is_over, is_word, next_word, position_word};
 use std::alloc::Global;
 
 /// What stands after `local`: the index of a name, and a slot.
@@ -23,6 +23,27 @@ fn local_root(line: &[char]) -> Result<(Root, &[char]), Reason>
     let (slot, rest) = number_operand(65_535, rest)?;
     let slot = slot as u16;
     Ok((Root::Local { name, slot }, rest))
+}
+
+/// A position, if the next word is one.
+fn position_here(line: &[char]) -> (Position, &[char])
+    ensures { position_view result ≡ position_here line.now }
+{
+    match next_word(line) {
+        None => (Position::NONE, line),
+        Some((word, rest)) => match position_word(word) {
+            None => (Position::NONE, line),
+            Some(position) => (position, rest),
+        },
+    }
+}
+
+/// What stands after `this`: a position, or nothing.
+fn this_root(line: &[char]) -> (Root, &[char])
+    ensures { root_view result ≡ this_root line.now }
+{
+    let (pos, rest) = position_here(line);
+    (Root::This { pos }, rest)
 }
 
 /// The root that begins with the word.
@@ -37,7 +58,7 @@ fn root_named<'a>(word: &[char], line: &'a [char]) -> Result<(Root, &'a [char]),
     } else if is_word(word, "named") {
         Err(Reason::NotBuilt)
     } else if is_word(word, "this") {
-        Err(Reason::NotBuilt)
+        Ok(this_root(line))
     } else {
         Err(Reason::BadOperand)
     }
@@ -165,6 +186,26 @@ fn property_step(line: &[char]) -> Result<Step, Reason>
     })
 }
 
+/// What stands after `method`: a name by its index, how many arguments it takes, the number of the
+/// operand that is the first of them, flags and a position.
+fn method_step(line: &[char]) -> Result<Step, Reason>
+    ensures { result ≡ method_step line.now }
+{
+    let (name, rest) = index(line)?;
+    let (argc, rest) = number_operand(255, rest)?;
+    let argc = argc as u8;
+    let (operand, rest) = index(rest)?;
+    let (flags, rest) = flags_of(rest);
+    let pos = last_position(rest)?;
+    Ok(Step::Method {
+        name,
+        argc,
+        operand,
+        flags,
+        pos,
+    })
+}
+
 /// The step that begins with the word.
 #[tactic(auto, unfolding(crate::specs::ChainWords::step_named))]
 fn step_named(word: &[char], line: &[char]) -> Result<Step, Reason>
@@ -175,7 +216,7 @@ fn step_named(word: &[char], line: &[char]) -> Result<Step, Reason>
     } else if is_word(word, "property") {
         property_step(line)
     } else if is_word(word, "method") {
-        Err(Reason::NotBuilt)
+        method_step(line)
     } else {
         Err(Reason::BadOperand)
     }

@@ -2,7 +2,7 @@
 
 ghost use Rattle.std.specs.Prelude.{◌≡◌, ◌≤◌, ◌^◌, IfOk};
 ghost use Rattle.grain_literals.specs.Results.{operand_view};
-ghost use Rattle.grain_listing.specs.Headers.{stack_of, assign_of, is_on, has_parameter, has_more, parameter, parameters_of, name_and_stack, header_of, is_crowded};
+ghost use Rattle.grain_listing.specs.Headers.{stack_of, assign_of, is_on, has_parameter, has_more, parameters_of, type_of, name_and_stack, header_of, is_crowded};
 ghost use Rattle.grain_listing.specs.views.Results.{name_view};
 
 use grain_literals::{Reason, after_name, alone, index, number_operand};
@@ -25,13 +25,14 @@ pub struct AssignLine {
     pub op_name: u32,
 }
 
-/// A `fn` line: the function's name and its parameters' names by their indices, and how many
-/// operands it may have.
+/// A `fn` line: the function's name and its parameters' names by their indices, how many operands it
+/// may have, and the name of the type, by its index, of whose values alone it is a method.
 #[derive(Drop)]
 pub struct FunctionHeader {
     pub name: u32,
     pub stack: u16,
     pub params: Indices,
+    pub this_type: Option<u32>,
 }
 
 /// The number after `main`.
@@ -98,32 +99,23 @@ pub fn is_crowded(line: &[char]) -> bool
     has_more(MOST_PARAMETERS, after_word(after_word(line)))
 }
 
-fn parameter(line: &[char]) -> Result<(u32, &[char]), Reason>
-    ensures { operand_view result ≡ parameter line.now }
-{
-    if is_on(line) {
-        return Err(Reason::NotBuilt);
-    }
-    index(line)
-}
-
-/// At most `most` parameters.
+/// At most `most` parameters, and what is left after them.
 #[tactic(auto, using(crate::proofs::Parameters::found_first, crate::proofs::Parameters::all_found, crate::proofs::Parameters::one_refused, crate::proofs::Parameters::one_more, crate::proofs::Parameters::too_many))]
 fn parameters_of(
     alloc: Global,
     most: usize,
     line: &[char],
-) -> Result<Result<Indices, Reason>, OutOfMemory>
-    ensures { IfOk result (λ r. r ≡ parameters_of most line.now) }
+) -> Result<Result<(Indices, &[char]), Reason>, OutOfMemory>
+    ensures { IfOk result (λ r. operand_view r ≡ parameters_of most line.now) }
 {
     let mut found = Indices::new(alloc);
     let mut room = most;
     let mut rest = line;
     'words: while room > 0 {
-        if is_over(rest) {
-            return Ok(Ok(found));
+        if !has_parameter(rest) {
+            return Ok(Ok((found, rest)));
         }
-        match parameter(rest) {
+        match index(rest) {
             Err(reason) => return Ok(Err(reason)),
             Ok((number, after)) => {
                 found.push(number)?;
@@ -132,12 +124,29 @@ fn parameters_of(
             }
         }
     }
-    if is_over(rest) {
-        return Ok(Ok(found));
+    if !has_parameter(rest) {
+        return Ok(Ok((found, rest)));
     }
-    match parameter(rest) {
+    match index(rest) {
         Err(reason) => Ok(Err(reason)),
         Ok(_) => Ok(Err(Reason::TooMany)),
+    }
+}
+
+/// What stands after the parameters: `on` and the name of a type by its index, or nothing.
+fn type_of(line: &[char]) -> Result<Option<u32>, Reason>
+    ensures { result ≡ type_of line.now }
+{
+    match after_name("on", line) {
+        None => {
+            alone(line)?;
+            Ok(None)
+        }
+        Some(rest) => {
+            let (name, rest) = index(rest)?;
+            alone(rest)?;
+            Ok(Some(name))
+        }
     }
 }
 
@@ -160,11 +169,15 @@ pub fn header_of(
         Err(reason) => Ok(Err(reason)),
         Ok((name, stack, rest)) => match parameters_of(alloc, MOST_PARAMETERS, rest)? {
             Err(reason) => Ok(Err(reason)),
-            Ok(params) => Ok(Ok(FunctionHeader {
-                name,
-                stack,
-                params,
-            })),
+            Ok((params, rest)) => match type_of(rest) {
+                Err(reason) => Ok(Err(reason)),
+                Ok(this_type) => Ok(Ok(FunctionHeader {
+                    name,
+                    stack,
+                    params,
+                    this_type,
+                })),
+            },
         },
     }
 }

@@ -12,17 +12,12 @@ const LINES: [&str; 13] = [
 ];
 
 /// Instructions that read and write variables.
-const VARIABLES: [&str; 11] = [
+const VARIABLES: [&str; 6] = [
     "load_named",
     "load_shared_named",
     "assign_named",
     "assign_named_op",
     "declare_global_const",
-    "load_this",
-    "load_this_shared",
-    "require_this",
-    "assign_this",
-    "assign_this_op",
     "share_named",
 ];
 

@@ -59,7 +59,7 @@ module _ {S : Type 0} (m : Setup S) where
       let i = tallied d first first r j (λ g u c. c) (λ g u c. c) h.1 in
       let l = tallied e root turn w.ran k (λ g u c. onto g u (behind d c))
       (λ g u c. mine g u (behind d c))
-      (h.2 (λ g u c. onto g u (within c)) (λ g u c. mine g u (within c)) x w i.1 i.2 i.3 i.4
+      (h.2 (λ g u c. onto g u (within c)) (λ g u c. mine g u (within c)) x w d i.1 i.2 i.3 i.4
       i.5) in
       (omega (arith, i.0, l.0), l.1, l.2, l.3, l.4, l.5)
 
@@ -87,7 +87,7 @@ module _ {S : Type 0} (m : Setup S) where
   sitting (behind {first = first} {rest = rest} {a = x} {v = v} d c) root turn r k onto mine h =
       let i = tallied d first first r h.0 (λ g u c. c) (λ g u c. c) h.1 in
       sitting c root turn v.ran k (λ g u c. onto g u (behind d c)) (λ g u c. mine g u (behind d c))
-      (h.2 (λ g u c. onto g u (within c)) (λ g u c. mine g u (within c)) x v i.1 i.2 i.3 i.4
+      (h.2 (λ g u c. onto g u (within c)) (λ g u c. mine g u (within c)) x v d i.1 i.2 i.3 i.4
       i.5)
 
   even_passing : (root : Act S) (k : Footing) (w v : World S) (go : World S → Act S) →
@@ -107,7 +107,7 @@ module _ {S : Type 0} (m : Setup S) where
         Cuts m root k.level k.base x (record u { passed = u.passed + 1 })
     cuts_of (Came v) u cut = cut
     cuts_of (Failed x) u (inl c) =
-        inl (cut_of m first root onto k.level k.base x x (λ out. out) u.scope u.trace c)
+        inl (cut_of m first root onto k.level k.base x x (inl refl) u.scope u.trace c)
     cuts_of (Failed x) u (inr e) = inr e
 
     -- memory is out when a call is over
@@ -115,7 +115,7 @@ module _ {S : Type 0} (m : Setup S) where
         Cuts m root k.level k.base (Failed NoMemory) u
     cuts_late (Came v) u cut = inr (refl, cut)
     cuts_late (Failed x) u (inl c) =
-        inl (cut_of m first root onto k.level k.base x NoMemory (λ out. refl) u.scope u.trace c)
+        inl (cut_of m first root onto k.level k.base x NoMemory (inr refl) u.scope u.trace c)
     cuts_late (Failed x) u (inr e) = inr (refl, e.1)
 
     -- an exit is a value that leaves the trace as it was at the beginning
@@ -175,7 +175,7 @@ module _ {S : Type 0} (m : Setup S) where
             ),
           ),
         ),
-        λ onto mine. even_closed main root onto k w.trace fresh,
+        λ onto mine x u ends. even_closed main root onto k w.trace fresh x u,
       ))
 
   -- a whole call's count, tokens, level, scope and cause

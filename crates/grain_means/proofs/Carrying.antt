@@ -1,5 +1,5 @@
 -- Causes as they are carried from one act to another, of which the first is a part.
-use Rattle.std.proofs.Common.{◌≡◌, ◌≤◌, ◌⊎◌, ℕ, List, length, true, false, ◌∙◌, inl, inr}
+use Rattle.std.proofs.Common.{◌≡◌, ◌≤◌, ◌⊎◌, ℕ, List, length, true, false, sym, subst, ◌∙◌, inl, inr}
 use Rattle.grain_value.specs.declared.scopes.Entry.{Entry}
 use Rattle.grain_fault.specs.Classes.{catchable}
 use Rattle.grain_fault.specs.Positions.{at_position}
@@ -10,6 +10,7 @@ use Rattle.grain_means.specs.Worlds.{Act, Answer, Came, Failed, World, Setup, In
 use Rattle.grain_means.specs.Rules.{is_stop}
 use Rattle.grain_means.specs.Comes.{ProgramPoint, CatchPoint, ComesToCatch, Meets}
 use Rattle.grain_means.specs.Leavings.{AtCheckpoint, Cut}
+use Rattle.grain_means.specs.Blame.{Blamed}
 use Rattle.grain_means.specs.Causes.{HasPosition, LeftCall, Tells, ThrownAnew, RaisedByCatch, Cause, Caused}
 use Rattle.grain_means.proofs.Moving.{placed_twice, caught_anywhere}
 use Rattle.grain_means.proofs.Footing.{Onto, moved_why, moved_catch}
@@ -116,10 +117,10 @@ module _ {S : Type 0} (m : Setup S) where
     })
 
     -- and how a fault cut the scope, also where memory is out afterwards
-    pub cut_of : (level base : ℕ) (x y : Problem) → (x ≡ NoMemory → y ≡ NoMemory) →
+    pub cut_of : (level base : ℕ) (x y : Problem) → (y ≡ x) ⊎ (y ≡ NoMemory) →
         (scope : List Entry) (trace : List Fault) →
         Cut m first level base x scope trace → Cut m root level base y scope trace
-    cut_of level base x y out scope trace c = record {
+    cut_of level base x y same scope trace c = record {
       frame = c.frame;
       world = c.world;
       comes = onto (InFrame c.frame) c.world c.comes;
@@ -128,8 +129,20 @@ module _ {S : Type 0} (m : Setup S) where
       inner = c.inner;
       slot = c.slot;
       last = c.last;
+      blames = blamed same c.blames;
       short = shortened c.short;
     } where
+      blamed : (y ≡ x) ⊎ (y ≡ NoMemory) →
+          (x ≡ NoMemory) ⊎ Blamed m c.frame c.world c.slot x →
+          (y ≡ NoMemory) ⊎ Blamed m c.frame c.world c.slot y
+      blamed (inl e) b =
+          subst (λ (z : Problem). (z ≡ NoMemory) ⊎ Blamed m c.frame c.world c.slot z) (sym e) b
+      blamed (inr e) b = inl e
+
+      still_out : (y ≡ x) ⊎ (y ≡ NoMemory) → x ≡ NoMemory → y ≡ NoMemory
+      still_out (inl e) out = e ∙ out
+      still_out (inr e) out = e
+
       shortened : (length scope ≤ c.frame.floor)
           ⊎ ((x ≡ NoMemory) × AtCheckpoint m.program c.frame
           × (length scope ≤ length c.world.scope)) →
@@ -137,4 +150,4 @@ module _ {S : Type 0} (m : Setup S) where
           ⊎ ((y ≡ NoMemory) × AtCheckpoint m.program c.frame
           × (length scope ≤ length c.world.scope))
       shortened (inl own) = inl own
-      shortened (inr at) = inr (out at.0, at.1, at.2)
+      shortened (inr at) = inr (still_out same at.0, at.1, at.2)

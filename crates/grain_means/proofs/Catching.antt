@@ -13,12 +13,13 @@ use Rattle.grain_program.specs.View.{name_of, position_of}
 use Rattle.grain_host.specs.Law.{Verdict, GoOn, Stop}
 use Rattle.grain_means.specs.Worlds.{Act, Go, Failed, World, Setup, Frame, Handler, InFrame, InCatch}
 use Rattle.grain_fault.specs.CatchValues.{caught_value}
-use Rattle.grain_means.specs.Rules.{is_full, is_stop, leave_by_fault, marked, on_verdict, progressed, charged_or, escaped, bind_caught, catching, resumed, caught}
+use Rattle.grain_means.specs.Rules.{is_full, is_stop, leave_by_fault, marked, on_verdict, progressed, charged_or, escaped, bind_caught, catching, resumed, throws_unit, caught}
 use Rattle.grain_means.specs.Comes.{CatchPoint, Comes, try_of, tries}
 use Rattle.grain_means.specs.Leavings.{Keeps, Cut}
+use Rattle.grain_means.specs.Blame.{Blamed}
 use Rattle.grain_means.specs.Causes.{HasPosition, ComesToCharge, CatchRow, raised_at, Caused}
 use Rattle.grain_means.specs.CatchBlocks.{variable_entry, Catches}
-use Rattle.grain_means.proofs.Footing.{Footing, CanCatch, Tally, by_test, catch_passes}
+use Rattle.grain_means.proofs.Footing.{Footing, CanCatch, Tally, by_test, catch_passes, true-false}
 use Rattle.grain_means.proofs.Kept.{keeps_cut, keeps_push}
 use Rattle.grain_means.proofs.Lengths.{cut_short}
 use Rattle.grain_means.proofs.Standing.{Covered, as_many, fits_caught}
@@ -227,6 +228,7 @@ module _ {S : Type 0} (m : Setup S) (f : Frame) (h : Handler) (x : Problem) (w :
           inner = u.trace;
           slot = f.slot;
           last = ap (λ (a : ℕ). u.trace ++ record { address = a; slot = f.slot } ∷ []) can.address;
+          blames = blames l.fault u l.why;
           short = inl (omega (arith, cut_short f.floor u.scope, can.floor));
         } in
         subst (Tally m root turn r k) (sym l.is) (
@@ -238,6 +240,36 @@ module _ {S : Type 0} (m : Setup S) (f : Frame) (h : Handler) (x : Problem) (w :
           inl left,
           cause l.fault u l.why,
         ) where
+          may : (x ≡ can.blamed.raised) ⊎ ((throws_unit can.blamed.raised ≡ true)
+              ⊎ ((catchable can.blamed.raised ≡ true) × (catchable x ≡ false))) →
+              (throws_unit can.blamed.raised ≡ true) ⊎ (catchable can.blamed.raised ≡ true)
+          may (inl same) = inr (sym (ap catchable same) ∙ can.may)
+          may (inr (inl unit)) = inl unit
+          may (inr (inr passes)) = true-false can.may passes.1
+
+          failed : (y : Problem) → catchable y ≡ false →
+              (throws_unit can.blamed.raised ≡ true) ⊎ (catchable can.blamed.raised ≡ true) →
+              Blamed m can.from can.world f.slot y
+          failed y passes how = record {
+            instruction = can.blamed.instruction;
+            width = can.blamed.width;
+            stands = can.blamed.stands;
+            raised = can.blamed.raised;
+            blames = can.blamed.blames;
+            left = inr (either how);
+          } where
+            either : (throws_unit can.blamed.raised ≡ true) ⊎ (catchable can.blamed.raised ≡ true) →
+                (throws_unit can.blamed.raised ≡ true)
+                ⊎ ((catchable can.blamed.raised ≡ true) × (catchable y ≡ false))
+            either (inl unit) = inl unit
+            either (inr caught) = inr (caught, passes)
+
+          blames : (y : Problem) (u : World S) → FailsWith y u →
+              (y ≡ NoMemory) ⊎ Blamed m can.from can.world f.slot y
+          blames y u (inl out) = inl out.0
+          blames y u (inr why) =
+              inr (failed y (catch_passes m y point why.0) (may can.blamed.left))
+
           cause : (y : Problem) (u : World S) → FailsWith y u → Caused m root k.level (Failed y) u
           cause y u (inl out) = inl out
           cause y u (inr why) = inr (inr (record {

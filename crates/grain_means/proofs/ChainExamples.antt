@@ -1,6 +1,6 @@
 -- Chains in a world: what they leave of the scope, the cells and the roots, and where a fault blames a
 -- step.
-use Rattle.std.specs.Prelude.{◌≡◌, ℕ, pos, true, List, [], ◌∷◌, Option, Some, None, refl, codes}
+use Rattle.std.specs.Prelude.{◌≡◌, ℕ, pos, true, false, List, [], ◌∷◌, Option, Some, None, refl, codes}
 use Rattle.grain_value.specs.Cells.{idle}
 use Rattle.grain_value.specs.Operands.{read_write}
 use Rattle.grain_value.specs.Scopes.{new_entry}
@@ -11,7 +11,7 @@ use Rattle.grain_value.specs.declared.values.Dynamic.{Dynamic}
 use Rattle.grain_value.specs.declared.values.Dynamic.TheVariants as dynamic
 use Rattle.grain_value.specs.declared.values.Held.{Held}
 use Rattle.grain_fault.specs.Places.{nowhere}
-use Rattle.grain_fault.specs.Problems.{Plain, ArrayBounds, AssignmentToConstant, DataRace}
+use Rattle.grain_fault.specs.Problems.{Plain, ArrayBounds, AssignmentToConstant, DataRace, MismatchDataType}
 use Rattle.grain_fault.specs.declared.places.Position.{Position}
 use Rattle.grain_global.specs.declared.engines.Engine.{Engine}
 use Rattle.grain_host.specs.Law.{Law}
@@ -50,6 +50,14 @@ writing = chain_over local (index 0 ∷ index 1 ∷ []) (tail.Assign None) 2
 abbrev reading : Chain
 reading = chain_over root.Temporary (index 0 ∷ index 1 ∷ []) tail.Read 2
 
+-- the third one asks whether a variable is shared
+abbrev sharing : Chain
+sharing = chain_over local (step.Method 1 0 0 no_flags index_at ∷ []) tail.Read 0
+
+-- the fourth one puts an operand after the values of a pointer that nothing holds
+abbrev currying : Chain
+currying = chain_over root.Temporary (step.Method 2 1 0 no_flags index_at ∷ []) tail.Read 1
+
 abbrev pair : ℕ → ℕ → Dynamic
 pair a b = dynamic.Array (integer (pos a) ∷ integer (pos b) ∷ [])
 
@@ -61,8 +69,8 @@ module _ {S : Type 0} (law : Law S) (engine : Engine) (program : View) (host : S
   m = record {
     law = law;
     program = record program {
-      chains = writing ∷ reading ∷ [];
-      names = codes "x" ∷ [];
+      chains = writing ∷ reading ∷ sharing ∷ currying ∷ [];
+      names = codes "x" ∷ codes "is_shared" ∷ codes "curry" ∷ [];
       positions = [];
     };
     engine = engine;
@@ -198,6 +206,42 @@ module _ {S : Type 0} (law : Law S) (engine : Engine) (program : View) (host : S
   pub read_past_trace : (world_in read_past).trace ≡ record { address = 0; slot = Some 6 } ∷ []
   read_past_trace = refl
 
+  -- a cell is asked for itself, and is not lent for it
+  abbrev shared : Act S
+  shared = chain m 2 3 (frame []) (world (held (dynamic.Cell 0)) (idle (int 1) ∷ []))
+
+  pub shared_gives : operands_in shared ≡ held (dynamic.Bool true) ∷ []
+  shared_gives = refl
+
+  pub shared_cells : (world_in shared).cells ≡ idle (int 1) ∷ []
+  shared_cells = refl
+
+  pub shared_scope : (world_in shared).scope ≡ new_entry (codes "x") (held (dynamic.Cell 0)) ∷ []
+  shared_scope = refl
+
+  abbrev not_shared : Act S
+  not_shared = chain m 2 3 (frame []) (world (int 1) [])
+
+  pub not_shared_gives : operands_in not_shared ≡ held (dynamic.Bool false) ∷ []
+  not_shared_gives = refl
+
+  -- `curry` of a pointer, and of a value that is none
+  abbrev pointer : List Tree → Dynamic
+  pointer values = dynamic.Pointer (record { name = codes "f"; curry = values })
+
+  abbrev curried : Act S
+  curried = chain m 3 3 (frame (int 4 ∷ held (pointer []) ∷ [])) (world (int 1) [])
+
+  pub curried_gives : operands_in curried ≡ held (pointer (integer (pos 4) ∷ [])) ∷ []
+  curried_gives = refl
+
+  abbrev no_pointer : Act S
+  no_pointer = chain m 3 3 (frame (int 4 ∷ int 5 ∷ [])) (world (int 1) [])
+
+  pub no_pointer_fault : ends_so no_pointer
+      ≡ Some (Failed (Plain (MismatchDataType (codes "Fn") (codes "i64")) index_at))
+  no_pointer_fault = refl
+
   -- how many these are
   abbrev pub chain_examples : ℕ
-  chain_examples = 15
+  chain_examples = 21

@@ -1,16 +1,15 @@
--- An instruction that raises a fault by a row of instructions is no chain.
-use Rattle.std.proofs.Common.{◌≡◌, ◌⊎◌, ℕ, List, inl, inr}
-use Rattle.grain_fault.specs.Problems.{FaultKind, FunctionNotFound, MismatchDataType, AssignmentToConstant, DataRace, IndexingType, NonPureCall, DotExpr, Arithmetic, Runtime, TooManyOperations, TooManyVariables, StackOverflow, DataTooLarge, Terminated, Malformed, Problem, Plain, InFunctionCall, InModule, SystemError, NoMemory}
+-- An instruction that raises a fault of its own by a row of instructions is no chain.
+use Rattle.std.proofs.Common.{◌⊎◌, ℕ, List, inl, inr}
+use Rattle.grain_fault.specs.Problems.{FaultKind, FunctionNotFound, MismatchDataType, AssignmentToConstant, DataRace, IndexingType, NonPureCall, DotExpr, Arithmetic, Runtime, TooManyOperations, TooManyVariables, StackOverflow, UnboundThis, DataTooLarge, Terminated, Malformed, Problem, Plain, InFunctionCall, InModule, SystemError, NoMemory}
 use Rattle.grain_fault.specs.declared.faults.MalformedKind.TheVariants as kind
+use Rattle.grain_fault.specs.Positions.{at_position_if_none}
+use Rattle.grain_fault.specs.declared.places.Position.{Position}
 use Rattle.grain_program.specs.declared.code.instruction_set.Op.{Op}
 use Rattle.grain_program.specs.declared.code.instruction_set.Op.TheVariants as op
 use Rattle.grain_means.specs.Worlds.{Frame, Setup, World}
 use Rattle.grain_means.specs.Rules.{position}
 use Rattle.grain_means.specs.Comes.{ProgramPoint}
-use Rattle.grain_means.specs.Causes.{AnswersLent, AsksLast, AsksNative, AsksOnCopies, IsNoChain, Mistypes, Question, Raises, ReadsLent, Row}
-
-other_op : {k slot name assigns : ℕ} → op.Chain k ≡ op.AssignLocalOp slot name assigns → ⊥
-other_op e = cc
+use Rattle.grain_means.specs.Causes.{AnswersLent, AsksLast, AsksNative, AsksOnCopies, HasPosition, HostAnswers, IsNoChain, Mistypes, Question, Raises, ReadsLent, Row}
 
 -- at a chain
 module _ {S : Type 0} (m : Setup S) (k : ℕ) (f : Frame) (w : World S) where
@@ -25,15 +24,15 @@ module _ {S : Type 0} (m : Setup S) (k : ℕ) (f : Frame) (w : World S) where
 
   asks_last : (x : Problem) (q : Question S) → AsksLast m x q at → ⊥
   asks_last x q (inl a) = on_copies q a
-  asks_last x q (inr b) = other_op b.5.is
+  asks_last x q (inr b) = b.5.to
 
   asks_native : (q : Question S) → AsksNative m q at → ⊥
   asks_native q (inl a) = on_copies q a
-  asks_native q (inr b) = other_op b.5.is
+  asks_native q (inr b) = b.5.to
 
   races : (name : List ℕ) → ReadsLent m.program name (op.Chain k) f w ⊎ AnswersLent m name at → ⊥
   races name (inl a) = a
-  races name (inr b) = other_op b.is
+  races name (inr b) = b.named
 
   mistypes : (r a : List ℕ) → Mistypes r a (op.Chain k) f w → ⊥
   mistypes r a (inl h) = h.5
@@ -55,19 +54,36 @@ module _ {S : Type 0} (m : Setup S) (k : ℕ) (f : Frame) (w : World S) where
   no_kind TooManyOperations row = row.1
   no_kind TooManyVariables row = row
   no_kind StackOverflow row = row.2.2
+  no_kind UnboundThis row = row.1
   no_kind (DataTooLarge t) row = row.2
   no_kind (Malformed (kind.SlotPastScope i n)) row = row.2
   no_kind (Malformed (kind.UnwindPastScope t n)) row = row.2
   no_kind x row = row
 
-  no_row : (x : Problem) → Row m x at → ⊥
-  no_row (Plain x p) row = no_kind x row
-  no_row (InFunctionCall s source x p) row = row.2.2.calls
-  no_row (InModule s x p) row = row
-  no_row (SystemError s e) row = row
-  no_row NoMemory row = row
+-- the fault has this position, which is the instruction's, and if it left a function, the instruction that
+-- called that is no chain
+abbrev pub IsOwn : Position → Op → Problem → Type 0
+IsOwn p o (InFunctionCall s source x q) =
+    HasPosition p (InFunctionCall s source x q) × IsNoChain o
+IsOwn p o x = HasPosition p x
+
+pub own_position : (p : Position) (o : Op) (x : Problem) → IsOwn p o x → HasPosition p x
+own_position p o (InFunctionCall s source x q) own = own.0
+own_position p o x own = own
 
 pub no_chain : {S : Type 0} (m : Setup S) (x : Problem) (o : Op) (f : Frame) (w : World S) →
-    Row m x (record { instruction = o; frame = f; world = w }) → IsNoChain o
-no_chain m x (op.Chain k) f w row = no_row m k f w x row
-no_chain m x o f w row = tt
+    IsOwn (position m f) o x → Row m x (record { instruction = o; frame = f; world = w }) →
+    IsNoChain o
+no_chain m (Plain x p) (op.Chain k) f w own row = no_kind m k f w x row
+no_chain m (Plain x p) o f w own row = tt
+no_chain m (InFunctionCall s source x p) o f w own row = own.1
+no_chain m (InModule s x p) o f w own row = absurd row
+no_chain m (SystemError s e) o f w own row = absurd row
+no_chain m NoMemory o f w own row = absurd row
+
+-- where the host answers a fault to an instruction, that is no chain
+pub not_answered : {S : Type 0} (m : Setup S) (y : Problem) (o : Op) (f : Frame) (w : World S) →
+    HostAnswers m y (record { instruction = o; frame = f; world = w }) → IsNoChain o
+not_answered m y (op.Chain k) f w a =
+    asks_last m k f w (at_position_if_none (position m f) y) a.2.question a.5
+not_answered m y o f w a = tt

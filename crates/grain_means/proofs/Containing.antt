@@ -1,16 +1,21 @@
 -- Runs keep what names cells of the store only: a walk over the rules for it alone, since it stands
 -- on premises of its own, of the beginning and of the host. Here are each instruction, of which the
 -- parts stand in the files of `Containing`, and whole runs.
+pub mod Roots
+pub mod Keeping
 pub mod Parts
 pub mod Frames
 pub mod Natives
+pub mod Bodies
 pub mod Steps
 pub mod Entries
 pub mod Operators
+pub mod ThisSteps
 pub mod Transfers
 pub mod Calls
 pub mod Catching
 pub mod Tasks
+pub mod MethodTasks
 pub mod StepTasks
 pub mod Walks
 pub mod Chains
@@ -28,7 +33,8 @@ use Rattle.grain_program.specs.View.{assign_op_of, const_of, name_of}
 use Rattle.grain_program.specs.declared.code.instruction_set.Op.{Op}
 use Rattle.grain_program.specs.declared.code.instruction_set.Op.TheVariants as op
 use Rattle.grain_program.specs.Decoding.{op_at}
-use Rattle.grain_means.specs.Contained.{AnswerNames, Names}
+use Rattle.grain_host.specs.Law.{IsLawful}
+use Rattle.grain_means.specs.Contained.{AnswerNames, ConstantsName, Contained, Names, RootsName}
 use Rattle.grain_means.specs.Ends.{Ends, ended, went, joined}
 use Rattle.grain_means.specs.Rules as rules
 use Rattle.grain_means.specs.Rules.{exit_of, function_found, given, is_stop, operated, or_return, outer_handlers, stepped, without}
@@ -38,12 +44,14 @@ use Rattle.grain_means.proofs.Footing.{by_test}
 use Rattle.grain_means.proofs.Naming.{arguments_name, rotated_names, under_names}
 use Rattle.grain_means.proofs.Plain.{operated_plain}
 use Rattle.grain_means.proofs.Containing.Parts.{HandlerNames, Operands, FrameNames, exit_names}
-use Rattle.grain_means.proofs.Containing.Frames.{Grounds, At, Seated, Within, lower, ends, raises, charged, reads_all}
+use Rattle.grain_means.proofs.Containing.Frames.{Grounds, At, Holds, Leaves, Seated, Within, lower, ends, raises, charged, reads_all}
+use Rattle.grain_means.proofs.Containing.Keeping.{Since, all_named, at_last, begun}
 use Rattle.grain_means.proofs.Containing.Steps.{Stays, Here, pushing, going_on, reading, marking, last, less}
 use Rattle.grain_means.proofs.Containing.Entries.{stores, declares, assigns, loads, loads_shared, shares}
 use Rattle.grain_means.proofs.Containing.Operators.{op_assigns, pushes_outcome}
 use Rattle.grain_means.proofs.Containing.Transfers.{jumping, tests_top, skips, unwinds}
 use Rattle.grain_means.proofs.Containing.Chains.{chains}
+use Rattle.grain_means.proofs.Containing.ThisSteps.{assigns_this, loads_this, loads_this_shared, op_assigns_this, requires_this}
 use Rattle.grain_means.proofs.Containing.Calls.{calls_function, curries, calls_pointer}
 use Rattle.grain_means.proofs.Containing.Catching.{catches}
 
@@ -93,6 +101,12 @@ module _ {S : Type 0} {m : Setup S} (on : Grounds m) where
     does (op.AssignLocal slot k) next w at = assigns on n low f names slot k next w at
     does (op.AssignLocalOp slot k a) next w at =
         op_assigns on n low f names (assign_op_of m.program a) slot k next w at
+    does op.LoadThis next w at = loads_this on n low f names next w at
+    does op.LoadThisShared next w at = loads_this_shared on n low f names next w at
+    does op.RequireThis next w at = requires_this on n low f names next w at
+    does op.AssignThis next w at = assigns_this on n low f names next w at
+    does (op.AssignThisOp a) next w at =
+        op_assigns_this on n low f names (assign_op_of m.program a) next w at
     does (op.LoadShared slot) next w at = loads_shared on n low f names slot next w at
     does (op.Share slot) next w at = shares on n low f names slot next w at
     does op.IsShared next w at =
@@ -193,18 +207,21 @@ module _ {S : Type 0} {m : Setup S} (on : Grounds m) where
   goes_further n low (InCatch f h x) w at seated =
       catches on n low f seated.0 h x seated.1 seated.2 w at
 
+module _ {S : Type 0} {m : Setup S} (on : Grounds m) where
+  open on use {clean, least, since}
+
   -- so it is where a run ends
-  ends_within : {act : Act S} {a : Answer} {v : World S} → Ends m act a v → (k : ℕ) → least ≤ k →
-      Within on k act →
-      (n : ℕ) × (k ≤ n) × At on n v × AnswerNames clean n a
-  ends_within ended k low h = h
-  ends_within (went {t = t} {w = w} d) k low h =
+  ends_within : {act : Act S} {a : Answer} {v : World S} → Ends m act a v → (s : Since) (k : ℕ) →
+      least ≤ k → Leaves m clean s k act →
+      (n : ℕ) × (k ≤ n) × Holds m clean s n v × AnswerNames clean n a
+  ends_within ended s k low h = h
+  ends_within (went {t = t} {w = w} d) s k low h =
       let more : least ≤ h.0 = omega (arith, low, h.1) in
-      let i = ends_within d h.0 more (goes_further h.0 more t w h.2 h.3) in
+      let i = ends_within d s h.0 more (goes_further (record on { since = s }) h.0 more t w h.2 h.3) in
       (i.0, omega (arith, h.1, i.1), i.2, i.3)
-  ends_within (joined {rest = rest} {b = x} {w = w} d e) k low h =
-      let i = ends_within d h.0 (omega (arith, low, h.1)) h.2 in
-      ends_within e k low (h.3 x w i.0 i.1 i.2 i.3)
+  ends_within (joined {rest = rest} {b = x} {w = w} d e) s k low h =
+      let i = ends_within d h.2 h.0 (omega (arith, low, h.1)) h.3 in
+      ends_within e s k low (h.4 x w i.0 i.1 i.2 i.3)
 
   -- a mark outside of all frames
   passes : (n : ℕ) → least ≤ n → (w : World S) (go : World S → Act S) →
@@ -234,20 +251,37 @@ module _ {S : Type 0} {m : Setup S} (on : Grounds m) where
             ends on n low (Came d) (record v { trace = trace }) at
             (exit_names clean n x d named is)
 
-  -- a call keeps to its store
-  pub called_within : (this : Option Place) (w v : World S) (a : Answer) (n : ℕ) → least ≤ n →
+  keeps_within : (this : Option Place) (w v : World S) (a : Answer) (n : ℕ) → least ≤ n →
       At on n w → Ends m (rules.called m this w) a v →
       (k : ℕ) × (n ≤ k) × At on k v × AnswerNames clean k a
-  called_within this w v a n low at d =
+  keeps_within this w v a n low at d =
       let start : World S → Act S = λ u. Then (Go (InFrame (rules.main_frame m u.scope this)) u)
       (rules.closed m u.trace) in
       let inside : World S = record w { passed = w.passed + 1 + 1 } in
-      ends_within d n low (passes n low w (λ u. rules.passing m u start) at
+      ends_within d since n low (passes n low w (λ u. rules.passing m u start) at
       (passes n low (record w { passed = w.passed + 1 }) start at (
         n,
         omega arith,
+        since,
         (n, omega arith, at, (tt, tt)),
         λ b u k le there named. lower on n k
             (rules.closed m inside.trace b u) le
             (closes k (omega (arith, low, le)) inside.trace b u there named),
       )))
+
+-- a call keeps to its store
+pub called_within : {S : Type 0} (m : Setup S) (this : Option Place) (w v : World S) (a : Answer)
+    (clean : Bool) (n : ℕ) → IsLawful m.law → ConstantsName clean n m.program →
+    Contained m.law clean n w.scope w.cells w.host → RootsName clean n w.roots →
+    Ends m (rules.called m this w) a v →
+    (k : ℕ) × (n ≤ k) × Contained m.law clean k v.scope v.cells v.host × AnswerNames clean k a
+    × RootsName clean k v.roots
+called_within m this w v a clean n lawful constants start roots d =
+    let end = keeps_within (record {
+      lawful = lawful;
+      clean = clean;
+      least = n;
+      constants = constants;
+      since = record { cells = w.cells; roots = w.roots };
+    }) this w v a n (omega arith) (begun w.roots start roots) d in
+    (end.0, end.1, at_last n start.contents end.2, end.3, all_named end.2)

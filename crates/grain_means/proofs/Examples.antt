@@ -1,8 +1,10 @@
 -- Walks by themselves, as they end.
-use Rattle.std.specs.Prelude.{◌≡◌, ℕ, pos, negsuc, true, false, List, [], ◌∷◌, Option, Some, None, refl, codes, slice_index_or}
+use Rattle.std.specs.Prelude.{◌≡◌, ℕ, pos, negsuc, true, false, List, [], ◌∷◌, length, Option, Some, None, refl, codes, slice_index_or}
 use Rattle.grain_value.specs.Tree.{Tree, unit, integer, text, cell}
 use Rattle.grain_value.specs.declared.values.Dynamic.{Dynamic}
 use Rattle.grain_value.specs.declared.values.Dynamic.TheVariants as dynamic
+use Rattle.grain_value.specs.View.{tree}
+use Rattle.grain_value.specs.declared.values.FnPtr.{FnPtr}
 use Rattle.grain_value.specs.declared.tokens.Token.TheVariants as token
 use Rattle.grain_value.specs.Operands.{read_write}
 use Rattle.grain_fault.specs.declared.places.Position.{Position}
@@ -14,9 +16,9 @@ use Rattle.grain_fault.specs.Problems.{Plain, ArrayBounds, DataRace, MismatchDat
 use Rattle.grain_program.specs.declared.code.chains.Step.{Step}
 use Rattle.grain_program.specs.declared.code.chains.Step.TheVariants as step
 use Rattle.grain_program.specs.declared.code.chains.StepFlags.{StepFlags}
-use Rattle.grain_means.specs.Worlds.{Answer, Came, Failed}
+use Rattle.grain_means.specs.Worlds.{Answer, Came, Failed, Place}
 use Rattle.grain_means.specs.Places.{put}
-use Rattle.grain_means.specs.Tasks.{Walked, Well, Ill, Play, Over, Asks, play}
+use Rattle.grain_means.specs.Tasks.{Walked, Well, Ill, Invocation, Method, Numbered, Pointed, Play, Over, Asks, Calls, play}
 use Rattle.grain_means.specs.Walks.{Course, whole_walk}
 
 abbrev here : Position
@@ -48,23 +50,28 @@ module _ (engine : Engine) (program : View) where
   abbrev end_of : Play → Walked
   end_of (Over o s) = o
   end_of (Asks c f s) = Ill 99 NoMemory
+  end_of (Calls i f s) = Ill 99 NoMemory
 
   abbrev root_of : Play → Dynamic
   root_of (Over o s) = (slice_index_or s.roots 0 (read_write dynamic.Unit)).value
   root_of (Asks c f s) = (slice_index_or s.roots 0 (read_write dynamic.Unit)).value
+  root_of (Calls i f s) = (slice_index_or s.roots 0 (read_write dynamic.Unit)).value
 
   -- a walk goes on with an outcome
   abbrev resumed : Answer → Play → Play
   resumed a (Over o s) = Over o s
   resumed a (Asks c f s) = play None [] (f a) s
+  resumed a (Calls i f s) = play None [] (f a) s
 
   abbrev asked_name : Play → List ℕ
   asked_name (Over o s) = []
   asked_name (Asks c f s) = c.name
+  asked_name (Calls i f s) = []
 
   abbrev asked_values : Play → List Dynamic
   asked_values (Over o s) = []
   asked_values (Asks c f s) = c.values
+  asked_values (Calls i f s) = i.values
 
   abbrev begin : Course → List Step → Dynamic → Play
   begin c steps root =
@@ -220,6 +227,8 @@ module _ (engine : Engine) (program : View) where
   written v (Over o s) = Over o s
   written v (Asks c f s) =
       Asks c f (record s { roots = put s.roots (record { root = 1; path = [] }) v })
+  written v (Calls i f s) =
+      Calls i f (record s { roots = put s.roots (record { root = 1; path = [] }) v })
 
   pub bit_put_back : root_of (resumed (Came dynamic.Unit) (written (dynamic.Bool true) lending))
       ≡ dynamic.Int (pos 1)
@@ -247,6 +256,89 @@ module _ (engine : Engine) (program : View) where
       ≡ Well dynamic.Unit true
   missing_ends = refl
 
+  -- A method step, of the name `word`. `curry` puts its arguments after the values of a pointer.
+  abbrev named : List ℕ → Course → Course
+  named word c = record c {
+    setting = record c.setting {
+      program = record c.setting.program { names = word ∷ [] };
+    };
+  }
+
+  abbrev method : ℕ → Step
+  method argc = step.Method 0 argc 0 no_flags there
+
+  abbrev pointer : List Tree → FnPtr
+  pointer values = record { name = codes "f"; curry = values }
+
+  abbrev calling : List ℕ → List Tree → Dynamic → Play
+  calling word values root =
+      begin (named word (course values None None)) (method (length values) ∷ []) root
+
+  pub curried : end_of (calling (codes "curry") (integer (pos 2) ∷ [])
+      (dynamic.Pointer (pointer (integer (pos 1) ∷ []))))
+      ≡ Well (dynamic.Pointer (pointer (integer (pos 1) ∷ integer (pos 2) ∷ []))) true
+  curried = refl
+
+  -- `is_shared` asks the root itself, which may be a cell
+  pub shared : end_of (calling (codes "is_shared") [] (dynamic.Cell 0))
+      ≡ Well (dynamic.Bool true) true
+  shared = refl
+
+  pub not_shared : end_of (calling (codes "is_shared") [] (dynamic.Int (pos 1)))
+      ≡ Well (dynamic.Bool false) true
+  not_shared = refl
+
+  -- `call` of a value that is no pointer, without an argument
+  pub no_pointer : end_of (calling (codes "call") [] (dynamic.Int (pos 1)))
+      ≡ Ill 0 (Plain (MismatchDataType (codes "Fn") (codes "i64")) there)
+  no_pointer = refl
+
+  -- the function that is called, and what it has as its `this`
+  abbrev method_of : Play → Option Method
+  method_of (Over o s) = None
+  method_of (Asks c f s) = None
+  method_of (Calls i f s) = Some i.method
+
+  abbrev this_of : Play → Option Place
+  this_of (Over o s) = None
+  this_of (Asks c f s) = None
+  this_of (Calls i f s) = i.this
+
+  -- `call` of a pointer calls its function, without a `this`
+  abbrev of_pointer : Play
+  of_pointer = calling (codes "call") (integer (pos 2) ∷ []) (dynamic.Pointer (pointer []))
+
+  pub pointer_called : method_of of_pointer ≡ Some (Pointed (pointer []))
+  pointer_called = refl
+
+  pub called_without_this : this_of of_pointer ≡ None
+  called_without_this = refl
+
+  pub called_with : asked_values of_pointer ≡ dynamic.Int (pos 2) ∷ []
+  called_with = refl
+
+  -- `call` of a value that is no pointer calls its first argument, whose `this` is the value
+  abbrev of_argument : Play
+  of_argument = calling (codes "call") (tree (dynamic.Pointer (pointer [])) ∷ integer (pos 2) ∷ [])
+      (dynamic.Int (pos 1))
+
+  pub argument_called : method_of of_argument ≡ Some (Pointed (pointer []))
+  argument_called = refl
+
+  pub called_with_this : this_of of_argument ≡ Some (record { root = 0; path = [] })
+  called_with_this = refl
+
+  pub called_with_the_others : asked_values of_argument ≡ dynamic.Int (pos 2) ∷ []
+  called_with_the_others = refl
+
+  -- what is called gives the chain's value, and its fault blames the step
+  pub method_answered : end_of (resumed (Came (dynamic.Int (pos 7))) of_argument)
+      ≡ Well (dynamic.Int (pos 7)) true
+  method_answered = refl
+
+  pub method_failed : end_of (resumed no_index of_argument) ≡ Ill 0 (Plain (IndexingType []) here)
+  method_failed = refl
+
   -- how many these are
   abbrev pub examples : ℕ
-  examples = 30
+  examples = 42

@@ -1,14 +1,14 @@
 -- Why a chain's walk ends in a fault: each fault of each rule has its row. Here are the steps.
 pub mod Ways
 pub mod Calls
-use Rattle.std.proofs.Common.{◌≡◌, ◌⊎◌, ◌+◌, ◌-◌, ℕ, zero, suc, Bool, true, false, List, [], ◌∷◌, ◌++◌, Option, Some, None, Result, Ok, Err, drop, take, refl, sym, ap, ◌∙◌, inl, inr, subst, arith, option_map}
-use Rattle.std.specs.Prelude.{if◌then◌else◌, codes}
+pub mod Methods
+use Rattle.std.proofs.Common.{◌≡◌, ◌+◌, ◌-◌, ℕ, zero, suc, Bool, true, false, List, [], ◌∷◌, Option, Some, None, Result, Ok, Err, drop, refl, inl, inr, subst, arith}
+use Rattle.std.specs.Prelude.{if◌then◌else◌}
 use Rattle.grain_value.specs.Cells.{flat}
 use Rattle.grain_value.specs.Locating.{locate}
 use Rattle.grain_value.specs.Looking.{is_unit}
 use Rattle.grain_value.specs.Maps.{entry_at}
-use Rattle.grain_value.specs.Operands.{read_write}
-use Rattle.grain_value.specs.Parts.{part, with_part}
+use Rattle.grain_value.specs.Parts.{part}
 use Rattle.grain_value.specs.Tree.{Tree}
 use Rattle.grain_value.specs.Writing.{type_name_of}
 use Rattle.grain_value.specs.declared.values.Dynamic.{Dynamic}
@@ -18,27 +18,23 @@ use Rattle.grain_value.specs.declared.values.locating.Spot.{Spot}
 use Rattle.grain_value.specs.declared.values.locating.Spot.TheVariants as spot
 use Rattle.grain_value.specs.declared.values.value_faults.ValueFault.{ValueFault}
 use Rattle.grain_value.specs.declared.values.value_faults.ValueFault.TheVariants as fault
-use Rattle.grain_fault.specs.Absences.{is_dot_expr, is_indexing_type}
-use Rattle.grain_fault.specs.Classes.{catchable}
-use Rattle.grain_fault.specs.Problems.{Problem, Plain, DataRace, MismatchDataType, PropertyNotFound, NoMemory}
+use Rattle.grain_fault.specs.Problems.{Plain, MismatchDataType, PropertyNotFound, NoMemory}
 use Rattle.grain_fault.specs.declared.places.Position.{Position}
-use Rattle.grain_host.specs.Signatures.{says_missing}
-use Rattle.grain_ops.specs.Outcomes.{Outcome, NotBuiltIn, Gave, ArithmeticFault, TooLarge}
 use Rattle.grain_program.specs.View.{name_of}
 use Rattle.grain_program.specs.declared.code.parts.AssignOp.{AssignOp}
 use Rattle.grain_program.specs.declared.code.chains.Step.{Step}
 use Rattle.grain_program.specs.declared.code.chains.Step.TheVariants as step
 use Rattle.grain_program.specs.declared.code.chains.StepFlags.{StepFlags}
-use Rattle.grain_means.specs.Worlds.{is_stop, Answer, Came, Failed, Place, Setup, World}
+use Rattle.grain_means.specs.Worlds.{Place, Setup, World}
 use Rattle.grain_value.specs.declared.values.paths.PathStep.TheVariants as path_step
-use Rattle.grain_means.specs.Places.{deeper, look, put, next_root}
-use Rattle.grain_means.specs.Rules.{op_assigned, race_text}
-use Rattle.grain_means.specs.Tasks.{Call, Task, Done, Mark, Look, Flatten, Write, Root, Drop, Need, Walked, Well, Ill}
+use Rattle.grain_means.specs.Places.{deeper, look, put}
+use Rattle.grain_means.specs.Tasks.{Task, Done, Look, Write, Well}
 use Rattle.grain_means.specs.Walks as walks
-use Rattle.grain_means.specs.Walks.{Setting, Course, Rest, Next, Role, Passes, Reads, Writes, Operates, Origin, OfPart, OfIndex, OfProperty, OfNothing, at_mark, assigning, failing, flat_or_busy, flattening, is_indexed, key_of, origin_of_part, role_at_end, role_before, skips, with_key}
-use Rattle.grain_means.specs.Causes.Spots.{ChainWalk, WalksTo, here, marked, looked, read, wrote, added, dropped, heard, past, CallEnds, Falls, ComesTo, AtStep, Indexes, value_at, WalkRow, CallFails, lent_for, world_of}
-use Rattle.grain_means.proofs.Explaining.Ways.{join, On, Stops, Why, From, Goes, Follows, fallen, ill, out, marks, fails, reads, call_of, Hears, asks, failing_call, native_row, instead_row}
-use Rattle.grain_means.proofs.Explaining.Calls.{index_set, sets_index, set_instead, property_set, sets_property, Answers, got_instead, property_got, gets_property, index_got, index_read, writes, operator, operator_asked, op_assigned_by, operates, sets_back, goes_back, roots, into_answer, own_value}
+use Rattle.grain_means.specs.Walks.{Rest, Next, Role, Passes, Reads, Writes, Operates, Origin, OfIndex, OfProperty, OfNothing, at_mark, assigning, failing, flattening, is_indexed, key_of, origin_of_part, role_at_end, role_before, skips, with_key}
+use Rattle.grain_means.specs.Causes.Spots.{ChainWalk, here, looked, wrote, Indexes, WalkRow, world_of}
+use Rattle.grain_means.proofs.Explaining.Ways.{join, On, Why, From, Goes, Follows, marks, fails, reads, call_of, asks, reads_at}
+use Rattle.grain_means.proofs.Explaining.Methods.{method_step}
+use Rattle.grain_means.proofs.Explaining.Calls.{sets_index, sets_property, gets_property, index_got, index_read, writes, operates, roots, into_answer, own_value}
 
 module _ {S : Type 0} (m : Setup S) (c : ChainWalk S) where
   module _ (n : ℕ) where
@@ -90,15 +86,15 @@ module _ {S : Type 0} (m : Setup S) (c : ChainWalk S) where
           From m c (walks.by_indexer c.course.setting n q bracket r i next p done)
       by_indexer q bracket Passes i =
           let go = walks.into_answer c.course.setting n q false (OfIndex i bracket) next p done in
-          asks m c n bracket walks.index_get (Some p) (i ∷ []) done (walks.index_was_got n done go) f
+          asks m c n bracket walks.index_get (Some p) (i ∷ []) done (walks.was_given n done go) f
           (f.falls n NoMemory)
           (index_got m c n (call_of m c n bracket walks.index_get (Some p) (i ∷ [])) refl done go f
           (into_answer m c n q (OfIndex i bracket) next on p done f))
       by_indexer q bracket Reads i =
           asks m c n bracket walks.index_get (Some p) (i ∷ []) done
-          (walks.index_was_got n done (walks.own_value done)) f (f.falls n NoMemory)
+          (walks.was_given n done (walks.own_value (OfIndex i bracket) done)) f (f.falls n NoMemory)
           (index_got m c n (call_of m c n bracket walks.index_get (Some p) (i ∷ [])) refl done
-          (walks.own_value done) f (own_value m c n done f))
+          (walks.own_value (OfIndex i bracket) done) f (own_value m c n (OfIndex i bracket) done f))
       by_indexer q bracket (Writes u) i = sets_index m c n bracket p i u dynamic.Unit done f
       by_indexer q bracket (Operates u a) i =
           let over = walks.operating c.course.setting n bracket a u in
@@ -116,7 +112,8 @@ module _ {S : Type 0} (m : Setup S) (c : ChainWalk S) where
           (walks.into_answer c.course.setting n q false (OfProperty name setter q false) next p done) f
           (into_answer m c n q (OfProperty name setter q false) next on p done f)
       by_accessor name getter setter q Reads =
-          gets_property m c n name getter q p done (walks.own_value done) f (own_value m c n done f)
+          let o : Origin = OfProperty name setter q false in
+          gets_property m c n name getter q p done (walks.own_value o done) f (own_value m c n o done f)
       by_accessor name getter setter q (Writes u) =
           sets_property m c n name setter q true p u dynamic.Unit done f
       by_accessor name getter setter q (Operates u a) =
@@ -225,27 +222,8 @@ module _ {S : Type 0} (m : Setup S) (c : ChainWalk S) where
           by_kind : (b : Bool) → On m c (if b then flattening n q i done finds else asking_host) v →
               Why m c (if b then flattening n q i done finds else asking_host) v
           by_kind true at =
-              reads_here at where
-                reads_here : On m c (flattening n q i done finds) v →
-                    Why m c (flattening n q i done finds) v
-                reads_here at = by_content (flat v.cells i) refl (join m c at (read here)) where
-                  by_content : (o : Option Dynamic) → flat v.cells i ≡ o →
-                      On m c (flat_or_busy n q done finds o) v → Why m c (flat_or_busy n q done finds o) v
-                  by_content None e arrived =
-                      let x = Plain (DataRace (race_text [])) q in
-                      fails m c n x done f (inr (inr (inr (inr (inl (record {
-                        value = i;
-                        position = q;
-                        rest = done;
-                        go = finds;
-                        world = v;
-                        comes = at;
-                        lent = e;
-                        is = refl;
-                        last = f.falls n x;
-                      })))))) v arrived
-                  by_content (Some u) e arrived =
-                      indexed u e (locate here_stands u) refl arrived
+              reads_at m c n q i done finds f v
+              (λ u e arrived. indexed u e (locate here_stands u) refl arrived) at
           by_kind false at =
               by_indexer left (Later left) on p done f q bracket (role_before c.course left) i v at
 
@@ -309,16 +287,21 @@ module _ {S : Type 0} (m : Setup S) (c : ChainWalk S) where
         index_step left on p done f v number flags q bracket stands come
     takes (step.Property name getter setter flags q) left stands on p done f v come =
         property_step left on p done f v name getter setter flags q stands come
+    takes (step.Method name argc first flags q) left stands on p done f v come =
+        method_step m c n left on p done f v name argc first flags q stands come
 
-    unless : (b : Bool) (p : Place) (done : Rest) (go : Task) → Follows m c done → From m c go →
-        From m c (walks.unless_unit b p done go)
-    unless false p done go f from v come = from v come
-    unless true p done go f from v come =
-        by_unit (is_unit (look v.roots (world_of m c p)).value) (join m c come (looked here)) where
-          by_unit : (b : Bool) → On m c (if b then done (Well dynamic.Unit false) else go) v →
-              Why m c (if b then done (Well dynamic.Unit false) else go) v
-          by_unit true at = f.well dynamic.Unit false v at
-          by_unit false at = from v at
+    unless : (q : Position) (b : Bool) (p : Place) (done : Rest) (go : Task) → Follows m c done →
+        From m c go → From m c (walks.unless_unit n q b p done go)
+    unless q false p done go f from v come = from v come
+    unless q true p done go f from v come =
+        reads m c n q (look v.roots (world_of m c p)).value done (walks.if_not_unit done go) f by_unit v
+        (join m c come (looked here)) where
+          by_unit : (d : Dynamic) → From m c (walks.if_not_unit done go d)
+          by_unit d u at = by_test (is_unit d) at where
+            by_test : (b : Bool) → On m c (if b then done (Well dynamic.Unit false) else go) u →
+                Why m c (if b then done (Well dynamic.Unit false) else go) u
+            by_test true at = f.well dynamic.Unit false u at
+            by_test false at = from u at
 
     ends : (u : Option Dynamic) (op : Option AssignOp) →
         Goes m c (walks.ended c.course.setting (role_at_end u op) n)
@@ -347,8 +330,9 @@ module _ {S : Type 0} (m : Setup S) (c : ChainWalk S) where
   walks_on (s ∷ left) n stands = λ p done f.
       let step_task = walks.taken c.course s n (role_before c.course left)
       (walks.walked c.course left (n + 1)) p done in
-      marks m c n done (walks.unless_unit (skips s) p done step_task) f
-      (unless n (skips s) p done step_task f
+      let q = walks.step_position s in
+      marks m c n done (walks.unless_unit n q (skips s) p done step_task) f
+      (unless n q (skips s) p done step_task f
       (takes n s left stands (walks_on left (n + 1) (drop_next n s left stands)) p done f))
 
   -- every fault with which the walk ends has its row

@@ -9,7 +9,9 @@ use Rattle.grain_program.specs.Typing.{IsProgram}
 use Rattle.grain_means.specs.Worlds.{Act, Go, End, Then, Answer, Failed, World, Setup, Frame, Handler, Todo, InFrame, InCatch}
 use Rattle.grain_means.specs.Rules.{if_armed, kind_throws_unit, outer_handlers, position, throws_unit, thrown_anew}
 use Rattle.grain_means.specs.Comes.{ProgramPoint, CatchPoint, Comes, ComesToCatch, BlamesNone, Meets, try_of, tries}
+use Rattle.grain_means.specs.Ends.{Ends}
 use Rattle.grain_means.specs.Leavings.{Keeps, Cuts}
+use Rattle.grain_means.specs.Blame.{Blamed}
 use Rattle.grain_means.specs.Causes.{HasPosition, Why, Throws, Raises, Tells, ThrowsUnit, HaveCaughtUnit, FirstIsArmed, Raised, Row, FailsToCatch, CatchRow, Caused, ThrowsUnitAt}
 use Rattle.grain_means.proofs.Moving.{placed_twice, unit_anywhere, unit_placed}
 use Rattle.grain_means.proofs.Standing.{Fitting, Covered}
@@ -53,7 +55,7 @@ Sits {S = S} m root k f = (f.base ≡ k.base) × (k.base ≤ f.floor) ×
     (IsProgram m.program → Fitting m.program f) × Guarded m root k f.handlers × BlamesNone f
 
 -- A frame on this footing, in which the handler catches the fault: the frame stood at an instruction
--- that raised it.
+-- that raised it, and has the slot of what is blamed.
 pub record CanCatch {S : Type 0} (m : Setup S) (root : Act S) (k : Footing) (f : Frame)
     (h : Handler) (x : Problem) : Type 0 where
   pub from : Frame
@@ -70,6 +72,7 @@ pub record CanCatch {S : Type 0} (m : Setup S) (root : Act S) (k : Footing) (f :
   pub armed : h.caught ≡ None
   pub may : catchable x ≡ true
   pub cause : Raised m root k.level x (Why m x)
+  pub blamed : Blamed m from world f.slot x
   pub covered : IsProgram m.program →
       Covered m.program f.operands (try_of h ∷ tries f.handlers)
 
@@ -88,8 +91,8 @@ Tally {S = S} m root turn r k (End a w) = (w.ran ≡ r) × (w.tokens ≡ k.token
     Caused m root k.level a w
 Tally {S = S} m root turn r k (Then first rest) =
     (j : Footing) × Tally m first first r j first ×
-    (Onto m first root → Onto m first turn → (x : Answer) (w : World S) → w.tokens ≡ j.tokens →
-    w.level ≡ j.level → Keeps j.base j.names w.scope → Cuts m first j.level j.base x w →
+    (Onto m first root → Onto m first turn → (x : Answer) (w : World S) → Ends m first x w →
+    w.tokens ≡ j.tokens → w.level ≡ j.level → Keeps j.base j.names w.scope → Cuts m first j.level j.base x w →
     Caused m first j.level x w → Tally m root turn w.ran k (rest x w))
 
 pub by_test : {S : Type 0} (P : Act S → Type 0) (b : Bool) (x y : Act S) → (b ≡ true → P x) →

@@ -1,10 +1,8 @@
--- What names cells of a store only goes on to what stands inside it, and to a value with another inside;
--- and to roots, and what stands at places in them.
-use Rattle.std.proofs.Common.{◌≡◌, ◌≤◌, ◌∙◌, ℕ, zero, suc, List, [], ◌∷◌, ◌++◌, Bool, true, false, not, ◌&&◌, Option, Some, None, Result, Ok, Err, length, take, drop, refl, sym, ap, subst, arith}
+-- What names cells of a store only goes on to what stands inside it, and to a value with another inside.
+use Rattle.std.proofs.Common.{◌≡◌, ◌≤◌, ◌∙◌, ℕ, zero, suc, List, [], ◌∷◌, Bool, true, false, not, ◌&&◌, Option, Some, None, Result, Ok, Err, length, refl, sym, ap, subst, arith}
 use Rattle.std.proofs.Math.Nat.{le-max_left, le-max_right, max-le}
 use Rattle.std.specs.BTreeMap.{insert_entry, is_at}
 use Rattle.std.specs.Cmp.Lexicographic.{slice_cmp}
-use Rattle.std.specs.List.{AllByRecursion}
 use Rattle.std.specs.Map.{lookup, set_value}
 use Rattle.std.specs.Ordering.{nat_cmp, match_ordering}
 use Rattle.std.specs.Prelude.{cond, slice_get, slice_set}
@@ -17,7 +15,7 @@ use Rattle.grain_value.specs.Paths.{and_then, at, child, or_same, put as put_tre
 use Rattle.grain_value.specs.Tree.{Tree, Trees, Fields, array, dict, pointer, cell, unit, boolean, integer, character, text, blob, range, foreign, no_trees, more_trees, no_fields, more_fields, pack, pack_fields, unpack, unpack_fields}
 use Rattle.grain_value.specs.View.{tree, value_of}
 use Rattle.grain_value.specs.laws.PathSteps.{element_found, keyed_found}
-use Rattle.grain_value.specs.laws.Same.{pack-unpack, pack-unpack_fields, tree-value_of}
+use Rattle.grain_value.specs.laws.Same.{pack-unpack, pack-unpack_fields, tree-value_of, value_of-tree}
 use Rattle.grain_value.specs.declared.values.Dynamic.{Dynamic}
 use Rattle.grain_value.specs.declared.values.Dynamic.TheVariants as dynamic
 use Rattle.grain_value.specs.declared.values.Held.{Held}
@@ -26,10 +24,9 @@ use Rattle.grain_value.specs.declared.values.paths.PathStep.TheVariants.{Index, 
 use Rattle.grain_value.specs.declared.values.value_faults.ValueFault.{ValueFault}
 use Rattle.grain_host.specs.Clean.{both_true, first_true, second_true}
 use Rattle.grain_means.specs.Contained.{HeldNames, Names}
-use Rattle.grain_means.specs.Places.{along, look, or_unit, put, put_held}
-use Rattle.grain_means.specs.Worlds.{Place}
+use Rattle.grain_means.specs.Places.{along, or_unit, put_held}
 use Rattle.grain_means.specs.lemmas.PlaceLaws.{along-ok}
-use Rattle.grain_means.proofs.Naming.{PlainNames, all_drop, all_got, not_cell}
+use Rattle.grain_means.proofs.Naming.{Stands, not_cell}
 
 -- whether a tree is a cell, and whether the value is
 pub no_cell_value : (t : Tree) → not (is_cell t) ≡ true → cell_of (value_of t) ≡ None
@@ -73,6 +70,25 @@ put_cell s p v t = by_child (child s t) where
       is_cell (or_same (λ c. set_child s (put_tree p v c) t) t r) ≡ is_cell t
   by_child (Ok c) = set_child_cell s (put_tree p v c) t
   by_child (Err e) = refl
+
+-- That a place in a root holds no cell where values are clean: the whole root is none, and what stands
+-- inside it is none in any case.
+abbrev pub Firm : List PathStep → Held → Type 0
+Firm [] r = cell_of r.value ≡ None
+Firm (s ∷ p) r = Unit {0}
+
+pub firm : (path : List PathStep) (r : Held) → cell_of r.value ≡ None → Firm path r
+firm [] r plain = plain
+firm (s ∷ p) r plain = tt
+
+-- the whole of a root
+pub whole_plain : (r : Held) → cell_of r.value ≡ None →
+    cell_of (or_unit (along [] (Some r))).value ≡ None
+whole_plain r plain = no_cell_value (tree r.value) (not_cell r.value plain)
+
+pub plain_whole : (r : Held) → cell_of (or_unit (along [] (Some r))).value ≡ None →
+    cell_of r.value ≡ None
+plain_whole r e = ap cell_of (sym (value_of-tree r.value)) ∙ e
 
 module _ (clean : Bool) (n : ℕ) where
   -- a tree names cells below this number only; where it is to be clean, it is
@@ -184,6 +200,19 @@ module _ (clean : Bool) (n : ℕ) where
             more_entries k t (pack_fields (set_value test (unpack_fields es) c))
             (first_field k t es h) later
 
+  -- the value at a key of a map
+  pub entry_names : (test : List ℕ → Bool) (es : Entries) (c : Tree) →
+      TreeNames (dict (pack_fields es)) → lookup test es ≡ Some c → TreeNames c
+  entry_names test [] c h is = absurd cc
+  entry_names test (e ∷ es) c h is =
+      by_test (test e.0) (entry_names test es c (other_fields e.0 e.1 (pack_fields es) h)) is where
+        by_test : (b : Bool) → (lookup test es ≡ Some c → TreeNames c) →
+            cond b (Some e.1) (lookup test es) ≡ Some c → TreeNames c
+        by_test true later found =
+            let same : e.1 ≡ c = cc in
+            subst TreeNames same (first_field e.0 e.1 (pack_fields es) h).0
+        by_test false later found = later found
+
   pub entry_put : (k : List ℕ) (c : Tree) (es : Entries) → TreeNames (dict (pack_fields es)) →
       ItemNames c → TreeNames (dict (pack_fields (put_entry k c es)))
   entry_put k c [] h one = more_entries k c no_fields one h
@@ -243,23 +272,58 @@ module _ (clean : Bool) (n : ℕ) where
         (later c inner.0, put_item p v c new.1 inner.1)
     by_child (Err x) is later = h
 
-  -- what stands at a place of a walk: it names cells below this number only, and is none where values
-  -- are clean
-  abbrev pub Stands : Held → Type 0
-  Stands h = HeldNames clean n h × (clean ≡ true → cell_of h.value ≡ None)
-
-  pub plain_stands : (h : Held) → PlainNames clean n h → Stands h
-  plain_stands h p = (p.0, λ s. p.1)
-
-  item_of : (h : Held) → Stands h → ItemNames (tree h.value)
+  item_of : (h : Held) → Stands clean n h → ItemNames (tree h.value)
   item_of h p = (p.0, λ s. not_cell h.value (p.1 s))
 
-  along_names : (path : List PathStep) (h g : Held) → PlainNames clean n h →
-      along path (Some h) ≡ Some g → Stands g
-  along_names path h g p e =
-      let there = at_names path (tree h.value) (tree g.value) (item_of h (plain_stands h p))
-      (along-ok path h g e) in
+  -- a step inside a value and further
+  at_inside : (s : PathStep) (p : List PathStep) (t c : Tree) → TreeNames t → at (s ∷ p) t ≡ Ok c →
+      ItemNames c
+  at_inside s p t c h e = by_child (child s t) refl (λ d one ends. at_names p d c one ends) e where
+    by_child : (r : Result Tree ValueFault) → child s t ≡ r →
+        ((d : Tree) → ItemNames d → at p d ≡ Ok c → ItemNames c) →
+        and_then (λ d. at p d) r ≡ Ok c → ItemNames c
+    by_child (Ok d) is later ends = later d (child_names s t d h is) ends
+    by_child (Err x) is later ends = absurd cc
+
+  -- what is found along a path
+  along_names : (path : List PathStep) (r g : Held) → HeldNames clean n r →
+      along path (Some r) ≡ Some g → HeldNames clean n g
+  along_names [] r g h e =
+      let same : tree r.value ≡ tree g.value =
+      by_ok (tree r.value) (tree g.value) (along-ok [] r g e) in
+      subst TreeNames same h where
+        by_ok : (t c : Tree) → at [] t ≡ Ok c → t ≡ c
+        by_ok t c is = cc
+  along_names (s ∷ p) r g h e =
+      (at_inside s p (tree r.value) (tree g.value) h (along-ok (s ∷ p) r g e)).0
+
+  along_stands : (path : List PathStep) (r g : Held) → HeldNames clean n r → Firm path r →
+      along path (Some r) ≡ Some g → Stands clean n g
+  along_stands [] r g h sure e =
+      let there = at_names [] (tree r.value) (tree g.value) (item_of r (h, λ s. sure))
+      (along-ok [] r g e) in
       (there.0, λ s. no_cell_tree g.value (there.1 s))
+  along_stands (s ∷ p) r g h sure e =
+      let there = at_inside s p (tree r.value) (tree g.value) h (along-ok (s ∷ p) r g e) in
+      (there.0, λ s. no_cell_tree g.value (there.1 s))
+
+  -- what stands there, or unit
+  unit_stands : Stands clean n (or_unit None)
+  unit_stands = ((omega arith, λ s. refl), λ s. refl)
+
+  pub found_names : (path : List PathStep) (r : Held) → HeldNames clean n r →
+      HeldNames clean n (or_unit (along path (Some r)))
+  found_names path r h = by_end (along path (Some r)) refl where
+    by_end : (o : Option Held) → along path (Some r) ≡ o → HeldNames clean n (or_unit o)
+    by_end None e = unit_stands.0
+    by_end (Some x) e = along_names path r x h e
+
+  pub found_stands : (path : List PathStep) (r : Held) → HeldNames clean n r → Firm path r →
+      Stands clean n (or_unit (along path (Some r)))
+  found_stands path r h sure = by_end (along path (Some r)) refl where
+    by_end : (o : Option Held) → along path (Some r) ≡ o → Stands clean n (or_unit o)
+    by_end None e = unit_stands
+    by_end (Some x) e = along_stands path r x h sure e
 
   -- a value that may be put at the end of a path
   abbrev pub MayPut : List PathStep → Dynamic → Type 0
@@ -281,105 +345,31 @@ module _ (clean : Bool) (n : ℕ) where
   put_written [] u v e keeps = keeps e
   put_written (s ∷ p) u v e keeps = λ clear. keeps (e clear)
 
+  -- what is found may be put back
+  pub found_back : (path : List PathStep) (r : Held) → HeldNames clean n r → Firm path r →
+      MayPut path (or_unit (along path (Some r))).value
+  found_back [] r h sure = whole_plain r sure
+  found_back (s ∷ p) r h sure = (found_stands (s ∷ p) r h sure).1
+
   put_no_cell : (path : List PathStep) (v d : Dynamic) → MayPut path v → cell_of d ≡ None →
       not (is_cell (put_tree path (tree v) (tree d))) ≡ true
   put_no_cell [] v d e plain = not_cell v e
   put_no_cell (s ∷ p) v d e plain = ap not (put_cell s p (tree v) (tree d)) ∙ not_cell d plain
 
-  pub put_plain : (path : List PathStep) (v : Dynamic) (h : Held) → Names clean n v →
-      MayPut path v → PlainNames clean n h → PlainNames clean n (put_held path v h)
-  put_plain path v h names may p = (
-    subst TreeNames (sym (tree-value_of (put_tree path (tree v) (tree h.value))))
-        (put_names path (tree v) (tree h.value)
-        (names, λ s. not_cell v (put_clear path v may s)) p.0),
-    no_cell_value (put_tree path (tree v) (tree h.value)) (put_no_cell path v h.value may p.1),
-  )
+  -- a root with a value put in it
+  pub root_names : (path : List PathStep) (v : Dynamic) (r : Held) → Names clean n v →
+      MayPut path v → HeldNames clean n r → HeldNames clean n (put_held path v r)
+  root_names path v r names may h =
+      subst TreeNames (sym (tree-value_of (put_tree path (tree v) (tree r.value))))
+      (put_names path (tree v) (tree r.value)
+      (names, λ s. not_cell v (put_clear path v may s)) h)
 
-  -- roots from a number on
-  abbrev pub RootsName : ℕ → List Held → Type 0
-  RootsName b roots = AllByRecursion (PlainNames clean n) (drop b roots)
+  pub root_plain : (path : List PathStep) (v : Dynamic) (r : Held) → MayPut path v →
+      cell_of r.value ≡ None → cell_of (put_held path v r).value ≡ None
+  root_plain path v r may plain =
+      no_cell_value (put_tree path (tree v) (tree r.value)) (put_no_cell path v r.value may plain)
 
-  unit_plain : PlainNames clean n (or_unit None)
-  unit_plain = ((omega arith, λ s. refl), refl)
-
-  root_plain : (b : ℕ) (roots : List Held) (i : ℕ) → b ≤ i → RootsName b roots →
-      PlainNames clean n (or_unit (slice_get roots i))
-  root_plain zero roots i le h = by_root (slice_get roots i) refl where
-    by_root : (o : Option Held) → slice_get roots i ≡ o → PlainNames clean n (or_unit o)
-    by_root None e = unit_plain
-    by_root (Some g) e = all_got (PlainNames clean n) roots i g h e
-  root_plain (suc b) [] i le h = unit_plain
-  root_plain (suc b) (r ∷ roots) zero le h = absurd (omega (arith, le))
-  root_plain (suc b) (r ∷ roots) (suc i) le h = root_plain b roots i (omega (arith, le)) h
-
-  root_set : (b : ℕ) (roots : List Held) (i : ℕ) (g : Held) → b ≤ i → RootsName b roots →
-      PlainNames clean n g → RootsName b (slice_set roots i g)
-  root_set zero [] i g le h p = tt
-  root_set zero (r ∷ roots) zero g le h p = (p, h.1)
-  root_set zero (r ∷ roots) (suc i) g le h p = (h.0, root_set zero roots i g (omega arith) h.1 p)
-  root_set (suc b) [] i g le h p = tt
-  root_set (suc b) (r ∷ roots) zero g le h p = absurd (omega (arith, le))
-  root_set (suc b) (r ∷ roots) (suc i) g le h p = root_set b roots i g (omega (arith, le)) h p
-
-  pub roots_added : (b : ℕ) (roots : List Held) (g : Held) → RootsName b roots →
-      PlainNames clean n g → RootsName b (roots ++ g ∷ [])
-  roots_added zero [] g h p = (p, tt)
-  roots_added zero (r ∷ roots) g h p = (h.0, roots_added zero roots g h.1 p)
-  roots_added (suc b) [] g h p = all_drop (PlainNames clean n) b [] tt
-  roots_added (suc b) (r ∷ roots) g h p = roots_added b roots g h p
-
-  pub roots_taken : (b k : ℕ) (roots : List Held) → RootsName b roots → RootsName b (take k roots)
-  roots_taken zero zero roots h = tt
-  roots_taken zero (suc k) [] h = tt
-  roots_taken zero (suc k) (r ∷ roots) h = (h.0, roots_taken zero k roots h.1)
-  roots_taken (suc b) zero roots h = tt
-  roots_taken (suc b) (suc k) [] h = tt
-  roots_taken (suc b) (suc k) (r ∷ roots) h = roots_taken b k roots h
-
-  -- the roots that are added to others
-  pub roots_new : (roots : List Held) (g : Held) → PlainNames clean n g →
-      RootsName (length roots) (roots ++ g ∷ [])
-  roots_new [] g p = (p, tt)
-  roots_new (r ∷ roots) g p = roots_new roots g p
-
-  -- what is found, and put, at a place
-  pub look_names : (b : ℕ) (roots : List Held) (q : Place) → b ≤ q.root → RootsName b roots →
-      Stands (look roots q)
-  look_names b roots q le h = by_root (slice_get roots q.root) refl where
-    by_end : (r g : Held) → PlainNames clean n r → (o : Option Held) →
-        along q.path (Some r) ≡ o → Stands (or_unit o)
-    by_end r g p None e = plain_stands (or_unit None) unit_plain
-    by_end r g p (Some x) e = along_names q.path r x p e
-
-    by_root : (o : Option Held) → slice_get roots q.root ≡ o → Stands (or_unit (along q.path o))
-    by_root None e = plain_stands (or_unit None) unit_plain
-    by_root (Some r) e =
-        by_end r r (subst (λ (o : Option Held). PlainNames clean n (or_unit o)) e
-        (root_plain b roots q.root le h)) (along q.path (Some r)) refl
-
-  pub put_roots : (b : ℕ) (roots : List Held) (q : Place) (v : Dynamic) → b ≤ q.root →
-      RootsName b roots → Names clean n v → MayPut q.path v → RootsName b (put roots q v)
-  put_roots b roots q v le h names may =
-      root_set b roots q.root (put_held q.path v (or_unit (slice_get roots q.root))) le h
-      (put_plain q.path v (or_unit (slice_get roots q.root)) names may
-      (root_plain b roots q.root le h))
-
-  -- the whole of a root is no cell
-  pub look_whole : (b : ℕ) (roots : List Held) (i : ℕ) → b ≤ i → RootsName b roots →
-      PlainNames clean n (look roots (record { root = i; path = [] }))
-  look_whole b roots i le h = by_root (slice_get roots i) refl where
-    by_root : (o : Option Held) → slice_get roots i ≡ o → PlainNames clean n (or_unit (along [] o))
-    by_root None e = unit_plain
-    by_root (Some r) e =
-        let p = subst (λ (o : Option Held). PlainNames clean n (or_unit o)) e
-        (root_plain b roots i le h) in (
-          subst TreeNames (sym (tree-value_of (tree r.value))) p.0,
-          no_cell_value (tree r.value) (not_cell r.value p.1),
-        )
-
-  -- so it may be put back
-  pub look_lent : (b : ℕ) (roots : List Held) (i : ℕ) (path : List PathStep) → b ≤ i →
-      RootsName b roots → MayPut path (look roots (record { root = i; path = path })).value
-  look_lent b roots i [] le h = (look_whole b roots i le h).1
-  look_lent b roots i (s ∷ path) le h =
-      (look_names b roots (record { root = i; path = s ∷ path }) le h).1
+  pub root_firm : (path : List PathStep) (v : Dynamic) (r : Held) → MayPut path v →
+      Firm path (put_held path v r)
+  root_firm [] v r may = no_cell_value (tree v) (not_cell v may)
+  root_firm (s ∷ p) v r may = tt

@@ -8,7 +8,7 @@ use Rattle.grain_value.specs.Scopes.{set_held}
 use Rattle.grain_value.specs.Tree.{Tree}
 use Rattle.grain_host.specs.Law.{Law}
 use Rattle.grain_host.specs.Law as reply
-use Rattle.grain_means.specs.Rules.{Home, InScope, AtPlace, Receiver, given_back, back_in_scope}
+use Rattle.grain_means.specs.Rules.{Home, InScope, InCell, AtPlace, Receiver, given_back, back_in_scope}
 use Rattle.grain_means.specs.Leavings.{names, Keeps}
 use Rattle.grain_means.specs.lemmas.Scopes.{length_set_held}
 
@@ -68,6 +68,6 @@ keeps_given {b = b} {ns = ns} law host key values (Some q) scope k = at q.home w
   h = reply.written law host key values q.held
 
   at : (home : Home) → Keeps b ns (back_in_scope home h scope)
-  at (InScope i None) = keeps_set b ns scope i h k
-  at (InScope i (Some n)) = k
+  at (InScope i) = keeps_set b ns scope i h k
+  at (InCell n) = k
   at (AtPlace p) = k

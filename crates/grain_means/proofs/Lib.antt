@@ -23,3 +23,5 @@ pub mod Examples
 pub mod ChainExamples
 pub mod Explaining
 pub mod Rows
+pub mod Touching
+pub mod Staying

@@ -1,6 +1,6 @@
 -- What names cells of a store only goes on to: in parts of lists, in longer stores, as it is read,
 -- and as it is written.
-use Rattle.std.proofs.Common.{◌≡◌, ◌≤◌, ◌+◌, ◌-◌, ℕ, zero, suc, List, [], ◌∷◌, ◌++◌, Bool, true, not, Option, Some, None, length, map, take, drop, refl, subst, arith}
+use Rattle.std.proofs.Common.{◌≡◌, ◌≤◌, ◌+◌, ◌-◌, ℕ, zero, suc, List, [], ◌∷◌, ◌++◌, Bool, true, false, if◌then◌else◌, not, Option, Some, None, length, map, take, drop, refl, subst, arith}
 use Rattle.std.proofs.Math.Nat.{le-max_left, le-max_right, max-le}
 use Rattle.std.specs.List.{AllByRecursion, list_all}
 use Rattle.std.specs.Prelude.{slice_get, slice_set}
@@ -19,7 +19,7 @@ use Rattle.grain_value.specs.declared.values.FnPtr.{FnPtr}
 use Rattle.grain_value.specs.declared.values.Held.{Held}
 use Rattle.grain_host.specs.Clean.{both_true, first_true, second_true}
 use Rattle.grain_host.specs.Law.{is_plain}
-use Rattle.grain_means.specs.Contained.{CellNames, EntryNames, HeldNames, Names}
+use Rattle.grain_means.specs.Contained.{EntryNames, HeldNames, Names}
 use Rattle.grain_means.specs.Rules.{curried_in, flat_all, flat_before, held_at, trees_in}
 
 -- parts of lists
@@ -71,6 +71,12 @@ not_cell (dynamic.Range from to inclusive) e = refl
 not_cell (dynamic.Foreign kind number) e = refl
 not_cell (dynamic.Cell number) e = absurd cc
 
+-- A cell holds no cell, and what it holds names cells below this number only. It may be lent: then what
+-- stands in for its content does so.
+pub record CellHolds (clean : Bool) (n : ℕ) (c : Cell) : Type 0 where
+  pub flat : cell_of c.held.value ≡ None
+  pub names : HeldNames clean n c.held
+
 -- over a longer store
 module _ (clean : Bool) (n k : ℕ) (le : n ≤ k) where
   pub held_wider : (h : Held) → HeldNames clean n h → HeldNames clean k h
@@ -79,8 +85,8 @@ module _ (clean : Bool) (n k : ℕ) (le : n ≤ k) where
   pub entry_wider : (e : Entry) → EntryNames clean n e → EntryNames clean k e
   entry_wider e p = (omega (arith, p.0, le), p.1)
 
-  pub cell_wider : (c : Cell) → CellNames clean n c → CellNames clean k c
-  cell_wider c p = record { idle = p.idle; flat = p.flat; names = held_wider c.held p.names }
+  pub cell_wider : (c : Cell) → CellHolds clean n c → CellHolds clean k c
+  cell_wider c p = record { flat = p.flat; names = held_wider c.held p.names }
 
 -- operands
 module _ (clean : Bool) (n : ℕ) where
@@ -135,18 +141,22 @@ module _ (clean : Bool) (n : ℕ) where
 
   -- a value as it is read: it is no cell
   content_names : (cells : List Cell) (i : ℕ) (c : Option Cell) (v : Dynamic) →
-      AllByRecursion (CellNames clean n) cells → slice_get cells i ≡ c → content c ≡ Some v →
+      AllByRecursion (CellHolds clean n) cells → slice_get cells i ≡ c → content c ≡ Some v →
       Names clean n v × (cell_of v ≡ None)
   content_names cells i None v all at is = absurd cc
   content_names cells i (Some c) v all at is =
-      let here = all_got (CellNames clean n) cells i c all at in
-      let plain : content (Some c) ≡ Some c.held.value = rw here.idle refl in
-      let same : c.held.value ≡ v = one_value (content (Some c)) c.held.value v plain is in
-      subst (λ (u : Dynamic). Names clean n u × (cell_of u ≡ None)) same (here.names, here.flat) where
-        one_value : (o : Option Dynamic) (a b : Dynamic) → o ≡ Some a → o ≡ Some b → a ≡ b
-        one_value o a b is also = cc
+      by_mark c.busy (all_got (CellHolds clean n) cells i c all at) is where
+        by_mark : (b : Bool) → CellHolds clean n c →
+            (if b then None else Some c.held.value) ≡ Some v → Names clean n v × (cell_of v ≡ None)
+        by_mark true here same = absurd cc
+        by_mark false here same =
+            let one : c.held.value ≡ v = one_value c.held.value v same in
+            subst (λ (u : Dynamic). Names clean n u × (cell_of u ≡ None)) one
+            (here.names, here.flat) where
+              one_value : (a b : Dynamic) → Some a ≡ Some b → a ≡ b
+              one_value a b e = cc
 
-  pub flat_names : (cells : List Cell) (u v : Dynamic) → AllByRecursion (CellNames clean n) cells →
+  pub flat_names : (cells : List Cell) (u v : Dynamic) → AllByRecursion (CellHolds clean n) cells →
       Names clean n u → flat cells u ≡ Some v → Names clean n v × (cell_of v ≡ None)
   flat_names cells u v all names is = at (cell_of u) refl where
     at : (c : Option ℕ) → cell_of u ≡ c → Names clean n v × (cell_of v ≡ None)
@@ -158,40 +168,49 @@ module _ (clean : Bool) (n : ℕ) where
     at (Some i) cell =
         content_names cells i (slice_get cells i) v all refl (rw cell at is)
 
-  -- what is given to a native: it names cells below this number only, and is none
+  -- what is no cell, and names cells below this number only
   abbrev pub PlainNames : Held → Type 0
   PlainNames h = HeldNames clean n h × (cell_of h.value ≡ None)
 
+  -- what is given to a native: it names cells below this number only, and is none where values are clean
+  abbrev pub Stands : Held → Type 0
+  Stands h = HeldNames clean n h × (clean ≡ true → cell_of h.value ≡ None)
+
+  pub plain_stands : (h : Held) → PlainNames h → Stands h
+  plain_stands h p = (p.0, λ s. p.1)
+
   pub flat_all_names : (cells : List Cell) (hs args : List Held) →
-      AllByRecursion (CellNames clean n) cells → AllByRecursion (HeldNames clean n) hs →
-      flat_all cells hs ≡ Some args → AllByRecursion PlainNames args
+      AllByRecursion (CellHolds clean n) cells → AllByRecursion (HeldNames clean n) hs →
+      flat_all cells hs ≡ Some args → AllByRecursion Stands args
   flat_all_names cells [] args all names is =
-      let same : [] ≡ args = cc in subst (AllByRecursion PlainNames) same tt
+      let same : [] ≡ args = cc in subst (AllByRecursion Stands) same tt
   flat_all_names cells (h ∷ hs) args all names is =
       by_first (flat cells h.value) (flat_all cells hs) refl refl
       (λ gs rest. flat_all_names cells hs gs all names.1 rest) is where
         by_first : (o : Option Dynamic) (r : Option (List Held)) → flat cells h.value ≡ o →
             flat_all cells hs ≡ r →
-            ((gs : List Held) → flat_all cells hs ≡ Some gs → AllByRecursion PlainNames gs) →
-            flat_before o h r ≡ Some args → AllByRecursion PlainNames args
+            ((gs : List Held) → flat_all cells hs ≡ Some gs → AllByRecursion Stands gs) →
+            flat_before o h r ≡ Some args → AllByRecursion Stands args
         by_first None r first rest later is = absurd cc
         by_first (Some v) None first rest later is = absurd cc
         by_first (Some v) (Some gs) first rest later is =
             let same : record h { value = v } ∷ gs ≡ args = cc in
-            subst (AllByRecursion PlainNames) same
-            (flat_names cells h.value v all names.0 first, later gs rest)
+            subst (AllByRecursion Stands) same (
+              plain_stands (record h { value = v }) (flat_names cells h.value v all names.0 first),
+              later gs rest,
+            )
 
-  -- plain values are operands, and values as a native is given them
-  pub plain_operands : (hs : List Held) → AllByRecursion PlainNames hs →
+  -- such values are operands
+  pub plain_operands : (hs : List Held) → AllByRecursion Stands hs →
       AllByRecursion (HeldNames clean n) hs
-  plain_operands hs h = all_wider PlainNames (HeldNames clean n) (λ x p. p.0) hs h
+  plain_operands hs h = all_wider Stands (HeldNames clean n) (λ x p. p.0) hs h
 
-  pub plain_tree : (h : Held) → PlainNames h → clean ≡ true → is_plain (tree h.value) ≡ true
+  pub plain_tree : (h : Held) → Stands h → clean ≡ true → is_plain (tree h.value) ≡ true
   plain_tree h p s =
       both_true (is_clean (tree h.value)) (not (is_cell (tree h.value))) (p.0.1 s)
-      (not_cell h.value p.1)
+      (not_cell h.value (p.1 s))
 
-  pub plain_trees : (hs : List Held) → AllByRecursion PlainNames hs → clean ≡ true →
+  pub plain_trees : (hs : List Held) → AllByRecursion Stands hs → clean ≡ true →
       list_all is_plain (trees_in hs) ≡ true
   plain_trees [] h s = refl
   plain_trees (x ∷ hs) h s =
@@ -239,6 +258,32 @@ module _ (clean : Bool) (n : ℕ) where
       λ s. second_true (is_clean t) (is_clean (pointer [] (pack ts))) (h.1 s),
     ),
   )
+
+  -- the same as values
+  pub curry_values : (ts : List Tree) → CurryNames ts →
+      AllByRecursion (Names clean n) (map (λ t. value_of t) ts)
+  curry_values [] h = tt
+  curry_values (t ∷ ts) h = (
+    rw (tree-value_of t) (
+      omega (arith, h.0, le-max_left (cell_bound t) (items_bound (pack ts))),
+      λ s. first_true (is_clean t) (is_clean (pointer [] (pack ts))) (h.1 s),
+    ),
+    curry_values ts (
+      omega (arith, h.0, le-max_right (cell_bound t) (items_bound (pack ts))),
+      λ s. second_true (is_clean t) (is_clean (pointer [] (pack ts))) (h.1 s),
+    ),
+  )
+
+  -- the trees of values, as values of pointers
+  pub values_curry : (vs : List Dynamic) → AllByRecursion (Names clean n) vs →
+      CurryNames (map (λ v. tree v) vs)
+  values_curry [] h = (omega arith, λ s. refl)
+  values_curry (v ∷ vs) h =
+      let rest = values_curry vs h.1 in (
+        max-le {a = cell_bound (tree v)} {b = items_bound (pack (map (λ v. tree v) vs))} h.0.0 rest.0,
+        λ s. both_true (is_clean (tree v)) (is_clean (pointer [] (pack (map (λ v. tree v) vs))))
+            (h.0.1 s) (rest.1 s),
+      )
 
   pub curried_names : (p : FnPtr) → Names clean n (dynamic.Pointer p) →
       AllByRecursion (HeldNames clean n) (curried_in p)

@@ -42,7 +42,27 @@ indexed_along (dynamic.Int i) v e is = refl
 indexed_along (dynamic.Map es) v e is = refl
 indexed_along d v e is = absurd cc
 
+-- a value from which a step leads along a path is read as it is, since it is no cell
+read_as_is : (cells : List Cell) (d : Dynamic) (o : Option Dynamic) (e : PathStep) →
+    read_along d o ≡ Some e → flat cells d ≡ Some d
+read_as_is cells (dynamic.Cell i) None e is = absurd cc
+read_as_is cells (dynamic.Cell i) (Some v) e is = absurd cc
+read_as_is cells d o e is = refl
+
+named_as_is : (cells : List Cell) (name : List ℕ) (d : Dynamic) (e : PathStep) →
+    property_along name d ≡ Some e → flat cells d ≡ Some d
+named_as_is cells name (dynamic.Cell i) e is = absurd cc
+named_as_is cells name d e is = refl
+
 module _ (cells : List Cell) (c : Course) (h : Held) where
+  as_is : (s : Step) (d : Dynamic) (e : PathStep) → step_along cells c s d ≡ Some e →
+      flat cells d ≡ Some d
+  as_is (step.Index i flags q bracket) d e leads =
+      read_as_is cells d (flat cells (operand c i)) e leads
+  as_is (step.Property name getter setter flags q) d e leads =
+      named_as_is cells (name_of c.setting.program name) d e leads
+  as_is (step.Method name argc i flags q) d e leads = absurd cc
+
   abbrev own : ℕ → Own
   own k = record { roots = h ∷ []; passed = k }
 
@@ -148,15 +168,18 @@ module _ (cells : List Cell) (c : Course) (h : Held) where
     goes (step.Index i flags q bracket) e leads = by_index q bracket (operand c i) e leads
     goes (step.Property name getter setter flags q) e leads =
         by_property name getter setter q e leads
+    goes (step.Method name argc i flags q) e leads = absurd cc
 
-  -- no unit stands where a step would end the chain
-  passes : (b : Bool) (path : List PathStep) (d : Dynamic) (done : Rest) (go : Task) (k : ℕ) →
-      At path d → (b ≡ true → is_unit d ≡ false) →
-      Plays (walks.unless_unit b (here path) done go) k ≡ Plays go k
-  passes false path d done go k stands none = refl
-  passes true path d done go k stands none =
-      ap (λ (g : Held). Plays (if is_unit g.value then done (Well dynamic.Unit false) else go) k)
+  -- no unit stands where a step would end the chain, and no cell
+  passes : (n : ℕ) (q : Position) (b : Bool) (path : List PathStep) (d : Dynamic) (done : Rest)
+      (go : Task) (k : ℕ) → At path d → (b ≡ true → is_unit d ≡ false) → flat cells d ≡ Some d →
+      Plays (walks.unless_unit n q b (here path) done go) k ≡ Plays go k
+  passes n q false path d done go k stands none plain = refl
+  passes n q true path d done go k stands none plain =
+      ap (λ (g : Held). Plays (walks.flattening n q g.value done (walks.if_not_unit done go)) k)
       stands
+      ∙ ap (λ (o : Option Dynamic). Plays (walks.flat_or_busy n q done (walks.if_not_unit done go)
+      o) k) plain
       ∙ if_not (is_unit d) _ _ k (none refl)
 
   further : (path : List PathStep) (e : PathStep) (d : Dynamic) (t : Tree) →
@@ -208,7 +231,8 @@ module _ (cells : List Cell) (c : Course) (h : Held) where
       let later = reads_on last steps (n + 1) (path ++ e ∷ []) (value_of t) less u done (k + 1 + 1)
       (further path e d t stands along.1.5) along.1.6 in (
         later.0,
-        passes (skips s) path d done step_task (k + 1) there along.0
+        passes n (walks.step_position s) (skips s) path d done step_task (k + 1) there along.0
+            (as_is s d e along.1.4)
             ∙ goes n (role_before c steps) next path d done (k + 1) there s e along.1.4 ∙ later.1,
         ap (λ (r : List PathStep). at (path ++ r) (tree h.value)) along.1.3
             ∙ ap (λ (p : List PathStep). at p (tree h.value)) (sym (longer path e less)) ∙ later.2,

@@ -2,15 +2,15 @@
 use Rattle.std.proofs.Common.{◌≡◌, ◌⊎◌, ℕ, ℤ, inl, inr, sym, subst}
 use Rattle.grain_value.specs.declared.values.Dynamic.{Dynamic}
 use Rattle.grain_value.specs.declared.values.Dynamic.TheVariants as dynamic
-use Rattle.grain_fault.specs.Problems.{Problem, Plain, Arithmetic, DataTooLarge}
+use Rattle.grain_fault.specs.Problems.{Problem, Plain, Arithmetic, DataTooLarge, StackOverflow, Terminated, TooManyOperations, TooManyVariables}
 use Rattle.grain_fault.specs.declared.places.Position.{Position}
 use Rattle.grain_means.specs.Walks.{out_of_bounds}
 use Rattle.grain_means.specs.Worlds.{Setup}
-use Rattle.grain_means.specs.Causes.Spots.{Calculates, ChainWalk, InsteadFails, LacksIndex, LacksProperty, MistypesIndex, MistypesPart, NativeFails, OutOfBounds, OwnRow, ReadsLentCell, WalkRow}
+use Rattle.grain_means.specs.Causes.Spots.{Calculates, ChainWalk, InsteadFails, IsNoPointer, IsNotEntered, LacksIndex, LacksProperty, MistypesIndex, MistypesPart, NativeFails, OutOfBounds, OwnRow, PointedFails, ReadsLentCell, WalkRow}
 
 module _ {S : Type 0} (m : Setup S) (c : ChainWalk S) (n : ℕ) where
   abbrev Row : Problem → Type 0
-  Row x = OwnRow m c n x ⊎ (NativeFails m c n x ⊎ InsteadFails m c n x)
+  Row x = OwnRow m c n x ⊎ (NativeFails m c n x ⊎ (InsteadFails m c n x ⊎ PointedFails m c n x))
 
   bounds : (d : Dynamic) (size : ℕ) (i : ℤ) (q : Position) →
       OutOfBounds m c n (Plain (out_of_bounds d size i) q) →
@@ -33,6 +33,24 @@ module _ {S : Type 0} (m : Setup S) (c : ChainWalk S) (n : ℕ) where
     by_outcome (inr b) =
         at_fault (Calculates m c n) x (Plain (DataTooLarge o.text) o.position) b.1 o (λ p. p)
 
+  not_entered : (x : Problem) → IsNotEntered m c n x → Row x
+  not_entered x o = by_why o.why where
+    q : Position
+    q = o.invokes.call.position
+
+    own : (y : Problem) → x ≡ y → (IsNotEntered m c n y → OwnRow m c n y) → Row x
+    own y is row = at_fault (IsNotEntered m c n) x y is o row
+
+    by_why : {A B C D E F G : Type 0} {T : Dynamic → Type 0} →
+        (A × (x ≡ Plain TooManyOperations q))
+        ⊎ (((v : Dynamic) × B × T v × (x ≡ Plain (Terminated v) q))
+        ⊎ ((C × D × (x ≡ Plain StackOverflow q)) ⊎ (E × F × G × (x ≡ Plain TooManyVariables q)))) →
+        Row x
+    by_why (inl a) = own (Plain TooManyOperations q) a.1 (λ p. p)
+    by_why (inr (inl a)) = own (Plain (Terminated a.0) q) a.3 (λ p. p)
+    by_why (inr (inr (inl a))) = own (Plain StackOverflow q) a.2 (λ p. p)
+    by_why (inr (inr (inr a))) = own (Plain TooManyVariables q) a.3 (λ p. p)
+
   pub row_of_kind : (x : Problem) → WalkRow m c n x → Row x
   row_of_kind x (inl o) = at_fault (OutOfBounds m c n) x _ o.is o (λ p. bounds _ o.size o.number o.position p)
   row_of_kind x (inr (inl o)) = at_fault (MistypesIndex m c n) x _ o.is o (λ p. inl p)
@@ -42,6 +60,12 @@ module _ {S : Type 0} (m : Setup S) (c : ChainWalk S) (n : ℕ) where
   row_of_kind x (inr (inr (inr (inr (inl o))))) =
       at_fault (ReadsLentCell m c n) x _ o.is o (λ p. p)
   row_of_kind x (inr (inr (inr (inr (inr (inl o)))))) =
-      at_fault (MistypesPart m c n) x _ o.is o (λ p. inr p)
+      at_fault (MistypesPart m c n) x _ o.is o (λ p. inr (inl p))
   row_of_kind x (inr (inr (inr (inr (inr (inr (inl o))))))) = calculates x o
-  row_of_kind x (inr (inr (inr (inr (inr (inr (inr o))))))) = inr o
+  row_of_kind x (inr (inr (inr (inr (inr (inr (inr (inl o)))))))) = inr (inl o)
+  row_of_kind x (inr (inr (inr (inr (inr (inr (inr (inr (inl o))))))))) = inr (inr (inl o))
+  row_of_kind x (inr (inr (inr (inr (inr (inr (inr (inr (inr (inl o)))))))))) =
+      at_fault (IsNoPointer m c n) x _ o.is o (λ p. inr (inr p))
+  row_of_kind x (inr (inr (inr (inr (inr (inr (inr (inr (inr (inr (inl o))))))))))) = not_entered x o
+  row_of_kind x (inr (inr (inr (inr (inr (inr (inr (inr (inr (inr (inr o))))))))))) =
+      inr (inr (inr o))

@@ -64,10 +64,10 @@ module _ (p : View) (valid : IsProgram p) where
   pub fits_main : (size : ℕ) (this : Option Place) → Fitting p (frame_at p.main size this)
   fits_main size this = (p.main, begins p valid)
 
-  pub fits_found : (i : Option ℕ) (g : Function) (size : ℕ) → function_numbered p i ≡ Some g →
-      Fitting p (frame_at g.chunk size None)
-  fits_found None g size e = absurd cc
-  fits_found (Some i) g size e = (g.chunk, enters p valid i g e)
+  pub fits_found : (i : Option ℕ) (g : Function) (size : ℕ) (this : Option Place) →
+      function_numbered p i ≡ Some g → Fitting p (frame_at g.chunk size this)
+  fits_found None g size this e = absurd cc
+  fits_found (Some i) g size this e = (g.chunk, enters p valid i g e)
 
   -- a frame at an address to which the instruction leads, with as many operands as it leaves, and
   -- with its handlers

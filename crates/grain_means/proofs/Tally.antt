@@ -10,11 +10,15 @@ pub mod Faults
 pub mod Natives
 pub mod Entries
 pub mod Operators
+pub mod This
 pub mod Transfers
 pub mod Calls
+pub mod Bodies
+pub mod Calling
 pub mod Walks
+pub mod Roots
 pub mod Chains
-use Rattle.std.proofs.Common.{◌≡◌, ℕ, ◌+◌, ◌-◌, List, [], ◌∷◌, ◌++◌, Option, Some, None, Bool, true, false, refl, ap, inl, inr, arith, length}
+use Rattle.std.proofs.Common.{◌≡◌, ℕ, ◌+◌, ◌-◌, List, [], ◌∷◌, ◌++◌, Option, Some, None, true, false, refl, ap, inl, inr, arith, length}
 use Rattle.std.specs.Prelude.{is_some}
 use Rattle.grain_value.specs.declared.values.Dynamic.TheVariants as dynamic
 use Rattle.grain_value.specs.Looking.{is_unit, cell_of}
@@ -32,6 +36,7 @@ use Rattle.grain_program.specs.Lookups.{function_of, function_by_text}
 use Rattle.grain_means.specs.Worlds.{End, Came, Setup, Frame, InFrame}
 use Rattle.grain_means.specs.Rules.{trees_in, native, function_found, held_at, or_return, operated, charged, instr, start_instruction, next, position, flat_all, spread, name_at, curried, pointer_called, function_by_name}
 use Rattle.grain_means.specs.Comes.{tries}
+use Rattle.grain_means.specs.Places.{look}
 use Rattle.grain_means.specs.lemmas.Branches.{of_two}
 use Rattle.grain_means.proofs.Lengths.{length_under, length_pushed, length_rotated, spread_length, spread_under}
 use Rattle.grain_means.proofs.Standing.{tries_outer, fits_found}
@@ -40,6 +45,7 @@ use Rattle.grain_means.proofs.Tally.Frames.{Walk, Even, start, steady, even_mark
 use Rattle.grain_means.proofs.Tally.Faults.{why, why_chain, even_raised_in, even_flat, even_flat_all, fits_on, sits_at, even_on, even_charged_on, even_jumped}
 use Rattle.grain_means.proofs.Tally.Entries.{even_at, even_declared, even_stored_in, even_assigned, even_shared}
 use Rattle.grain_means.proofs.Tally.Operators.{even_pushed, even_assigned_op}
+use Rattle.grain_means.proofs.Tally.This.{even_assigned_op_this, even_assigned_this, even_at_this}
 use Rattle.grain_means.proofs.Tally.Transfers.{even_jump_if, even_skipped, even_unwound, even_handled}
 use Rattle.grain_means.proofs.Tally.Calls.{even_called, even_pointer}
 use Rattle.grain_means.proofs.Tally.Chains.{even_chain}
@@ -115,10 +121,6 @@ module _ {S : Type 0} {m : Setup S} (walk : Walk m) where
       (sits_at walk (op.AssignLocalOp slot n a) width at refl _ _ (inl refl) (λ _. one_less walk))
       (λ reads h held. (refl, reads, (h, held))) (λ lent. (refl, lent))
       (λ question asks native found called answer answers lent. record {
-        slot = slot;
-        index = n;
-        assigns = a;
-        is = refl;
         named = refl;
         question = question;
         asks = asks;
@@ -131,18 +133,57 @@ module _ {S : Type 0} {m : Setup S} (walk : Walk m) where
       })
       (λ h u v held content read. (refl, (h, u, v, held, content, read, refl, refl)))
       (λ h u v held content read none. record {
-        slot = slot;
-        name = n;
-        assigns = a;
-        is = refl;
-        operator = refl;
-        index = refl;
-        holds = held;
+        to = (refl, refl, held);
         content = content;
         value = read;
         flag = refl;
         none = none;
       }))
+  even_instr op.LoadThis width at =
+      even_at_this walk op.LoadThis width at tt _
+      (λ p is. even_flat walk op.LoadThis width at (look now.roots p) []
+      (λ none. (refl, (look now.roots p, (p, is, refl), none))) _
+      (λ v _. even_on walk op.LoadThis width at _ refl
+      (sits_at walk op.LoadThis width at refl _ _ (inl refl) (λ _. one_more walk v)))
+      (flat now.cells (look now.roots p).value) refl) f.this refl
+  even_instr op.LoadThisShared width at =
+      even_at_this walk op.LoadThisShared width at tt _
+      (λ p is. even_on walk op.LoadThisShared width at _ refl
+      (sits_at walk op.LoadThisShared width at refl _ _ (inl refl)
+      (λ _. one_more walk (look now.roots p).value))) f.this refl
+  even_instr op.RequireThis width at =
+      even_at_this walk op.RequireThis width at tt _
+      (λ p is. even_on walk op.RequireThis width at _ refl
+      (sits_at walk op.RequireThis width at refl _ f.operands (inl refl) (λ _. omega arith))) f.this
+      refl
+  even_instr op.AssignThis width at =
+      even_assigned_this walk op.AssignThis width at
+      (sits_at walk op.AssignThis width at refl _ _ (inl refl) (λ _. one_less walk))
+      (λ reads. reads) (λ lent. (refl, lent)) (λ reads h held only. (refl, reads, (h, held, only)))
+  even_instr (op.AssignThisOp a) width at =
+      even_assigned_op_this walk (op.AssignThisOp a) width at
+      (sits_at walk (op.AssignThisOp a) width at refl _ _ (inl refl) (λ _. one_less walk))
+      (λ reads. reads) (λ lent. (refl, lent)) (λ reads h held only. (refl, reads, (h, held, only)))
+      (assign_op_of m.program a)
+      (λ question asks native found called answer answers lent. record {
+        named = refl;
+        question = question;
+        asks = asks;
+        native = native;
+        found = found;
+        called = called;
+        answer = answer;
+        answers = answers;
+        lent = lent;
+      })
+      (λ h u v held no content read. (refl, (h, u, v, held, no, content, read, refl, refl)))
+      (λ p u v is no content read none. record {
+        to = (refl, (p, is, refl, refl, no));
+        content = content;
+        value = read;
+        flag = refl;
+        none = none;
+      })
   even_instr (op.LoadShared slot) width at =
       even_at walk (op.LoadShared slot) width at slot refl _ (held_at now.scope (f.base + slot))
       refl (λ h e. even_on walk (op.LoadShared slot) width at _ refl
@@ -207,7 +248,7 @@ module _ {S : Type 0} {m : Setup S} (walk : Walk m) where
       (function_found m.program n count) (λ none lent. (refl, none, lent))
       (λ none args read. (refl, read, none))
       (λ g e. (e, refl)) (λ g e valid. fits_found m.program valid (function_of m.program n count) g
-      0 e)
+      0 None e)
   even_instr (op.CallOp n count o) width at =
       even_flat_all walk (op.CallOp n count o) width at f.operands (omega arith)
       (arguments count f.operands) (λ lent. (refl, lent)) _
@@ -255,7 +296,8 @@ module _ {S : Type 0} {m : Setup S} (walk : Walk m) where
       (λ none lent. (refl, inr (p, points, none, lent)))
       (λ none args read. (p, points, refl, read, none))
       (λ g e. (p, points, e, refl))
-      (λ g e valid. fits_found m.program valid (function_by_text m.program p.name count) g 0 e))
+      (λ g e valid. fits_found m.program valid (function_by_text m.program p.name count) g 0 None
+      e))
   even_instr (op.UnwindTo depth) width at = even_unwound walk (op.UnwindTo depth) width at
       (f.base + depth)
       (sits_at walk (op.UnwindTo depth) width at refl _ f.operands (inl refl) (λ _. omega arith))
@@ -294,7 +336,7 @@ module _ {S : Type 0} {m : Setup S} (walk : Walk m) where
       )
   even_instr (op.Chain k) width at =
       let n = chain_takes (chain_of m.program k) in
-      even_chain walk (op.Chain k) width at k (omega (arith, length_under n f.operands))
+      even_chain walk (op.Chain k) width at k refl (omega (arith, length_under n f.operands))
       (λ v. sits_at walk (op.Chain k) width at refl (f.address + width)
       (under n f.operands ++ read_write v ∷ []) (inl refl)
       (λ enough. omega (

@@ -2,16 +2,18 @@
 -- is one of the chain's.
 use Rattle.std.proofs.Common.{◌≡◌, ◌<◌, ◌+◌, ◌-◌, ℕ, suc, Bool, true, false, List, [], ◌∷◌, ◌++◌, Option, Some, None, Result, Ok, Err, length, take, is_some, refl, sym, ap, subst, arith}
 use Rattle.std.proofs.lemmas.List.{length-append, length-take}
-use Rattle.std.specs.Prelude.{if◌then◌else◌}
+use Rattle.std.specs.Prelude.{bytes_eq, codes, if◌then◌else◌}
 use Rattle.grain_value.specs.Cells.{flat}
 use Rattle.grain_value.specs.Operands.{read_write}
-use Rattle.grain_value.specs.Looking.{is_unit}
+use Rattle.grain_value.specs.Looking.{cell_of, is_unit, pointer_of}
 use Rattle.grain_value.specs.Locating.{locate}
 use Rattle.grain_value.specs.Parts.{part, with_part}
+use Rattle.grain_value.specs.Writing.{type_name_of}
 use Rattle.grain_value.specs.Maps.{entry_at}
 use Rattle.grain_value.specs.Tree.{Tree}
 use Rattle.grain_value.specs.declared.values.Dynamic.{Dynamic}
 use Rattle.grain_value.specs.declared.values.Dynamic.TheVariants as dynamic
+use Rattle.grain_value.specs.declared.values.FnPtr.{FnPtr}
 use Rattle.grain_value.specs.declared.values.Held.{Held}
 use Rattle.grain_value.specs.declared.values.locating.Spot.{Spot}
 use Rattle.grain_value.specs.declared.values.locating.Spot.TheVariants as spot
@@ -24,15 +26,16 @@ use Rattle.grain_fault.specs.Problems.{Problem, NoMemory}
 use Rattle.grain_fault.specs.declared.places.Position.{Position}
 use Rattle.grain_host.specs.Signatures.{says_missing}
 use Rattle.grain_ops.specs.Outcomes.{Outcome, NotBuiltIn, Gave, ArithmeticFault, TooLarge}
+use Rattle.grain_program.specs.Lookups.{method_of}
 use Rattle.grain_program.specs.View.{name_of}
 use Rattle.grain_program.specs.declared.code.parts.AssignOp.{AssignOp}
 use Rattle.grain_program.specs.declared.code.chains.Step.{Step}
 use Rattle.grain_program.specs.declared.code.chains.Step.TheVariants as step
 use Rattle.grain_means.specs.Worlds.{is_stop, Place, Answer, Came, Failed}
 use Rattle.grain_means.specs.Places.{look, put, next_root}
-use Rattle.grain_means.specs.Tasks.{Walked, Well, Ill, Task, Done, Mark, Look, Flatten, Write, Root, Drop, Need, Own, Play, play, root_after}
+use Rattle.grain_means.specs.Tasks.{Walked, Well, Ill, Task, Done, Mark, Look, Flatten, Write, Root, Drop, Need, Invoke, Own, Play, play, root_after}
 use Rattle.grain_means.specs.Walks as walks
-use Rattle.grain_means.specs.Walks.{Setting, Course, Rest, Next, Role, Passes, Reads, Writes, Operates, Origin, OfPart, OfIndex, OfProperty, OfNothing, at_mark, failing, flat_or_busy, flattening, asking, is_indexed, assigning, origin_of_part, skips, role_at_end}
+use Rattle.grain_means.specs.Walks.{Setting, Course, Rest, Next, Role, Passes, Reads, Writes, Operates, Origin, OfPart, OfIndex, OfProperty, OfMethod, OfNothing, at_mark, failing, flat_or_busy, flattening, asking, is_indexed, assigning, origin_of_part, skips, role_at_end}
 use Rattle.grain_means.specs.WalkEnds.{AllEnds, PlayEnds, EndsRight, WalkEnds}
 use Rattle.grain_means.specs.lemmas.PlaceLaws.{length-put}
 
@@ -129,7 +132,7 @@ module _ (N : ℕ) (assigns : Bool) where
 
     index_got : (j : ℕ) (done : Rest) (go : Dynamic → Task) → Follows j done →
         ((u : Dynamic) → AllEnds P j (go u)) → (a : Answer) →
-        AllEnds P j (walks.index_was_got n done go a)
+        AllEnds P j (walks.was_given n done go a)
     index_got j done go f h (Came v) = h v
     index_got j done go f h (Failed x) = f (Ill n x) low
 
@@ -198,6 +201,7 @@ module _ (N : ℕ) (assigns : Bool) where
       sets_back j (OfProperty name setter q assigned) p v u changed done f unit =
           by changed j _ _ (sets_property j name setter q assigned p v u done f unit)
           (f (Well u false) unit)
+      sets_back j OfMethod p v u changed done f unit = f (Well u true) unit
       sets_back j OfNothing p v u changed done f unit = f (Well u changed) unit
 
       goes_back : (j : ℕ) (o : Origin) (p : Place) (done : Rest) → suc p.root ≡ j →
@@ -220,9 +224,9 @@ module _ (N : ℕ) (assigns : Bool) where
             (goes_back j o p done is f),
       )
 
-      own_value : (j : ℕ) (done : Rest) → Follows j done → assigns ≡ false → (v : Dynamic) →
-          AllEnds P j (walks.own_value done v)
-      own_value j done f none v = f (Well v false) (λ s. absurd cc)
+      own_value : (j : ℕ) (o : Origin) (done : Rest) → Follows j done → assigns ≡ false →
+          (v : Dynamic) → AllEnds P j (walks.own_value o done v)
+      own_value j o done f none v = f (Well v (walks.is_change o)) (λ s. absurd cc)
 
       into_answer : (q : Position) (o : Origin) (next : Next) → Goes next → (j : ℕ)
           (p : Place) (done : Rest) → suc p.root ≡ j → Follows j done → (v : Dynamic) →
@@ -245,7 +249,7 @@ module _ (N : ℕ) (assigns : Bool) where
         index_got j done _ f (into_answer q (OfIndex i bracket) next on j p done is f),
       )
       by_indexer q bracket Reads fit i next on j p done is f =
-          (f (Ill n NoMemory) low, index_got j done _ f (own_value j done f fit))
+          (f (Ill n NoMemory) low, index_got j done _ f (own_value j (OfIndex i bracket) done f fit))
       by_indexer q bracket (Writes v) fit i next on j p done is f =
           sets_index j bracket p i v dynamic.Unit done f (λ s. refl)
       by_indexer q bracket (Operates v a) fit i next on j p done is f = (
@@ -288,7 +292,7 @@ module _ (N : ℕ) (assigns : Bool) where
           (into_answer q (OfProperty name setter q false) next on j p done is f)
       by_accessor name getter setter q Reads fit next on j p done is f =
           gets_property j name getter q p done _ f
-          (own_value j done f fit)
+          (own_value j (OfProperty name setter q false) done f fit)
       by_accessor name getter setter q (Writes v) fit next on j p done is f =
           sets_property j name setter q true p v dynamic.Unit done f (λ s. refl)
       by_accessor name getter setter q (Operates v a) fit next on j p done is f =
@@ -314,11 +318,77 @@ module _ (N : ℕ) (assigns : Bool) where
       property_of name getter setter q role fit h next on j p done is f d =
           by_accessor name getter setter q role fit next on j p done is f
 
-  unless : (b : Bool) (j : ℕ) (p : Place) (done : Rest) (go : Task) → Follows j done →
-      AllEnds P j go → AllEnds P j (walks.unless_unit b p done go)
-  unless false j p done go f h = h
-  unless true j p done go f h = λ x.
-      by (is_unit x.value) j _ _ (f (Well dynamic.Unit false) (λ s. refl)) h
+      -- a method step
+      gives : (q : Position) (role : Role) → Fits role → (next : Next) → Goes next → (j : ℕ)
+          (p : Place) (done : Rest) → suc p.root ≡ j → Follows j done → (v : Dynamic) →
+          AllEnds P j (walks.into_answer g n q (walks.reads role) OfMethod next p done v)
+      gives q Passes fit next on j p done is f v = into_answer q OfMethod next on j p done is f v
+      gives q Reads fit next on j p done is f v = own_value j OfMethod done f fit v
+      gives q (Writes u) fit next on j p done is f v = into_answer q OfMethod next on j p done is f v
+      gives q (Operates u a) fit next on j p done is f v =
+          into_answer q OfMethod next on j p done is f v
+
+      module _ (q : Position) (args : List Dynamic) (role : Role) (fit : Fits role) (next : Next)
+          (on : Goes next) (j : ℕ) (p : Place) (done : Rest) (is : suc p.root ≡ j)
+          (f : Follows j done) where
+        abbrev last : Bool
+        last = walks.reads role
+
+        method_answered : (a : Answer) →
+            AllEnds P j (walks.method_answered g n q args last next p done a)
+        method_answered a = index_got j done _ f (gives q role fit next on j p done is f) a
+
+        first_called : (o : Option FnPtr) (v : Dynamic) (vs : List Dynamic) →
+            AllEnds P j (walks.first_called g n q args last next p done o v vs)
+        first_called None v vs = fails j _ done f
+        first_called (Some r) v vs = (f (Ill n NoMemory) low, method_answered)
+
+        called_on : (d : Dynamic) (vs : List Dynamic) →
+            AllEnds P j (walks.called_on g n q args last next p done d vs)
+        called_on d [] = fails j _ done f
+        called_on d (v ∷ vs) = reads j q v done _ f (λ u. first_called (pointer_of u) u vs)
+
+        call_step : (o : Option FnPtr) (d : Dynamic) →
+            AllEnds P j (walks.call_step g n q args last next p done o d)
+        call_step None d = called_on d args
+        call_step (Some r) d = (f (Ill n NoMemory) low, method_answered)
+
+        curry_step : (o : Option FnPtr) (d : Dynamic) →
+            AllEnds P j (walks.curry_step g n q args last next p done o d)
+        curry_step None d = fails j _ done f
+        curry_step (Some r) d = gives q role fit next on j p done is f _
+
+        by_method : (o : Option ℕ) (text : List ℕ) →
+            AllEnds P j (walks.by_method g n q args last next p done o text)
+        by_method None text = (f (Ill n NoMemory) low, method_answered)
+        by_method (Some i) text = (f (Ill n NoMemory) low, method_answered)
+
+        by_own : (o : Option FnPtr) (name argc : ℕ) (d : Dynamic) →
+            AllEnds P j (walks.by_own g n q args last next p done o name argc d)
+        by_own None name argc d =
+            by_method (method_of g.program name argc (type_name_of d)) (name_of g.program name)
+        by_own (Some r) name argc d = (f (Ill n NoMemory) low, method_answered)
+
+        method_at : (name argc : ℕ) (text : List ℕ) (h : Held) →
+            AllEnds P j (walks.method_at g n q args last next p done name argc text h)
+        method_at name argc text h =
+            by (walks.asks_shared text argc) j _ _ (gives q role fit next on j p done is f _)
+            (by (bytes_eq text (codes "call")) j _ _ (call_step (pointer_of h.value) h.value)
+            (by (bytes_eq text (codes "curry")) j _ _ (curry_step (pointer_of h.value) h.value)
+            (by_own (walks.own_pointer text h.value) name argc h.value)))
+
+      method_step : (q : Position) (args : List Dynamic) (role : Role) → Fits role → (next : Next) →
+          Goes next → (name argc : ℕ) → Goes (λ (p : Place) (done : Rest).
+          walks.method_step g n q args (walks.reads role) next p done name argc)
+      method_step q args role fit next on name argc j p done is f = λ h.
+          method_at q args role fit next on j p done is f name argc (name_of g.program name) h
+
+    -- a chain may end before a step, at unit
+    unless : (q : Position) (b : Bool) (j : ℕ) (p : Place) (done : Rest) (go : Task) →
+        Follows j done → AllEnds P j go → AllEnds P j (walks.unless_unit n q b p done go)
+    unless q false j p done go f h = h
+    unless q true j p done go f h = λ x. reads j q x.value done (walks.if_not_unit done go) f
+        (λ v. by (is_unit v) j _ _ (f (Well dynamic.Unit false) (λ s. refl)) h)
 
 module _ (c : Course) where
   abbrev Even : ℕ → Next → Type 0
@@ -331,6 +401,9 @@ module _ (c : Course) where
   takes N n low (step.Property name getter setter flags q) role fit next on =
       λ j p done is f h. property_of N (is_some c.assigns) n low c.setting name getter setter q role fit h
       next on j p done is f h.value
+  takes N n low (step.Method name argc i flags q) role fit next on =
+      method_step N (is_some c.assigns) n low c.setting q (walks.operands_from c i argc) role fit next
+      on name argc
 
   ends : (N n : ℕ) → n < N → (v : Option Dynamic) (op : Option AssignOp) →
       Goes N (is_some v) (walks.ended c.setting (role_at_end v op) n)
@@ -358,7 +431,7 @@ module _ (c : Course) where
   walks_on N (s ∷ steps) n all some = λ j p done is f.
       let low : n < N = omega (arith, all) in (
         f (Ill n NoMemory) low,
-        unless N (is_some c.assigns) (skips s) j p done _ f
+        unless N (is_some c.assigns) n low (walks.step_position s) (skips s) j p done _ f
             (takes N n low s (walks.role_before c steps) (fits N steps) (walks.walked c steps (n + 1))
             (walks_on N steps (n + 1) (omega (arith, all)) some) j p done is f),
       )
@@ -367,6 +440,13 @@ module _ (c : Course) where
       AllEnds (WalkEnds c steps) 1 (walks.whole_walk c steps)
   walk_ends steps some =
       walks_on (length steps) steps 0 (omega arith) some 1 (record { root = 0; path = [] }) Done refl
+      (λ o right. (refl, right))
+
+  -- so does a walk of no step
+  pub no_step_ends : AllEnds (λ n o. (n ≡ 1) × EndsRight 1 (is_some c.assigns) o) 1
+      (walks.whole_walk c [])
+  no_step_ends =
+      walks_on 1 [] 1 (omega arith) (omega arith) 1 (record { root = 0; path = [] }) Done refl
       (λ o right. (refl, right))
 
 -- a walk by itself ends so, or still will, where it stands still
@@ -395,3 +475,4 @@ module _ (P : ℕ → Walked → Type 0) (stop : Option ℕ) (cells : List Cell)
       (subst (λ n. AllEnds P n (go (look s.roots (root_after i))))
       (omega (arith, length-take (suc i) s.roots, h.0)) (h.1 (look s.roots (root_after i))))
   play_ends (Need c go) s h = h
+  play_ends (Invoke i go) s h = h

@@ -2,15 +2,16 @@
 -- frame and the world then have.
 pub mod Instructions
 pub mod Natives
+pub mod Answers
 pub mod Positions
 pub mod Spots
 pub mod Chains
-pub use Rattle.grain_means.specs.Causes.Instructions.{truth_read, truth_on_top, Points, CallsOn, Calls, Charges, IsCharged, HasTooMany, ReadsTop, Overfills, UsesEntry, Unwinds, Tests, AsksPointer, Throws, Holds, AssignsConstant, Misses, Operates, HasNoBuiltIn, Mistypes, IsLent, AssignsLent, StoresLent, ReadsLent}
-pub use Rattle.grain_means.specs.Causes.Natives.{AssignsByHost, Question, all_args, native_asked, reply_to, IsCalled, EndsWith, asks_first, AsksAgain, AsksSecond, AsksToAssign, AsksOnCopies, AsksNative, AsksLast, FindsNone, FindsNative, WritesConstant, HostAnswers}
-pub use Rattle.grain_means.specs.Causes.Spots.{ChainWalk, CallEnds, WalksTo, AtStep, Falls, WalkRow}
+pub use Rattle.grain_means.specs.Causes.Instructions.{truth_read, truth_on_top, Points, CallsOn, Calls, Charges, IsCharged, HasTooMany, ReadsTop, Overfills, UsesEntry, Unwinds, Tests, AsksPointer, Throws, Holds, AssignsConstant, Misses, Operates, HasNoBuiltIn, Mistypes, IsLent, AssignsLent, HoldsThis, AsksThis, AssignsLentThis, StoresLent, ReadsLent}
+pub use Rattle.grain_means.specs.Causes.Natives.{AssignsTo, AssignsByHost, Question, all_args, native_asked, reply_to, IsCalled, EndsWith, asks_first, AsksAgain, AsksSecond, AsksToAssign, AsksOnCopies, AsksNative, AsksLast, FindsNone, FindsNative, WritesConstant, HostAnswers}
+pub use Rattle.grain_means.specs.Causes.Spots.{ChainWalk, CallEnds, InvocationEnds, Invokes, WalksTo, AtStep, Falls, WalkRow}
 pub use Rattle.grain_means.specs.Causes.Chains.{ChainReads, ChainRow, RaisedByChain, FromHostOrChain}
-pub use Rattle.grain_means.specs.Causes.Positions.{Enters, LeftCall, HasPosition, AnsweredSo, IsNoChain, TellsHere, ThrowsUnitAt, ThrowsUnit, HaveCaughtUnit, FirstIsArmed, ThrownAnew, Tells}
-use Rattle.std.specs.Prelude.{◌≡◌, ◌⊎◌, ◌<◌, ◌≤◌, ◌+◌, ℕ, List, Some, None, true, length, Result, Ok, Err}
+pub use Rattle.grain_means.specs.Causes.Positions.{CallsWith, ChainCalls, ChainCallFails, body_begins, out_of_body, Enters, LeftCall, BodyFails, LeftByChain, HasPosition, AnsweredSo, IsNoChain, TellsHere, ThrowsUnitAt, ThrowsUnit, HaveCaughtUnit, FirstIsArmed, ThrownAnew, Tells}
+use Rattle.std.specs.Prelude.{◌≡◌, ◌⊎◌, ◌<◌, ◌≤◌, ◌+◌, ℕ, List, [], Some, None, true, length, Result, Ok, Err}
 use Rattle.grain_value.specs.declared.values.Dynamic.{Dynamic}
 use Rattle.grain_value.specs.declared.values.Held.{Held}
 use Rattle.grain_value.specs.Cells.{flat}
@@ -20,7 +21,8 @@ use Rattle.grain_fault.specs.declared.places.Position.{Position}
 use Rattle.grain_fault.specs.declared.faults.MalformedKind.TheVariants as kind
 use Rattle.grain_fault.specs.declared.faults.EvalAltResult.{EvalAltResult}
 use Rattle.grain_fault.specs.declared.faults.EvalAltResult.TheVariants as fault
-use Rattle.grain_fault.specs.Problems.{FaultKind, FunctionNotFound, MismatchDataType, AssignmentToConstant, DataRace, IndexingType, NonPureCall, DotExpr, Arithmetic, Runtime, TooManyOperations, TooManyVariables, StackOverflow, DataTooLarge, Terminated, Malformed, Problem, Plain, InFunctionCall, InModule, SystemError, NoMemory, problem_of}
+use Rattle.grain_fault.specs.Problems.{FaultKind, FunctionNotFound, MismatchDataType, AssignmentToConstant, DataRace, IndexingType, NonPureCall, DotExpr, Arithmetic, Runtime, TooManyOperations, TooManyVariables, StackOverflow, UnboundThis, DataTooLarge, Terminated, Malformed, Problem, Plain, InFunctionCall, InModule, SystemError, NoMemory, problem_of}
+use Rattle.grain_program.specs.declared.code.instruction_set.Op.{Op}
 use Rattle.grain_program.specs.declared.code.instruction_set.Op.TheVariants as op
 use Rattle.grain_program.specs.declared.code.functions.Function.{Function}
 use Rattle.grain_program.specs.View.{View, name_of, position_of, source_text}
@@ -50,15 +52,17 @@ pub record Raised {S : Type 0} (m : Setup S) (act : Act S) (level : ℕ) (x : Pr
   pub why : Why point
   pub tells : Tells m act level point x
 
+-- an op-assignment calls what it writes by this name
+abbrev pub AssignsNamed : View → List ℕ → Op → Type 0
+AssignsNamed program name (op.AssignLocalOp slot n k) = name ≡ name_of program n
+AssignsNamed program name (op.AssignThisOp k) = name ≡ []
+AssignsNamed program name o = ⊥
+
 -- the host answers the operator of an op-assignment to the variable of this name with a cell whose
 -- content is lent
 pub record AnswersLent {S : Type 0} (m : Setup S) (name : List ℕ) (at : ProgramPoint S) : Type 0
   where
-    pub slot : ℕ
-    pub index : ℕ
-    pub assigns : ℕ
-    pub is : at.instruction ≡ op.AssignLocalOp slot index assigns
-    pub named : name ≡ name_of m.program index
+    pub named : AssignsNamed m.program name at.instruction
     pub question : Question S
     pub asks : AsksSecond m question at
     pub native : Native
@@ -91,6 +95,8 @@ Raises m (Runtime v) at =
 Raises m TooManyOperations at = (m.engine.limits.operations ≤ at.world.count) ×
     Charges m.program at.instruction at.frame at.world
 Raises m TooManyVariables at = Overfills m at.instruction at.frame at.world
+Raises m UnboundThis at =
+    (at.frame.this ≡ None) × AsksThis at.instruction at.frame at.world
 Raises m StackOverflow at = IsCharged m at.world ×
     (m.engine.limits.levels ≤ at.world.level) × Calls m.program at.instruction at.frame at.world
 Raises m (DataTooLarge t) at = (name : List ℕ) × (args : List Held) ×

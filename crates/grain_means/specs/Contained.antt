@@ -56,6 +56,10 @@ pub record Contained {S : Type 0} (law : Law S) (clean : Bool) (n : ℕ) (scope 
   pub reaches : law.reach host ≤ n
   pub hands : clean ≡ true → law.holds_clean host ≡ true
 
+-- what is held as a root names cells below this number only; a root may be a cell
+abbrev pub RootsName : Bool → ℕ → List Held → Type 0
+RootsName clean n roots = AllByRecursion (HeldNames clean n) roots
+
 -- an answer names cells below this number only
 abbrev pub AnswerNames : Bool → ℕ → Answer → Type 0
 AnswerNames clean n (Came v) = Names clean n v

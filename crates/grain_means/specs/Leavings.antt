@@ -14,6 +14,7 @@ use Rattle.grain_global.specs.declared.engines.Engine.{Engine}
 use Rattle.grain_means.specs.Worlds.{Act, Answer, Came, Failed, Setup, Frame, InFrame, World}
 use Rattle.grain_means.specs.Rules.{main}
 use Rattle.grain_means.specs.Comes.{Comes}
+use Rattle.grain_means.specs.Blame.{Blamed}
 use Rattle.grain_means.specs.Means.{Begin, Finish, MainEnds, first_world}
 
 abbrev pub name_in : Entry → List ℕ
@@ -32,8 +33,9 @@ abbrev pub AtCheckpoint : View → Frame → Type 0
 AtCheckpoint program f = (width : ℕ) × (op_at program.code f.address ≡ Some (op.Checkpoint, width))
 
 -- This fault left a frame of this level and base, to which the run had come: the trace has its address
--- last, and the scope is no longer than its floor. Where memory is out and the frame stands at a
--- checkpoint that is done, the floor is the scope's length there.
+-- last, with the slot of what is blamed, unless memory is out; and the scope is no longer than its floor.
+-- Where memory is out and the frame stands at a checkpoint that is done, the floor is the scope's length
+-- there.
 pub record Cut {S : Type 0} (m : Setup S) (act : Act S) (level base : ℕ) (x : Problem)
     (scope : List Entry) (trace : List Fault) : Type 0 where
   pub frame : Frame
@@ -44,6 +46,7 @@ pub record Cut {S : Type 0} (m : Setup S) (act : Act S) (level base : ℕ) (x : 
   pub inner : List Fault
   pub slot : Option ℕ
   pub last : trace ≡ inner ++ record { address = frame.address; slot = slot } ∷ []
+  pub blames : (x ≡ NoMemory) ⊎ Blamed m frame world slot x
   pub short : (length scope ≤ frame.floor) ⊎
       ((x ≡ NoMemory) × AtCheckpoint m.program frame × (length scope ≤ length world.scope))
 

@@ -1,5 +1,5 @@
 -- Where a value stands among numbered roots, and what is read and put there.
-use Rattle.std.specs.Prelude.{suc, List, [], ◌∷◌, ◌++◌, Option, Some, None, Result, Ok, Err, option_map, slice_get, slice_set}
+use Rattle.std.specs.Prelude.{◌≡◌, ◌⊎◌, suc, List, [], ◌∷◌, ◌++◌, Option, Some, None, Result, Ok, Err, option_map, slice_get, slice_set}
 use Rattle.grain_value.specs.Tree.{Tree}
 use Rattle.grain_value.specs.View.{tree, value_of}
 use Rattle.grain_value.specs.Operands.{read_write}
@@ -46,3 +46,9 @@ deeper p s = record p { path = p.path ++ s ∷ [] }
 -- the whole of the root after that of a place
 abbrev pub next_root : Place → Place
 next_root p = record { root = suc p.root; path = [] }
+
+-- two paths part: after a common beginning they have different steps
+abbrev pub Part : List PathStep → List PathStep → Type 0
+Part [] q = ⊥
+Part (s ∷ p) [] = ⊥
+Part (s ∷ p) (r ∷ q) = (s ≡ r → ⊥) ⊎ ((s ≡ r) × Part p q)

@@ -1,4 +1,5 @@
--- A chain that reads along elements of arrays and keys of maps alone, and asks the host for nothing.
+-- A chain that reads along elements of arrays and keys of maps alone, asks the host for nothing, and calls
+-- no function.
 use Rattle.std.specs.Prelude.{◌≡◌, ℕ, List, [], ◌∷◌, Option, Some, None, true, false, Result, Ok}
 use Rattle.grain_value.specs.Cells.{flat}
 use Rattle.grain_value.specs.Locating.{locate}
@@ -44,6 +45,7 @@ abbrev pub step_along : List Cell → Course → Step → Dynamic → Option Pat
 step_along cells c (step.Index i flags q bracket) d = read_along d (flat cells (operand c i))
 step_along cells c (step.Property name getter setter flags q) d =
     property_along (name_of c.setting.program name) d
+step_along cells c (step.Method name argc i flags q) d = None
 
 -- The steps lead from the value d along this path to the value u: each step leads to an element of an
 -- array or to a key of a map. No step that ends the chain at unit (`skips`) begins at unit.

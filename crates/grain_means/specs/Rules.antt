@@ -8,26 +8,30 @@ pub mod Going
 pub mod Reads
 pub mod Transfers
 pub mod Entries
+pub mod Homes
 pub mod Natives
 pub mod Operators
 pub mod Calls
 pub mod Pointers
+pub mod This
 pub mod InWorld
 pub mod Chains
 pub use Rattle.grain_means.specs.Rules.Frames.{stepped, without, frame_at, held_at, is_full, name_at, flag_of_cell, only_read, is_read_only, held_or}
 pub use Rattle.grain_means.specs.Worlds.{is_stop}
-pub use Rattle.grain_means.specs.Rules.Faults.{race_text, kind_throws_unit, throws_unit, thrown_anew, outer_handlers, own_or, position, leave_by_fault, marked_or, marked, if_armed, offered_to, offered, raised, on_verdict, progressed, charged_or, charged, escaped, data_race}
+pub use Rattle.grain_means.specs.Rules.Faults.{race_text, kind_throws_unit, throws_unit, thrown_anew, outer_handlers, own_or, position, leave_by_fault, marked_or, marked, if_armed, offered_to, offered, raised, on_verdict_or, progressed_or, operation_taken, on_verdict, progressed, charged_or, charged, escaped, data_race}
 pub use Rattle.grain_means.specs.Rules.Catching.{catching, resumed, push_handler, bind_caught, caught}
 pub use Rattle.grain_means.specs.Rules.Going.{onward, jumped, pushed}
 pub use Rattle.grain_means.specs.Rules.Reads.{flat_before, flat_all, flat_or_race, flattened, all_or_race, flattened_all}
 pub use Rattle.grain_means.specs.Rules.Transfers.{agrees, branched, not_a_bool, tested, jump_if, skip, unwind}
-pub use Rattle.grain_means.specs.Rules.Entries.{cell_written, written, slot_past_scope, at_entry, at_slot, load_local, load_shared, shared, share, declare, assignment_to_constant, write_entry, operand_for, store_local, assign}
-pub use Rattle.grain_means.specs.Rules.Natives.{kinds_in, trees_in, first_is_read_only, Home, InScope, AtPlace, Receiver, lent_held, given, back_in_entry, back_in_cell, back_in_scope, back_in_cells, back_in_roots, given_back, cells_given_back, roots_given_back, answered, host_called_or, native_called_or, native_found_or, native_or, host_called, native_called, native_found, native}
-pub use Rattle.grain_means.specs.Rules.Operators.{if_fast, operated, op_assigned, content_now, operator_assigned, op_assign_failed, native_assigned, store_outcome, assign_op, push_outcome}
-pub use Rattle.grain_means.specs.Rules.Calls.{bound, function_numbered, function_found, function_by_name, propagate, resume_caller, function_entered, enter_function, call_function}
+pub use Rattle.grain_means.specs.Rules.Entries.{cell_written, written_at, assigned_at, slot_past_scope, at_entry, at_slot, load_local, load_shared, shared, share, declare, assignment_to_constant, write_entry, operand_for, store_local, assign}
+pub use Rattle.grain_means.specs.Rules.Homes.{Home, InScope, InCell, AtPlace, in_entry, at_place_of, back_in_scope, back_in_cells, back_in_roots, content_at, content_now}
+pub use Rattle.grain_means.specs.Rules.Natives.{kinds_in, trees_in, first_is_read_only, Receiver, lent_held, given, given_back, cells_given_back, roots_given_back, answered, host_called_or, native_called_or, native_found_or, native_or, host_called, native_called, native_found, native}
+pub use Rattle.grain_means.specs.Rules.Operators.{if_fast, operated, op_assigned, operator_at, op_assign_failed_at, native_assigned_at, outcome_at, entry_of_slot, operator_assigned, op_assign_failed, native_assigned, store_outcome, assign_op, push_outcome}
+pub use Rattle.grain_means.specs.Rules.Calls.{bound, function_numbered, function_found, function_by_name, body_failed, body_entered, body_called, propagate, resume_caller, function_entered, enter_function, call_function}
 pub use Rattle.grain_means.specs.Rules.Pointers.{curried_in, spread, operand_under, not_a_pointer, curried, curry, pointer_called, call_pointer}
-pub use Rattle.grain_means.specs.Rules.InWorld.{world_place, placed, at_step, lent_at, failed_so, needed, performed, walks}
-pub use Rattle.grain_means.specs.Rules.Chains.{root_name, root_operands, steps_operands, assigned_operand, operator_of, new_root, at_root, assigned_value, course_of, chain_over, walk_from, back_from, walk_cell, walk_root, unless_constant, chain_in, chain}
+pub use Rattle.grain_means.specs.Rules.This.{at_place, at_this, load_this, load_this_shared, require_this, unless_read_only, assign_this, assign_this_op}
+pub use Rattle.grain_means.specs.Rules.InWorld.{world_place, placed, at_step, lent_at, failed_so, pointed_native, needed, performed, body_over, function_under, copy_dropped, function_on, function_called, pointed_called, numbered_called, invoked, walks}
+pub use Rattle.grain_means.specs.Rules.Chains.{root_name, root_operands, steps_operands, assigned_operand, operator_of, new_root, asks_root, lent_cell, root_position, at_root, assigned_value, course_of, chain_over, walk_from, walk_at, back_from, walk_cell, walk_held, walk_root, unless_constant, chain_in, chain}
 use Rattle.std.specs.Prelude.{ℕ, ◌+◌, is_some, List, [], Option, Some, None, Bool, true, false, if◌then◌else◌, length}
 use Rattle.grain_value.specs.declared.values.Dynamic.{Dynamic}
 use Rattle.grain_value.specs.declared.values.Dynamic.TheVariants as dynamic
@@ -69,6 +73,11 @@ module _ {S : Type 0} (m : Setup S) where
   instr (op.AssignLocal slot n) next f w = assign m slot n next f w
   instr (op.AssignLocalOp slot n a) next f w =
       assign_op m (assign_op_of m.program a) slot n next f w
+  instr op.LoadThis next f w = load_this m next f w
+  instr op.LoadThisShared next f w = load_this_shared m next f w
+  instr op.RequireThis next f w = require_this m next f w
+  instr op.AssignThis next f w = assign_this m next f w
+  instr (op.AssignThisOp a) next f w = assign_this_op m (assign_op_of m.program a) next f w
   instr (op.LoadShared slot) next f w = load_shared m slot next f w
   instr (op.Share slot) next f w = share m slot next f w
   instr op.IsShared next f w =

@@ -5,7 +5,7 @@ use Rattle.grain_value.specs.declared.values.Dynamic.TheVariants as dynamic
 use Rattle.grain_value.specs.declared.values.Held.{Held}
 use Rattle.grain_program.specs.declared.code.chains.Step.{Step}
 use Rattle.grain_means.specs.Worlds.{Answer}
-use Rattle.grain_means.specs.Tasks.{Walked, Well, Ill, Task, Done, Mark, Look, Flatten, Write, Root, Drop, Need, Play, Over, Asks}
+use Rattle.grain_means.specs.Tasks.{Walked, Well, Ill, Task, Done, Mark, Look, Flatten, Write, Root, Drop, Need, Invoke, Play, Over, Asks, Calls}
 use Rattle.grain_means.specs.Walks.{Course}
 
 -- a task that begins with n roots ends with so many, and so
@@ -18,11 +18,13 @@ AllEnds P n (Write q v t) = AllEnds P n t
 AllEnds P n (Root h t) = AllEnds P (suc n) t
 AllEnds P n (Drop i go) = (suc i ≤ n) × ((h : Held) → AllEnds P (suc i) (go h))
 AllEnds P n (Need c go) = (a : Answer) → AllEnds P n (go a)
+AllEnds P n (Invoke i go) = (a : Answer) → AllEnds P n (go a)
 
 -- the same of a walk where it stands still
 abbrev pub PlayEnds : (ℕ → Walked → Type 0) → Play → Type 0
 PlayEnds P (Over o s) = P (length s.roots) o
 PlayEnds P (Asks c go s) = (a : Answer) → AllEnds P (length s.roots) (go a)
+PlayEnds P (Calls i go s) = (a : Answer) → AllEnds P (length s.roots) (go a)
 
 -- how a walk over this many steps ends: a chain that assigns ends with unit, and the step that is blamed
 -- is one of them

@@ -1,14 +1,19 @@
 -- The walk of a chain along a place: one rule for each kind of step, and for what is done where the
--- steps lead. What stands inside an array or a map is no cell, and no root of a walk is one.
+-- steps lead. In clean values what stands inside an array or a map is no cell; one that stood there would
+-- be taken as it is. No root of a walk is a cell, but where the chain begins by the question whether its
+-- root is one.
 --
 -- A step has a mark where it begins, and one where it leads on: to a place further down, to a new root,
--- or to what is done where the steps end. There is one more before each thing that is written, asked
--- for or set back, and before each fault.
+-- or to what is done where the steps end; but none where its answer is the chain's own value. There is
+-- one more before each thing that is written, asked for, called or set back, and before each fault. Two
+-- marks with nothing between them allow no other ends of a run than one.
 pub mod Asking
 pub mod Returning
-pub use Rattle.grain_means.specs.Walks.Asking.{Setting, Rest, Next, index_get, index_set, at_mark, failing, flat_or_busy, flattening, asking, index_was_set, set_by_index, set_instead, property_was_set, got_instead, property_was_got, index_was_got, index_was_read, operator_answered, named, set_property, get_property, operator_asked, was_op_assigned, native_stored, stored, operating}
-pub use Rattle.grain_means.specs.Walks.Returning.{Origin, OfPart, OfIndex, OfProperty, OfNothing, put_part, set_back, back, rooted, own_value, into_answer}
-use Rattle.std.specs.Prelude.{ℕ, ◌+◌, ◌-◌, ◌==◌, ℤ, Bool, true, false, List, [], ◌∷◌, Option, Some, None, Result, Ok, Err, slice_index_or, codes, if◌then◌else◌}
+pub mod Methods
+pub use Rattle.grain_means.specs.Walks.Asking.{Setting, Rest, Next, index_get, index_set, at_mark, failing, flat_or_busy, flattening, asking, index_was_set, set_by_index, set_instead, property_was_set, got_instead, property_was_got, was_given, index_was_read, operator_answered, named, set_property, get_property, operator_asked, was_op_assigned, native_stored, stored, operating}
+pub use Rattle.grain_means.specs.Walks.Returning.{Origin, OfPart, OfIndex, OfProperty, OfMethod, OfNothing, is_change, put_part, set_back, back, rooted, own_value, into_answer}
+pub use Rattle.grain_means.specs.Walks.Methods.{invoking, with_values, pointer_in, own_pointer, asks_shared, gave, method_answered, no_pointer, pointer_called, first_called, called_on, call_step, curry_step, by_method, by_own, method_at, method_step}
+use Rattle.std.specs.Prelude.{ℕ, ◌+◌, ◌-◌, ◌==◌, ℤ, Bool, true, false, List, [], ◌∷◌, Option, Some, None, Result, Ok, Err, slice_index_or, codes, drop, map, take, if◌then◌else◌}
 use Rattle.std.specs.Int.{bit_at}
 use Rattle.grain_value.specs.Tree.{Tree, unit}
 use Rattle.grain_value.specs.View.{value_of}
@@ -120,7 +125,7 @@ module _ (g : Setting) where
       (into_answer g n bracket false (OfIndex i bracket) (operating g n bracket a v) p done))
   by_indexer n q bracket role i next p done =
       asking n bracket index_get (Some p) (i ∷ []) done
-      (index_was_got n done (into_answer g n q (reads role) (OfIndex i bracket) next p done))
+      (was_given n done (into_answer g n q (reads role) (OfIndex i bracket) next p done))
 
   -- An index step goes on, by what the look-up of the index found in h, which stands at the place. The
   -- index is i as the operand is, and v as it is read.
@@ -181,12 +186,23 @@ module _ (g : Setting) where
 abbrev pub skips : Step → Bool
 skips (step.Index i flags q bracket) = bit_at (step_bits flags) 0 == 1
 skips (step.Property name getter setter flags q) = bit_at (step_bits flags) 0 == 1
+skips (step.Method name argc i flags q) = bit_at (step_bits flags) 0 == 1
 
--- a chain whose value is unit ends before a step that asks for it
-abbrev pub unless_unit : Bool → Place → Rest → Task → Task
-unless_unit false p done go = go
-unless_unit true p done go =
-    Look p (λ h. if is_unit h.value then done (Well dynamic.Unit false) else go)
+-- the position of a step's own faults
+abbrev pub step_position : Step → Position
+step_position (step.Index i flags q bracket) = q
+step_position (step.Property name getter setter flags q) = q
+step_position (step.Method name argc i flags q) = q
+
+-- A chain whose value, as it is read, is unit ends before a step that asks for it. Of all that stands
+-- where a walk is, only a root that the first step asks whether it is a shared variable is a cell.
+abbrev pub if_not_unit : Rest → Task → Dynamic → Task
+if_not_unit done go v = if is_unit v then done (Well dynamic.Unit false) else go
+
+abbrev pub unless_unit : ℕ → Position → Bool → Place → Rest → Task → Task
+unless_unit n q false p done go = go
+unless_unit n q true p done go =
+    Look p (λ h. flattening n q h.value done (if_not_unit done go))
 
 -- the role of a chain's last step
 abbrev pub role_at_end : Option Dynamic → Option AssignOp → Role
@@ -206,6 +222,10 @@ module _ (c : Course) where
   abbrev pub operand : ℕ → Dynamic
   operand i = value_of (slice_index_or c.operands i unit)
 
+  -- n operands of the chain, from the one of number i on
+  abbrev pub operands_from : ℕ → ℕ → List Dynamic
+  operands_from i n = map value_of (take n (drop i c.operands))
+
   -- the role of the chain's last step
   abbrev pub last_role : Role
   last_role = role_at_end c.assigns c.operator
@@ -221,12 +241,14 @@ module _ (c : Course) where
       index_step c.setting n (operand i) q bracket role next p done
   taken (step.Property name getter setter flags q) n role next p done =
       property_step c.setting n name getter setter q role next p done
+  taken (step.Method name argc i flags q) n role next p done =
+      method_step c.setting n q (operands_from i argc) (reads role) next p done name argc
 
   -- the walk from a place over the steps from number n on
   abbrev pub walked : List Step → ℕ → Place → Rest → Task
   walked [] n p done = ended c.setting last_role (n - 1) p done
   walked (s ∷ steps) n p done =
-      at_mark n done (unless_unit (skips s) p done
+      at_mark n done (unless_unit n (step_position s) (skips s) p done
       (taken s n (role_before steps) (walked steps (n + 1)) p done))
 
   -- the whole walk

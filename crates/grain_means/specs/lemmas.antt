@@ -1,5 +1,6 @@
 -- Lemmas that the crates above cite. Nothing here is part of a contract's words.
 pub mod PlaceLaws
+pub mod BesideLaws
 pub mod Spreading
 pub mod Plays
 pub mod Added
@@ -8,4 +9,3 @@ pub mod Stretches
 pub mod Scopes
 pub mod Branches
 pub mod LentPlaces
-pub mod Driving

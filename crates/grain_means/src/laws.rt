@@ -1,12 +1,13 @@
 //! Laws of the meaning alone. Each is a function that does nothing, whose contract is the law.
 
-ghost use Rattle.std.specs.Prelude.{◌≡◌, ◌<◌, ◌≤◌, ◌⊎◌, ◌+◌, [], ◌∷◌, false, length, List, ℕ, Bool, Ok, Option, None, Some};
-ghost use Rattle.grain_means.specs.Worlds.{Act, Answer, World, Setup, Place, Frame, InFrame};
+ghost use Rattle.std.specs.Prelude.{◌≡◌, ◌<◌, ◌≤◌, ◌⊎◌, ◌+◌, ◌++◌, [], ◌∷◌, false, true, length, slice_get, take, List, ℕ, Bool, Ok, Option, None, Some};
+ghost use Rattle.grain_means.specs.Worlds.{Act, Answer, Failed, Go, World, Setup, Place, Frame, InFrame};
 ghost use Rattle.grain_means.specs.CatchBlocks.{Catches};
-ghost use Rattle.grain_means.specs.Rules.{called};
+ghost use Rattle.grain_means.specs.Rules.{called, chain_over, function_called, new_root};
 ghost use Rattle.grain_means.specs.Causes.{Caused};
-ghost use Rattle.grain_means.specs.Causes.Spots.{ChainWalk, InsteadFails, NativeFails, OwnRow, WalkRow};
+ghost use Rattle.grain_means.specs.Causes.Spots.{ChainWalk, ComesTo, Falls, InsteadFails, NativeFails, OwnRow, PointedFails, WalkRow};
 ghost use Rattle.grain_fault.specs.Problems.{Problem};
+ghost use Rattle.grain_fault.specs.declared.places.Position.{Position};
 ghost use Rattle.grain_means.specs.Comes.{CatchPoint, Comes, ComesToCatch, Stands};
 ghost use Rattle.grain_means.specs.Ends.{Ends};
 ghost use Rattle.grain_means.specs.Leavings.{names, Keeps, Cuts};
@@ -15,19 +16,22 @@ ghost use Rattle.grain_means.specs.Means.{Begin, Finish, Means, Over, slowly};
 ghost use Rattle.grain_global.specs.declared.engines.Engine.{Engine};
 ghost use Rattle.grain_program.specs.View.{View};
 ghost use Rattle.grain_host.specs.Law.{Law, IsLawful};
-ghost use Rattle.grain_means.specs.Contained.{AnswerNames, ConstantsName, Contained};
+ghost use Rattle.grain_means.specs.Contained.{AnswerNames, ConstantsName, Contained, RootsName};
 ghost use Rattle.grain_program.specs.Typing.{IsProgram};
+ghost use Rattle.grain_program.specs.declared.code.functions.Function.{Function};
 ghost use Rattle.grain_program.specs.declared.code.chains.Step.{Step};
 ghost use Rattle.grain_value.specs.declared.stores.Cell.{Cell};
-ghost use Rattle.grain_value.specs.Paths.{at};
+ghost use Rattle.grain_value.specs.Paths.{at, put, Leads};
+ghost use Rattle.grain_value.specs.Tree.{Tree};
 ghost use Rattle.grain_value.specs.View.{tree};
 ghost use Rattle.grain_value.specs.declared.values.Dynamic.{Dynamic};
 ghost use Rattle.grain_value.specs.declared.values.Held.{Held};
 ghost use Rattle.grain_value.specs.declared.values.paths.PathStep.{PathStep};
-ghost use Rattle.grain_means.specs.Places.{find};
+ghost use Rattle.grain_means.specs.Places.{find, look, put as put_at, Part};
 ghost use Rattle.grain_means.specs.Rules.InWorld.{walks};
 ghost use Rattle.grain_means.specs.Readings.{ReadsAlong};
-ghost use Rattle.grain_means.specs.Tasks.{Own, Task, Walked, Well, play};
+ghost use Rattle.grain_means.specs.Staying.{IsOver};
+ghost use Rattle.grain_means.specs.Tasks.{Ill, Invocation, Invoke, Own, Task, Walked, Well, play};
 ghost use Rattle.grain_means.specs.Tasks.{Over as WalkOver};
 ghost use Rattle.grain_means.specs.WalkEnds.{AllEnds, PlayEnds, WalkEnds};
 ghost use Rattle.grain_means.specs.Walks.{Course, whole_walk};
@@ -48,7 +52,7 @@ pub fn slow_end<S>()
 
 /// A call that begins without a trace counts exactly the instructions that it begins, leaves the
 /// tokens that were out, the level and the entries of its scope, which a fault cuts to their number,
-/// and ends with a cause.
+/// and ends with a cause. After a fault the trace's last entry has the slot of the step that is blamed.
 pub fn counted<S>()
     ensures { (m : Setup S) (this : Option Place) (w v : World S) (a : Answer)
         (run : Ends m (called m this w) a v) → w.trace ≡ [] →
@@ -66,6 +70,15 @@ pub fn provided<S>()
         Stands m.program f }
 {}
 
+/// Where something stands at the `this` of a call, something stands at the `this` of each frame to which
+/// its run comes: the unit that is found where nothing stands is never read for a `this`.
+pub fn bound_places<S>()
+    ensures { (m : Setup S) (this : Option Place) (w v : World S) (f : Frame) (p : Place) →
+        ((q : Place) → this ≡ Some q → (h : Held) × (find w.roots q ≡ Some h)) →
+        Comes m (InFrame f) v (called m this w) → f.this ≡ Some p →
+        (h : Held) × (find v.roots p ≡ Some h) }
+{}
+
 /// Where the run of a valid program, which began without a trace, comes to a handler that catches,
 /// either the catch fails with a fault that no script may catch, or the catch block begins, with
 /// exactly as many operands and entries of the scope as there were at the handler's push.
@@ -74,16 +87,17 @@ pub fn catches<S>()
         IsProgram m.program → w.trace ≡ [] → ComesToCatch m at (called m this w) → Catches m at }
 {}
 
-/// A call keeps to its store: where its scope, the contents of its cells, the constants and the host
-/// name cells of the store only, none of which is lent and none of which holds a cell, so it is when
-/// the call is over, also of its answer. No cell is gone. Where what it begins with is clean, so is what
-/// it leaves: no cell stands directly inside an array or a map.
+/// A call keeps to its store: where its scope, its roots, the contents of its cells, the constants and
+/// the host name cells of the store only, none of which is lent and none of which holds a cell, so it is
+/// when the call is over, also of its answer. No cell is gone. Where what it begins with is clean, so is
+/// what it leaves: no cell stands directly inside an array or a map.
 pub fn contained<S>()
     ensures { (m : Setup S) (this : Option Place) (w v : World S) (a : Answer) (clean : Bool)
         (n : ℕ) → IsLawful m.law → ConstantsName clean n m.program →
-        Contained m.law clean n w.scope w.cells w.host → Ends m (called m this w) a v →
+        Contained m.law clean n w.scope w.cells w.host → RootsName clean n w.roots →
+        Ends m (called m this w) a v →
         (k : ℕ) × (n ≤ k) × Contained m.law clean k v.scope v.cells v.host
-        × AnswerNames clean k a }
+        × AnswerNames clean k a × RootsName clean k v.roots }
 {}
 
 /// A program has at most one meaning at a beginning: one end, after one number of instructions.
@@ -95,7 +109,8 @@ pub fn one_meaning<S>()
 
 /// Each end of a chain's walk leaves one root, that at which it began; a chain that assigns ends with
 /// unit; and a fault blames one of the chain's steps. What holds of every end of a task holds where a
-/// walk by itself ends, and of every end that it still can come to where it asks for something.
+/// walk by itself ends, and of every end that it still can come to where it asks for something or calls
+/// a function.
 pub fn walk_ends()
     ensures all { (c : Course) (steps : List Step) → 0 < length steps →
         AllEnds (WalkEnds c steps) 1 (whole_walk c steps) }
@@ -114,7 +129,8 @@ pub fn both_readings<S>()
 {}
 
 /// A chain that assigns nothing, and whose steps lead along elements of arrays and keys of maps alone,
-/// gives what stands at the end of their path, leaves its root as it was, and asks for nothing.
+/// gives what stands at the end of their path, leaves its root as it was, asks for nothing, and calls
+/// nothing.
 pub fn reads_along()
     ensures { (c : Course) (cells : List Cell) (h : Held) (steps : List Step)
         (path : List PathStep) (u : Dynamic) → c.assigns ≡ None →
@@ -124,11 +140,69 @@ pub fn reads_along()
         × (at path (tree h.value) ≡ Ok (tree u)) }
 {}
 
-/// A reason (`WalkRow`) for which a chain's walk ends in a fault and blames a step is one of three: it is
-/// among those of the fault's kind (`OwnRow`); or a call of the walk ended with the fault, and with it the
-/// walk ends; or a call ended with the fault because there was no such property, the walk called an
-/// indexer in its place, and there was none.
+/// A reason (`WalkRow`) for which a chain's walk ends in a fault and blames a step is one of four: it is
+/// among those of the fault's kind (`OwnRow`); or a native that the walk called ended with the fault, and
+/// with it the walk ends; or a native ended with the fault because there was no such property, the walk
+/// called an indexer in its place, and there was none; or a pointer that is called names no function, and
+/// the native of its name ended with the fault. A fault that left the body of a function that the walk
+/// called has no reason among these: `Row` has it if a script may catch it, and else `LeftCall`.
 pub fn walk_rows<S>()
     ensures { (m : Setup S) (c : ChainWalk S) (n : ℕ) (x : Problem) → WalkRow m c n x →
-        OwnRow m c n x ⊎ (NativeFails m c n x ⊎ InsteadFails m c n x) }
+        OwnRow m c n x ⊎ (NativeFails m c n x ⊎ (InsteadFails m c n x ⊎ PointedFails m c n x)) }
+{}
+
+/// What is written at a path is there; a second write at the path hides the first; what stands beside the
+/// path is as it was; and a path that goes further leads where its second part leads from where its first
+/// part leads.
+pub fn written_paths()
+    ensures there { (p : List PathStep) (t new : Tree) → Leads p t → at p (put p new t) ≡ Ok new }
+    ensures twice { (p : List PathStep) (t a b : Tree) → Leads p t →
+        put p b (put p a t) ≡ put p b t }
+    ensures beside { (p q : List PathStep) (t new : Tree) → Part p q →
+        at q (put p new t) ≡ at q t }
+    ensures further { (p q : List PathStep) (t c new : Tree) → at p t ≡ Ok c →
+        (at (p ++ q) t ≡ at q c) × (put (p ++ q) new t ≡ put p (put q new c) t) }
+{}
+
+/// What a function wrote through its `this` stays, also where it failed. The walk that called it goes on
+/// from the roots and cells as the body left them, or as they were if it was not entered (`writable`);
+/// of what can only be read the body had a copy, and no root has changed (`constant`). After a fault of
+/// the call the walk only drops roots of its own, and ends with that fault, which blames the step of the
+/// call (`falls`). So what its first root held when the fault was heard goes back to the entry or the
+/// cell that held it (`survives`); a walk from a `this` has no root of its own to give back.
+pub fn stays_written<S>()
+    ensures writable { (m : Setup S) (q : Position) (g : Function) (args : List Held)
+        (heard : Answer → World S → Act S) (p : Place) (w v : World S) (a : Answer) →
+        (look w.roots p).read_only ≡ false →
+        Ends m (function_called m q g args heard (Some p) w) a v →
+        (b : Answer) × (u : World S) × IsOver m q g args (Some p) w b u
+        × (u.scope ≡ w.scope) × (u.level ≡ w.level) × Ends m (heard b u) a v }
+    ensures constant { (m : Setup S) (q : Position) (g : Function) (args : List Held)
+        (heard : Answer → World S → Act S) (p : Place) (w v : World S) (a : Answer) →
+        (look w.roots p).read_only ≡ true →
+        Ends m (function_called m q g args heard (Some p) w) a v →
+        (b : Answer) × (u : World S) × (u.roots ≡ w.roots) × Ends m (heard b u) a v }
+    ensures falls { (m : Setup S) (c : ChainWalk S) (i : Invocation) (go : Answer → Task)
+        (w : World S) (x : Problem) → ComesTo m c (Invoke i go) w → Falls i.step x (go (Failed x)) }
+    ensures survives { (m : Setup S) (k next n : ℕ) (f : Frame) (back : Held → World S → World S)
+        (w u : World S) (x : Problem) (t : Task) → Falls n x t →
+        walks m k f (new_root w.roots) (length w.roots + 1) t (λ o v. chain_over m k next f o
+        (back (look v.roots (new_root w.roots)) (record v { roots = take (length w.roots) v.roots })))
+        u ≡ chain_over m k next f (Ill n x)
+        (back (look u.roots (new_root w.roots)) (record u { roots = take (length w.roots) u.roots })) }
+{}
+
+/// A frame writes nothing that stands at a place but what stands at its own `this`. So one without a
+/// `this` leaves all roots as they were (`without`); one with a `this` leaves all other roots, and as
+/// many (`others`), and all that stands beside the place in its root (`inside`).
+pub fn leaves_places<S>()
+    ensures without { (m : Setup S) (f : Frame) (w v : World S) (a : Answer) → f.this ≡ None →
+        Ends m (Go (InFrame f) w) a v → v.roots ≡ w.roots }
+    ensures others { (m : Setup S) (f : Frame) (p : Place) (w v : World S) (a : Answer) (j : ℕ) →
+        f.this ≡ Some p → (j ≡ p.root → ⊥) → Ends m (Go (InFrame f) w) a v →
+        (length v.roots ≡ length w.roots) × (slice_get v.roots j ≡ slice_get w.roots j) }
+    ensures inside { (m : Setup S) (f : Frame) (p : Place) (w v : World S) (a : Answer) (h : Held) →
+        f.this ≡ Some p → find w.roots p ≡ Some h → Ends m (Go (InFrame f) w) a v →
+        (u : Dynamic) × (v.roots ≡ put_at w.roots p u)
+        × (find v.roots p ≡ Some (record h { value = u })) }
 {}

@@ -3,4 +3,7 @@
 
 mod laws;
 
-pub use laws::{catches, contained, counted, one_end, one_meaning, provided, slow_end};
+pub use laws::{
+    both_readings, bound_places, catches, contained, counted, leaves_places, one_end, one_meaning,
+    provided, reads_along, slow_end, stays_written, walk_ends, walk_rows, written_paths,
+};

@@ -128,6 +128,7 @@ named_decides p a = at (slice_get p.assign_ops a) refl where
 
 root_decides : (p : View) (r : Root) → Decides (root_indexed (length p.names) r) (IsRootIndexed p r)
 root_decides p (root.Local name slot) = lt_decides name (length p.names)
+root_decides p (root.This q) = tt
 root_decides p root.Temporary = tt
 
 three_decide : (P Q R : Type 0) (b : Bool) → Decides b (P × (Q × R)) → Decides b (P × Q × R)
@@ -144,6 +145,7 @@ step_decides p (step.Property name getter setter flags q) =
     (nat_lt getter names && nat_lt setter names) (lt_decides name names)
     (both_decide (getter < names) (setter < names) (nat_lt getter names) (nat_lt setter names)
     (lt_decides getter names) (lt_decides setter names)))
+step_decides p (step.Method name argc operand flags q) = lt_decides name (length p.names)
 
 steps_decide : (p : View) (ss : List Step)
     → Decides (steps_indexed (length p.names) ss) (AllByRecursion (IsStepIndexed p) ss)

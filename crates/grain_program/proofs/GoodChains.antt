@@ -1,5 +1,5 @@
 -- The rules of chains: what their tests mean, and which chain is the first that breaks one.
-use Rattle.std.proofs.Common.{◌≡◌, ℕ, zero, suc, ◌+◌, ◌<◌, ◌≤◌, ◌⊎◌, ◌&&◌, Bool, true, false, not, cond, List, [], ◌∷◌, length, take, get_or, Option, Some, None, refl, sym, ap, subst, ◌∙◌, inl, inr, arith}
+use Rattle.std.proofs.Common.{◌≡◌, ℕ, zero, suc, ◌+◌, ◌-◌, ◌<◌, ◌≤◌, ◌⊎◌, ◌&&◌, Bool, true, false, not, cond, List, [], ◌∷◌, length, take, get_or, Option, Some, None, refl, sym, ap, subst, ◌∙◌, inl, inr, arith}
 use Rattle.std.specs.Prelude.{nat_lt, nat_le, slice_get}
 use Rattle.std.specs.List.{AllByRecursion}
 use Rattle.std.proofs.lemmas.Bool.{cases_lt}
@@ -10,7 +10,7 @@ use Rattle.grain_program.specs.declared.code.chains.Chain.{Chain}
 use Rattle.grain_program.specs.declared.verifier.refusals.Refusal.{Refusal}
 use Rattle.grain_program.specs.declared.verifier.refusals.Refusal.TheVariants as refusal
 use Rattle.grain_program.specs.View.{View}
-use Rattle.grain_program.specs.Chains.{steps_slots, chain_slots, all_slots, first_slots, slot_within, most_slots, assigns, is_temporary, HasOperands, IsGoodChain, AreGoodChains, IsFirstBadChain, has_operands, all_have_operands, is_good_chain, first_bad_chain}
+use Rattle.grain_program.specs.Chains.{steps_slots, chain_slots, all_slots, first_slots, slot_within, most_slots, assigns, is_temporary, is_method_step, ends_in_method, HasOperands, IsGoodChain, AreGoodChains, IsFirstBadChain, has_operands, all_have_operands, is_good_chain, first_bad_chain}
 use Rattle.grain_program.specs.Rules.{RefusedForChain}
 use Rattle.grain_program.proofs.Decisions.{Decides, lt_decides, le_decides, both_decide}
 
@@ -21,6 +21,7 @@ not_decides false = refl
 operand_decides : (operands : ℕ) (s : Step) → Decides (has_operands operands s) (HasOperands operands s)
 operand_decides operands (step.Index operand flags q bracket) = lt_decides operand operands
 operand_decides operands (step.Property name getter setter flags q) = tt
+operand_decides operands (step.Method name argc operand flags q) = le_decides (operand + argc) operands
 
 operands_decide : (operands : ℕ) (ss : List Step)
     → Decides (all_have_operands operands ss) (AllByRecursion (HasOperands operands) ss)
@@ -33,6 +34,9 @@ operands_decide operands (s ∷ ss) =
 abbrev Target : Chain → Type 0
 Target c = assigns c.tail && is_temporary c.root ≡ false
 
+abbrev Ending : Chain → Type 0
+Ending c = assigns c.tail && ends_in_method c.steps ≡ false
+
 abbrev Operands : Chain → Type 0
 Operands c = AllByRecursion (HasOperands c.operands) c.steps
 
@@ -42,26 +46,59 @@ Room before c = before + chain_slots c ≤ most_slots
 -- the test of a chain decides whether it obeys the rules
 good_decides : (before : ℕ) (c : Chain) → Decides (is_good_chain before c) (IsGoodChain before c)
 good_decides before c =
-    at (is_good_chain before c) (both_decide (0 < length c.steps) (Target c × (Operands c × Room
-    before c)) (nat_lt 0 (length c.steps)) (not (assigns c.tail && is_temporary c.root)
+    at (is_good_chain before c) (both_decide (0 < length c.steps) (Target c × (Ending c × (Operands
+    c × Room before c))) (nat_lt 0 (length c.steps)) (not (assigns c.tail && is_temporary c.root)
+    && (not (assigns c.tail && ends_in_method c.steps) && (all_have_operands c.operands c.steps
+    && nat_le (before + chain_slots c) most_slots))) (lt_decides 0 (length c.steps))
+    (both_decide (Target c) (Ending c × (Operands c × Room before c)) (not (assigns c.tail
+    && is_temporary c.root)) (not (assigns c.tail && ends_in_method c.steps)
     && (all_have_operands c.operands c.steps && nat_le (before + chain_slots c) most_slots))
-    (lt_decides 0 (length c.steps))
-    (both_decide (Target c) (Operands c × Room before c) (not (assigns c.tail && is_temporary
-    c.root)) (all_have_operands c.operands c.steps && nat_le (before + chain_slots c) most_slots)
     (not_decides (assigns c.tail && is_temporary c.root))
+    (both_decide (Ending c) (Operands c × Room before c) (not (assigns c.tail && ends_in_method
+    c.steps)) (all_have_operands c.operands c.steps && nat_le (before + chain_slots c) most_slots)
+    (not_decides (assigns c.tail && ends_in_method c.steps))
     (both_decide (Operands c) (Room before c) (all_have_operands c.operands c.steps) (nat_le
     (before + chain_slots c) most_slots) (operands_decide c.operands c.steps)
-    (le_decides (before + chain_slots c) most_slots)))) where
+    (le_decides (before + chain_slots c) most_slots))))) where
       at : (b : Bool)
-          → Decides b ((0 < length c.steps) × (Target c × (Operands c × Room before c)))
+          → Decides b
+          ((0 < length c.steps) × (Target c × (Ending c × (Operands c × Room before c))))
           → Decides b (IsGoodChain before c)
       at true h = record {
         steps = h.0;
         target = h.1.0;
-        operands = h.1.1.0;
-        slots = h.1.1.1;
+        ending = h.1.1.0;
+        operands = h.1.1.1.0;
+        slots = h.1.1.1.1;
       }
-      at false h = λ g. h (g.steps, (g.target, (g.operands, g.slots)))
+      at false h = λ g. h (g.steps, (g.target, (g.ending, (g.operands, g.slots))))
+
+-- what is known of the last of these steps by its index
+abbrev is_method_at : Option Step → Bool
+is_method_at None = false
+is_method_at (Some s) = is_method_step s
+
+method_there : (ss : List Step) (n : ℕ) → length ss ≡ n + 1
+    → ends_in_method ss ≡ is_method_at (slice_get ss n)
+method_there [] n l = absurd (omega (arith, l))
+method_there (s ∷ []) zero l = refl
+method_there (s ∷ []) (suc n) l = absurd (omega (arith, l))
+method_there (s ∷ t ∷ ss) zero l = absurd (omega (arith, l))
+method_there (s ∷ t ∷ ss) (suc n) l = method_there (t ∷ ss) n (omega (arith, l))
+
+last_method : (ss : List Step)
+    → ends_in_method ss ≡ is_method_at (slice_get ss (length ss - 1))
+last_method [] = refl
+last_method (s ∷ ss) = method_there (s ∷ ss) (length (s ∷ ss) - 1) (omega arith)
+
+-- the last step is this one, or there is none
+pub last_is : (ss : List Step) (s : Step) → slice_get ss (length ss - 1) ≡ Some s
+    → is_method_step s ≡ ends_in_method ss
+last_is ss s e = sym (last_method ss ∙ ap is_method_at e)
+
+pub no_last : (ss : List Step) → slice_get ss (length ss - 1) ≡ None
+    → false ≡ ends_in_method ss
+no_last ss e = sym (last_method ss ∙ ap is_method_at e)
 
 -- of chains before which there are this many slots: each obeys the rules
 abbrev AllGood : ℕ → List Chain → Type 0

@@ -18,12 +18,14 @@ use Rattle.grain_program.specs.View.{View}
 -- how many slots a root has
 abbrev pub root_slots : Root → ℕ
 root_slots (root.Local name slot) = 0
+root_slots (root.This q) = 1
 root_slots root.Temporary = 0
 
 -- how many slots a step has: one for each of its positions
 abbrev pub step_slots : Step → ℕ
 step_slots (step.Index operand flags q bracket) = 2
 step_slots (step.Property name getter setter flags q) = 1
+step_slots (step.Method name argc operand flags q) = 1
 
 -- how many slots these steps have together
 abbrev pub steps_slots : List Step → ℕ
@@ -64,6 +66,7 @@ assigns (tail.Assign op) = true
 -- the chain begins at a value that nothing holds
 abbrev pub is_temporary : Root → Bool
 is_temporary (root.Local name slot) = false
+is_temporary (root.This q) = false
 is_temporary root.Temporary = true
 
 -- how many operands a chain takes: those of its steps, the value that it assigns, if it assigns one,
@@ -78,16 +81,32 @@ chain_takes c =
 abbrev pub most_slots : ℕ
 most_slots = 2 ^ 32 - 1
 
--- the operand of a step is one of this number
+-- the step runs a method
+abbrev pub is_method_step : Step → Bool
+is_method_step (step.Index operand flags q bracket) = false
+is_method_step (step.Property name getter setter flags q) = false
+is_method_step (step.Method name argc operand flags q) = true
+
+-- the last of these steps runs a method
+abbrev pub ends_in_method : List Step → Bool
+ends_in_method [] = false
+ends_in_method (s ∷ []) = is_method_step s
+ends_in_method (s ∷ t ∷ ss) = ends_in_method (t ∷ ss)
+
+-- the operands of a step are among this number: the one of an index, and as many from an operand on
+-- as a method takes as arguments
 abbrev pub HasOperands : ℕ → Step → Type 0
 HasOperands operands (step.Index operand flags q bracket) = operand < operands
 HasOperands operands (step.Property name getter setter flags q) = Unit {0}
+HasOperands operands (step.Method name argc operand flags q) = operand + argc ≤ operands
 
--- What a chain obeys, before which the chains of its pool have this many slots: it has a step, it does
--- not assign to a temporary value, its steps use its own operands, and there are slots for all.
+-- What a chain obeys, before which the chains of its pool have this many slots: it has a step, it
+-- assigns neither to a temporary value nor to what a method gives, its steps use its own operands, and
+-- there are slots for all.
 pub record IsGoodChain (before : ℕ) (c : Chain) : Type 0 where
   pub steps : 0 < length c.steps
   pub target : assigns c.tail && is_temporary c.root ≡ false
+  pub ending : assigns c.tail && ends_in_method c.steps ≡ false
   pub operands : AllByRecursion (HasOperands c.operands) c.steps
   pub slots : before + chain_slots c ≤ most_slots
 
@@ -110,6 +129,7 @@ pub record IsFirstBadChain (p : View) (index : ℕ) : Type 0 where
 abbrev pub has_operands : ℕ → Step → Bool
 has_operands operands (step.Index operand flags q bracket) = nat_lt operand operands
 has_operands operands (step.Property name getter setter flags q) = true
+has_operands operands (step.Method name argc operand flags q) = nat_le (operand + argc) operands
 
 abbrev pub all_have_operands : ℕ → List Step → Bool
 all_have_operands operands [] = true
@@ -119,8 +139,9 @@ abbrev pub is_good_chain : ℕ → Chain → Bool
 is_good_chain before c =
     nat_lt 0 (length c.steps)
     && (not (assigns c.tail && is_temporary c.root)
+    && (not (assigns c.tail && ends_in_method c.steps)
     && (all_have_operands c.operands c.steps
-    && nat_le (before + chain_slots c) most_slots))
+    && nat_le (before + chain_slots c) most_slots)))
 
 -- the refusal of the first chain that breaks a rule of chains, of those from this index on, before
 -- which there are this many slots

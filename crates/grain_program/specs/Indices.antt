@@ -27,6 +27,7 @@ HasAssignOp p a =
 -- the name of a chain's root, if it has one, is an entry of its pool
 abbrev pub IsRootIndexed : View → Root → Type 0
 IsRootIndexed p (root.Local name slot) = name < length p.names
+IsRootIndexed p (root.This q) = Unit {0}
 IsRootIndexed p root.Temporary = Unit {0}
 
 -- the names of a step are entries of their pool
@@ -34,6 +35,7 @@ abbrev pub IsStepIndexed : View → Step → Type 0
 IsStepIndexed p (step.Index operand flags q bracket) = Unit {0}
 IsStepIndexed p (step.Property name getter setter flags q) =
     (name < length p.names) × (getter < length p.names) × (setter < length p.names)
+IsStepIndexed p (step.Method name argc operand flags q) = name < length p.names
 
 -- the op-assignment of a tail, if it has one, is there with its names
 abbrev pub IsTailIndexed : View → Tail → Type 0
@@ -75,12 +77,14 @@ record_named names (Some r) = nat_lt r.op_assign_name names && nat_lt r.op_name 
 -- the tests of a chain's indices
 abbrev pub root_indexed : ℕ → Root → Bool
 root_indexed names (root.Local name slot) = nat_lt name names
+root_indexed names (root.This q) = true
 root_indexed names root.Temporary = true
 
 abbrev pub step_indexed : ℕ → Step → Bool
 step_indexed names (step.Index operand flags q bracket) = true
 step_indexed names (step.Property name getter setter flags q) =
     nat_lt name names && (nat_lt getter names && nat_lt setter names)
+step_indexed names (step.Method name argc operand flags q) = nat_lt name names
 
 abbrev pub steps_indexed : ℕ → List Step → Bool
 steps_indexed names [] = true

@@ -91,6 +91,12 @@ row (op.AssignLocal s n) =
 row (op.AssignLocalOp s n a) =
     let fields : List Field = field.Slot s ∷ field.Name n ∷ field.Assignment a ∷ [] in
     plain (codes "assign_local_op") 0x11 fields 1 0 falls_through
+row op.LoadThis = plain (codes "load_this") 0x12 [] 0 1 falls_through
+row op.LoadThisShared = plain (codes "load_this_shared") 0x13 [] 0 1 falls_through
+row op.RequireThis = plain (codes "require_this") 0x14 [] 0 0 falls_through
+row op.AssignThis = plain (codes "assign_this") 0x15 [] 1 0 falls_through
+row (op.AssignThisOp a) =
+    plain (codes "assign_this_op") 0x16 (field.Assignment a ∷ []) 1 0 falls_through
 row (op.LoadShared s) = plain (codes "load_shared") 0x17 (field.Slot s ∷ []) 0 1 falls_through
 row (op.Share s) =
     entry (codes "share") 0x18 (field.Slot s ∷ []) 0 0 falls_through closures
@@ -151,6 +157,11 @@ instructions =
     (λ n. op.DeclareConst (first n)) ∷
     (λ n. op.AssignLocal (first n) (second n)) ∷
     (λ n. op.AssignLocalOp (first n) (second n) (third n)) ∷
+    (λ n. op.LoadThis) ∷
+    (λ n. op.LoadThisShared) ∷
+    (λ n. op.RequireThis) ∷
+    (λ n. op.AssignThis) ∷
+    (λ n. op.AssignThisOp (first n)) ∷
     (λ n. op.LoadShared (first n)) ∷
     (λ n. op.Share (first n)) ∷
     (λ n. op.IsShared) ∷

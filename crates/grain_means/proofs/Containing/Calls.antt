@@ -1,5 +1,5 @@
 -- Calls of functions and of pointers keep to the store.
-use Rattle.std.proofs.Common.{◌≡◌, ◌≤◌, ◌+◌, ℕ, List, [], ◌++◌, Option, Some, None, if◌then◌else◌, nat_lt, nat_le, length, refl, arith}
+use Rattle.std.proofs.Common.{◌≡◌, ◌≤◌, ◌+◌, ℕ, List, [], ◌++◌, Option, Some, None, length, refl, arith}
 use Rattle.std.specs.Prelude.{codes}
 use Rattle.grain_value.specs.Looking.{pointer_of}
 use Rattle.grain_value.specs.Operands.{arguments, under}
@@ -7,91 +7,46 @@ use Rattle.grain_value.specs.Writing.{type_name_of}
 use Rattle.grain_value.specs.declared.values.Dynamic.{Dynamic}
 use Rattle.grain_value.specs.declared.values.Dynamic.TheVariants as dynamic
 use Rattle.grain_value.specs.declared.values.FnPtr.{FnPtr}
-use Rattle.grain_fault.specs.Problems.{Plain, MismatchDataType, StackOverflow, TooManyVariables}
+use Rattle.grain_fault.specs.Problems.{Plain, MismatchDataType, NoMemory}
 use Rattle.grain_program.specs.declared.code.functions.Function.{Function}
-use Rattle.grain_means.specs.Contained.{AnswerNames, Contained, EntryNames, HeldNames, Names}
+use Rattle.grain_means.specs.Contained.{AnswerNames, HeldNames, Names}
 use Rattle.grain_means.specs.Rules as rules
-use Rattle.grain_means.specs.Rules.{curried_in, bound, function_by_name, frame_at, given, operand_under, spread, trees_in, without}
-use Rattle.grain_means.specs.Worlds.{Act, Go, Then, Answer, Frame, InFrame, Setup, World}
-use Rattle.grain_means.proofs.Footing.{by_test}
-use Rattle.grain_means.proofs.Naming.{all_joined, all_wider, arguments_name, bound_names, curried_names, entry_wider, more_names, top_names, trees_name, under_names}
+use Rattle.grain_means.specs.Rules.{curried_in, function_by_name, given, operand_under, spread, trees_in, without}
+use Rattle.grain_means.specs.Worlds.{Answer, Came, Failed, Frame, Setup, World}
+use Rattle.grain_means.proofs.Naming.{all_joined, arguments_name, curried_names, more_names, top_names, trees_name, under_names}
 use Rattle.grain_means.proofs.Containing.Parts.{Operands, FrameNames, pointer_names}
-use Rattle.grain_means.proofs.Containing.Frames.{Grounds, At, lower, charged, reads_all, resumes}
-use Rattle.grain_means.proofs.Containing.Steps.{frame_wider, Stays, Here, raising, pushing, reading, marking, giving}
+use Rattle.grain_means.proofs.Containing.Bodies.{body_enters, body_fails}
+use Rattle.grain_means.proofs.Containing.Frames.{Grounds, charged, leaves, offered, reads_all}
+use Rattle.grain_means.proofs.Containing.Steps.{frame_wider, Stays, Here, raising, pushing, reading, giving}
 
 module _ {S : Type 0} {m : Setup S} (on : Grounds m) where
   open on use {clean, least}
+
+  module _ (n : ℕ) (low : least ≤ n) (f : Frame) (names : FrameNames clean n f) where
+    -- a function that was called is over
+    resumes : (g : Function) (next : ℕ) (a : Answer) (w : World S) → Here on n low f names w →
+        AnswerNames clean n a → Stays on n low f names (rules.resume_caller m g f next a w)
+    resumes g next (Came v) w at named = pushing on n low f names next f.operands v w at names.0 named
+    resumes g next (Failed x) w at named =
+        body_fails on on.since n (rules.leave_by_fault m f NoMemory)
+        (λ v there. leaves on n low f NoMemory v there (omega arith, λ s. refl)) (rules.offered m f)
+        (offered on n low f names) (rules.position m f) g x w at named
 
   module _ (n : ℕ) (low : least ≤ n) (f : Frame) (names : FrameNames clean n f) where
     -- a function is called
     enters : (g : Function) (count next : ℕ) (w : World S) → Here on n low f names w →
         Stays on n low f names (rules.function_entered m g count f next w)
     enters g count next w at =
-        by_test (Stays on n low f names) (nat_le m.engine.limits.levels w.level)
-        (rules.raised m f (Plain StackOverflow (rules.position m f)) w)
-        (if nat_lt m.engine.limits.variables (length g.params)
-        then rules.raised m f (Plain TooManyVariables (rules.position m f)) w
-        else rules.marked m f w body)
-        (λ deep. raising on n low f names (Plain StackOverflow (rules.position m f)) w at
-        (omega arith, λ s. refl)) (λ room. by_test (Stays on n low f names)
-        (nat_lt m.engine.limits.variables (length g.params))
-        (rules.raised m f (Plain TooManyVariables (rules.position m f)) w)
-        (rules.marked m f w body)
-        (λ many. raising on n low f names (Plain TooManyVariables (rules.position m f)) w at
-        (omega arith, λ s. refl)) (λ few. marking on n low f names w body at (
-          n,
-          omega arith,
-          (n, omega arith, inside, (tt, tt)),
-          resumed,
-        ))) where
-          body : World S → Act S
-          body w1 =
-              Then (Go (InFrame (frame_at g.chunk 0 None)) (record w1 {
-                scope = bound m.program g.params (arguments count f.operands);
-                level = w1.level + 1;
-              })) (λ a w2. rules.resume_caller m g (without count f) next a
-              (record w2 { scope = w.scope; level = w.level }))
-
-          inside : Contained m.law clean n (bound m.program g.params (arguments count f.operands))
-              w.cells w.host
-          inside = record {
-            size = at.size;
-            entries = bound_names clean n m.program.names g.params (arguments count f.operands)
-                (arguments_name clean n count f.operands names.0);
-            contents = at.contents;
-            reaches = at.reaches;
-            hands = at.hands;
-          }
-
-          wide : (k : ℕ) → n ≤ k → FrameNames clean k (without count f)
-          wide k le =
-              frame_wider on n k (without count f) le (
-                under_names clean n count f.operands names.0,
-                names.1,
-              )
-
-          restored : (k : ℕ) → n ≤ k → (v : World S) → At on k v →
-              Contained m.law clean k w.scope v.cells v.host
-          restored k le v there = record {
-            size = there.size;
-            entries = all_wider (EntryNames clean n) (EntryNames clean k) (entry_wider clean n k le)
-                w.scope at.entries;
-            contents = there.contents;
-            reaches = there.reaches;
-            hands = there.hands;
-          }
-
-          resumed : (a : Answer) (v : World S) (k : ℕ) → n ≤ k →
-              At on k v → AnswerNames clean k a →
-              Stays on n low f names (rules.resume_caller m g (without count f) next a
-              (record v { scope = w.scope; level = w.level }))
-          resumed a v k le there named =
-              lower on n k
-              (rules.resume_caller m g (without count f) next a
-              (record v { scope = w.scope; level = w.level })) le
-              (resumes on k (omega (arith, low, le)) (without count f)
-              (wide k le) g next a (record v { scope = w.scope; level = w.level })
-              (restored k le v there) named)
+        body_enters on on.since n (rules.leave_by_fault m f NoMemory)
+        (λ v there. leaves on n low f NoMemory v there (omega arith, λ s. refl)) (rules.offered m f)
+        (offered on n low f names) (rules.position m f) g (arguments count f.operands)
+        (arguments_name clean n count f.operands names.0) None
+        (rules.resume_caller m g (without count f) next)
+        (λ k le a v there named. resumes k (omega (arith, low, le)) (without count f)
+        (frame_wider on n k (without count f) le (
+          under_names clean n count f.operands names.0,
+          names.1,
+        )) g next a v there named) w at
 
     pub calls_function : (o : Option Function) (name : List ℕ) (count next : ℕ) (w : World S) →
         Here on n low f names w → Stays on n low f names (rules.call_function m o name count f next

@@ -53,6 +53,8 @@ module _ {S : Type 0} {m : Setup S} (on : Grounds m) where
             contents = at.contents;
             reaches = at.reaches;
             hands = at.hands;
+            lends = at.lends;
+            stand = at.stand;
           }
 
           start : World S
@@ -111,4 +113,6 @@ module _ {S : Type 0} {m : Setup S} (on : Grounds m) where
                 contents = started.contents;
                 reaches = started.reaches;
                 hands = started.hands;
+                lends = started.lends;
+                stand = started.stand;
               })))

@@ -8,29 +8,39 @@ use Rattle.grain_value.specs.declared.values.Dynamic.TheVariants as dynamic
 use Rattle.grain_value.specs.declared.values.Held.{Held}
 use Rattle.grain_fault.specs.Problems.{Plain, AssignmentToConstant, TooManyVariables}
 use Rattle.grain_program.specs.View.{name_of}
-use Rattle.grain_means.specs.Contained.{CellNames, Contained, EntryNames, HeldNames}
+use Rattle.grain_means.specs.Contained.{EntryNames, HeldNames}
 use Rattle.grain_means.specs.Rules as rules
-use Rattle.grain_means.specs.Rules.{is_full, is_read_only, name_at, stepped}
+use Rattle.grain_means.specs.Rules.{Home, InScope, InCell, in_entry, is_full, is_read_only, name_at, stepped}
 use Rattle.grain_means.specs.Worlds.{Frame, Setup, World}
 use Rattle.grain_means.proofs.Footing.{by_test}
-use Rattle.grain_means.proofs.Naming.{all_joined, all_wider, cell_wider, entry_wider, set_names}
+use Rattle.grain_means.proofs.Naming.{CellHolds, all_joined, all_wider, cell_wider, entry_wider, set_names}
 use Rattle.grain_means.proofs.Containing.Parts.{FrameNames, MayStand, may_stand}
 use Rattle.grain_means.proofs.Containing.Frames.{Grounds, lower, marks, onward}
+use Rattle.grain_means.proofs.Containing.Roots.{roots_wider}
+use Rattle.grain_means.proofs.Containing.Keeping.{Kept, lends_added}
 use Rattle.grain_means.proofs.Containing.Steps.{frame_wider, Stays, Here, raising, pushing, going_on, reading, looking, writing, marking, last, less, moves}
 
 module _ {S : Type 0} {m : Setup S} (on : Grounds m) where
-  open on use {clean, least}
+  open on use {clean, least, since}
 
   module _ (n : ℕ) (low : least ≤ n) (f : Frame) (names : FrameNames clean n f) where
-    -- the operand into an entry, or its cell
-    pub enters_entry : (h : Held) (slot : ℕ) (g : Held) (name : List ℕ) (next : ℕ) (w : World S) →
-        Here on n low f names w → HeldNames clean n g → MayStand (cell_of h.value) g.value →
-        Stays on n low f names (rules.write_entry m h slot g name next f w)
-    enters_entry h slot g name next w at named may =
-        writing on n low f names (cell_of h.value) (f.base + slot) g name w at named may
+    -- the operand is written
+    pub assigns_at : (b : Home) (g : Held) (name : List ℕ) (next : ℕ) (w : World S) →
+        Here on n low f names w → HeldNames clean n g → MayStand b g.value →
+        Stays on n low f names (rules.assigned_at m b g name next f w)
+    assigns_at b g name next w at named may =
+        writing on n low f names b g name w at named may
         (rules.onward m f (stepped f next (below f.operands)))
         (λ v there. going_on on n low f names (stepped f next (below f.operands)) v there
         (moves on n low f names next (below f.operands) (less on n low f names)))
+
+    -- into an entry, or its cell
+    enters_entry : (h : Held) (slot : ℕ) (g : Held) (name : List ℕ) (next : ℕ) (w : World S) →
+        Here on n low f names w → HeldNames clean n g → cell_of g.value ≡ None →
+        Stays on n low f names (rules.write_entry m h slot g name next f w)
+    enters_entry h slot g name next w at named plain =
+        assigns_at (in_entry (f.base + slot) (cell_of h.value)) g name next w at named
+        (may_stand (in_entry (f.base + slot) (cell_of h.value)) g.value plain)
 
     pub stores : (flag : Bool) (slot next : ℕ) (w : World S) → Here on n low f names w →
         Stays on n low f names (rules.store_local m flag slot next f w)
@@ -40,24 +50,18 @@ module _ {S : Type 0} {m : Setup S} (on : Grounds m) where
         (record { value = v; read_only = flag }) [] next f w))
         (λ h is named. by_cell (cell_of h.value)) where
           by_cell : (c : Option ℕ) → Stays on n low f names (rules.operand_for m c f w
-              (λ v. rules.written m c (f.base + slot) (record { value = v; read_only = flag }) [] f
-              w (rules.onward m f (stepped f next (below f.operands)))))
+              (λ v. rules.assigned_at m (in_entry (f.base + slot) c)
+              (record { value = v; read_only = flag }) [] next f w))
           by_cell None =
-              writing on n low f names None (f.base + slot)
-              (record { value = (top f.operands).value; read_only = flag }) [] w at
-              (last on n low f names) tt (rules.onward m f (stepped f next (below f.operands)))
-              (λ v there. going_on on n low f names (stepped f next (below f.operands)) v there
-              (moves on n low f names next (below f.operands) (less on n low f names)))
+              assigns_at (InScope (f.base + slot))
+              (record { value = (top f.operands).value; read_only = flag }) [] next w at
+              (last on n low f names) tt
           by_cell (Some i) =
               reading on n low f names (top f.operands) [] w at (last on n low f names)
-              (λ v. rules.written m (Some i) (f.base + slot)
-              (record { value = v; read_only = flag }) [] f w
-              (rules.onward m f (stepped f next (below f.operands))))
-              (λ v read plain. writing on n low f names (Some i) (f.base + slot)
-              (record { value = v; read_only = flag }) [] w at read plain
-              (rules.onward m f (stepped f next (below f.operands)))
-              (λ u there. going_on on n low f names (stepped f next (below f.operands)) u there
-              (moves on n low f names next (below f.operands) (less on n low f names))))
+              (λ v. rules.assigned_at m (InCell i) (record { value = v; read_only = flag }) [] next
+              f w)
+              (λ v read plain. assigns_at (InCell i) (record { value = v; read_only = flag }) []
+              next w at read plain)
 
     pub declares : (flag : Bool) (name : List ℕ) (next : ℕ) (w : World S) → Here on n low f names w
         → Stays on n low f names (rules.declare m flag name next f w)
@@ -95,6 +99,8 @@ module _ {S : Type 0} {m : Setup S} (on : Grounds m) where
           contents = at.contents;
           reaches = at.reaches;
           hands = at.hands;
+          lends = at.lends;
+          stand = at.stand;
         }) (moves on n low f names next (below f.operands) (less on n low f names)))))
 
     pub refuses : (name : ℕ) (w : World S) → Here on n low f names w →
@@ -119,7 +125,7 @@ module _ {S : Type 0} {m : Setup S} (on : Grounds m) where
         (rules.write_entry m h slot (record h { value = v }) (name_of m.program name) next f w)
         (λ constant. refuses name w at)
         (λ may. enters_entry h slot (record h { value = v }) (name_of m.program name) next w at read
-        (may_stand (cell_of h.value) v plain))))
+        plain)))
 
     pub loads : (slot next : ℕ) (w : World S) → Here on n low f names w → Stays on n low f names
         (rules.load_local m slot next f w)
@@ -156,28 +162,32 @@ module _ {S : Type 0} {m : Setup S} (on : Grounds m) where
                 cells = w.cells ++ idle h ∷ [];
               } in
               let cell : Held = read_write (dynamic.Cell (length w.cells)) in
-              let wide : Contained m.law clean k w.scope (w.cells ++ idle h ∷ []) w.host =
+              let wide : Kept m.law clean k since w.scope (w.cells ++ idle h ∷ []) w.host w.roots =
               record {
                 size = omega (arith, length-append w.cells (idle h ∷ []), at.size);
                 entries = all_wider (EntryNames clean n) (EntryNames clean k) (entry_wider clean n k
                     more) w.scope at.entries;
-                contents = all_joined (CellNames clean k) w.cells (idle h ∷ [])
-                    (all_wider (CellNames clean n) (CellNames clean k) (cell_wider clean n k more)
+                contents = all_joined (CellHolds clean k) w.cells (idle h ∷ [])
+                    (all_wider (CellHolds clean n) (CellHolds clean k) (cell_wider clean n k more)
                     w.cells at.contents) (
-                      record { idle = refl; flat = is; names = (omega (arith, named.0), named.1) },
+                      record { flat = is; names = (omega (arith, named.0), named.1) },
                       tt,
                     );
                 reaches = omega (arith, at.reaches);
                 hands = at.hands;
+                lends = lends_added w.cells since.cells h at.lends;
+                stand = roots_wider clean n k more w.roots since.roots at.stand;
               } in
-              let set : Contained m.law clean k (set_held w.scope (f.base + slot) cell)
-              (w.cells ++ idle h ∷ []) w.host = record {
+              let set : Kept m.law clean k since (set_held w.scope (f.base + slot) cell)
+              (w.cells ++ idle h ∷ []) w.host w.roots = record {
                 size = wide.size;
                 entries = set_names clean k w.scope (f.base + slot) cell wide.entries
                     (omega (arith, at.size), λ s. refl);
                 contents = wide.contents;
                 reaches = wide.reaches;
                 hands = wide.hands;
+                lends = wide.lends;
+                stand = wide.stand;
               } in
               let wider = frame_wider on n k f more names in
               marking on n low f names w (λ w1. rules.marked m f

@@ -13,57 +13,149 @@ use Rattle.grain_value.specs.declared.values.Dynamic.{Dynamic}
 use Rattle.grain_value.specs.declared.values.Held.{Held}
 use Rattle.grain_fault.specs.Classes.{catchable}
 use Rattle.grain_fault.specs.Positions.{at_position, position_of_problem}
-use Rattle.grain_fault.specs.Problems.{Problem, Plain, InFunctionCall, NoMemory, Malformed, Terminated, TooManyOperations, DataRace}
+use Rattle.grain_fault.specs.Problems.{Problem, Plain, NoMemory, Malformed, Terminated, TooManyOperations, DataRace}
 use Rattle.grain_fault.specs.declared.faults.MalformedKind.TheVariants as kind
 use Rattle.grain_fault.specs.declared.places.Position.{Position}
-use Rattle.grain_program.specs.View.{name_of, source_text}
-use Rattle.grain_program.specs.declared.code.functions.Function.{Function}
 use Rattle.grain_host.specs.Law.{GoOn, IsLawful, Stop, Verdict}
-use Rattle.grain_means.specs.Contained.{AnswerNames, CellNames, ConstantsName, Contained, EntryNames, HeldNames, Names, ProblemNames}
+use Rattle.grain_means.specs.Contained.{AnswerNames, ConstantsName, EntryNames, HeldNames, Names, ProblemNames}
+use Rattle.grain_means.specs.Places.{put}
 use Rattle.grain_means.specs.Rules as rules
-use Rattle.grain_means.specs.Rules.{bound, flat_all, held_at, is_stop, race_text, stepped, thrown_anew, throws_unit}
-use Rattle.grain_means.specs.Worlds.{Act, Go, End, Then, Answer, Came, Failed, Frame, Handler, InCatch, InFrame, Setup, Todo, World}
+use Rattle.grain_means.specs.Rules.{Home, InScope, InCell, AtPlace, bound, flat_all, held_at, is_stop, race_text, stepped, thrown_anew, throws_unit}
+use Rattle.grain_means.specs.Worlds.{Act, Go, End, Then, Answer, Frame, Handler, InCatch, InFrame, Place, Setup, Todo, World}
 use Rattle.grain_means.proofs.Caught.{placed_names, sole_names}
 use Rattle.grain_means.proofs.Footing.{by_arming, by_test}
-use Rattle.grain_means.proofs.Naming.{all_set, all_take, flat_all_names, flat_names, held_at_names, pushed_names, set_names}
+use Rattle.grain_means.proofs.Inside.{MayPut, may_put}
+use Rattle.grain_means.proofs.Naming.{CellHolds, all_set, all_take, flat_all_names, flat_names, held_at_names, pushed_names, set_names}
 use Rattle.grain_means.proofs.Containing.Parts.{CaughtNames, HandlerNames, Operands, Arguments, FrameNames, MayStand, VerdictNames}
+use Rattle.grain_means.proofs.Containing.Roots.{put_roots}
+use Rattle.grain_means.proofs.Containing.Keeping.{Kept, Since, lends_set}
 
--- what the walk stands on: a lawful host, and constants that name no cell from `least` on, and are
--- clean where `clean` says so
+-- what the walk stands on: a lawful host, constants that name no cell from `least` on, and are
+-- clean where `clean` says so, and where the stretch of the run began
 pub record Grounds {S : Type 0} (m : Setup S) : Type 0 where
   pub lawful : IsLawful m.law
   pub clean : Bool
   pub least : ℕ
   pub constants : ConstantsName clean least m.program
+  pub since : Since
+
+-- what is so of a world since its stretch began, and of what a run stands at
+abbrev pub Holds : {S : Type 0} → Setup S → Bool → Since → ℕ → World S → Type 0
+Holds m clean since n w = Kept m.law clean n since w.scope w.cells w.host w.roots
+
+abbrev pub SeatedAt : Bool → ℕ → Todo → Type 0
+SeatedAt clean n (InFrame f) = FrameNames clean n f
+SeatedAt clean n (InCatch f h x) =
+    FrameNames clean n f × ProblemNames clean n x × (catchable x ≡ true)
+
+-- What is left of a run, which has k cells at least. A run inside another is a stretch of its own.
+abbrev pub Leaves : {S : Type 0} → Setup S → Bool → Since → ℕ → Act S → Type 0
+Leaves m clean since k (Go t w) =
+    (n : ℕ) × (k ≤ n) × Holds m clean since n w × SeatedAt clean n t
+Leaves m clean since k (End a w) =
+    (n : ℕ) × (k ≤ n) × Holds m clean since n w × AnswerNames clean n a
+Leaves {S = S} m clean since k (Then first rest) =
+    (j : ℕ) × (k ≤ j) × (inner : Since) × Leaves m clean inner j first × ((a : Answer) (w : World S)
+    (n : ℕ) → j ≤ n → Holds m clean inner n w → AnswerNames clean n a →
+    Leaves m clean since k (rest a w))
+
+pub lowers : {S : Type 0} (m : Setup S) (clean : Bool) (since : Since) (k j : ℕ) (act : Act S) →
+    k ≤ j → Leaves m clean since j act → Leaves m clean since k act
+lowers m clean since k j (Go t w) le h = (h.0, omega (arith, le, h.1), h.2, h.3)
+lowers m clean since k j (End a w) le h = (h.0, omega (arith, le, h.1), h.2, h.3)
+lowers m clean since k j (Then first rest) le h = (
+  h.0,
+  omega (arith, le, h.1),
+  h.2,
+  h.3,
+  λ a w n more at names. lowers m clean since k j (rest a w) le (h.4 a w n more at names),
+)
 
 module _ {S : Type 0} {m : Setup S} (on : Grounds m) where
-  open on use {lawful, clean, least}
+  open on use {lawful, clean, least, since}
 
   abbrev pub At : ℕ → World S → Type 0
-  At n w = Contained m.law clean n w.scope w.cells w.host
+  At n w = Holds m clean since n w
 
   abbrev pub Seated : ℕ → Todo → Type 0
-  Seated n (InFrame f) = FrameNames clean n f
-  Seated n (InCatch f h x) = FrameNames clean n f × ProblemNames clean n x × (catchable x ≡ true)
+  Seated n t = SeatedAt clean n t
 
-  -- what is left of a run, which has k cells at least
   abbrev pub Within : ℕ → Act S → Type 0
-  Within k (Go t w) = (n : ℕ) × (k ≤ n) × At n w × Seated n t
-  Within k (End a w) = (n : ℕ) × (k ≤ n) × At n w × AnswerNames clean n a
-  Within k (Then first rest) =
-      (j : ℕ) × (k ≤ j) × Within j first × ((a : Answer) (w : World S) (n : ℕ) → j ≤ n → At n w →
-      AnswerNames clean n a → Within k (rest a w))
+  Within k act = Leaves m clean since k act
 
   pub lower : (k j : ℕ) (act : Act S) → k ≤ j → Within j act → Within k act
-  lower k j (Go t w) le h = (h.0, omega (arith, le, h.1), h.2, h.3)
-  lower k j (End a w) le h = (h.0, omega (arith, le, h.1), h.2, h.3)
-  lower k j (Then first rest) le h = (
-    h.0,
-    omega (arith, le, h.1),
-    h.2,
-    λ a w n more at names. lower k j (rest a w) le
-        (h.3 a w n more at names),
-  )
+  lower k j act le h = lowers m clean since k j act le h
+
+  -- What goes on to a stretch of its own, or comes back from one: what follows is said of where `to`
+  -- began.
+  module _ (to : Since) (n : ℕ) (out : World S → Act S)
+      (outs : (w : World S) → At n w → Leaves m clean to n (out w)) where
+    abbrev pub Reaches : Act S → Type 0
+    Reaches act = Leaves m clean to n act
+
+    pub marks_or : (w : World S) (go : World S → Act S) → At n w →
+        Reaches (go (record w { passed = w.passed + 1 })) → Reaches (rules.marked_or m out w go)
+    marks_or w go at h =
+        by_test Reaches (is_stop m.stop w.passed) (out w) (go (record w { passed = w.passed + 1 }))
+        (λ stop. outs w at) (λ clear. h)
+
+    module _ (fails : Problem → World S → Act S)
+        (failing : (x : Problem) (w : World S) → At n w → ProblemNames clean n x →
+        Reaches (fails x w)) where
+      -- a fault follows a mark
+      pub fails_or : (x : Problem) (w : World S) → At n w → ProblemNames clean n x →
+          Reaches (rules.marked_or m out w (fails x))
+      fails_or x w at bound =
+          marks_or w (fails x) at (failing x (record w { passed = w.passed + 1 }) at bound)
+
+      -- an operation is taken, of which the host hears
+      module _ (p : Position) (go : World S → Act S)
+          (going : (w : World S) → At n w → Reaches (go w)) where
+        judges : (v : Verdict) (w : World S) → At n w → VerdictNames clean n v →
+            Reaches (rules.on_verdict_or m out v p fails w go)
+        judges GoOn w at bound = going w at
+        judges (Stop v) w at bound =
+            fails_or (Plain (Terminated v) p) w at (sole_names clean n v bound)
+
+        hears : (w : World S) → At n w → Reaches (rules.progressed_or m out p fails w go)
+        hears w at =
+            let later : World S = record w {
+              passed = w.passed + 1 + 1;
+              host = m.law.progress_after w.host w.count;
+            } in
+            let heard : At n later = record {
+              size = at.size;
+              entries = at.entries;
+              contents = at.contents;
+              reaches = omega (arith, lawful.hears_within w.host w.count, at.reaches);
+              hands = λ s. lawful.hears_clean w.host w.count (at.hands s);
+              lends = at.lends;
+              stand = at.stand;
+            } in
+            marks_or w (λ w1. rules.marked_or m out
+            (record w1 { host = m.law.progress_after w1.host w1.count }) (λ w2.
+            rules.on_verdict_or m out (m.law.progress_reply w1.host w1.count) p fails w2 go)) at
+            (marks_or (record w {
+              passed = w.passed + 1;
+              host = m.law.progress_after w.host w.count;
+            }) (λ w2. rules.on_verdict_or m out (m.law.progress_reply w.host w.count) p fails w2 go)
+            heard
+            (judges (m.law.progress_reply w.host w.count) later heard (
+              omega (arith, lawful.stops_within w.host w.count, at.reaches),
+              λ s. lawful.stops_clean w.host w.count (at.hands s),
+            )))
+
+        pub takes_operation : (w : World S) → At n w →
+            Reaches (rules.operation_taken m out p fails w go)
+        takes_operation w at =
+            by_test Reaches (nat_lt w.count m.engine.limits.operations)
+            (rules.marked_or m out w
+            (λ w1. rules.progressed_or m out p fails (record w1 { count = w1.count + 1 }) go))
+            (rules.marked_or m out w (fails (Plain TooManyOperations p)))
+            (λ few. marks_or w
+            (λ w1. rules.progressed_or m out p fails (record w1 { count = w1.count + 1 }) go) at
+            (hears (record w { passed = w.passed + 1; count = w.count + 1 }) at))
+            (λ many. fails_or (Plain TooManyOperations p) w at (omega arith, λ s. refl))
 
   -- the rules at a store of n cells
   module _ (n : ℕ) (low : least ≤ n) where
@@ -72,7 +164,7 @@ module _ {S : Type 0} {m : Setup S} (on : Grounds m) where
 
     -- the scope is cut
     pub cut : (k : ℕ) (w : World S) → At n w → (scope : List Entry) → scope ≡ take k w.scope →
-        Contained m.law clean n scope w.cells w.host
+        Kept m.law clean n since scope w.cells w.host w.roots
     cut k w at scope is = record {
       size = at.size;
       entries = subst (AllByRecursion (EntryNames clean n)) (sym is)
@@ -80,6 +172,48 @@ module _ {S : Type 0} {m : Setup S} (on : Grounds m) where
       contents = at.contents;
       reaches = at.reaches;
       hands = at.hands;
+      lends = at.lends;
+      stand = at.stand;
+    }
+
+    -- an entry, a cell or a root is set
+    pub entry_set : (w : World S) (i : ℕ) (h : Held) → At n w → HeldNames clean n h →
+        Kept m.law clean n since (set_held w.scope i h) w.cells w.host w.roots
+    entry_set w i h at held = record {
+      size = at.size;
+      entries = set_names clean n w.scope i h at.entries held;
+      contents = at.contents;
+      reaches = at.reaches;
+      hands = at.hands;
+      lends = at.lends;
+      stand = at.stand;
+    }
+
+    pub cell_set : (w : World S) (i : ℕ) (h : Held) → At n w → HeldNames clean n h →
+        cell_of h.value ≡ None →
+        Kept m.law clean n since w.scope (slice_set w.cells i (idle h)) w.host w.roots
+    cell_set w i h at held plain = record {
+      size = length-set w.cells i (idle h) ∙ at.size;
+      entries = at.entries;
+      contents = all_set (CellHolds clean n) w.cells i (idle h) at.contents
+          (record { flat = plain; names = held });
+      reaches = at.reaches;
+      hands = at.hands;
+      lends = lends_set w.cells since.cells i h at.lends;
+      stand = at.stand;
+    }
+
+    pub root_put : (w : World S) (p : Place) (v : Dynamic) → At n w → Names clean n v →
+        MayPut clean n p.path v →
+        Kept m.law clean n since w.scope w.cells w.host (put w.roots p v)
+    root_put w p v at named may = record {
+      size = at.size;
+      entries = at.entries;
+      contents = at.contents;
+      reaches = at.reaches;
+      hands = at.hands;
+      lends = at.lends;
+      stand = put_roots clean n w.roots since.roots p v at.stand named may;
     }
 
     pub ends : (a : Answer) (w : World S) → At n w → AnswerNames clean n a → Keeps (End a w)
@@ -126,7 +260,7 @@ module _ {S : Type 0} {m : Setup S} (on : Grounds m) where
         (anew y x (subst (CaughtNames clean n) is names.0) bound))
 
     module _ (f : Frame) (names : FrameNames clean n f) where
-      offered : (x : Problem) (w : World S) → At n w → ProblemNames clean n x →
+      pub offered : (x : Problem) (w : World S) → At n w → ProblemNames clean n x →
           Keeps (rules.offered m f x w)
       offered x w at bound = offers f.handlers f x w at names.0 names.1 bound
 
@@ -149,56 +283,14 @@ module _ {S : Type 0} {m : Setup S} (on : Grounds m) where
           marks (record g { address = f.address }) w (Go (InFrame g)) at
           (goes (InFrame g) (record w { passed = w.passed + 1 }) at new)
 
-      -- an operation is taken, of which the host hears
-      module _ (p : Position) (fails : Problem → World S → Act S) (go : World S → Act S)
-          (failing : (x : Problem) (w : World S) → At n w → ProblemNames clean n x →
-          Keeps (fails x w)) (going : (w : World S) → At n w → Keeps (go w)) where
-        judges : (v : Verdict) (w : World S) → At n w → VerdictNames clean n v →
-            Keeps (rules.on_verdict m v p f fails w go)
-        judges GoOn w at bound = going w at
-        judges (Stop v) w at bound =
-            marks f w (fails (Plain (Terminated v) p)) at
-            (failing (Plain (Terminated v) p) (record w { passed = w.passed + 1 }) at
-            (sole_names clean n v bound))
-
-        hears : (w : World S) → At n w → Keeps (rules.progressed m p f fails w go)
-        hears w at =
-            let later : World S = record w {
-              passed = w.passed + 1 + 1;
-              host = m.law.progress_after w.host w.count;
-            } in
-            let heard : At n later = record {
-              size = at.size;
-              entries = at.entries;
-              contents = at.contents;
-              reaches = omega (arith, lawful.hears_within w.host w.count, at.reaches);
-              hands = λ s. lawful.hears_clean w.host w.count (at.hands s);
-            } in
-            marks f w (λ w1. rules.marked m f
-            (record w1 { host = m.law.progress_after w1.host w1.count }) (λ w2.
-            rules.on_verdict m (m.law.progress_reply w1.host w1.count) p f fails w2 go)) at
-            (marks f (record w {
-              passed = w.passed + 1;
-              host = m.law.progress_after w.host w.count;
-            }) (λ w2. rules.on_verdict m (m.law.progress_reply w.host w.count) p f fails w2 go)
-            heard
-            (judges (m.law.progress_reply w.host w.count) later heard (
-              omega (arith, lawful.stops_within w.host w.count, at.reaches),
-              λ s. lawful.stops_clean w.host w.count (at.hands s),
-            )))
-
-        pub charges : (w : World S) → At n w → Keeps (rules.charged_or m p f fails w go)
-        charges w at =
-            by_test Keeps (nat_lt w.count m.engine.limits.operations)
-            (rules.marked m f w
-            (λ w1. rules.progressed m p f fails (record w1 { count = w1.count + 1 }) go))
-            (rules.marked m f w (fails (Plain TooManyOperations p)))
-            (λ few. marks f w
-            (λ w1. rules.progressed m p f fails (record w1 { count = w1.count + 1 }) go) at
-            (hears (record w { passed = w.passed + 1; count = w.count + 1 }) at))
-            (λ many. marks f w (fails (Plain TooManyOperations p)) at
-            (failing (Plain TooManyOperations p) (record w { passed = w.passed + 1 }) at
-            (omega arith, λ s. refl)))
+      -- an operation is taken
+      pub charges : (p : Position) (fails : Problem → World S → Act S) (go : World S → Act S) →
+          ((x : Problem) (w : World S) → At n w → ProblemNames clean n x → Keeps (fails x w)) →
+          ((w : World S) → At n w → Keeps (go w)) → (w : World S) → At n w →
+          Keeps (rules.charged_or m p f fails w go)
+      charges p fails go failing going w at =
+          takes_operation since n (rules.leave_by_fault m f NoMemory)
+          (λ v there. leaves f NoMemory v there (omega arith, λ s. refl)) fails failing p go going w at
 
       pub charged : (go : World S → Act S) → ((w : World S) → At n w → Keeps (go w)) →
           (w : World S) → At n w → Keeps (rules.charged m f w go)
@@ -241,7 +333,7 @@ module _ {S : Type 0} {m : Setup S} (on : Grounds m) where
         by_entry (Some h) is =
             going h is (held_at_names clean n w.scope (f.base + slot) h at.entries is)
 
-      -- a cell, or an entry, is written
+      -- a cell, an entry or a root is written
       writes_cell : (o : Option Cell) (i : ℕ) (h : Held) (name : List ℕ) (w : World S) → At n w →
           HeldNames clean n h → cell_of h.value ≡ None → (go : World S → Act S) →
           ((w : World S) → At n w → Keeps (go w)) →
@@ -253,29 +345,21 @@ module _ {S : Type 0} {m : Setup S} (on : Grounds m) where
           (λ busy. races name w at)
           (λ free. marks f w (λ w1. go (record w1 { cells = slice_set w1.cells i (idle h) })) at
           (going (record w { passed = w.passed + 1; cells = slice_set w.cells i (idle h) })
-          (record {
-            size = length-set w.cells i (idle h) ∙ at.size;
-            entries = at.entries;
-            contents = all_set (CellNames clean n) w.cells i (idle h) at.contents
-                (record { idle = refl; flat = plain; names = held });
-            reaches = at.reaches;
-            hands = at.hands;
-          })))
+          (cell_set w i h at held plain)))
 
-      pub writes : (c : Option ℕ) (i : ℕ) (h : Held) (name : List ℕ) (w : World S) → At n w →
-          HeldNames clean n h → MayStand c h.value → (go : World S → Act S) →
-          ((w : World S) → At n w → Keeps (go w)) → Keeps (rules.written m c i h name f w go)
-      writes None i h name w at held plain go going =
+      pub writes : (a : Home) (h : Held) (name : List ℕ) (w : World S) → At n w →
+          HeldNames clean n h → MayStand a h.value → (go : World S → Act S) →
+          ((w : World S) → At n w → Keeps (go w)) → Keeps (rules.written_at m a h name f w go)
+      writes (InScope i) h name w at held plain go going =
           marks f w (λ w1. go (record w1 { scope = set_held w1.scope i h })) at
-          (going (record w { passed = w.passed + 1; scope = set_held w.scope i h }) (record {
-            size = at.size;
-            entries = set_names clean n w.scope i h at.entries held;
-            contents = at.contents;
-            reaches = at.reaches;
-            hands = at.hands;
-          }))
-      writes (Some j) i h name w at held plain go going =
-          writes_cell (slice_get w.cells j) j h name w at held plain go going
+          (going (record w { passed = w.passed + 1; scope = set_held w.scope i h })
+          (entry_set w i h at held))
+      writes (InCell i) h name w at held plain go going =
+          writes_cell (slice_get w.cells i) i h name w at held plain go going
+      writes (AtPlace p) h name w at held plain go going =
+          marks f w (λ w1. go (record w1 { roots = put w1.roots p h.value })) at
+          (going (record w { passed = w.passed + 1; roots = put w.roots p h.value })
+          (root_put w p h.value at held (may_put clean n p.path h.value plain)))
 
       pub pushes : (next : ℕ) (ops : List Held) (v : Dynamic) (w : World S) → At n w →
           Operands clean n ops → Names clean n v → Keeps (rules.pushed m f next ops v w)
@@ -293,21 +377,3 @@ module _ {S : Type 0} {m : Setup S} (on : Grounds m) where
         (λ back. charged (record g { address = f.address }) new (rules.onward m f g)
         (λ v there. onward f names g v there new) w at)
         (λ ahead. onward f names g w at new)
-
-    module _ (f : Frame) (names : FrameNames clean n f) where
-      -- a fault that left the body of a function
-      propagates : (g : Function) (x : Problem) (w : World S) → At n w → ProblemNames clean n x →
-          Keeps (rules.propagate m g f x w)
-      propagates g x w at bound =
-          let wrapped = InFunctionCall (name_of m.program g.name) (source_text m.program) x
-          (rules.position m f) in
-          by_test Keeps (catchable x) (rules.raised m f wrapped w)
-          (rules.offered m f (at_position (rules.position m f) x) w)
-          (λ may. raises f names wrapped w at bound)
-          (λ not. offered f names (at_position (rules.position m f) x) w at
-          (placed_names clean n (rules.position m f) x bound))
-
-      pub resumes : (g : Function) (next : ℕ) (a : Answer) (w : World S) → At n w →
-          AnswerNames clean n a → Keeps (rules.resume_caller m g f next a w)
-      resumes g next (Came v) w at named = pushes f names next f.operands v w at names.0 named
-      resumes g next (Failed x) w at named = propagates g x w at named

@@ -10,16 +10,18 @@ use Rattle.grain_program.specs.declared.code.parts.AssignOp.{AssignOp}
 use Rattle.grain_ops.specs.Outcomes.{Outcome, NotBuiltIn, Gave, ArithmeticFault, TooLarge}
 use Rattle.grain_means.specs.Contained.{HeldNames, Names, ProblemNames}
 use Rattle.grain_means.specs.Rules as rules
-use Rattle.grain_means.specs.Rules.{InScope, content_now, bound, given, held_at, held_or, is_read_only, op_assigned, stepped}
+use Rattle.grain_means.specs.Rules.{Home, InScope, InCell, AtPlace, at_place_of, in_entry, content_now, given, held_at, held_or, is_read_only, op_assigned, stepped}
 use Rattle.grain_host.specs.Signatures.{says_missing}
-use Rattle.grain_means.specs.Worlds.{Act, Frame, Setup, World}
+use Rattle.grain_means.specs.Places.{look}
+use Rattle.grain_means.specs.Worlds.{Act, Frame, Place, Setup, World}
 use Rattle.grain_means.proofs.CellFree.{none_names}
 use Rattle.grain_means.proofs.Footing.{by_test}
-use Rattle.grain_means.proofs.Naming.{PlainNames, held_at_names}
+use Rattle.grain_means.proofs.Naming.{Stands, held_at_names}
+use Rattle.grain_means.proofs.Containing.Roots.{firm_look, look_stands}
 use Rattle.grain_means.proofs.Plain.{NamesNone, no_cell, op_assigned_plain}
-use Rattle.grain_means.proofs.Containing.Parts.{Operands, Arguments, FrameNames, standing_names, may_stand}
+use Rattle.grain_means.proofs.Containing.Parts.{Operands, Arguments, FrameNames, HoldsPlain, home_plain, standing_names, may_stand}
 use Rattle.grain_means.proofs.Containing.Steps.{Stays, Here, raising, pushing, going_on, reading, looking, last, less, moves, asking, giving}
-use Rattle.grain_means.proofs.Containing.Entries.{enters_entry, refuses}
+use Rattle.grain_means.proofs.Containing.Entries.{assigns_at, refuses}
 use Rattle.grain_means.proofs.Containing.Frames.{Grounds}
 
 module _ {S : Type 0} {m : Setup S} (on : Grounds m) where
@@ -27,102 +29,101 @@ module _ {S : Type 0} {m : Setup S} (on : Grounds m) where
 
   module _ (n : ℕ) (low : least ≤ n) (f : Frame) (names : FrameNames clean n f) where
     -- the host's operator, and its op-assignment
-    by_operator : (name : List ℕ) (h u v : Held) (slot k next : ℕ) (w : World S) → Here on n low f
-        names w → PlainNames clean n u → PlainNames clean n v →
-        Stays on n low f names (rules.operator_assigned m name h u v slot k next f w)
-    by_operator name h u v slot k next w at left right =
+    by_operator : (b : Home) (name op : List ℕ) (h u v : Held) (next : ℕ) (w : World S) →
+        Here on n low f names w → Stands clean n u → Stands clean n v →
+        Stays on n low f names (rules.operator_at m b name op h u v next f w)
+    by_operator b name op h u v next w at left right =
         giving on n low f names
-        (λ r w1. rules.flattened m (read_write r) (name_of m.program k) f w1 (λ q.
-        rules.write_entry m h slot (record h { value = q }) (name_of m.program k) next f w1))
-        (λ r w1 there named. reading on n low f names (read_write r) (name_of m.program k) w1 there
-        named (λ q. rules.write_entry m h slot (record h { value = q }) (name_of m.program k) next f
-        w1)
-        (λ q read plain. enters_entry on n low f names h slot (record h { value = q })
-        (name_of m.program k) next w1 there read (may_stand (cell_of h.value) q plain)))
-        name (u ∷ v ∷ []) w at (left, (right, tt))
+        (λ r w1. rules.flattened m (read_write r) name f w1 (λ q.
+        rules.assigned_at m b (record h { value = q }) name next f w1))
+        (λ r w1 there named. reading on n low f names (read_write r) name w1 there named
+        (λ q. rules.assigned_at m b (record h { value = q }) name next f w1)
+        (λ q read plain. assigns_at on n low f names b (record h { value = q }) name next w1 there
+        read (may_stand b q plain)))
+        op (u ∷ v ∷ []) w at (left, (right, tt))
 
-    -- what the entry of an op-assignment holds, if it is no cell, is none
-    abbrev EntryPlain : Held → ℕ → World S → Type 0
-    EntryPlain h slot w =
-        cell_of h.value ≡ None → (g : Held) → held_at w.scope (f.base + slot) ≡ Some g →
-        cell_of g.value ≡ None
+    -- what an entry held that is no cell
+    abbrev Owns : Home → Held → Type 0
+    Owns (InScope i) h = Stands clean n h
+    Owns (InCell i) h = Unit {0}
+    Owns (AtPlace p) h = Unit {0}
 
-    content_names : (h : Held) (slot : ℕ) (w : World S) → Here on n low f names w → HeldNames clean
-        n h → EntryPlain h slot w → PlainNames clean n
-        (record h { value = content_now (cell_of h.value) (f.base + slot) h w.scope w.cells })
-    content_names h slot w at named plain = by_cell (cell_of h.value) refl where
-      by_entry : cell_of h.value ≡ None → (o : Option Held) →
-          held_at w.scope (f.base + slot) ≡ o →
-          PlainNames clean n (record h { value = (held_or h o).value })
-      by_entry none None is = (named, none)
-      by_entry none (Some g) is =
-          (held_at_names clean n w.scope (f.base + slot) g at.entries is, plain none g is)
+    content_names : (b : Home) (h : Held) (w : World S) → Here on n low f names w → Owns b h →
+        HoldsPlain b w.scope w.roots →
+        Stands clean n (record h { value = content_now b h w })
+    content_names (InScope i) h w at own plain = by_entry (held_at w.scope i) refl where
+      by_entry : (o : Option Held) → held_at w.scope i ≡ o →
+          Stands clean n (record h { value = (held_or h o).value })
+      by_entry None is = own
+      by_entry (Some g) is = (held_at_names clean n w.scope i g at.entries is, λ s. plain g is)
+    content_names (InCell i) h w at own plain =
+        let there = standing_names clean n w.cells i at.contents in (there.0, λ s. there.1)
+    content_names (AtPlace p) h w at own plain =
+        look_stands clean n w.roots on.since.roots p at.stand plain
 
-      by_cell : (c : Option ℕ) → cell_of h.value ≡ c → PlainNames clean n
-          (record h { value = content_now c (f.base + slot) h w.scope w.cells })
-      by_cell None none = by_entry none (held_at w.scope (f.base + slot)) refl
-      by_cell (Some i) is = standing_names clean n w.cells i at.contents
-
-    by_host_failed : (a : AssignOp) (h v : Held) (slot k next : ℕ) (x : Problem) (w : World S) →
-        Here on n low f names w → HeldNames clean n h → EntryPlain h slot w → PlainNames clean n v →
-        ProblemNames clean n x →
-        Stays on n low f names (rules.op_assign_failed m a h v slot k next f x w)
-    by_host_failed a h v slot k next x w at named plain right bound =
-        let u : Held = record h {
-          value = content_now (cell_of h.value) (f.base + slot) h w.scope w.cells;
-        } in
+    by_host_failed : (b : Home) (name : List ℕ) (a : AssignOp) (h v : Held) (next : ℕ) (x : Problem)
+        (w : World S) → Here on n low f names w → Owns b h →
+        HoldsPlain b w.scope w.roots → Stands clean n v → ProblemNames clean n x →
+        Stays on n low f names (rules.op_assign_failed_at m b name a h v next f x w)
+    by_host_failed b name a h v next x w at own plain right bound =
+        let u : Held = record h { value = content_now b h w } in
         by_test (Stays on n low f names) (says_missing (name_of m.program a.op_assign_name) x)
-        (rules.operator_assigned m (name_of m.program a.op_name) h u v slot k next f w)
+        (rules.operator_at m b name (name_of m.program a.op_name) h u v next f w)
         (rules.raised m f x w)
-        (λ missing. by_operator (name_of m.program a.op_name) h u v slot k next w at
-        (content_names h slot w at named plain) right)
+        (λ missing. by_operator b name (name_of m.program a.op_name) h u v next w at
+        (content_names b h w at own plain) right)
         (λ other. raising on n low f names x w at bound)
 
-    by_host : (a : AssignOp) (h : Held) (u : Dynamic) (v : Held) (slot k next : ℕ) (w : World S) →
-        Here on n low f names w → HeldNames clean n h → EntryPlain h slot w → Names clean n u →
-        cell_of u ≡ None → PlainNames clean n v →
-        Stays on n low f names (rules.native_assigned m a h u v slot k next f w)
-    by_host a h u v slot k next w at named stands left plain right =
-        asking on n low f names
-        (Some (record {
-          home = InScope (f.base + slot) (cell_of h.value);
-          held = record h { value = u };
-        }))
+    by_host : (b : Home) (name : List ℕ) (a : AssignOp) (h : Held) (u : Dynamic) (v : Held)
+        (next : ℕ) (w : World S) → Here on n low f names w → Owns b h →
+        HoldsPlain b w.scope w.roots → Names clean n u → cell_of u ≡ None →
+        Stands clean n v →
+        Stays on n low f names (rules.native_assigned_at m b name a h u v next f w)
+    by_host b name a h u v next w at own stands left plain right =
+        asking on n low f names (Some (record { home = b; held = record h { value = u } }))
         (λ r w1. rules.onward m f (stepped f next (below f.operands)) w1)
-        (rules.op_assign_failed m a h v slot k next f)
+        (rules.op_assign_failed_at m b name a h v next f)
         (λ r w1 there result. going_on on n low f names (stepped f next (below f.operands)) w1 there
         (moves on n low f names next (below f.operands) (less on n low f names)))
-        (λ x w1 there lends bound. by_host_failed a h v slot k next x w1 there named lends right
+        (λ x w1 there lends bound. by_host_failed b name a h v next x w1 there own lends right
         bound)
         (name_of m.program a.op_assign_name)
-        (v ∷ []) w at (left, plain) stands (right, tt)
+        (v ∷ []) w at (home_plain clean n b (record h { value = u }) (left, plain)) stands (right, tt)
 
-    stores_outcome : (o : Outcome) → NamesNone o → (a : AssignOp) (h : Held) (u : Dynamic)
-        (v : Held) (slot k next : ℕ) (w : World S) → Here on n low f names w → HeldNames clean n h →
-        EntryPlain h slot w → Names clean n u → cell_of u ≡ None → PlainNames clean n v →
-        Stays on n low f names (rules.store_outcome m o a h u v slot k next f w)
-    stores_outcome NotBuiltIn none a h u v slot k next w at named stands left plain right =
-        by_host a h u v slot k next w at named stands left plain right
-    stores_outcome (Gave r) none a h u v slot k next w at named stands left plain right =
-        enters_entry on n low f names h slot (record h { value = r }) (name_of m.program k) next w
-        at
-        (none_names clean n r none) (may_stand (cell_of h.value) r (no_cell r none))
-    stores_outcome (ArithmeticFault s) none a h u v slot k next w at named stands left plain right =
+    pub stores_outcome : (b : Home) (name : List ℕ) (o : Outcome) → NamesNone o → (a : AssignOp)
+        (h : Held) (u : Dynamic) (v : Held) (next : ℕ) (w : World S) → Here on n low f names w →
+        Owns b h → HoldsPlain b w.scope w.roots → Names clean n u →
+        cell_of u ≡ None → Stands clean n v →
+        Stays on n low f names (rules.outcome_at m b name o a h u v next f w)
+    stores_outcome b name NotBuiltIn none a h u v next w at own stands left plain right =
+        by_host b name a h u v next w at own stands left plain right
+    stores_outcome b name (Gave r) none a h u v next w at own stands left plain right =
+        assigns_at on n low f names b (record h { value = r }) name next w at
+        (none_names clean n r none) (may_stand b r (no_cell r none))
+    stores_outcome b name (ArithmeticFault s) none a h u v next w at own stands left plain right =
         raising on n low f names (Plain (Arithmetic s) (rules.position m f)) w at (
           omega arith,
           λ s. refl,
         )
-    stores_outcome (TooLarge s) none a h u v slot k next w at named stands left plain right =
+    stores_outcome b name (TooLarge s) none a h u v next w at own stands left plain right =
         raising on n low f names (Plain (DataTooLarge s) (rules.position m f)) w at (
           omega arith,
           λ s. refl,
         )
 
     -- an entry that is no cell holds none
-    entry_plain : (h : Held) (slot : ℕ) (w : World S) → held_at w.scope (f.base + slot) ≡ Some h →
-        EntryPlain h slot w
-    entry_plain h slot w is none g also =
-        let same : h ≡ g = cc in subst (λ (x : Held). cell_of x.value ≡ None) same none
+    entry_owns : (h : Held) (i : ℕ) → HeldNames clean n h → (c : Option ℕ) → cell_of h.value ≡ c →
+        Owns (in_entry i c) h
+    entry_owns h i named None is = (named, λ s. is)
+    entry_owns h i named (Some j) is = tt
+
+    entry_plain : (h : Held) (i : ℕ) (w : World S) → held_at w.scope i ≡ Some h → (c : Option ℕ) →
+        cell_of h.value ≡ c → HoldsPlain (in_entry i c) w.scope w.roots
+    entry_plain h i w is None none =
+        λ g also. subst (λ (x : Held). cell_of x.value ≡ None) (one_held h g is also) none where
+          one_held : (h g : Held) → held_at w.scope i ≡ Some h → held_at w.scope i ≡ Some g → h ≡ g
+          one_held h g is also = cc
+    entry_plain h i w is (Some j) cell = tt
 
     pub op_assigns : (a : AssignOp) (slot k next : ℕ) (w : World S) → Here on n low f names w →
         Stays on n low f names (rules.assign_op m a slot k next f w)
@@ -142,9 +143,22 @@ module _ {S : Type 0} {m : Setup S} (on : Grounds m) where
         (λ may. reading on n low f names h name w at named
         (λ u. rules.store_outcome m (op_assigned m.engine a u v) a h u
         (record (top f.operands) { value = v }) slot k next f w)
-        (λ u left flat. stores_outcome (op_assigned m.engine a u v)
-        (op_assigned_plain m.engine a u v) a h u (record (top f.operands) { value = v }) slot k next
-        w at named (entry_plain h slot w is) left flat (right, plain)))))
+        (λ u left flat. stores_outcome (in_entry (f.base + slot) (cell_of h.value)) name
+        (op_assigned m.engine a u v) (op_assigned_plain m.engine a u v) a h u
+        (record (top f.operands) { value = v }) next w at
+        (entry_owns h (f.base + slot) named (cell_of h.value) refl)
+        (entry_plain h (f.base + slot) w is (cell_of h.value) refl) left flat
+        (right, λ s. plain)))))
+
+    -- a place at which no cell stands is firm, and a cell is none of the roots
+    pub place_owns : (h : Held) (p : Place) (c : Option ℕ) → Owns (at_place_of p c) h
+    place_owns h p None = tt
+    place_owns h p (Some j) = tt
+
+    pub place_plain : (p : Place) (w : World S) (c : Option ℕ) → cell_of (look w.roots p).value ≡ c →
+        HoldsPlain (at_place_of p c) w.scope w.roots
+    place_plain p w None none = firm_look w.roots p none
+    place_plain p w (Some j) cell = tt
 
     pub pushes_outcome : (o : Outcome) → NamesNone o → (name : List ℕ) (args : List Held) (next : ℕ)
         (ops : List Held) (w : World S) → Here on n low f names w → Arguments clean n args →

@@ -15,13 +15,14 @@ use Rattle.grain_fault.specs.Exits.{exit_value}
 use Rattle.grain_fault.specs.Problems.{Problem, Plain, InFunctionCall, InModule, SystemError, NoMemory, Exit, DotExpr, FunctionNotFound, IndexingType}
 use Rattle.grain_fault.specs.declared.places.Position.{Position}
 use Rattle.grain_host.specs.Law.{Reply, Verdict, reply_bound, reply_is_clean, verdict_bound, verdict_is_clean}
-use Rattle.grain_means.specs.Contained.{CellNames, HeldNames, Names, ProblemNames}
-use Rattle.grain_means.specs.Rules.{Home, InScope, AtPlace, Receiver, bound, held_at}
+use Rattle.grain_means.specs.Contained.{HeldNames, Names, ProblemNames}
+use Rattle.grain_means.specs.Rules.{Home, InScope, InCell, AtPlace, Receiver, bound, held_at}
 use Rattle.grain_host.specs.Signatures.{index_text, not_found, signature_text, type_at, unknown_property, unwritable_property}
 use Rattle.grain_means.specs.Worlds.{Frame, Handler}
 use Rattle.grain_means.proofs.Caught.{first_names}
-use Rattle.grain_means.proofs.Inside.{MayPut, put_clear, put_written}
-use Rattle.grain_means.proofs.Naming.{all_got, PlainNames}
+use Rattle.grain_means.proofs.Inside.{MayPut, may_put, put_clear, put_written}
+use Rattle.grain_means.proofs.Naming.{CellHolds, all_got, PlainNames, Stands}
+use Rattle.grain_means.proofs.Containing.Roots.{FirmAt}
 
 abbrev pub CaughtNames : Bool → ℕ → Option Problem → Type 0
 CaughtNames clean n None = Unit {0}
@@ -35,16 +36,17 @@ Operands clean n hs = AllByRecursion (HeldNames clean n) hs
 
 -- what a native is given
 abbrev pub Arguments : Bool → ℕ → List Held → Type 0
-Arguments clean n hs = AllByRecursion (PlainNames clean n) hs
+Arguments clean n hs = AllByRecursion (Stands clean n) hs
 
 abbrev pub FrameNames : Bool → ℕ → Frame → Type 0
 FrameNames clean n f = Operands clean n f.operands × AllByRecursion (HandlerNames clean n)
     f.handlers
 
--- a value may be written where an entry is this cell, or none
-abbrev pub MayStand : Option ℕ → Dynamic → Type 0
-MayStand None v = Unit {0}
-MayStand (Some i) v = cell_of v ≡ None
+-- what may be written so: a cell, and a place, hold none
+abbrev pub MayStand : Home → Dynamic → Type 0
+MayStand (InScope i) v = Unit {0}
+MayStand (InCell i) v = cell_of v ≡ None
+MayStand (AtPlace p) v = cell_of v ≡ None
 
 -- that there is no native names no cell
 pub none_missing : (clean : Bool) (n : ℕ) (name : List ℕ) (args : List Dynamic) (p : Position) →
@@ -74,7 +76,8 @@ ReplyNames clean n r = (reply_bound r ≤ n) × (clean ≡ true → reply_is_cle
 
 -- what a native is lent is no cell; what stands inside a value is none where values are clean
 abbrev pub HomeNames : Bool → ℕ → Home → Held → Type 0
-HomeNames clean n (InScope i cell) h = PlainNames clean n h
+HomeNames clean n (InScope i) h = PlainNames clean n h
+HomeNames clean n (InCell i) h = PlainNames clean n h
 HomeNames clean n (AtPlace p) h = HeldNames clean n h × MayPut clean n p.path h.value
 
 abbrev pub ReceiverNames : Bool → ℕ → Option Receiver → Type 0
@@ -83,31 +86,42 @@ ReceiverNames clean n (Some q) = HomeNames clean n q.home q.held
 
 pub home_names : (clean : Bool) (n : ℕ) (a : Home) (h : Held) → HomeNames clean n a h →
     HeldNames clean n h
-home_names clean n (InScope i cell) h p = p.0
+home_names clean n (InScope i) h p = p.0
+home_names clean n (InCell i) h p = p.0
 home_names clean n (AtPlace q) h p = p.0
 
 pub home_clear : (clean : Bool) (n : ℕ) (a : Home) (h : Held) → HomeNames clean n a h →
     clean ≡ true → cell_of h.value ≡ None
-home_clear clean n (InScope i cell) h p s = p.1
+home_clear clean n (InScope i) h p s = p.1
+home_clear clean n (InCell i) h p s = p.1
 home_clear clean n (AtPlace q) h p s = put_clear clean n q.path h.value p.1 s
 
 -- so it is once a native has written it
 pub home_written : (clean : Bool) (n : ℕ) (a : Home) (h : Held) (v : Dynamic) →
     HomeNames clean n a h → Names clean n v → (cell_of h.value ≡ None → cell_of v ≡ None) →
     HomeNames clean n a (record h { value = v })
-home_written clean n (InScope i cell) h v p names keeps = (names, keeps p.1)
+home_written clean n (InScope i) h v p names keeps = (names, keeps p.1)
+home_written clean n (InCell i) h v p names keeps = (names, keeps p.1)
 home_written clean n (AtPlace q) h v p names keeps =
     (names, put_written clean n q.path h.value v p.1 keeps)
 
--- the entry that it is lent, if it is lent one and that is no cell, holds none
-abbrev pub HoldsPlain : Home → List Entry → Type 0
-HoldsPlain (InScope i cell) scope =
-    cell ≡ None → (h : Held) → held_at scope i ≡ Some h → cell_of h.value ≡ None
-HoldsPlain (AtPlace p) scope = Unit {0}
+-- so is what is no cell
+pub home_plain : (clean : Bool) (n : ℕ) (a : Home) (h : Held) → PlainNames clean n h →
+    HomeNames clean n a h
+home_plain clean n (InScope i) h p = p
+home_plain clean n (InCell i) h p = p
+home_plain clean n (AtPlace q) h p = (p.0, may_put clean n q.path h.value p.1)
 
-abbrev pub LendsPlain : Option Receiver → List Entry → Type 0
-LendsPlain None scope = Unit {0}
-LendsPlain (Some q) scope = HoldsPlain q.home scope
+-- the entry that it is lent holds no cell, and the place is firm
+abbrev pub HoldsPlain : Home → List Entry → List Held → Type 0
+HoldsPlain (InScope i) scope roots =
+    (h : Held) → held_at scope i ≡ Some h → cell_of h.value ≡ None
+HoldsPlain (InCell i) scope roots = Unit {0}
+HoldsPlain (AtPlace p) scope roots = FirmAt roots p
+
+abbrev pub LendsPlain : Option Receiver → List Entry → List Held → Type 0
+LendsPlain None scope roots = Unit {0}
+LendsPlain (Some q) scope roots = HoldsPlain q.home scope roots
 
 pub set_plain : (scope : List Entry) (i : ℕ) (g h : Held) → cell_of g.value ≡ None →
     held_at (set_held scope i g) i ≡ Some h → cell_of h.value ≡ None
@@ -118,7 +132,7 @@ set_plain (e ∷ es) (suc i) g h plain is = set_plain es i g h plain is
 
 -- what a target holds
 pub standing_names : (clean : Bool) (n : ℕ) (cells : List Cell) (i : ℕ) →
-    AllByRecursion (CellNames clean n) cells →
+    AllByRecursion (CellHolds clean n) cells →
     Names clean n (standing (slice_get cells i))
     × (cell_of (standing (slice_get cells i)) ≡ None)
 standing_names clean n cells i all = at (slice_get cells i) refl where
@@ -126,7 +140,7 @@ standing_names clean n cells i all = at (slice_get cells i) refl where
       Names clean n (standing o) × (cell_of (standing o) ≡ None)
   at None is = ((omega arith, λ s. refl), refl)
   at (Some c) is =
-      let there = all_got (CellNames clean n) cells i c all is in (there.names, there.flat)
+      let there = all_got (CellHolds clean n) cells i c all is in (there.names, there.flat)
 
 -- a pointer names what its value names
 pub pointer_names : (clean : Bool) (n : ℕ) (v : Dynamic) (q : FnPtr) → Names clean n v →
@@ -146,9 +160,10 @@ pointer_names clean n (dynamic.Range from to inclusive) q named is = absurd cc
 pointer_names clean n (dynamic.Foreign kind number) q named is = absurd cc
 pointer_names clean n (dynamic.Cell number) q named is = absurd cc
 
-pub may_stand : (c : Option ℕ) (v : Dynamic) → cell_of v ≡ None → MayStand c v
-may_stand None v plain = tt
-may_stand (Some i) v plain = plain
+pub may_stand : (a : Home) (v : Dynamic) → cell_of v ≡ None → MayStand a v
+may_stand (InScope i) v plain = tt
+may_stand (InCell i) v plain = plain
+may_stand (AtPlace p) v plain = plain
 
 -- an exit's value is what the fault names
 pub exit_names : (clean : Bool) (n : ℕ) (x : Problem) (v : Dynamic) → ProblemNames clean n x →

@@ -1,17 +1,17 @@
 -- The walk at a frame over a store of n cells.
-use Rattle.std.proofs.Common.{◌≡◌, ◌≤◌, ◌+◌, ℕ, List, Option, Some, None, arith}
+use Rattle.std.proofs.Common.{◌≡◌, ◌≤◌, ◌+◌, ℕ, List, Option, Some, None, refl, arith}
 use Rattle.grain_value.specs.Looking.{cell_of}
 use Rattle.grain_value.specs.Operands.{below, top}
 use Rattle.grain_value.specs.declared.values.Dynamic.{Dynamic}
 use Rattle.grain_value.specs.declared.values.Held.{Held}
-use Rattle.grain_fault.specs.Problems.{Problem}
+use Rattle.grain_fault.specs.Problems.{Problem, NoMemory}
 use Rattle.grain_means.specs.Contained.{HeldNames, Names, ProblemNames}
 use Rattle.grain_means.specs.Rules as rules
-use Rattle.grain_means.specs.Rules.{Receiver, bound, given, held_at, stepped}
+use Rattle.grain_means.specs.Rules.{Home, Receiver, bound, given, held_at, stepped}
 use Rattle.grain_means.specs.Worlds.{Act, Frame, Handler, Setup, World}
 use Rattle.grain_means.proofs.Naming.{all_wider, held_wider, top_names, under_names}
 use Rattle.grain_means.proofs.Containing.Parts.{CaughtNames, HandlerNames, Operands, Arguments, FrameNames, MayStand, ReceiverNames, LendsPlain}
-use Rattle.grain_means.proofs.Containing.Frames.{Grounds, At, Within, marks, raises, onward, reads, looks, writes, pushes}
+use Rattle.grain_means.proofs.Containing.Frames.{Grounds, At, Within, leaves, marks, raises, onward, reads, looks, writes, pushes}
 use Rattle.grain_means.proofs.Containing.Natives.{natives}
 
 module _ {S : Type 0} {m : Setup S} (on : Grounds m) where
@@ -59,9 +59,9 @@ module _ {S : Type 0} {m : Setup S} (on : Grounds m) where
         Stays (go h)) → Stays (rules.at_slot m f slot w go)
     looking = looks on n low f names
 
-    pub writing : (c : Option ℕ) (i : ℕ) (h : Held) (name : List ℕ) (w : World S) → Here w →
-        HeldNames clean n h → MayStand c h.value → (go : World S → Act S) →
-        ((w : World S) → Here w → Stays (go w)) → Stays (rules.written m c i h name f w go)
+    pub writing : (a : Home) (h : Held) (name : List ℕ) (w : World S) → Here w →
+        HeldNames clean n h → MayStand a h.value → (go : World S → Act S) →
+        ((w : World S) → Here w → Stays (go w)) → Stays (rules.written_at m a h name f w go)
     writing = writes on n low f names
 
     pub marking : (w : World S) (go : World S → Act S) → Here w →
@@ -82,12 +82,15 @@ module _ {S : Type 0} {m : Setup S} (on : Grounds m) where
     pub asking : (r : Option Receiver) (go : Dynamic → World S → Act S)
         (fails : Problem → World S → Act S) →
         ((v : Dynamic) (w : World S) → Here w → Names clean n v → Stays (go v w)) →
-        ((x : Problem) (w : World S) → Here w → LendsPlain r w.scope → ProblemNames clean n x →
-        Stays (fails x w)) →
+        ((x : Problem) (w : World S) → Here w → LendsPlain r w.scope w.roots →
+        ProblemNames clean n x → Stays (fails x w)) →
         (name : List ℕ) (args : List Held) (w : World S) → Here w → ReceiverNames clean n r →
-        LendsPlain r w.scope → Arguments clean n args →
+        LendsPlain r w.scope w.roots → Arguments clean n args →
         Stays (rules.native m name r args f w go fails)
-    asking = natives on n low f names
+    asking r go fails going failing name args w at receiver plain given =
+        natives on on.since n low (rules.leave_by_fault m f NoMemory)
+        (λ v there. leaves on n low f NoMemory v there (omega arith, λ s. refl)) f r go fails going
+        failing name args w at receiver plain given
 
     -- a native that is lent nothing
     pub giving : (go : Dynamic → World S → Act S) →

@@ -20,7 +20,7 @@ use Rattle.grain_means.specs.Places.{look, put, next_root}
 use Rattle.grain_means.specs.Rules.{op_assigned}
 use Rattle.grain_means.specs.Tasks.{Call, Task, Write, Root, Well, Ill}
 use Rattle.grain_means.specs.Walks as walks
-use Rattle.grain_means.specs.Walks.{Setting, Course, Rest, Next, Role, Passes, Reads, Writes, Operates, Origin, OfPart, OfIndex, OfProperty, OfNothing, at_mark, assigning, failing, flat_or_busy, flattening, is_indexed, key_of, origin_of_part, role_at_end, role_before, skips, with_key}
+use Rattle.grain_means.specs.Walks.{Rest, Next, Origin, OfPart, OfIndex, OfProperty, OfMethod, OfNothing, at_mark}
 use Rattle.grain_means.specs.Causes.Spots.{ChainWalk, here, marked, looked, wrote, added, dropped, past, Falls, CallFails, world_of}
 use Rattle.grain_means.proofs.Explaining.Ways.{join, On, Why, From, Goes, Follows, ill, out, marks, fails, reads, call_of, Hears, asks, failing_call, native_row, IsReplaced, instead_row}
 
@@ -196,11 +196,11 @@ module _ {S : Type 0} (m : Setup S) (c : ChainWalk S) where
         (f.falls n NoMemory) (property_got (call_of m c n q word (Some p) []) refl text q p done go f on)
 
     pub index_got : (call : Call) → call.step ≡ n → (done : Rest) (go : Dynamic → Task) →
-        Follows m c done → Answers go → Hears m c n call (walks.index_was_got n done go)
+        Follows m c done → Answers go → Hears m c n call (walks.was_given n done go)
     index_got call step done go f on v come (Came d) w ends arrived = on d w arrived
     index_got call step done go f on v come (Failed x) w ends arrived =
         ill m c n x done f (native_row m c n x
-        (failing_call m c n call step (walks.index_was_got n done go) v come x w ends) (f.falls n x)) w
+        (failing_call m c n call step (walks.was_given n done go) v come x w ends) (f.falls n x)) w
 
     pub index_read : (call : Call) → call.step ≡ n → (q : Position) (p : Place) (i set : Dynamic)
         (done : Rest) (go : Dynamic → Task) → Follows m c done → Answers go →
@@ -231,7 +231,7 @@ module _ {S : Type 0} (m : Setup S) (c : ChainWalk S) where
         Follows m c done → Hears m c n call (walks.operator_answered n q p done)
     operator call step q p done f v come (Came r) w ends arrived =
         reads m c n q r done (λ u. at_mark n done (Write p u (done (Well dynamic.Unit true)))) f
-        (λ v2 come2 d e at. writes p d done f v2 at) w arrived
+        (λ d. writes p d done f) w arrived
     operator call step q p done f v come (Failed x) w ends arrived =
         ill m c n x done f (native_row m c n x
         (failing_call m c n call step (walks.operator_answered n q p done) v come x w ends)
@@ -360,6 +360,7 @@ module _ {S : Type 0} (m : Setup S) (c : ChainWalk S) where
               Why m c (if b then set else done (Well u false)) v
           by_change true at = sets_property name setter q assigned p held u done f v at
           by_change false at = f.well u false v at
+    sets_back OfMethod p held u changed done f v come = f.well u true v come
     sets_back OfNothing p held u changed done f v come = f.well u changed v come
 
     pub goes_back : (o : Origin) (p : Place) (done : Rest) → Follows m c done →
@@ -385,7 +386,8 @@ module _ {S : Type 0} (m : Setup S) (c : ChainWalk S) where
         Answers (walks.into_answer c.course.setting n q false o next p done)
     into_answer q o next on p done f d =
         reads m c n q d done (λ u. walks.rooted c.course.setting n o (read_write u) next p done) f
-        (λ v come u e at. roots o (read_write u) next on p done f v at)
+        (λ u. roots o (read_write u) next on p done f)
 
-    pub own_value : (done : Rest) → Follows m c done → Answers (walks.own_value done)
-    own_value done f d = f.well d false
+    -- what is the chain's own value
+    pub own_value : (o : Origin) (done : Rest) → Follows m c done → Answers (walks.own_value o done)
+    own_value o done f d = f.well d (walks.is_change o)

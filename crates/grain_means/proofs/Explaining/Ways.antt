@@ -7,13 +7,13 @@ use Rattle.grain_value.specs.declared.values.Held.{Held}
 use Rattle.grain_fault.specs.Absences.{is_dot_expr, is_indexing_type}
 use Rattle.grain_fault.specs.Problems.{Problem, Plain, DataRace, NoMemory}
 use Rattle.grain_fault.specs.declared.places.Position.{Position}
-use Rattle.grain_means.specs.Worlds.{is_stop, Answer, Failed, Place, Setup, World}
+use Rattle.grain_means.specs.Worlds.{is_stop, Answer, Came, Failed, Place, Setup, World}
 use Rattle.grain_means.specs.Places.{look, put}
 use Rattle.grain_means.specs.Rules.{race_text}
-use Rattle.grain_means.specs.Tasks.{Call, Task, Done, Mark, Look, Flatten, Write, Root, Drop, Need, Well, Ill}
+use Rattle.grain_means.specs.Tasks.{Call, Invocation, Method, Task, Done, Mark, Look, Flatten, Write, Root, Drop, Need, Invoke, Well, Ill}
 use Rattle.grain_means.specs.Walks as walks
-use Rattle.grain_means.specs.Walks.{Setting, Course, Rest, Next, Role, Passes, Reads, Writes, Operates, Origin, OfPart, OfIndex, OfProperty, OfNothing, at_mark, assigning, failing, flat_or_busy, flattening, is_indexed, key_of, origin_of_part, role_at_end, role_before, skips, with_key}
-use Rattle.grain_means.specs.Causes.Spots.{ChainWalk, WalksTo, here, marked, looked, read, wrote, added, dropped, heard, past, CallEnds, Falls, ComesTo, WalkRow, CallFails, lent_for, world_of}
+use Rattle.grain_means.specs.Walks.{Rest, Next, at_mark, failing, flat_or_busy, flattening}
+use Rattle.grain_means.specs.Causes.Spots.{ChainWalk, WalksTo, here, marked, looked, read, wrote, added, dropped, heard, returned, past, CallEnds, InvocationEnds, Falls, ComesTo, WalkRow, CallFails, lent_for, under_for, world_of}
 
 module _ {S : Type 0} (m : Setup S) (c : ChainWalk S) where
   -- one way after another
@@ -27,6 +27,7 @@ module _ {S : Type 0} (m : Setup S) (c : ChainWalk S) where
   join (added a) b = added (join a b)
   join (dropped a) b = dropped (join a b)
   join (heard e a) b = heard e (join a b)
+  join (returned e a) b = returned e (join a b)
 
   abbrev pub On : Task → World S → Type 0
   On t v = ComesTo m c t v
@@ -35,7 +36,8 @@ module _ {S : Type 0} (m : Setup S) (c : ChainWalk S) where
   abbrev pub Stops : Task → Type 0
   Stops t = (k : ℕ) × Falls k NoMemory t
 
-  -- every fault that a task comes to from this world has its row
+  -- Every fault that a task comes to from this world has its row. The walk comes to a call of a
+  -- function, and with the fault of the call the walk ends.
   abbrev pub Why : Task → World S → Type 0
   Why (Done (Well u changed)) v = Unit {0}
   Why (Done (Ill n x)) v = WalkRow m c n x
@@ -50,6 +52,10 @@ module _ {S : Type 0} (m : Setup S) (c : ChainWalk S) where
   Why (Need call go) v =
       Stops (go (Failed NoMemory)) × ((a : Answer) (u : World S) →
       CallEnds m call (lent_for m c call v) v a u → Why (go a) u)
+  Why (Invoke i go) v =
+      On (Invoke i go) v × ((x : Problem) → Falls i.step x (go (Failed x))) ×
+      ((d : Dynamic) (u : World S) →
+      InvocationEnds m i (under_for m c i) v (Came d) u → Why (go (Came d)) u)
 
   -- so from each world in which the walk comes to it
   abbrev pub From : Task → Type 0
@@ -76,6 +82,7 @@ module _ {S : Type 0} (m : Setup S) (c : ChainWalk S) where
       let h : Held = look v.roots (record { root = c.others + i; path = [] }) in
       fallen n x row (go h) (falls h) (record v { roots = take (c.others + i) v.roots })
   fallen n x row (Need call go) falls v = absurd falls
+  fallen n x row (Invoke i go) falls v = absurd falls
 
   module _ (n : ℕ) where
     pub ill : (x : Problem) (done : Rest) → Follows done → WalkRow m c n x → (v : World S) →
@@ -92,28 +99,33 @@ module _ {S : Type 0} (m : Setup S) (c : ChainWalk S) where
     pub fails : (x : Problem) (done : Rest) → Follows done → WalkRow m c n x → From (failing n x done)
     fails x done f row = marks done (done (Ill n x)) f (λ v come. ill x done f row v)
 
-    -- a value is read, or it is a lent cell
+    -- a value is read in a world, or it is a lent cell
+    pub reads_at : (q : Position) (u : Dynamic) (done : Rest) (go : Dynamic → Task) → Follows done →
+        (v : World S) → ((d : Dynamic) → flat v.cells u ≡ Some d → On (go d) v → Why (go d) v) →
+        On (flattening n q u done go) v → Why (flattening n q u done go) v
+    reads_at q u done go f v from come = by_content (flat v.cells u) refl (join come (read here)) where
+      by_content : (o : Option Dynamic) → flat v.cells u ≡ o →
+          On (flat_or_busy n q done go o) v → Why (flat_or_busy n q done go o) v
+      by_content None e arrived =
+          let x = Plain (DataRace (race_text [])) q in
+          fails x done f (inr (inr (inr (inr (inl (record {
+            value = u;
+            position = q;
+            rest = done;
+            go = go;
+            world = v;
+            comes = come;
+            lent = e;
+            is = refl;
+            last = f.falls n x;
+          })))))) v arrived
+      by_content (Some d) e arrived = from d e arrived
+
+    -- and so in each world
     pub reads : (q : Position) (u : Dynamic) (done : Rest) (go : Dynamic → Task) → Follows done →
-        ((v : World S) → On (flattening n q u done go) v → (d : Dynamic) →
-        flat v.cells u ≡ Some d → On (go d) v → Why (go d) v) → From (flattening n q u done go)
+        ((d : Dynamic) → From (go d)) → From (flattening n q u done go)
     reads q u done go f from v come =
-        by_content (flat v.cells u) refl (join come (read here)) where
-          by_content : (o : Option Dynamic) → flat v.cells u ≡ o →
-              On (flat_or_busy n q done go o) v → Why (flat_or_busy n q done go o) v
-          by_content None e arrived =
-              let x = Plain (DataRace (race_text [])) q in
-              fails x done f (inr (inr (inr (inr (inl (record {
-                value = u;
-                position = q;
-                rest = done;
-                go = go;
-                world = v;
-                comes = come;
-                lent = e;
-                is = refl;
-                last = f.falls n x;
-              })))))) v arrived
-          by_content (Some d) e arrived = from v come d e arrived
+        reads_at q u done go f v (λ d e arrived. from d v arrived) come
 
     -- what is called
     abbrev pub call_of : Position → List ℕ → Option Place → List Dynamic → Call
@@ -131,6 +143,19 @@ module _ {S : Type 0} (m : Setup S) (c : ChainWalk S) where
     asks q name p args done go f quiet hears =
         marks done (Need (call_of q name p args) go) f (λ v come.
         ((n, quiet), λ a u ends. hears v come a u ends (join come (heard ends here))))
+
+    -- a function that is called
+    abbrev pub invocation_of : Position → Method → Option Place → List Dynamic → Invocation
+    invocation_of q method this args =
+        record { step = n; position = q; method = method; this = this; values = args }
+
+    pub invokes : (q : Position) (method : Method) (this : Option Place) (args : List Dynamic)
+        (done : Rest) (go : Answer → Task) → Follows done →
+        ((x : Problem) → Falls n x (go (Failed x))) → ((d : Dynamic) → From (go (Came d))) →
+        From (walks.invoking n q method this args done go)
+    invokes q method this args done go f falls hears =
+        marks done (Invoke (invocation_of q method this args) go) f (λ v come.
+        (come, falls, λ d u ends. hears d u (join come (returned ends here))))
 
     -- a call that failed, and the fault with which the walk then ends
     abbrev pub failing_call : (call : Call) → call.step ≡ n → (go : Answer → Task) (v : World S) →
@@ -162,7 +187,7 @@ module _ {S : Type 0} (m : Setup S) (c : ChainWalk S) where
         IsReplaced first second.call second.go → is_indexing_type y ≡ true →
         Falls n x (second.go (Failed y)) → WalkRow m c n x
     instead_row x y first second replaced absent last =
-        inr (inr (inr (inr (inr (inr (inr (inr (record {
+        inr (inr (inr (inr (inr (inr (inr (inr (inl (record {
           first = first;
           no_property = replaced.none;
           other = y;
@@ -171,4 +196,4 @@ module _ {S : Type 0} (m : Setup S) (c : ChainWalk S) where
           instead = replaced.instead;
           absent = absent;
           last = last;
-        }))))))))
+        })))))))))

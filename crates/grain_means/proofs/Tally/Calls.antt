@@ -13,24 +13,31 @@ use Rattle.grain_fault.specs.Problems.{Problem, Plain, InFunctionCall, TooManyVa
 use Rattle.grain_fault.specs.Problems as problem
 use Rattle.grain_program.specs.declared.code.functions.Function.{Function}
 use Rattle.grain_program.specs.declared.code.instruction_set.Op.{Op}
+use Rattle.grain_program.specs.declared.code.instruction_set.Op.TheVariants as op
 use Rattle.grain_program.specs.Typing.{IsProgram}
 use Rattle.grain_program.specs.Decoding.{op_at}
-use Rattle.grain_program.specs.View.{name_of, source_text}
+use Rattle.grain_program.specs.View.{View, name_of, source_text}
 use Rattle.grain_value.specs.Cells.{flat}
 use Rattle.grain_value.specs.declared.values.FnPtr.{FnPtr}
-use Rattle.grain_means.specs.Worlds.{Act, Go, Then, Answer, Came, Failed, World, Setup, InFrame}
+use Rattle.grain_means.specs.Worlds.{Act, Go, Then, Answer, Came, Failed, Frame, World, Setup, InFrame}
 use Rattle.grain_means.proofs.Moving.{unit_anywhere, unit_caught}
 use Rattle.grain_means.specs.Rules.{offered, pushed, without, bound, frame_at, stepped, marked, raised, propagate, resume_caller, enter_function, function_entered, call_function, position, flattened, flat_all, operand_under, not_a_pointer}
 use Rattle.grain_means.specs.Comes.{here}
 use Rattle.grain_means.specs.Leavings.{Cuts}
-use Rattle.grain_means.specs.Causes.{AsksNative, Why, Calls, Charges, IsCharged, Overfills, CallsOn, Enters, LeftCall, Raised, Caused, ReadsLent, IsLent, Points, AsksPointer, Misses}
+use Rattle.grain_means.specs.Causes.{AsksNative, Why, Calls, Charges, IsCharged, IsNoChain, Overfills, CallsOn, Enters, LeftCall, Raised, Caused, ReadsLent, IsLent, Points, AsksPointer, Misses}
 use Rattle.grain_means.proofs.Kept.{keeps_nothing}
 use Rattle.grain_means.proofs.Standing.{Fitting}
 use Rattle.grain_means.proofs.Footing.{Footing, Onto, Sits, by_test, true-false, cause_in, Offers}
 use Rattle.grain_means.proofs.Carrying.{cause_at}
 use Rattle.grain_means.proofs.Tally.Frames.{Walk, Even, Steady, start, steady, even_marked, holding, even_onward, point, Enough}
-use Rattle.grain_means.proofs.Tally.Faults.{met, why, even_offered_in, even_raised_in, even_raised, even_flat, even_flat_all, heard, even_charged}
+use Rattle.grain_means.proofs.Tally.Faults.{blames_none, met, why, even_offered_in, even_raised_in, even_raised, even_flat, even_flat_all, heard, even_charged}
 use Rattle.grain_means.proofs.Tally.Natives.{answered_by, even_native_in}
+
+-- an instruction that calls a function itself is no chain
+calls_itself : {S : Type 0} (program : View) (g : Function) (args : List Held) (o : Op) (f : Frame)
+    (w : World S) → CallsOn program g args o f w → IsNoChain o
+calls_itself program g args (op.Chain k) f w on = absurd on
+calls_itself program g args o f w on = tt
 
 module _ {S : Type 0} {m : Setup S} (walk : Walk m) where
   open walk use {root, footing as k, frame as f, now, comes, tokens, level, trace, keeps}
@@ -42,7 +49,10 @@ module _ {S : Type 0} {m : Setup S} (walk : Walk m) where
         (enough : Enough walk o (under count operands)) where
       -- what came out of the body
       module _ (body : Act S) (onto : Onto m body root) (inside : ℕ) (up : inside ≡ now.level + 1)
-          (enters : (Runs : Act S → Type 0) → Runs body → Enters m g Runs (point walk o)) where
+          (own : IsNoChain o)
+          (enters : (Runs : Act S → Type 0) → Runs body → Enters m g Runs (point walk o))
+          (at_call : (Runs : Act S → Type 0) (runs : Runs body) →
+          position m f ≡ (enters Runs runs).position) where
         left : (Runs : Act S → Type 0) → Runs body →
             LeftCall m root k.level Runs (position m f)
         left Runs runs = record {
@@ -51,7 +61,7 @@ module _ {S : Type 0} {m : Setup S} (walk : Walk m) where
           own = level;
           function = g;
           enters = enters Runs runs;
-          position = refl;
+          position = at_call Runs runs;
         }
 
         -- a fault that no script may catch goes on at the call
@@ -80,7 +90,7 @@ module _ {S : Type 0} {m : Setup S} (walk : Walk m) where
             by_test (Even walk r) (catchable x) (raised m (without count (holding walk operands))
             wrapped w) (offered m (without count (holding walk operands)) (at_position p x) w)
             (λ may. even_raised_in walk o width stands (under count operands) enough r wrapped w s
-            (why walk o width stands wrapped refl (
+            (why walk o width stands wrapped (refl, own) (
               refl,
               may,
               (
@@ -92,7 +102,8 @@ module _ {S : Type 0} {m : Setup S} (walk : Walk m) where
               ),
             )))
             (λ passes. even_offered_in walk o width stands (under count operands) enough r
-            (at_position p x) w s (offers_on x w passes cause))
+            (at_position p x) w (blames_none walk o width stands (at_position p x) own) s
+            (offers_on x w passes cause))
 
         even_resumed :
             ((v : Dynamic) →
@@ -167,18 +178,19 @@ module _ {S : Type 0} {m : Setup S} (walk : Walk m) where
               keeps_nothing (bound m.program g.params args),
               (trace, (refl, omega arith, fits, tt, (refl, refl))),
             ),
-            λ onto mine x w t l there cut cause.
+            λ onto mine x w ends t l there cut cause.
                 even_resumed (Go (InFrame (frame_at g.chunk 0 None)) inside) onto (now.level + 1)
-                refl
+                refl (calls_itself m.program g args o f now calls_on)
                 (λ Runs runs. record {
                   arguments = args;
-                  calls = calls_on;
-                  inside = inside;
-                  comes = mine (InFrame (frame_at g.chunk 0 None)) inside here;
-                  scope = refl;
+                  this = None;
+                  position = position m f;
+                  start = start walk;
+                  calls = inl (calls_on, refl, refl, refl);
                   level = refl;
+                  comes = mine (InFrame (frame_at g.chunk 0 None)) inside here;
                   runs = runs;
-                }) u x w (t ∙ tokens) j cut cause,
+                }) (λ Runs runs. refl) u x w (t ∙ tokens) j cut cause,
           ))))
 
     -- a call of a function that may be there, and else of a native

@@ -1,13 +1,14 @@
 -- The walk over the rules through a chain.
-use Rattle.std.proofs.Common.{◌≡◌, ◌+◌, ℕ, List, [], ◌∷◌, ◌++◌, Option, Some, None, Bool, true, false, ◌&&◌, length, take, refl, sym, subst, inl}
+use Rattle.std.proofs.Common.{◌≡◌, ◌+◌, ℕ, List, [], ◌∷◌, ◌++◌, Option, Some, None, Bool, true, false, ◌&&◌, length, take, refl, sym, subst, ap, ◌∙◌, arith, inl}
+use Rattle.std.proofs.lemmas.List.{length-append}
 use Rattle.std.specs.Prelude.{slice_get, slice_set}
 use Rattle.grain_value.specs.Cells.{flat, idle, lent}
-use Rattle.grain_value.specs.Looking.{cell_of}
 use Rattle.grain_value.specs.Operands.{read_write, top, under}
 use Rattle.grain_value.specs.declared.stores.Cell.{Cell}
 use Rattle.grain_value.specs.declared.values.Dynamic.{Dynamic}
 use Rattle.grain_value.specs.declared.values.Held.{Held}
-use Rattle.grain_fault.specs.Problems.{Problem, Plain, AssignmentToConstant, DataRace, Malformed, NoMemory}
+use Rattle.grain_fault.specs.Problems.{Problem, Plain, AssignmentToConstant, DataRace, Malformed, NoMemory, UnboundThis}
+use Rattle.grain_fault.specs.declared.places.Position.{Position}
 use Rattle.grain_fault.specs.declared.faults.MalformedKind.TheVariants as kind
 use Rattle.grain_program.specs.Chains.{assigns, chain_takes, slot_of}
 use Rattle.grain_program.specs.Decoding.{op_at}
@@ -18,33 +19,42 @@ use Rattle.grain_program.specs.declared.code.chains.Root.TheVariants as root
 use Rattle.grain_program.specs.declared.code.chains.Tail.{Tail}
 use Rattle.grain_program.specs.declared.code.chains.Tail.TheVariants as tail
 use Rattle.grain_program.specs.declared.code.instruction_set.Op.{Op}
+use Rattle.grain_program.specs.declared.code.instruction_set.Op.TheVariants as op
 use Rattle.grain_means.specs.Places.{look}
 use Rattle.grain_means.specs.Rules as rules
-use Rattle.grain_means.specs.Rules.{assigned_operand, back_from, course_of, held_at, is_read_only, is_stop, leave_by_fault, new_root, offered, position, race_text, root_name, stepped, without}
+use Rattle.grain_means.specs.Rules.{assigned_operand, back_from, course_of, held_at, is_read_only, is_stop, leave_by_fault, new_root, offered, position, race_text, root_name, root_position, stepped, without}
 use Rattle.grain_means.specs.Tasks.{Task, Well, Ill}
 use Rattle.grain_means.specs.Walks.{whole_walk}
-use Rattle.grain_means.specs.Worlds.{Act, Frame, Setup, World}
-use Rattle.grain_means.specs.Causes.Chains.{AssignsValue, ChainReads, ChainRow, RootHolds, RootLends, by_walk, constant, past_scope, root_lent, value_lent, walk_of}
-use Rattle.grain_means.specs.Causes.Spots.{ChainWalk}
+use Rattle.grain_means.specs.Worlds.{Act, Frame, Place, Setup, World}
+use Rattle.grain_means.specs.Causes.Chains.{AssignsValue, ChainReads, ChainRow, RootHolds, RootLends, by_walk, constant, past_scope, root_lent, unbound, value_lent, walk_of, walk_place, walk_roots}
+use Rattle.grain_means.specs.Causes.Spots.{ChainWalk, WalkRow}
 use Rattle.grain_means.proofs.Explaining.{explained}
 use Rattle.grain_means.proofs.Footing.{Sits, by_test}
 use Rattle.grain_means.proofs.Kept.{keeps_set}
 use Rattle.grain_means.proofs.Lengths.{past_scope as scope_passed}
+use Rattle.grain_means.proofs.Tally.Calling.{CallsOf}
 use Rattle.grain_means.proofs.Tally.Entries.{busy_content}
 use Rattle.grain_means.proofs.Tally.Faults.{even_raised_at}
-use Rattle.grain_means.proofs.Tally.Frames.{Enough, Even, Reason, Steady, Walk, all_there, stepping, even_left_at, even_marked_at, even_onward, point, start, steady}
-use Rattle.grain_means.proofs.Tally.Walks.{even_walks}
+use Rattle.grain_means.proofs.Tally.Frames.{Enough, Even, ReasonAt, Steady, Walk, all_there, stepping, even_left_at, even_marked_at, even_onward, point, start, steady}
+use Rattle.grain_means.proofs.Tally.Roots.{IsAdded, added_cell, added_place, added_root}
+use Rattle.grain_means.proofs.Tally.Walks.{Kept, even_walks}
 
 module _ {S : Type 0} {m : Setup S} (walk : Walk m) where
   open walk use {root as whole_run, footing as k, frame as f, now, tokens, level, trace, keeps, sits}
 
   -- The chain of this index, by an instruction that stands where the frame does: the frame goes on
-  -- without the chain's operands and with one value more, and each fault has a reason by its row.
+  -- without the chain's operands and with one value more, each fault has a reason by its row, and what
+  -- the chain's walk calls, the chain calls.
   module _ (o : Op) (width : ℕ) (stands : op_at m.program.code f.address ≡ Some (o, width))
       (index : ℕ) (c : Chain) (after : Enough walk o (under (chain_takes c) f.operands))
       (on : (v : Dynamic) → Sits m whole_run k (stepped f (f.address + width)
       (under (chain_takes c) f.operands ++ read_write v ∷ [])))
-      (reason : (n : ℕ) (x : Problem) → ChainRow m c (point walk o) n x → Reason walk x) where
+      (reason : (n : ℕ) (x : Problem) → ChainRow m c (point walk o) n x →
+      ReasonAt walk (Some (slot_of m.program index n)) x)
+      (calls : (so_far : ChainReads m c (point walk o)) (r : Held) (cells : List Cell) →
+      RootLends (rules.lent_cell m.program c.steps so_far.held) so_far.held now r cells →
+      CallsOf walk o index (walk_of m c (point walk o) so_far.value
+      (rules.lent_cell m.program c.steps so_far.held) r cells)) where
     abbrev ran : ℕ
     ran = now.ran + 1
 
@@ -62,73 +72,116 @@ module _ {S : Type 0} {m : Setup S} (walk : Walk m) where
     Here w = Steady walk ran w × (w.trace ≡ [])
 
     -- the walk is over
-    over_well : (u : Dynamic) (changed : Bool) (w : World S) → Here w →
-        Even walk ran (rules.chain_over m index next walking (Well u changed) w)
-    over_well u changed w s =
-        even_onward walk ran (stepped walking next (walking.operands ++ read_write u ∷ [])) w s.0 s.1
+    over_well : (u : Dynamic) (changed : Bool) (n : ℕ) (w : World S) → Kept walk n w →
+        Even walk n (rules.chain_over m index next walking (Well u changed) w)
+    over_well u changed n w s =
+        even_onward walk n (stepped walking next (walking.operands ++ read_write u ∷ [])) w s.0 s.1
         (inl refl) (on u)
 
-    over_ill : (n : ℕ) (x : Problem) (w : World S) → ChainRow m c (point walk o) n x → Here w →
-        Even walk ran (rules.chain_over m index next walking (Ill n x) w)
-    over_ill n x w row s =
-        even_raised_at walk o width stands (Some (slot_of m.program index n)) f.position
-        walking.operands after ran x w s.0 (reason n x row)
+    over_ill : (j : ℕ) (x : Problem) (n : ℕ) (w : World S) →
+        ReasonAt walk (Some (slot_of m.program index j)) x → Steady walk n w →
+        Even walk n (rules.chain_over m index next walking (Ill j x) w)
+    over_ill j x n w because s =
+        even_raised_at walk o width stands (Some (slot_of m.program index j)) f.position
+        walking.operands after n x w s because
 
-    over_out : (n : ℕ) (w : World S) → is_stop m.stop w.passed ≡ true → Here w →
-        Even walk ran (rules.chain_over m index next walking (Ill n NoMemory) w)
-    over_out n w stop s =
-        let g : Frame = stepping walk (Some (slot_of m.program index n)) f.position walking.operands in
-        by_test (Even walk ran) (is_stop m.stop w.passed) (leave_by_fault m g NoMemory w)
+    over_out : (j n : ℕ) (w : World S) → is_stop m.stop w.passed ≡ true → Steady walk n w →
+        Even walk n (rules.chain_over m index next walking (Ill j NoMemory) w)
+    over_out j n w stop s =
+        let g : Frame = stepping walk (Some (slot_of m.program index j)) f.position walking.operands in
+        by_test (Even walk n) (is_stop m.stop w.passed) (leave_by_fault m g NoMemory w)
         (offered m g NoMemory (record w { passed = w.passed + 1 }))
-        (λ yes. even_left_at walk g ran NoMemory w refl (inl refl) sits.1 s.0 (inl (refl, stop)))
+        (λ yes. even_left_at walk g n NoMemory w refl (inl refl) sits.1 (inl refl) s
+        (inl (refl, stop)))
         (λ no. absurd cc)
 
-    -- the walk from a root, which then goes back
+    -- what is done with the roots once the walk is over
+    record Returns (back : World S → World S) : Type 0 where
+      pub stays : (n : ℕ) (w : World S) → Steady walk n w → Steady walk n (back w)
+      pub empty : (w : World S) → w.trace ≡ [] → (back w).trace ≡ []
+      pub marks : (w : World S) → (back w).passed ≡ w.passed
+
+    -- the walk of the chain, from its first root and beside these cells
     module _ (so_far : ChainReads m c (point walk o)) (r : Held) (cells : List Cell)
-        (lends : RootLends (cell_of so_far.held.value) so_far.held now r cells)
-        (back : Held → World S → World S)
-        (backs : (h : Held) (w : World S) → Here w → Here (back h w))
-        (marks : (h : Held) (w : World S) → (back h w).passed ≡ w.passed) where
-      abbrev steps : ChainWalk S
-      steps = walk_of m c (point walk o) so_far.value r cells
+        (lends : RootLends (rules.lent_cell m.program c.steps so_far.held) so_far.held now r cells)
+      where
+        abbrev steps : ChainWalk S
+        steps = walk_of m c (point walk o) so_far.value
+            (rules.lent_cell m.program c.steps so_far.held) r cells
 
-      abbrev out : World S → World S
-      out w = record w { roots = take (length now.roots) w.roots }
+        -- the same at a place, with this number of other roots
+        abbrev steps_at : Place → ℕ → List Held → ChainWalk S
+        steps_at place others roots = record {
+          course = course_of m c f so_far.value;
+          steps = c.steps;
+          place = place;
+          others = others;
+          start = record now {
+            ran = ran;
+            passed = now.passed + 1 + 1;
+            cells = cells;
+            roots = roots;
+          };
+        }
 
-      abbrev back_out : World S → World S
-      back_out w = back (look w.roots (new_root now.roots)) (out w)
+        moved : (p q : Place) (n : ℕ) (xs ys : List Held) → p ≡ q → xs ≡ ys → length ys ≡ n →
+            steps_at p (length xs) xs ≡ steps_at q n ys
+        moved p q n xs ys place roots size =
+            ap (λ (x : Place). steps_at x (length xs) xs) place
+            ∙ ap (λ (x : List Held). steps_at q (length x) x) roots
+            ∙ ap (λ (x : ℕ). steps_at q x ys) size
 
-      home : (w : World S) → Here w → Here (back_out w)
-      home w s = backs (look w.roots (new_root now.roots)) (out w) s
+        even_walked : (s : ChainWalk S) → steps ≡ s → (back : World S → World S) → Returns back →
+            Kept walk ran s.start →
+            Even walk ran (rules.walks m index walking s.place s.others
+            (whole_walk s.course s.steps)
+            (λ u w. rules.chain_over m index next walking u (back w)) s.start)
+        even_walked s same back home kept =
+            even_walks walk o width stands index walking s
+            (λ u w. rules.chain_over m index next walking u (back w))
+            (λ u changed n w at. over_well u changed n (back w)
+            (home.stays n w at.0, home.empty w at.1))
+            (λ j x n w because at. over_ill j x n (back w) because (home.stays n w at))
+            (λ j n w stop at. over_out j n (back w) (rw (home.marks w) stop) (home.stays n w at))
+            (λ j x row. reason j x (by_walk so_far r cells lends
+            (subst (λ (t : ChainWalk S). WalkRow m t j x) (sym same) row)))
+            (subst (CallsOf walk o index) same (calls so_far r cells lends))
+            (whole_walk s.course s.steps) s.start (explained m s) ran kept
 
-      even_walked : Even walk ran
-          (rules.walk_from m index (whole_walk (course_of m c f so_far.value) c.steps) next walking r
-          back (record now { ran = ran; passed = now.passed + 1 + 1; cells = cells }))
-      even_walked =
-          even_walks walk index walking steps
-          (λ u w. rules.chain_over m index next walking u (back_out w))
-          (λ u changed w s. over_well u changed (back_out w) (home w s))
-          (λ n x w row s. over_ill n x (back_out w) (by_walk so_far r cells lends row) (home w s))
-          (λ n w stop s. over_out n (back_out w) (stops w stop) (home w s))
-          (whole_walk (course_of m c f so_far.value) c.steps) steps.start (explained m steps)
-          ((refl, tokens, level, keeps), trace) where
-            stops : (w : World S) → is_stop m.stop w.passed ≡ true →
-                is_stop m.stop (back_out w).passed ≡ true
-            stops w stop =
-                rw (marks (look w.roots (new_root now.roots)) (out w)) stop
+        -- from a root that is added, and then goes back
+        even_added : IsAdded c.root (rules.lent_cell m.program c.steps so_far.held) f.this →
+            (back : Held → World S → World S) →
+            ((h : Held) → Returns (back h)) →
+            Even walk ran (rules.walk_from m index (whole_walk (course_of m c f so_far.value) c.steps)
+            next walking r back (record now { ran = ran; passed = now.passed + 1 + 1; cells = cells }))
+        even_added is back home =
+            let cell = rules.lent_cell m.program c.steps so_far.held in
+            let out : World S → World S = λ w. record w { roots = take (length now.roots) w.roots } in
+            let held : World S → Held = λ w. look w.roots (new_root now.roots) in
+            even_walked (steps_at (new_root now.roots) (length now.roots + 1) (now.roots ++ r ∷ []))
+            (moved (walk_place c.root cell f.this now.roots) (new_root now.roots)
+            (length now.roots + 1) (walk_roots c.root cell f.this r now.roots) (now.roots ++ r ∷ [])
+            (added_place c.root cell f.this now.roots is)
+            (added_root c.root cell f.this r now.roots is)
+            (omega (arith, length-append now.roots (r ∷ []))))
+            (λ w. back (held w) (out w)) (record {
+              stays = λ n w s. (home (held w)).stays n (out w) s;
+              empty = λ w s. (home (held w)).empty (out w) s;
+              marks = λ w. (home (held w)).marks (out w);
+            }) ((refl, tokens, level, keeps), trace)
 
     -- a root goes back to its entry
-    entry_back : (a : Root) (h : Held) (w : World S) → Here w → Here (back_from a walking h w)
-    entry_back (root.Local name slot) h w s = (
-      (s.0.0, s.0.1, s.0.2, keeps_set k.base k.names w.scope (f.base + slot) h s.0.3),
-      s.1,
-    )
-    entry_back root.Temporary h w s = s
-
-    entry_marks : (a : Root) (h : Held) (w : World S) →
-        (back_from a walking h w).passed ≡ w.passed
-    entry_marks (root.Local name slot) h w = refl
-    entry_marks root.Temporary h w = refl
+    entry_back : (a : Root) (h : Held) → Returns (back_from a walking h)
+    entry_back (root.Local name slot) h = record {
+      stays = λ n w s.
+          (s.0, s.1, s.2, keeps_set k.base k.names w.scope (f.base + slot) h s.3);
+      empty = λ w s. s;
+      marks = λ w. refl;
+    }
+    entry_back (root.This q) h =
+        record { stays = λ n w s. s; empty = λ w s. s; marks = λ w. refl }
+    entry_back root.Temporary h =
+        record { stays = λ n w s. s; empty = λ w s. s; marks = λ w. refl }
 
     -- a fault of the root
     even_rooting : (x : Problem) → ChainRow m c (point walk o) 0 x → (w : World S) → Here w →
@@ -145,8 +198,10 @@ module _ {S : Type 0} {m : Setup S} (walk : Walk m) where
       abbrev task : Task
       task = whole_walk (course_of m c f so_far.value) c.steps
 
-      even_cell : (i : ℕ) → cell_of so_far.held.value ≡ Some i → (a : Option Cell) →
-          slice_get now.cells i ≡ a →
+      abbrev cell : Option ℕ
+      cell = rules.lent_cell m.program c.steps so_far.held
+
+      even_cell : (i : ℕ) → cell ≡ Some i → (a : Option Cell) → slice_get now.cells i ≡ a →
           Even walk ran (rules.walk_cell m a i (is_read_only now so_far.held) index task next
           (root_name m.program c.root) rooting walking begun)
       even_cell i is None e =
@@ -159,39 +214,79 @@ module _ {S : Type 0} {m : Setup S} (walk : Walk m) where
           (record begun { cells = slice_set now.cells i (lent a.held) }))
           (λ busy. even_rooting _ (root_lent so_far i is (rw e (busy_content a busy))) begun
           ((refl, tokens, level, keeps), trace))
-          (λ free. even_walked so_far
+          (λ free. even_added so_far
           (record { value = a.held.value; read_only = is_read_only now so_far.held })
           (slice_set now.cells i (lent a.held))
           (subst (λ (x : Option ℕ). RootLends x so_far.held now
           (record { value = a.held.value; read_only = is_read_only now so_far.held })
-          (slice_set now.cells i (lent a.held))) (sym is) (a, e, free, refl, refl)) in_cell
-          (λ h w s. s) (λ h w. refl)) where
+          (slice_set now.cells i (lent a.held))) (sym is) (a, e, free, refl, refl))
+          (subst (λ (x : Option ℕ). IsAdded c.root x f.this) (sym is) (added_cell c.root i f.this))
+          in_cell
+          (λ h. record { stays = λ n w s. s; empty = λ w s. s; marks = λ w. refl })) where
             in_cell : Held → World S → World S
             in_cell = λ h w. record w {
               cells = slice_set w.cells i (idle (record a.held { value = h.value }));
             }
 
-      even_root : (b : Option ℕ) → cell_of so_far.held.value ≡ b →
+      module _ (is : cell ≡ None) where
+        lends_nothing : RootLends cell so_far.held now so_far.held now.cells
+        lends_nothing =
+            subst (λ (x : Option ℕ). RootLends x so_far.held now so_far.held now.cells) (sym is)
+            (refl, refl)
+
+        -- a root that is added
+        even_as_added : IsAdded c.root None f.this →
+            Even walk ran (rules.walk_from m index task next walking so_far.held
+            (back_from c.root walking) begun)
+        even_as_added added =
+            even_added so_far so_far.held now.cells lends_nothing
+            (subst (λ (x : Option ℕ). IsAdded c.root x f.this) (sym is) added)
+            (back_from c.root walking) (entry_back c.root)
+
+        -- the place of a `this`
+        even_at_place : (q : Position) → c.root ≡ root.This q → (p : Place) → f.this ≡ Some p →
+            Even walk ran (rules.walk_at m index task next walking p begun)
+        even_at_place q at p e =
+            even_walked so_far so_far.held now.cells lends_nothing
+            (steps_at so_far so_far.held now.cells lends_nothing p (length now.roots) now.roots)
+            (moved so_far so_far.held now.cells lends_nothing
+            (walk_place c.root cell f.this now.roots) p (length now.roots)
+            (walk_roots c.root cell f.this so_far.held now.roots) now.roots
+            (rw (at, is, e) refl) (rw (at, is, e) refl) refl) (λ w. w)
+            (record { stays = λ n w s. s; empty = λ w s. s; marks = λ w. refl })
+            ((refl, tokens, level, keeps), trace)
+
+        even_root_held : (a : Root) → c.root ≡ a → (this : Option Place) → f.this ≡ this →
+            Even walk ran (rules.walk_held m a this so_far.held index task next walking begun)
+        even_root_held (root.This q) at (Some p) e = even_at_place q at p e
+        even_root_held (root.This q) at None e =
+            subst (λ (a : Root). Even walk ran (rules.walk_from m index task next walking so_far.held
+            (back_from a walking) begun)) at (even_as_added (rw (at, e) tt))
+        even_root_held (root.Local name slot) at this e =
+            subst (λ (a : Root). Even walk ran (rules.walk_from m index task next walking so_far.held
+            (back_from a walking) begun)) at (even_as_added (rw at tt))
+        even_root_held root.Temporary at this e =
+            subst (λ (a : Root). Even walk ran (rules.walk_from m index task next walking so_far.held
+            (back_from a walking) begun)) at (even_as_added (rw at tt))
+
+      even_root : (b : Option ℕ) → cell ≡ b →
           Even walk ran (rules.walk_root m b so_far.held index c task next rooting walking begun)
-      even_root None is =
-          even_walked so_far so_far.held now.cells
-          (subst (λ (x : Option ℕ). RootLends x so_far.held now so_far.held now.cells) (sym is)
-          (refl, refl)) (back_from c.root walking) (entry_back c.root) (entry_marks c.root)
+      even_root None is = even_root_held is c.root refl f.this refl
       even_root (Some i) is = even_cell i is (slice_get now.cells i) refl
 
       even_so_far : Even walk ran (rules.marked m rooting (start walk)
-          (rules.walk_root m (cell_of so_far.held.value) so_far.held index c task next rooting
-          walking))
+          (rules.walk_root m cell so_far.held index c task next rooting walking))
       even_so_far =
           even_marked_at walk rooting ran (start walk) refl (inl refl) sits.1 (steady walk)
-          (rules.walk_root m (cell_of so_far.held.value) so_far.held index c task next rooting walking)
-          (even_root (cell_of so_far.held.value) refl)
+          (rules.walk_root m cell so_far.held index c task next rooting walking)
+          (even_root cell refl)
 
     -- the value is read
     module _ (h : Held) (holds : RootHolds c.root f now h)
         (writable : assigns c.tail && is_read_only now h ≡ false) where
       abbrev goes : Option Dynamic → Act S
-      goes v = rules.marked m rooting (start walk) (rules.walk_root m (cell_of h.value) h index c
+      goes v = rules.marked m rooting (start walk)
+          (rules.walk_root m (rules.lent_cell m.program c.steps h) h index c
           (whole_walk (course_of m c f v) c.steps) next rooting walking)
 
       even_read : (v : Option Dynamic) →
@@ -222,19 +317,28 @@ module _ {S : Type 0} {m : Setup S} (walk : Walk m) where
                 even_read (Some v) (subst (λ (x : Tail). AssignsValue x
                 (assigned_operand c f.operands) now (Some v)) (sym is) (v, refl, e))
 
+    -- the position of a root's faults is the same while its root is found
+    at_root_still : (a : Root) → root_position m a f ≡ root_position m a rooting
+    at_root_still (root.Local name slot) = refl
+    at_root_still (root.This q) = refl
+    at_root_still root.Temporary = refl
+
     even_held : (h : Held) → RootHolds c.root f now h →
         Even walk ran (rules.unless_constant m c h rooting (start walk)
         (rules.assigned_value m c.tail (assigned_operand c f.operands) rooting (start walk) (λ v.
-        rules.marked m rooting (start walk) (rules.walk_root m (cell_of h.value) h index c
-        (whole_walk (course_of m c f v) c.steps) next rooting walking))))
+        rules.marked m rooting (start walk) (rules.walk_root m (rules.lent_cell m.program c.steps h)
+        h index c (whole_walk (course_of m c f v) c.steps) next rooting walking))))
     even_held h holds =
-        let x = Plain (AssignmentToConstant (root_name m.program c.root)) (position m f) in
+        let x = Plain (AssignmentToConstant (root_name m.program c.root))
+        (root_position m c.root rooting) in
         by_test (Even walk ran) (assigns c.tail && is_read_only now h)
         (rules.raised m rooting x (start walk))
         (rules.assigned_value m c.tail (assigned_operand c f.operands) rooting (start walk) (λ v.
-        rules.marked m rooting (start walk) (rules.walk_root m (cell_of h.value) h index c
-        (whole_walk (course_of m c f v) c.steps) next rooting walking)))
-        (λ yes. even_rooting x (constant h holds yes) (start walk) (steady walk, trace))
+        rules.marked m rooting (start walk) (rules.walk_root m (rules.lent_cell m.program c.steps h)
+        h index c (whole_walk (course_of m c f v) c.steps) next rooting walking)))
+        (λ yes. even_rooting x (subst (λ (q : Position). ChainRow m c (point walk o) 0
+        (Plain (AssignmentToConstant (root_name m.program c.root)) q)) (at_root_still c.root)
+        (constant h holds yes)) (start walk) (steady walk, trace))
         (λ no. even_value h holds no c.tail refl)
 
     even_at : (a : Root) → c.root ≡ a → (go : Held → Act S) →
@@ -249,6 +353,12 @@ module _ {S : Type 0} {m : Setup S} (walk : Walk m) where
               (position m f)) (past_scope name slot is (scope_passed now.scope (f.base + slot) e))
               (start walk) (steady walk, trace)
           by_entry (Some h) e = rest h e
+    even_at (root.This q) is go rest = by_place f.this refl where
+      by_place : (this : Option Place) → f.this ≡ this →
+          Even walk ran (rules.at_place m this q rooting (start walk) (λ p. go (look now.roots p)))
+      by_place None e =
+          even_rooting (Plain UnboundThis q) (unbound q is e) (start walk) (steady walk, trace)
+      by_place (Some p) e = rest (look now.roots p) (p, e, refl)
     even_at root.Temporary is go rest = rest (top f.operands) refl
 
     even_chain_in : Even walk ran (rules.chain_in m index c next rooting walking (start walk))
@@ -256,11 +366,32 @@ module _ {S : Type 0} {m : Setup S} (walk : Walk m) where
         even_at c.root refl _ (λ h holds. even_held h holds)
 
   pub even_chain : (o : Op) (width : ℕ) → op_at m.program.code f.address ≡ Some (o, width) →
-      (index : ℕ) → (let c = chain_of m.program index in
+      (index : ℕ) → o ≡ op.Chain index → (let c = chain_of m.program index in
       Enough walk o (under (chain_takes c) f.operands) →
       ((v : Dynamic) → Sits m whole_run k (stepped f (f.address + width)
       (under (chain_takes c) f.operands ++ read_write v ∷ []))) →
-      ((n : ℕ) (x : Problem) → ChainRow m c (point walk o) n x → Reason walk x) →
+      ((n : ℕ) (x : Problem) → ChainRow m c (point walk o) n x →
+      ReasonAt walk (Some (slot_of m.program index n)) x) →
       Even walk (now.ran + 1) (rules.chain m index (f.address + width) f (start walk)))
-  even_chain o width stands index after on reason =
+  even_chain o width stands index is after on reason =
       even_chain_in o width stands index (chain_of m.program index) after on reason
+      (λ so_far r cells lends j at this v under starts. (
+        record {
+          index = index;
+          is = is;
+          so_far = so_far;
+          root = r;
+          cells = cells;
+          lends = lends;
+          step = j;
+          invokes = at;
+          function = refl;
+          arguments = refl;
+          under = under;
+          position = refl;
+          starts = starts;
+        },
+        refl,
+        refl,
+        λ x u ends. (u, ends),
+      ))

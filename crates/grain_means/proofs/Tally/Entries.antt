@@ -18,10 +18,12 @@ use Rattle.grain_program.specs.View.{name_of}
 use Rattle.grain_value.specs.Cells.{flat, content, idle}
 use Rattle.grain_value.specs.declared.stores.Cell.{Cell}
 use Rattle.grain_means.specs.Worlds.{Act, World, Setup, Frame}
-use Rattle.grain_means.specs.Rules.{written, held_at, stepped, is_full, marked, onward, at_entry, declare, assignment_to_constant, write_entry, position, flattened, data_race, cell_written, operand_for, shared, is_read_only}
+use Rattle.grain_means.specs.Places.{put}
+use Rattle.grain_means.specs.Rules.{Home, InScope, InCell, AtPlace, in_entry, assigned_at, held_at, stepped, is_full, marked, onward, at_entry, declare, assignment_to_constant, write_entry, position, flattened, data_race, cell_written, operand_for, shared, is_read_only}
 use Rattle.grain_means.specs.Causes.{ReadsTop, Overfills, UsesEntry, Holds, AssignsConstant, ReadsLent, IsLent, AssignsLent, StoresLent}
 use Rattle.grain_means.proofs.Kept.{keeps_push, keeps_set}
 use Rattle.grain_means.proofs.Lengths.{past_scope}
+use Rattle.grain_means.proofs.Readable.{IsHomeOf, home_in_entry}
 use Rattle.grain_means.proofs.Footing.{Sits, by_test}
 use Rattle.grain_means.proofs.Tally.Frames.{Walk, Even, Steady, start, steady, even_marked, even_onward, even_written}
 use Rattle.grain_means.proofs.Tally.Faults.{why, even_raised, even_race, even_flat, even_on}
@@ -76,9 +78,9 @@ module _ {S : Type 0} {m : Setup S} (walk : Walk m) where
         (why walk o width stands (Plain (AssignmentToConstant (name_of m.program n)) (position m f))
         refl constant)
 
-    -- this into an entry or its cell, in a world
+    -- this is written in a world, where something else is held so far
     module _ (w : World S) (s : Steady walk (now.ran + 1) w) (t : w.trace ≡ []) (before : Held)
-        (name : List ℕ) (slot : ℕ) (h : Held)
+        (name : List ℕ) (h : Held)
         (u : Sits m root k (stepped f (f.address + width) (below f.operands)))
         (race : flat w.cells before.value ≡ None → Even walk (now.ran + 1) (data_race m name f w))
       where
@@ -98,19 +100,30 @@ module _ {S : Type 0} {m : Setup S} (walk : Walk m) where
             (record w { passed = w.passed + 1; cells = slice_set w.cells n (idle h) }) s t (inl refl)
             u))
 
-        even_in_entry : (cell : Option ℕ) → cell_of before.value ≡ cell →
-            Even walk (now.ran + 1) (written m cell (f.base + slot) h name f w (onward m f after_it))
-        even_in_entry None is =
+        pub even_written_at : (a : Home) → IsHomeOf (cell_of before.value) a →
+            Even walk (now.ran + 1) (assigned_at m a h name (f.address + width) f w)
+        even_written_at (InScope i) is =
             even_marked walk (now.ran + 1) w s
-            (λ w1. onward m f after_it (record w1 { scope = set_held w1.scope (f.base + slot) h }))
+            (λ w1. onward m f after_it (record w1 { scope = set_held w1.scope i h }))
             (even_onward walk (now.ran + 1) after_it
-            (record w { passed = w.passed + 1; scope = set_held w.scope (f.base + slot) h })
-            (s.0, s.1, s.2, keeps_set k.base k.names w.scope (f.base + slot) h s.3) t (inl refl) u)
-        even_in_entry (Some n) is = even_in_cell n is (slice_get w.cells n) refl
+            (record w { passed = w.passed + 1; scope = set_held w.scope i h })
+            (s.0, s.1, s.2, keeps_set k.base k.names w.scope i h s.3) t (inl refl) u)
+        even_written_at (InCell n) is = even_in_cell n is (slice_get w.cells n) refl
+        even_written_at (AtPlace p) is =
+            even_marked walk (now.ran + 1) w s
+            (λ w1. onward m f after_it (record w1 { roots = put w1.roots p h.value }))
+            (even_onward walk (now.ran + 1) after_it
+            (record w { passed = w.passed + 1; roots = put w.roots p h.value }) s t (inl refl) u)
 
-        pub even_entry_in : Even walk (now.ran + 1) (write_entry m before slot h name
-            (f.address + width) f w)
-        even_entry_in = even_in_entry (cell_of before.value) refl
+    -- this where something else is held so far, which may be a lent cell
+    pub even_home : (before : Held) (name : List ℕ) (a : Home) → IsHomeOf (cell_of before.value) a →
+        (h : Held) → Sits m root k (stepped f (f.address + width) (below f.operands)) →
+        (IsLent now before → ReadsLent m.program name o f now) →
+        Even walk (now.ran + 1) (assigned_at m a h name (f.address + width) f (start walk))
+    even_home before name a home h u lent =
+        even_written_at (start walk) (steady walk) trace before name h u
+        (λ none. even_race walk o width stands name (inl (lent none)) (start walk) (steady walk))
+        a home
 
     pub even_entry : (before : Held) (name : List ℕ) (slot : ℕ) (h : Held) →
         Sits m root k (stepped f (f.address + width) (below f.operands)) →
@@ -118,8 +131,8 @@ module _ {S : Type 0} {m : Setup S} (walk : Walk m) where
         Even walk (now.ran + 1) (write_entry m before slot h name (f.address + width) f
         (start walk))
     even_entry before name slot h u lent =
-        even_entry_in (start walk) (steady walk) trace before name slot h u
-        (λ none. even_race walk o width stands name (inl (lent none)) (start walk) (steady walk))
+        even_home before name (in_entry (f.base + slot) (cell_of before.value))
+        (home_in_entry (f.base + slot) (cell_of before.value)) h u lent
 
     -- the last operand into an entry, or its cell
     pub even_stored_in : (read_only : Bool) (slot : ℕ) (before : Held) →

@@ -1,6 +1,6 @@
 -- The walk at an instruction: the faults that it raises, the cells that it finds lent, the
 -- operations that it is charged, and how its frame goes on.
-use Rattle.std.proofs.Common.{◌≡◌, ◌≤◌, ◌<◌, ◌⊎◌, ℕ, ◌+◌, ◌-◌, List, [], Option, Some, None, refl, sym, ap, inl, inr, length, nat_lt, nat_le}
+use Rattle.std.proofs.Common.{◌≡◌, ◌≤◌, ◌<◌, ◌⊎◌, ℕ, ◌+◌, ◌-◌, List, [], Option, Some, None, refl, sym, subst, ap, inl, inr, length, nat_lt, nat_le}
 use Rattle.std.proofs.lemmas.Bool.{ltb-true, ltb-false, leb-true}
 use Rattle.grain_value.specs.declared.values.Dynamic.{Dynamic}
 use Rattle.grain_value.specs.declared.values.Held.{Held}
@@ -8,6 +8,7 @@ use Rattle.grain_fault.specs.Positions.{at_position_if_none, position_of_problem
 use Rattle.grain_fault.specs.declared.places.Position.{Position}
 use Rattle.grain_fault.specs.Problems.{Problem, Plain, TooManyOperations}
 use Rattle.grain_fault.specs.Problems as problem
+use Rattle.grain_program.specs.Chains.{slot_of}
 use Rattle.grain_program.specs.View.{chain_of}
 use Rattle.grain_program.specs.declared.code.instruction_set.Op.{Op}
 use Rattle.grain_program.specs.declared.code.instruction_set.Op.TheVariants as op
@@ -23,11 +24,12 @@ use Rattle.grain_host.specs.Law.{Verdict, GoOn, Stop}
 use Rattle.grain_means.proofs.Moving.{placed_here, placed_if_none}
 use Rattle.grain_means.specs.Rules.{offered, on_verdict, progressed, stepped, marked, raised, charged, onward, jumped, position, flat_or_race, flat_all, all_or_race, data_race, race_text}
 use Rattle.grain_means.specs.Comes.{Meets, tries}
-use Rattle.grain_means.specs.Causes.{ChainRow, HostAnswers, RaisedByChain, HasPosition, Charges, IsCharged, Row, ReadsLent, AnswersLent, IsLent}
-use Rattle.grain_means.proofs.Chainless.{no_chain}
+use Rattle.grain_means.specs.Causes.{ChainRow, HostAnswers, RaisedByChain, Charges, IsCharged, IsNoChain, Row, ReadsLent, AnswersLent, IsLent}
+use Rattle.grain_means.specs.Blame.{Blames, FailsAtStep, at_step, no_step}
+use Rattle.grain_means.proofs.Chainless.{IsOwn, no_chain, not_answered, own_position}
 use Rattle.grain_means.proofs.Standing.{Fitting, fits_next, fits_covered}
 use Rattle.grain_means.proofs.Footing.{Sits, by_test, unit_by_row, Offers}
-use Rattle.grain_means.proofs.Tally.Frames.{Walk, Even, Steady, start, steady, even_marked, even_marked_at, holding, stepping, even_offered, even_onward, point, Reason, Enough, all_there}
+use Rattle.grain_means.proofs.Tally.Frames.{Walk, Even, Steady, start, steady, even_marked, even_marked_at, holding, stepping, even_offered, even_onward, point, Blame, Reason, ReasonAt, Enough, all_there}
 
 module _ {S : Type 0} {m : Setup S} (walk : Walk m) where
   open walk use {root, footing as k, frame as f, now, comes, level, trace, sits}
@@ -37,17 +39,40 @@ module _ {S : Type 0} {m : Setup S} (walk : Walk m) where
     pub met : Meets m (point walk o) root
     met = record { comes = comes; blames = sits.4; width = width; stands = stands }
 
+    -- what this fault blames, which was raised here
+    blames : (slot : Option ℕ) (x : Problem) → Blames m (point walk o) x slot → Blame walk slot x
+    blames slot x named = inr (record {
+      instruction = o;
+      width = width;
+      stands = stands;
+      raised = x;
+      blames = named;
+      left = inl refl;
+    })
+
+    -- an instruction that is no chain blames no step
+    pub blames_none : (x : Problem) → IsNoChain o → Blame walk f.slot x
+    blames_none x plain =
+        blames f.slot x (subst (Blames m (point walk o) x) (sym sits.4.0) (no_step plain))
+
+    -- a chain of this index blames the step of whose fault it ends
+    pub blames_step : (k n : ℕ) (x : Problem) → o ≡ op.Chain k →
+        FailsAtStep m k (point walk o) n x → Blame walk (Some (slot_of m.program k n)) x
+    blames_step k n x is how = blames (Some (slot_of m.program k n)) x (at_step k n is how)
+
     -- why the instruction raises this fault
-    pub why : (x : Problem) → HasPosition (position m f) x → Row m x (point walk o) → Reason walk x
-    why x p row = (
-      inl (record {
-        point = point walk o;
-        met = met;
-        why = inl row;
-        tells = inl (level, inl (no_chain m x o f now row, p));
-      }),
-      unit_by_row m root k.level (point walk o) met level x p row,
-    )
+    pub why : (x : Problem) → IsOwn (position m f) o x → Row m x (point walk o) → Reason walk x
+    why x own row =
+        let has = own_position (position m f) o x own in (
+          inl (record {
+            point = point walk o;
+            met = met;
+            why = inl row;
+            tells = inl (level, inl (no_chain m x o f now own row, has));
+          }),
+          unit_by_row m root k.level (point walk o) met level x has row,
+          blames_none x (no_chain m x o f now own row),
+        )
 
     -- why the run ends in what the host answered
     pub why_answered : (y : Problem) → HostAnswers m y (point walk o) →
@@ -59,7 +84,7 @@ module _ {S : Type 0} {m : Setup S} (walk : Walk m) where
             point = point walk o;
             met = met;
             why = inr (y, placed.0, inl answers, placed.1);
-            tells = inl (level, inr (inl (y, answers, refl)));
+            tells = inl (level, inr (inr (inl (y, answers, refl))));
           }),
           λ unit. (
             record {
@@ -70,18 +95,20 @@ module _ {S : Type 0} {m : Setup S} (walk : Walk m) where
             },
             refl,
           ),
+          blames_none x (not_answered m y o f now answers),
         )
 
     -- why the run ends in the fault of a chain
     pub why_chain : (k n : ℕ) (x : Problem) → o ≡ op.Chain k →
-        ChainRow m (chain_of m.program k) (point walk o) n x → Reason walk x
+        ChainRow m (chain_of m.program k) (point walk o) n x →
+        ReasonAt walk (Some (slot_of m.program k n)) x
     why_chain k n x is row =
         let how : RaisedByChain m x (point walk o) = (k, n, is, row) in (
           inl (record {
             point = point walk o;
             met = met;
             why = inr (x, position_of_problem x, inr how, sym (placed_here x));
-            tells = inl (level, inr (inr how));
+            tells = inl (level, inr (inr (inr how)));
           }),
           λ unit. (
             record {
@@ -92,32 +119,34 @@ module _ {S : Type 0} {m : Setup S} (walk : Walk m) where
             },
             refl,
           ),
+          blames_step k n x is (inl row),
         )
 
     -- a fault is offered to the frame's handlers, where no more operands are gone than the
     -- instruction takes
     pub even_offered_at : (slot : Option ℕ) (position : Option Position) (operands : List Held) →
-        Enough walk o operands → (r : ℕ) (x : Problem) (w : World S) → Steady walk r w →
-        Offers m root k.level f.handlers x w →
+        Enough walk o operands → (r : ℕ) (x : Problem) (w : World S) → Blame walk slot x →
+        Steady walk r w → Offers m root k.level f.handlers x w →
         Even walk r (offered m (stepping walk slot position operands) x w)
-    even_offered_at slot position operands enough r x w s offers =
+    even_offered_at slot position operands enough r x w blame s offers =
         even_offered walk [] f.handlers refl sits.3 slot position operands
         (λ valid. fits_covered m.program valid f o width stands operands enough (sits.2 valid)) r
-        x w (λ unit. tt) s (λ stays. offers.0, offers.1)
+        x w (λ unit. tt) blame s (λ stays. offers.0, offers.1)
 
     pub even_offered_in : (operands : List Held) → Enough walk o operands → (r : ℕ) (x : Problem)
-        (w : World S) → Steady walk r w → Offers m root k.level f.handlers x w →
+        (w : World S) → Blame walk f.slot x → Steady walk r w →
+        Offers m root k.level f.handlers x w →
         Even walk r (offered m (holding walk operands) x w)
     even_offered_in operands = even_offered_at f.slot f.position operands
 
     pub even_raised_at : (slot : Option ℕ) (position : Option Position) (operands : List Held) →
         Enough walk o operands → (r : ℕ) (x : Problem) (w : World S) → Steady walk r w →
-        Reason walk x → Even walk r (raised m (stepping walk slot position operands) x w)
+        ReasonAt walk slot x → Even walk r (raised m (stepping walk slot position operands) x w)
     even_raised_at slot position operands enough r x w s reason =
         let on : Frame = stepping walk slot position operands in
         even_marked_at walk on r w refl (inl refl) sits.1 s (offered m on x)
-        (even_offered_at slot position operands enough r x (record w { passed = w.passed + 1 }) s
-        (inr reason.0, reason.1))
+        (even_offered_at slot position operands enough r x (record w { passed = w.passed + 1 })
+        reason.2 s (inr reason.0, reason.1))
 
     pub even_raised_in : (operands : List Held) → Enough walk o operands → (r : ℕ) (x : Problem)
         (w : World S) → Steady walk r w → Reason walk x → Even walk r

@@ -1,10 +1,11 @@
 -- The walk at a frame: marks, faults that leave it or are offered to its handlers, and writes.
-use Rattle.std.proofs.Common.{◌≡◌, ◌≤◌, ◌⊎◌, ℕ, ◌+◌, ◌-◌, List, [], ◌∷◌, ◌++◌, Option, None, true, refl, sym, subst, ◌∙◌, inl, inr, arith, length, take, if◌then◌else◌, append_assoc}
+use Rattle.std.proofs.Common.{◌≡◌, ◌≤◌, ◌⊎◌, ℕ, ◌+◌, ◌-◌, List, [], ◌∷◌, ◌++◌, Option, None, Bool, true, false, refl, sym, subst, ap, ◌∙◌, inl, inr, arith, length, take, if◌then◌else◌, append_assoc}
 use Rattle.grain_value.specs.declared.values.Dynamic.{Dynamic}
 use Rattle.grain_value.specs.declared.values.Held.{Held}
 use Rattle.grain_value.specs.declared.scopes.Entry.{Entry}
 use Rattle.grain_value.specs.Operands.{below, read_write}
 use Rattle.grain_fault.specs.Classes.{catchable}
+use Rattle.grain_fault.specs.Positions.{at_position, position_of_problem}
 use Rattle.grain_fault.specs.declared.places.Position.{Position}
 use Rattle.grain_fault.specs.Problems.{Problem, NoMemory}
 use Rattle.grain_program.specs.declared.code.instruction_set.Op.{Op}
@@ -14,11 +15,13 @@ use Rattle.grain_means.specs.Worlds.{Act, Go, Failed, World, Setup, Frame, Handl
 use Rattle.grain_means.specs.Rules.{throws_unit, offered_to, thrown_anew, outer_handlers, is_stop, leave_by_fault, marked, onward, next}
 use Rattle.grain_means.specs.Comes.{ProgramPoint, Comes, try_of, tries}
 use Rattle.grain_means.specs.Leavings.{Keeps, AtCheckpoint, Cut}
+use Rattle.grain_means.specs.Blame.{Blamed}
 use Rattle.grain_means.specs.Causes.{HaveCaughtUnit, Cause, Caused}
 use Rattle.grain_means.proofs.Kept.{keeps_cut}
 use Rattle.grain_means.proofs.Lengths.{cut_short, length_under, length_pushed}
+use Rattle.grain_means.proofs.Moving.{unit_caught}
 use Rattle.grain_means.proofs.Standing.{Covered, covered_outside}
-use Rattle.grain_means.proofs.Footing.{Footing, HasCaught, Guarded, Sits, Tally, by_test, by_arming, cause_in, UnitThrown, OffersTo, left_so_far, offers_anew}
+use Rattle.grain_means.proofs.Footing.{Footing, HasCaught, Guarded, Sits, Tally, by_test, by_arming, cause_in, true-false, UnitThrown, OffersTo, left_so_far, offers_anew}
 
 -- where the walk is: the run of a root, on a footing, at an instruction of a frame
 pub record Walk {S : Type 0} (m : Setup S) : Type 0 where
@@ -71,11 +74,15 @@ module _ {S : Type 0} {m : Setup S} (walk : Walk m) where
   short x n scope (inl e) le = inl (omega (arith, e, le))
   short x n scope (inr (out, c, e)) le = inr (out, c, omega (arith, e, le))
 
+  -- memory is out, or the frame is left by this fault with the slot of what it blames
+  abbrev pub Blame : Option ℕ → Problem → Type 0
+  Blame slot x = (x ≡ NoMemory) ⊎ Blamed m f now slot x
+
   -- a fault leaves the frame, at its own floor or at that of a checkpoint that is done
   pub even_left_at : (g : Frame) (r : ℕ) (x : Problem) (w : World S) → g.address ≡ f.address →
-      FloorFor x g.floor → k.base ≤ g.floor → Steady r w → Caused m root k.level (Failed x) w →
-      Even r (leave_by_fault m g x w)
-  even_left_at g r x w same floor low s cause =
+      FloorFor x g.floor → k.base ≤ g.floor → Blame g.slot x → Steady r w →
+      Caused m root k.level (Failed x) w → Even r (leave_by_fault m g x w)
+  even_left_at g r x w same floor low blame s cause =
       let cut : Cut m root k.level k.base x (take g.floor w.scope)
       (w.trace ++ record { address = g.address; slot = g.slot } ∷ []) = record {
         frame = f;
@@ -86,6 +93,7 @@ module _ {S : Type 0} {m : Setup S} (walk : Walk m) where
         inner = w.trace;
         slot = g.slot;
         last = rw same refl;
+        blames = blame;
         short = short x g.floor (take g.floor w.scope) floor (cut_short g.floor w.scope);
       } in
       (s.0, s.1, s.2, keeps_cut k.base g.floor k.names w.scope low s.3, inl cut, cause)
@@ -97,7 +105,7 @@ module _ {S : Type 0} {m : Setup S} (walk : Walk m) where
   even_marked_at g r w same floor low s go h =
       by_test (Even r) (is_stop m.stop w.passed) (leave_by_fault m g NoMemory w)
       (go (record w { passed = w.passed + 1 }))
-      (λ stop. even_left_at g r NoMemory w same (out_of_memory g.floor floor) low s
+      (λ stop. even_left_at g r NoMemory w same (out_of_memory g.floor floor) low (inl refl) s
       (inl (refl, stop))) (λ _. h)
 
   pub even_marked : (r : ℕ) (w : World S) → Steady r w → (go : World S → Act S) →
@@ -130,19 +138,48 @@ module _ {S : Type 0} {m : Setup S} (walk : Walk m) where
   abbrev pub unguarded : ℕ → Frame
   unguarded next = record f { address = next; handlers = outer_handlers f.handlers }
 
+  -- what was caught and is thrown anew leaves the frame with the slot of the throw
+  blame_anew : (slot : Option ℕ) (x y : Problem) → Blame slot x → Blame slot (thrown_anew y x)
+  blame_anew slot x y (inl out) = inl (rw out refl)
+  blame_anew slot x y (inr b) = by_unit (throws_unit x) refl where
+    thrown : throws_unit x ≡ true →
+        (x ≡ b.raised) ⊎ ((throws_unit b.raised ≡ true)
+        ⊎ ((catchable b.raised ≡ true) × (catchable x ≡ false))) → throws_unit b.raised ≡ true
+    thrown unit (inl same) = sym (ap throws_unit same) ∙ unit
+    thrown unit (inr (inl raised)) = raised
+    thrown unit (inr (inr passes)) = true-false (unit_caught x unit) passes.1
+
+    by_unit : (a : Bool) → throws_unit x ≡ a →
+        Blame slot (if a then at_position (position_of_problem x) y else x)
+    by_unit false e = inr b
+    by_unit true e = inr (record {
+      instruction = b.instruction;
+      width = b.width;
+      stands = b.stands;
+      raised = b.raised;
+      blames = b.blames;
+      left = inr (inl (thrown e b.left));
+    })
+
+  -- what a script may catch was not raised by want of memory
+  blamed_in : (slot : Option ℕ) (x : Problem) → catchable x ≡ true → Blame slot x →
+      Blamed m f now slot x
+  blamed_in slot x may (inl out) = true-false may (ap catchable out)
+  blamed_in slot x may (inr b) = b
+
   -- a fault is offered to handlers of the frame, and what they need of its operands is there; where
   -- it throws unit, those inside of them have caught throws of unit
   pub even_offered : (inside hs : List Handler) → f.handlers ≡ inside ++ hs →
       Guarded m root k hs → (slot : Option ℕ) (position : Option Position)
       (operands : List Held) →
       (IsProgram m.program → Covered m.program operands (tries hs)) → (r : ℕ) (x : Problem)
-      (w : World S) → (throws_unit x ≡ true → HaveCaughtUnit inside) → Steady r w →
+      (w : World S) → (throws_unit x ≡ true → HaveCaughtUnit inside) → Blame slot x → Steady r w →
       OffersTo m root k.level f.handlers hs x w →
       Even r (offered_to m hs (stepping slot position operands) x w)
-  even_offered inside [] split g slot position operands covered r x w left s offers =
-      even_left_at (stepping slot position operands) r x w refl (inl refl) sits.1 s
+  even_offered inside [] split g slot position operands covered r x w left blame s offers =
+      even_left_at (stepping slot position operands) r x w refl (inl refl) sits.1 blame s
       (offers.0 (λ unit. tt))
-  even_offered inside (h ∷ hs) split g slot position operands covered r x w left s offers =
+  even_offered inside (h ∷ hs) split g slot position operands covered r x w left blame s offers =
       let on : Frame = stepping slot position operands in
       let around : Frame = record on { handlers = hs } in
       by_arming m (Even r) h.caught
@@ -170,14 +207,15 @@ module _ {S : Type 0} {m : Setup S} (walk : Walk m) where
           armed = none;
           may = may;
           cause = cause_in m root k.level x w may (offers.0 (λ unit. none));
+          blamed = blamed_in slot x may blame;
           covered = covered;
         },
       ))
-      (λ _. even_left_at on r x w refl (inl refl) sits.1 s (offers.0 (λ unit. none))))
+      (λ _. even_left_at on r x w refl (inl refl) sits.1 blame s (offers.0 (λ unit. none))))
       (λ y e. even_offered (inside ++ h ∷ []) hs (split ∙ sym (append_assoc inside (h ∷ []) hs))
       g.2 slot position operands
       (λ valid. covered_outside m.program operands (try_of h) (tries hs) (covered valid)) r
-      (thrown_anew y x) w (left_so_far m inside h x y left e) s
+      (thrown_anew y x) w (left_so_far m inside h x y left e) (blame_anew slot x y blame) s
       (offers_anew m root k.level f.handlers inside hs h y
       (subst (HasCaught m root k.level h) e g.1) split x w left offers))
 
@@ -211,9 +249,15 @@ module _ {S : Type 0} {m : Setup S} (walk : Walk m) where
   abbrev pub point : Op → ProgramPoint S
   point o = record { instruction = o; frame = f; world = now }
 
-  -- why a fault is raised here, and that it is thrown here if it is a throw of unit
+  -- why a fault is raised here, that it is thrown here if it is a throw of unit, and that this is the slot
+  -- of what it blames
+  abbrev pub ReasonAt : Option ℕ → Problem → Type 0
+  ReasonAt slot x =
+      Cause m root k.level x × UnitThrown m root k.level f.handlers x × Blame slot x
+
+  -- the same of what blames no step
   abbrev pub Reason : Problem → Type 0
-  Reason x = Cause m root k.level x × UnitThrown m root k.level f.handlers x
+  Reason x = ReasonAt f.slot x
 
   -- there are no fewer operands than an instruction leaves of those that were there
   abbrev pub Enough : Op → List Held → Type 0

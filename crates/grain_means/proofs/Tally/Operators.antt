@@ -14,19 +14,19 @@ use Rattle.grain_program.specs.View.{name_of}
 use Rattle.grain_ops.specs.Outcomes.{Outcome, NotBuiltIn, Gave, ArithmeticFault, TooLarge}
 use Rattle.grain_value.specs.Cells.{flat}
 use Rattle.grain_value.specs.declared.stores.Cell.{Cell}
-use Rattle.grain_means.proofs.Readable.{stays_readable}
+use Rattle.grain_means.proofs.Readable.{IsHomeOf, home_in_entry, stays_readable}
 use Rattle.grain_means.specs.Worlds.{World, Setup}
 use Rattle.grain_host.specs.Signatures.{not_found, says_missing}
 use Rattle.grain_host.specs.Law as reply
 use Rattle.grain_value.specs.declared.natives.Native.{Native}
-use Rattle.grain_means.specs.Rules.{InScope, Receiver, given, content_now, operator_assigned, op_assign_failed, native_assigned, trees_in, pushed, held_at, stepped, op_assigned, onward, push_outcome, assignment_to_constant, write_entry, store_outcome, position, flattened, is_read_only}
+use Rattle.grain_means.specs.Rules.{Home, Receiver, assigned_at, assignment_to_constant, content_now, entry_of_slot, flattened, given, held_at, is_read_only, native_assigned_at, onward, op_assign_failed_at, op_assigned, operator_at, outcome_at, position, push_outcome, pushed, stepped, store_outcome, trees_in}
 use Rattle.grain_means.specs.Comes.{ProgramPoint}
 use Rattle.grain_means.specs.Causes.{Question, native_asked, reply_to, asks_first, EndsWith, HasNoBuiltIn, AssignsByHost, AsksAgain, AsksSecond, AsksNative, IsCalled, ReadsTop, Holds, AssignsConstant, Operates, ReadsLent, AnswersLent, IsLent, AssignsLent}
 use Rattle.grain_means.proofs.Footing.{Sits, by_test}
 use Rattle.grain_means.proofs.Tally.Frames.{Walk, Even, Steady, start, steady, even_onward, point, all_there}
 use Rattle.grain_means.proofs.Tally.Faults.{why, even_raised, even_flat, even_flat_in, even_on}
 use Rattle.grain_means.proofs.Tally.Natives.{answered_by, steady_after, none_raised, refused_raised, failed_raised, even_found, even_native}
-use Rattle.grain_means.proofs.Tally.Entries.{even_constant, even_entry_in, even_entry}
+use Rattle.grain_means.proofs.Tally.Entries.{even_constant, even_home, even_written_at}
 
 none_some : {A : Type 0} {x : A} → None ≡ Some x → ⊥
 none_some e = absurd cc
@@ -82,18 +82,19 @@ module _ {S : Type 0} {m : Setup S} (walk : Walk m) where
           says,
         ))
 
-    -- an op-assignment that no built-in does
-    module _ (a : AssignOp) (slot n : ℕ) (h : Held) (u : Dynamic) (v : Held)
+    -- an op-assignment that no built-in does, which writes where h is held
+    module _ (a : AssignOp) (home : Home) (name : List ℕ) (h : Held) (u : Dynamic) (v : Held)
         (sits_on : Sits m root k (stepped f (f.address + width) (below f.operands)))
-        (by_host : AssignsByHost m a (f.base + slot) h u v o f now)
-        (answers_lent : AnswersLentTo m (point walk o) (name_of m.program n)) where
+        (is_home : IsHomeOf (cell_of h.value) home)
+        (by_host : AssignsByHost m a home h u v o f now)
+        (answers_lent : AnswersLentTo m (point walk o) name) where
       abbrev first_question : Question S
-      first_question = asks_first m a (f.base + slot) h u v now
+      first_question = asks_first m a home h u v now
 
       abbrev says : Problem → Bool
       says x = says_missing (name_of m.program a.op_assign_name) x
 
-      -- the cell of the entry can be read
+      -- what is held can be read
       abbrev Readable : World S → Type 0
       Readable w = (c : Dynamic) × (flat w.cells h.value ≡ Some c)
 
@@ -101,108 +102,105 @@ module _ {S : Type 0} {m : Setup S} (walk : Walk m) where
           (x : Problem) → EndsWith m f now first_question x w.host w.scope w.cells w.roots →
           says x ≡ true →
           Even walk (now.ran + 1)
-          (operator_assigned m (name_of m.program a.op_name) h
-          (record h { value = content_now (cell_of h.value) (f.base + slot) h w.scope w.cells }) v
-          slot n (f.address + width) f w)
+          (operator_at m home name (name_of m.program a.op_name) h
+          (record h { value = content_now home h w }) v (f.address + width) f w)
       even_operator w s t readable x ends missing =
-          let g : Held =
-          record h { value = content_now (cell_of h.value) (f.base + slot) h w.scope w.cells } in
-          let name = name_of m.program a.op_name in
+          let g : Held = record h { value = content_now home h w } in
+          let op_name = name_of m.program a.op_name in
           let args : List Held = g ∷ v ∷ [] in
           let question : Question S =
-          record { host = w.host; cells = w.cells; name = name; lent = None; args = args } in
-          let again : AsksAgain m a (f.base + slot) h u v question (point walk o) =
+          record { host = w.host; cells = w.cells; name = op_name; lent = None; args = args } in
+          let again : AsksAgain m a home h u v question (point walk o) =
           (x, w.host, w.scope, w.cells, w.roots, ends, missing, refl) in
           let asked_so : AsksSecond m question (point walk o) =
-          (a, f.base + slot, h, u, v, by_host, again) in
+          (a, home, h, u, v, by_host, again) in
           let q : AsksNative m question (point walk o) =
-          inr (a, f.base + slot, h, u, v, by_host, inr again) in
-          even_native walk o width stands w s name None args q
-          (λ y. inr (a, f.base + slot, h, u, v, by_host, inr again))
-          (λ z w1. flattened m (read_write z) (name_of m.program n) f w1 (λ y.
-          write_entry m h slot (record h { value = y }) (name_of m.program n) (f.address + width) f
-          w1))
-          (λ native e called z is. let w1 = answered_by walk o width stands w s name None args q
-          native.key in let s1 = steady_after walk o width stands w s name None args q native.key in
-          even_flat_in walk o width stands w1 s1 z (name_of m.program n)
+          inr (a, home, h, u, v, by_host, inr again) in
+          even_native walk o width stands w s op_name None args q
+          (λ y. inr (a, home, h, u, v, by_host, inr again))
+          (λ z w1. flattened m (read_write z) name f w1 (λ y.
+          assigned_at m home (record h { value = y }) name (f.address + width) f w1))
+          (λ native e called z is. let w1 = answered_by walk o width stands w s op_name None args q
+          native.key in let s1 = steady_after walk o width stands w s op_name None args q native.key
+          in
+          even_flat_in walk o width stands w1 s1 z name
           (λ none. inr (answers_lent question asked_so native e called z is none))
-          (λ y. write_entry m h slot (record h { value = y }) (name_of m.program n)
-          (f.address + width) f w1) (λ y. even_entry_in walk o width stands w1 s1 t h
-          (name_of m.program n) slot (record h { value = y }) sits_on
-          (λ none. absurd (is_readable w.cells readable none)))
+          (λ y. assigned_at m home (record h { value = y }) name (f.address + width) f w1)
+          (λ y. even_written_at walk o width stands w1 s1 t h name (record h { value = y }) sits_on
+          (λ none. absurd (is_readable w.cells readable none)) home is_home)
           (flat w.cells z) refl) where
             is_readable : (c : List Cell) → (x : Dynamic) × (flat c h.value ≡ Some x) →
                 flat c h.value ≡ None → ⊥
             is_readable c x none = none_some (sym none ∙ x.1)
 
-      even_natively : Even walk (now.ran + 1) (native_assigned m a h u v slot n (f.address + width)
-          f (start walk))
+      even_natively : Even walk (now.ran + 1)
+          (native_assigned_at m home name a h u v (f.address + width) f (start walk))
       even_natively =
-          let name = name_of m.program a.op_assign_name in
-          let r : Option Receiver = Some (record {
-            home = InScope (f.base + slot) (cell_of h.value);
-            held = record h { value = u };
-          }) in
+          let word = name_of m.program a.op_assign_name in
+          let r : Option Receiver =
+          Some (record { home = home; held = record h { value = u } }) in
           let args : List Held = v ∷ [] in
           let q : AsksNative m first_question (point walk o) =
-          inr (a, f.base + slot, h, u, v, by_host, inl refl) in
-          let there = answered_by walk o width stands (start walk) (steady walk) name r args q in
-          let steady_there = steady_after walk o width stands (start walk) (steady walk) name r args
+          inr (a, home, h, u, v, by_host, inl refl) in
+          let there = answered_by walk o width stands (start walk) (steady walk) word r args q in
+          let steady_there = steady_after walk o width stands (start walk) (steady walk) word r args
           q in
-          even_found walk o width stands (start walk) (steady walk) name r args q f.operands
+          even_found walk o width stands (start walk) (steady walk) word r args q f.operands
           (λ z w1. onward m f (stepped f (f.address + width) (below f.operands)) w1)
-          (op_assign_failed m a h v slot n (f.address + width) f)
+          (op_assign_failed_at m home name a h v (f.address + width) f)
           (λ native e _ z is. even_onward walk (now.ran + 1) (stepped f (f.address + width)
           (below f.operands)) (there native.key) (steady_there native.key) trace (inl refl) sits_on)
-          (λ e. let x = not_found name (values_in (given r args)) (position m f) in
+          (λ e. let x = not_found word (values_in (given r args)) (position m f) in
           by_test (Even walk (now.ran + 1)) (says x) _ _
           (λ missing. even_operator (start walk) (steady walk) trace (u, by_host.content) x
           (inl (e, refl, refl, refl, refl, refl)) missing)
-          (λ other. none_raised walk o width stands (start walk) (steady walk) name r args q
+          (λ other. none_raised walk o width stands (start walk) (steady walk) word r args q
           f.operands (all_there walk o) (inr (
             a,
-            f.base + slot,
+            home,
             h,
             u,
             v,
             by_host,
             inl (refl, other),
           )) e)) (refused_raised walk o width stands (start walk) (steady walk)
-          name r args q f.operands (all_there walk o))
+          word r args q f.operands (all_there walk o))
           (λ native e called y is. let x = at_position_if_none (position m f) y in
           by_test (Even walk (now.ran + 1)) (says x) _ _
           (λ missing. even_operator (there native.key) (steady_there native.key) trace
-          (stays_readable m.law now.host native.key (trees_in args) (f.base + slot) h u now.cells
+          (stays_readable m.law now.host native.key (trees_in args) home h u now.cells is_home
           by_host.content) x
           (inr (native, e, called, (y, is, refl, refl, refl, refl, refl))) missing)
-          (λ other. failed_raised walk o width stands (start walk) (steady walk) name r args q
+          (λ other. failed_raised walk o width stands (start walk) (steady walk) word r args q
           f.operands (all_there walk o) native e called y
-          (inr (a, f.base + slot, h, u, v, by_host, inl (refl, other))) is))
+          (inr (a, home, h, u, v, by_host, inl (refl, other))) is))
           (native_asked m first_question) refl
 
-    even_stored : (a : AssignOp) (name : List ℕ) (args : List Held) (h : Held) (u : Dynamic)
-        (v : Held) (slot n : ℕ) → Sits m root k (stepped f (f.address + width) (below f.operands)) →
-        (IsLent now h → ReadsLent m.program (name_of m.program n) o f now) →
-        AnswersLentTo m (point walk o) (name_of m.program n) → (outcome : Outcome) →
-        Operates m outcome name args o f now →
-        (outcome ≡ NotBuiltIn → AssignsByHost m a (f.base + slot) h u v o f now) →
-        Even walk (now.ran + 1) (store_outcome m outcome a h u v slot n (f.address + width) f
+    -- what an op-assignment gives is written where h is held
+    pub even_stored : (a : AssignOp) (op_name name : List ℕ) (args : List Held) (h : Held)
+        (u : Dynamic) (v : Held) (home : Home) → IsHomeOf (cell_of h.value) home →
+        Sits m root k (stepped f (f.address + width) (below f.operands)) →
+        (IsLent now h → ReadsLent m.program name o f now) →
+        AnswersLentTo m (point walk o) name → (outcome : Outcome) →
+        Operates m outcome op_name args o f now →
+        (outcome ≡ NotBuiltIn → AssignsByHost m a home h u v o f now) →
+        Even walk (now.ran + 1) (outcome_at m home name outcome a h u v (f.address + width) f
         (start walk))
-    even_stored a name args h u v slot n on lent answers NotBuiltIn says by_host =
-        even_natively a slot n h u v on (by_host refl) answers
-    even_stored a name args h u v slot n on lent answers (Gave r) says by_host =
-        even_entry walk o width stands h (name_of m.program n) slot (record h { value = r }) on lent
-    even_stored a name args h u v slot n on lent answers (ArithmeticFault t) says by_host =
+    even_stored a op_name name args h u v home is on lent answers NotBuiltIn says by_host =
+        even_natively a home name h u v on is (by_host refl) answers
+    even_stored a op_name name args h u v home is on lent answers (Gave r) says by_host =
+        even_home walk o width stands h name home is (record h { value = r }) on lent
+    even_stored a op_name name args h u v home is on lent answers (ArithmeticFault t) says by_host =
         even_raised walk o width stands (now.ran + 1) _ (start walk) (steady walk)
         (why walk o width stands (Plain (problem.Arithmetic t) (position m f)) refl (
-          name,
+          op_name,
           args,
           says,
         ))
-    even_stored a name args h u v slot n on lent answers (TooLarge t) says by_host =
+    even_stored a op_name name args h u v home is on lent answers (TooLarge t) says by_host =
         even_raised walk o width stands (now.ran + 1) _ (start walk) (steady walk)
         (why walk o width stands (Plain (problem.DataTooLarge t) (position m f)) refl (
-          name,
+          op_name,
           args,
           says,
         ))
@@ -221,7 +219,8 @@ module _ {S : Type 0} {m : Setup S} (walk : Walk m) where
         ((h : Held) (u v : Dynamic) → Holds now (f.base + slot) false h →
         flat now.cells h.value ≡ Some u → flat now.cells (top f.operands).value ≡ Some v →
         op_assigned m.engine a u v ≡ NotBuiltIn →
-        AssignsByHost m a (f.base + slot) h u (record (top f.operands) { value = v }) o f now) →
+        AssignsByHost m a (entry_of_slot m h slot f) h u (record (top f.operands) { value = v }) o f
+        now) →
         (h : Held) → held_at now.scope (f.base + slot) ≡ Some h →
         Even walk (now.ran + 1)
         (flattened m (top f.operands) (name_of m.program n) f (start walk) (λ v.
@@ -240,9 +239,10 @@ module _ {S : Type 0} {m : Setup S} (walk : Walk m) where
         (λ no. even_flat walk o width stands h (name_of m.program n)
         (λ none. lent (h, e, inr (no, none))) _
         (λ u content.
-        even_stored a (name_of m.program a.op_name)
+        even_stored a (name_of m.program a.op_name) (name_of m.program n)
         (record h { value = u } ∷ record (top f.operands) { value = v } ∷ []) h u
-        (record (top f.operands) { value = v }) slot n on (λ none. lent (h, e, inr (no, none)))
+        (record (top f.operands) { value = v }) (entry_of_slot m h slot f)
+        (home_in_entry (f.base + slot) (cell_of h.value)) on (λ none. lent (h, e, inr (no, none)))
         answers (op_assigned m.engine a u v) (says h u v (e, no) content read)
         (by_host h u v (e, no) content read))
         (flat now.cells h.value) refl))

@@ -1,14 +1,13 @@
 -- Why a chain ends in a fault, at a point of a program.
 use Rattle.std.specs.Prelude.{◌≡◌, ◌≤◌, ◌⊎◌, ◌+◌, ◌&&◌, ℕ, List, [], ◌∷◌, ◌++◌, Option, Some, None, true, false, length, slice_get, slice_set}
 use Rattle.grain_value.specs.Cells.{content, flat, lent}
-use Rattle.grain_value.specs.Looking.{cell_of}
 use Rattle.grain_value.specs.Operands.{top}
 use Rattle.grain_value.specs.declared.stores.Cell.{Cell}
 use Rattle.grain_value.specs.declared.values.Dynamic.{Dynamic}
 use Rattle.grain_value.specs.declared.values.Held.{Held}
 use Rattle.grain_fault.specs.Positions.{at_position}
 use Rattle.grain_fault.specs.declared.places.Position.{Position}
-use Rattle.grain_fault.specs.Problems.{Problem, Plain, AssignmentToConstant, DataRace, Malformed}
+use Rattle.grain_fault.specs.Problems.{Problem, Plain, AssignmentToConstant, DataRace, Malformed, UnboundThis}
 use Rattle.grain_fault.specs.declared.faults.MalformedKind.TheVariants as kind
 use Rattle.grain_program.specs.Chains.{assigns}
 use Rattle.grain_program.specs.View.{chain_of}
@@ -19,14 +18,16 @@ use Rattle.grain_program.specs.declared.code.chains.Tail.{Tail}
 use Rattle.grain_program.specs.declared.code.chains.Tail.TheVariants as tail
 use Rattle.grain_program.specs.declared.code.instruction_set.Op.TheVariants as op
 use Rattle.grain_means.specs.Comes.{ProgramPoint}
-use Rattle.grain_means.specs.Worlds.{Frame, Setup, World}
-use Rattle.grain_means.specs.Rules.{assigned_operand, course_of, held_at, is_read_only, new_root, position, race_text, root_name}
+use Rattle.grain_means.specs.Worlds.{Frame, Place, Setup, World}
+use Rattle.grain_means.specs.Places.{look}
+use Rattle.grain_means.specs.Rules.{assigned_operand, course_of, held_at, is_read_only, lent_cell, new_root, position, race_text, root_name, root_position}
 use Rattle.grain_means.specs.Causes.Natives.{HostAnswers}
 use Rattle.grain_means.specs.Causes.Spots.{ChainWalk, WalkRow}
 
 -- what a chain's root holds
 abbrev pub RootHolds : {S : Type 0} → Root → Frame → World S → Held → Type 0
 RootHolds (root.Local name slot) f w h = held_at w.scope (f.base + slot) ≡ Some h
+RootHolds (root.This q) f w h = (p : Place) × (f.this ≡ Some p) × (h ≡ look w.roots p)
 RootHolds root.Temporary f w h = h ≡ top f.operands
 
 -- what a chain assigns, as it is read, if it assigns something
@@ -58,45 +59,60 @@ pub record ChainReads {S : Type 0} (m : Setup S) (c : Chain) (at : ProgramPoint 
   pub value : Option Dynamic
   pub reads : AssignsValue c.tail (assigned_operand c at.frame.operands) at.world value
 
+-- where the walk's first root is, and how many other roots there are: at the place of a `this` that is
+-- the chain's root and no lent cell, and else after all roots
+abbrev pub walk_place : Root → Option ℕ → Option Place → List Held → Place
+walk_place (root.This q) None (Some p) roots = p
+walk_place r cell this roots = new_root roots
+
+abbrev pub walk_roots : Root → Option ℕ → Option Place → Held → List Held → List Held
+walk_roots (root.This q) None (Some p) h roots = roots
+walk_roots r cell this h roots = roots ++ h ∷ []
+
 -- the walk of a chain that has read them, from the root r and beside these cells
-abbrev pub walk_of : {S : Type 0} → Setup S → Chain → ProgramPoint S → Option Dynamic → Held →
-    List Cell → ChainWalk S
-walk_of m c at value r cells = record {
-  course = course_of m c at.frame value;
-  steps = c.steps;
-  place = new_root at.world.roots;
-  others = length at.world.roots + 1;
-  start = record (begun_at at) {
-    passed = at.world.passed + 1 + 1;
-    cells = cells;
-    roots = at.world.roots ++ r ∷ [];
-  };
-}
+abbrev pub walk_of : {S : Type 0} → Setup S → Chain → ProgramPoint S → Option Dynamic → Option ℕ →
+    Held → List Cell → ChainWalk S
+walk_of m c at value cell r cells =
+    let roots = walk_roots c.root cell at.frame.this r at.world.roots in record {
+      course = course_of m c at.frame value;
+      steps = c.steps;
+      place = walk_place c.root cell at.frame.this at.world.roots;
+      others = length roots;
+      start = record (begun_at at) {
+        passed = at.world.passed + 1 + 1;
+        cells = cells;
+        roots = roots;
+      };
+    }
 
 -- Why a chain ends in this fault, for which the step of this number is blamed: the chain's root is an
--- entry that is not there; or the chain assigns, and its root can only be read; or the value that it
--- assigns, or its root, is a cell whose content is lent; or its walk ends in the fault.
+-- entry that is not there, or a `this` that the frame has not; or the chain assigns, and its root can
+-- only be read; or the value that it assigns, or its root, is a cell whose content is lent; or its walk
+-- ends in the fault.
 pub data ChainRow {S : Type 0} (m : Setup S) (c : Chain) (at : ProgramPoint S) : ℕ → Problem →
     Type 0 where
   past_scope : (name slot : ℕ) → c.root ≡ root.Local name slot →
       length at.world.scope ≤ at.frame.base + slot →
       ChainRow m c at 0 (Plain (Malformed (kind.SlotPastScope (at.frame.base + slot)
       (length at.world.scope))) (position m at.frame))
+  unbound : (q : Position) → c.root ≡ root.This q → at.frame.this ≡ None →
+      ChainRow m c at 0 (Plain UnboundThis q)
   constant : (h : Held) → RootHolds c.root at.frame at.world h →
       assigns c.tail && is_read_only at.world h ≡ true →
       ChainRow m c at 0
-      (Plain (AssignmentToConstant (root_name m.program c.root)) (position m at.frame))
+      (Plain (AssignmentToConstant (root_name m.program c.root)) (root_position m c.root at.frame))
   value_lent : (h : Held) → RootHolds c.root at.frame at.world h →
       assigns c.tail && is_read_only at.world h ≡ false → assigns c.tail ≡ true →
       flat at.world.cells (assigned_operand c at.frame.operands).value ≡ None →
       ChainRow m c at 0 (Plain (DataRace (race_text [])) (position m at.frame))
   root_lent : (so_far : ChainReads m c at) → (i : ℕ) →
-      cell_of so_far.held.value ≡ Some i → content (slice_get at.world.cells i) ≡ None →
+      lent_cell m.program c.steps so_far.held ≡ Some i → content (slice_get at.world.cells i) ≡ None →
       ChainRow m c at 0
       (Plain (DataRace (race_text (root_name m.program c.root))) (position m at.frame))
   by_walk : {n : ℕ} {x : Problem} (so_far : ChainReads m c at) (r : Held) (cells : List Cell) →
-      RootLends (cell_of so_far.held.value) so_far.held at.world r cells →
-      WalkRow m (walk_of m c at so_far.value r cells) n x → ChainRow m c at n x
+      RootLends (lent_cell m.program c.steps so_far.held) so_far.held at.world r cells →
+      WalkRow m (walk_of m c at so_far.value (lent_cell m.program c.steps so_far.held) r cells) n x →
+      ChainRow m c at n x
 
 -- the instruction at the point is a chain, which ends in this fault
 abbrev pub RaisedByChain : {S : Type 0} → Setup S → Problem → ProgramPoint S → Type 0

@@ -13,7 +13,8 @@ use Rattle.grain_program.specs.declared.code.instruction_set.Op.TheVariants as o
 use Rattle.grain_program.specs.declared.code.functions.Function.{Function}
 use Rattle.grain_program.specs.View.{View, name_of, assign_op_of}
 use Rattle.grain_ops.specs.Outcomes.{Outcome, NotBuiltIn}
-use Rattle.grain_means.specs.Worlds.{World, Setup, Frame}
+use Rattle.grain_means.specs.Worlds.{World, Setup, Frame, Place}
+use Rattle.grain_means.specs.Places.{look}
 use Rattle.grain_host.specs.Law.{GoOn}
 use Rattle.grain_means.specs.Rules.{name_at, flat_all, spread, operand_under, is_read_only, function_by_name, held_at, function_found, operated, op_assigned}
 
@@ -96,6 +97,19 @@ UsesEntry i (op.AssignLocal s n) f = i ≡ f.base + s
 UsesEntry i (op.AssignLocalOp s n a) f = i ≡ f.base + s
 UsesEntry i o f = ⊥
 
+-- the frame's `this` is at a place at which this is held
+abbrev pub HoldsThis : {S : Type 0} → Frame → World S → Held → Type 0
+HoldsThis f w h = (p : Place) × (f.this ≡ Some p) × (h ≡ look w.roots p)
+
+-- it asks for `this`: before it assigns to it, an operand that can be read
+abbrev pub AsksThis : {S : Type 0} → Op → Frame → World S → Type 0
+AsksThis op.LoadThis f w = Unit {0}
+AsksThis op.LoadThisShared f w = Unit {0}
+AsksThis op.RequireThis f w = Unit {0}
+AsksThis op.AssignThis f w = ReadsTop f w
+AsksThis (op.AssignThisOp a) f w = ReadsTop f w
+AsksThis o f w = ⊥
+
 -- it cuts the scope to n entries
 abbrev pub Unwinds : ℕ → Op → Frame → Type 0
 Unwinds t (op.UnwindTo d) f = t ≡ f.base + d
@@ -122,12 +136,17 @@ Throws o = ⊥
 abbrev pub Holds : {S : Type 0} → World S → ℕ → Bool → Held → Type 0
 Holds w i read_only h = (held_at w.scope i ≡ Some h) × (is_read_only w h ≡ read_only)
 
--- it assigns an operand that can be read to an entry that can only be read, and tells this name
+-- it assigns an operand that can be read to an entry, or to `this`, which can only be read, and tells
+-- this name, of which `this` has none
 abbrev pub AssignsConstant : {S : Type 0} → View → List ℕ → Op → Frame → World S → Type 0
 AssignsConstant program s (op.AssignLocal slot n) f w =
     (s ≡ name_of program n) × ReadsTop f w × ((h : Held) × Holds w (f.base + slot) true h)
 AssignsConstant program s (op.AssignLocalOp slot n a) f w =
     (s ≡ name_of program n) × ReadsTop f w × ((h : Held) × Holds w (f.base + slot) true h)
+AssignsConstant program s op.AssignThis f w =
+    (s ≡ []) × ReadsTop f w × ((h : Held) × HoldsThis f w h × (is_read_only w h ≡ true))
+AssignsConstant program s (op.AssignThisOp a) f w =
+    (s ≡ []) × ReadsTop f w × ((h : Held) × HoldsThis f w h × (is_read_only w h ≡ true))
 AssignsConstant program s o f w = ⊥
 
 -- a call looks for a function of this name with these arguments, and there is none
@@ -148,6 +167,12 @@ Operates m said name args (op.CallOp n k t) f w = (name ≡ name_of m.program n)
 Operates m said name args (op.AssignLocalOp slot n a) f w =
     (name ≡ name_of m.program (assign_op_of m.program a).op_name) ×
     ((h : Held) × (u : Dynamic) × (v : Dynamic) × Holds w (f.base + slot) false h ×
+    (flat w.cells h.value ≡ Some u) × (flat w.cells (top f.operands).value ≡ Some v) ×
+    (args ≡ record h { value = u } ∷ record (top f.operands) { value = v } ∷ []) ×
+    (op_assigned m.engine (assign_op_of m.program a) u v ≡ said))
+Operates m said name args (op.AssignThisOp a) f w =
+    (name ≡ name_of m.program (assign_op_of m.program a).op_name) ×
+    ((h : Held) × (u : Dynamic) × (v : Dynamic) × HoldsThis f w h × (is_read_only w h ≡ false) ×
     (flat w.cells h.value ≡ Some u) × (flat w.cells (top f.operands).value ≡ Some v) ×
     (args ≡ record h { value = u } ∷ record (top f.operands) { value = v } ∷ []) ×
     (op_assigned m.engine (assign_op_of m.program a) u v ≡ said))
@@ -185,6 +210,12 @@ abbrev pub StoresLent : {S : Type 0} → ℕ → Frame → World S → Type 0
 StoresLent i f w = (h : Held) × (n : ℕ) × (held_at w.scope i ≡ Some h) ×
     (cell_of h.value ≡ Some n) × (IsLent w (top f.operands) ⊎ IsLent w h)
 
+-- of an assignment to `this`: the value that it assigns is a lent cell, or `this`, which can be written,
+-- is one
+abbrev pub AssignsLentThis : {S : Type 0} → Frame → World S → Type 0
+AssignsLentThis f w = IsLent w (top f.operands)
+    ⊎ ((h : Held) × HoldsThis f w h × (is_read_only w h ≡ false) × IsLent w h)
+
 -- it reads or writes a cell whose content is lent, at the variable of this name
 abbrev pub ReadsLent : {S : Type 0} → View → List ℕ → Op → Frame → World S → Type 0
 ReadsLent program name (op.LoadLocal s) f w = (name ≡ name_at w.scope (f.base + s)) ×
@@ -198,6 +229,10 @@ ReadsLent program name (op.AssignLocal s n) f w =
     (name ≡ name_of program n) × AssignsLent (f.base + s) f w
 ReadsLent program name (op.AssignLocalOp s n a) f w =
     (name ≡ name_of program n) × AssignsLent (f.base + s) f w
+ReadsLent program name op.LoadThis f w =
+    (name ≡ []) × ((h : Held) × HoldsThis f w h × IsLent w h)
+ReadsLent program name op.AssignThis f w = (name ≡ []) × AssignsLentThis f w
+ReadsLent program name (op.AssignThisOp a) f w = (name ≡ []) × AssignsLentThis f w
 ReadsLent program name (op.JumpIfFalse t) f w = (name ≡ []) × IsLent w (top f.operands)
 ReadsLent program name (op.JumpIfTrue t) f w = (name ≡ []) × IsLent w (top f.operands)
 ReadsLent program name (op.Call n k) f w = (name ≡ []) × (function_found program n k ≡ None) ×

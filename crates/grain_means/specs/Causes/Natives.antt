@@ -12,28 +12,33 @@ use Rattle.grain_fault.specs.Problems.{FaultKind, Problem, Plain}
 use Rattle.grain_program.specs.declared.code.instruction_set.Op.{Op}
 use Rattle.grain_program.specs.declared.code.instruction_set.Op.TheVariants as op
 use Rattle.grain_program.specs.declared.code.parts.AssignOp.{AssignOp}
-use Rattle.grain_program.specs.View.{name_of, assign_op_of}
+use Rattle.grain_program.specs.View.{View, name_of, assign_op_of}
 use Rattle.grain_ops.specs.Outcomes.{NotBuiltIn}
-use Rattle.grain_means.specs.Worlds.{World, Setup, Frame}
+use Rattle.grain_means.specs.Worlds.{World, Setup, Frame, Place}
+use Rattle.grain_means.specs.Places.{look}
 use Rattle.grain_host.specs.Signatures.{missing_kind, not_found, says_missing}
 use Rattle.grain_host.specs.Law.{Reply, native_of}
 use Rattle.grain_host.specs.Law as reply
 use Rattle.grain_value.specs.declared.natives.Native.{Native}
-use Rattle.grain_means.specs.Rules.{InScope, Receiver, lent_held, given, given_back, cells_given_back, roots_given_back, content_now, kinds_in, trees_in, first_is_read_only, position, op_assigned}
+use Rattle.grain_means.specs.Rules.{Home, Receiver, at_place_of, content_at, in_entry, is_read_only, lent_held, given, given_back, cells_given_back, roots_given_back, kinds_in, trees_in, first_is_read_only, position, op_assigned}
 use Rattle.grain_means.specs.Comes.{ProgramPoint}
 use Rattle.grain_means.specs.Causes.Instructions.{Holds, Misses, HasNoBuiltIn}
 
--- an op-assignment of this value to the entry at this index, which holds this and can be written,
--- asks the built-in on what they are as they are read, and it says that it is none
-pub record AssignsByHost {S : Type 0} (m : Setup S) (a : AssignOp) (i : ℕ) (h : Held)
+-- an op-assignment writes here, where this is held and can be written: in the entry of a slot, or in
+-- `this`, or in the cell that one of them is
+abbrev pub AssignsTo : {S : Type 0} → View → AssignOp → Home → Held → Op → Frame → World S → Type 0
+AssignsTo program a i h (op.AssignLocalOp slot n k) f w = (a ≡ assign_op_of program k) ×
+    (i ≡ in_entry (f.base + slot) (cell_of h.value)) × Holds w (f.base + slot) false h
+AssignsTo program a i h (op.AssignThisOp k) f w = (a ≡ assign_op_of program k) ×
+    ((p : Place) × (f.this ≡ Some p) × (i ≡ at_place_of p (cell_of h.value)) ×
+    (h ≡ look w.roots p) × (is_read_only w h ≡ false))
+AssignsTo program a i h o f w = ⊥
+
+-- an op-assignment of this value, which writes where this is held, asks the built-in on what they are as
+-- they are read, and it says that it is none
+pub record AssignsByHost {S : Type 0} (m : Setup S) (a : AssignOp) (i : Home) (h : Held)
     (u : Dynamic) (v : Held) (o : Op) (f : Frame) (w : World S) : Type 0 where
-  pub slot : ℕ
-  pub name : ℕ
-  pub assigns : ℕ
-  pub is : o ≡ op.AssignLocalOp slot name assigns
-  pub operator : a ≡ assign_op_of m.program assigns
-  pub index : i ≡ f.base + slot
-  pub holds : Holds w i false h
+  pub to : AssignsTo m.program a i h o f w
   pub content : flat w.cells h.value ≡ Some u
   pub value : flat w.cells (top f.operands).value ≡ Some v.value
   pub flag : v.read_only ≡ (top f.operands).read_only
@@ -80,22 +85,21 @@ EndsWith m f w q x host left cells roots =
     (cells ≡ cells_given_back m.law q.host n.key (trees_in q.args) q.lent w.cells) ×
     (roots ≡ roots_given_back m.law q.host n.key (trees_in q.args) q.lent w.roots)))
 
--- an op-assignment asks for the host's op-assignment, to which the entry is lent, or what its cell
--- holds
-abbrev pub asks_first : {S : Type 0} → Setup S → AssignOp → ℕ → Held → Dynamic → Held → World S →
+-- an op-assignment asks for the host's op-assignment, to which what it writes is lent
+abbrev pub asks_first : {S : Type 0} → Setup S → AssignOp → Home → Held → Dynamic → Held → World S →
     Question S
 asks_first m a i h u v w = record {
   host = w.host;
   cells = w.cells;
   name = name_of m.program a.op_assign_name;
-  lent = Some (record { home = InScope i (cell_of h.value); held = record h { value = u } });
+  lent = Some (record { home = i; held = record h { value = u } });
   args = v ∷ [];
 }
 
 -- The question is the second of an op-assignment that no built-in does: it asks for the operator, on
--- what the entry then holds, where the first ended with the fault that no function of its name is
+-- what stands there then, where the first ended with the fault that no function of its name is
 -- found.
-abbrev pub AsksAgain : {S : Type 0} → Setup S → AssignOp → ℕ → Held → Dynamic → Held →
+abbrev pub AsksAgain : {S : Type 0} → Setup S → AssignOp → Home → Held → Dynamic → Held →
     Question S → ProgramPoint S → Type 0
 AsksAgain {S = S} m a i h u v q at =
     (x : Problem) × (host : S) × (left : List Entry) × (cells : List Cell) × (roots : List Held) ×
@@ -106,19 +110,19 @@ AsksAgain {S = S} m a i h u v q at =
       cells = cells;
       name = name_of m.program a.op_name;
       lent = None;
-      args = record h { value = content_now (cell_of h.value) i h left cells } ∷ v ∷ [];
+      args = record h { value = content_at i h left cells roots } ∷ v ∷ [];
     })
 
 -- the question is the second of an op-assignment that no built-in does
 abbrev pub AsksSecond : {S : Type 0} → Setup S → Question S → ProgramPoint S → Type 0
 AsksSecond {S = S} m q at =
-    (a : AssignOp) × (i : ℕ) × (h : Held) × (u : Dynamic) × (v : Held) ×
+    (a : AssignOp) × (i : Home) × (h : Held) × (u : Dynamic) × (v : Held) ×
     AssignsByHost m a i h u v at.instruction at.frame at.world × AsksAgain m a i h u v q at
 
 -- the question is one of an op-assignment that no built-in does, the first or the second
 abbrev pub AsksToAssign : {S : Type 0} → Setup S → Question S → ProgramPoint S → Type 0
 AsksToAssign {S = S} m q at =
-    (a : AssignOp) × (i : ℕ) × (h : Held) × (u : Dynamic) × (v : Held) ×
+    (a : AssignOp) × (i : Home) × (h : Held) × (u : Dynamic) × (v : Held) ×
     AssignsByHost m a i h u v at.instruction at.frame at.world ×
     ((q ≡ asks_first m a i h u v at.world) ⊎ AsksAgain m a i h u v q at)
 
@@ -138,7 +142,7 @@ AsksNative m q at = AsksOnCopies m q at ⊎ AsksToAssign m q at
 -- last unless the fault says that no function of its name is found.
 abbrev pub AsksLast : {S : Type 0} → Setup S → Problem → Question S → ProgramPoint S → Type 0
 AsksLast {S = S} m x q at = AsksOnCopies m q at ⊎
-    ((a : AssignOp) × (i : ℕ) × (h : Held) × (u : Dynamic) × (v : Held) ×
+    ((a : AssignOp) × (i : Home) × (h : Held) × (u : Dynamic) × (v : Held) ×
     AssignsByHost m a i h u v at.instruction at.frame at.world ×
     (((q ≡ asks_first m a i h u v at.world)
     × (says_missing (name_of m.program a.op_assign_name) x ≡ false))

@@ -1,6 +1,6 @@
 -- Where a fault was raised or went on: the position that it has, also where it left a call or was
 -- thrown anew.
-use Rattle.std.specs.Prelude.{◌≡◌, ◌⊎◌, ◌+◌, ℕ, List, [], ◌∷◌, ◌++◌, Some, None, true, false}
+use Rattle.std.specs.Prelude.{◌≡◌, ◌⊎◌, ◌+◌, ℕ, List, [], ◌∷◌, ◌++◌, Option, Some, None, true, false, length, if◌then◌else◌}
 use Rattle.grain_value.specs.declared.values.Dynamic.{Dynamic}
 use Rattle.grain_value.specs.declared.values.Held.{Held}
 use Rattle.grain_value.specs.Cells.{flat}
@@ -9,28 +9,94 @@ use Rattle.grain_value.specs.Operands.{top}
 use Rattle.grain_fault.specs.Classes.{catchable}
 use Rattle.grain_fault.specs.Positions.{at_position, at_position_if_none, position_of_problem}
 use Rattle.grain_fault.specs.declared.places.Position.{Position}
-use Rattle.grain_fault.specs.Problems.{Problem}
+use Rattle.grain_fault.specs.Problems.{Problem, InFunctionCall}
+use Rattle.grain_program.specs.View.{View, chain_of, name_of, source_text}
+use Rattle.grain_value.specs.declared.stores.Cell.{Cell}
 use Rattle.grain_program.specs.declared.code.functions.Function.{Function}
 use Rattle.grain_program.specs.declared.code.instruction_set.Op.{Op}
 use Rattle.grain_program.specs.declared.code.instruction_set.Op.TheVariants as op
-use Rattle.grain_means.specs.Worlds.{Act, Go, World, Setup, Handler, Frame, InFrame}
-use Rattle.grain_means.specs.Rules.{throws_unit, bound, frame_at, position}
+use Rattle.grain_means.specs.Worlds.{Act, Go, Failed, World, Setup, Handler, Frame, InFrame, Place}
+use Rattle.grain_means.specs.Places.{look}
+use Rattle.grain_means.specs.Rules.{throws_unit, bound, frame_at, lent_cell, position}
 use Rattle.grain_means.specs.Comes.{ProgramPoint, CatchPoint, Comes, ComesToCatch, Meets}
+use Rattle.grain_means.specs.Ends.{Ends}
 use Rattle.grain_means.specs.Causes.Instructions.{CallsOn, Throws}
 use Rattle.grain_means.specs.Causes.Natives.{HostAnswers}
-use Rattle.grain_means.specs.Causes.Chains.{RaisedByChain}
+use Rattle.grain_means.specs.Causes.Spots.{InvocationEnds, Invokes, under_for}
+use Rattle.grain_means.specs.Causes.Chains.{ChainReads, RaisedByChain, RootLends, begun_at, walk_of}
 
--- the instruction at the point calls this function; its run comes to the function's body, on its
--- arguments and one level up, and of the run of the body this holds
+-- the `this` of a function that a walk calls on what stands at a place: it stands there, or is a copy of
+-- what can only be read, after all roots
+abbrev pub this_for : List Held → Option Place → Option Place
+this_for roots None = None
+this_for roots (Some p) =
+    if (look roots p).read_only then Some (record { root = length roots; path = [] }) else Some p
+
+-- the roots where a walk calls a function on what stands at a place, with the copy, if there is one
+abbrev pub roots_for : List Held → Option Place → List Held
+roots_for roots None = roots
+roots_for roots (Some p) =
+    if (look roots p).read_only then roots ++ look roots p ∷ [] else roots
+
+-- the instruction at the point is a chain, whose walk comes to a call of this function on these
+-- arguments, with this `this`, in this world, and this is the position of the call
+pub record ChainCalls {S : Type 0} (m : Setup S) (g : Function) (args : List Held)
+    (this : Option Place) (q : Position) (w : World S) (at : ProgramPoint S) : Type 0 where
+  pub index : ℕ
+  pub is : at.instruction ≡ op.Chain index
+  pub so_far : ChainReads m (chain_of m.program index) at
+  pub root : Held
+  pub cells : List Cell
+  pub lends : let c = chain_of m.program index in
+      RootLends (lent_cell m.program c.steps so_far.held) so_far.held at.world root cells
+  pub step : ℕ
+  pub invokes : let c = chain_of m.program index in
+      Invokes m (walk_of m c at so_far.value (lent_cell m.program c.steps so_far.held) root cells) step
+  pub function : invokes.function ≡ g
+  pub arguments : invokes.arguments ≡ args
+  pub under : let c = chain_of m.program index in
+      this ≡ this_for invokes.world.roots (under_for m
+      (walk_of m c at so_far.value (lent_cell m.program c.steps so_far.held) root cells) invokes.call)
+  pub position : q ≡ invokes.call.position
+  pub starts : let c = chain_of m.program index in
+      w ≡ record invokes.world {
+        roots = roots_for invokes.world.roots (under_for m
+            (walk_of m c at so_far.value (lent_cell m.program c.steps so_far.held) root cells)
+            invokes.call);
+      }
+
+-- the instruction at the point calls this function on these arguments in this world, or its chain does
+abbrev pub CallsWith : {S : Type 0} → Setup S → Function → List Held → Option Place → Position →
+    World S → ProgramPoint S → Type 0
+CallsWith m g args this q w at = (CallsOn m.program g args at.instruction at.frame at.world
+    × (this ≡ None) × (q ≡ position m at.frame) × (w ≡ begun_at at))
+    ⊎ ChainCalls m g args this q w at
+
+-- The world in which the body of a function on these arguments begins, where the function is called in
+-- the world w: an operation is counted, of which the host has heard, and the scope is the function's own,
+-- one level up.
+abbrev pub body_begins : {S : Type 0} → Setup S → Function → List Held → World S → World S
+body_begins m g args w = record w {
+  passed = w.passed + 1 + 1 + 1 + 1;
+  count = w.count + 1;
+  host = m.law.progress_after w.host (w.count + 1);
+  scope = bound m.program g.params args;
+  level = w.level + 1;
+}
+
+-- the instruction at the point calls this function, at this position; its run comes to where the
+-- function's body begins, and of the run of the body this holds
 pub record Enters {S : Type 0} (m : Setup S) (g : Function) (Runs : Act S → Type 0)
     (at : ProgramPoint S) : Type 0 where
   pub arguments : List Held
-  pub calls : CallsOn m.program g arguments at.instruction at.frame at.world
-  pub inside : World S
-  pub comes : Comes m (InFrame (frame_at g.chunk 0 None)) inside (Go (InFrame at.frame) at.world)
-  pub scope : inside.scope ≡ bound m.program g.params arguments
-  pub level : inside.level ≡ at.world.level + 1
-  pub runs : Runs (Go (InFrame (frame_at g.chunk 0 None)) inside)
+  pub this : Option Place
+  pub position : Position
+  pub start : World S
+  pub calls : CallsWith m g arguments this position start at
+  pub level : start.level ≡ at.world.level
+  pub comes : Comes m (InFrame (frame_at g.chunk 0 this)) (body_begins m g arguments start)
+      (Go (InFrame at.frame) at.world)
+  pub runs : Runs (Go (InFrame (frame_at g.chunk 0 this)) (body_begins m g arguments start))
 
 -- the run of an act comes to a call in a frame of this level, which has this position, and of the
 -- run of the call's body this holds
@@ -41,7 +107,7 @@ pub record LeftCall {S : Type 0} (m : Setup S) (act : Act S) (level : ℕ) (Runs
   pub own : call.world.level ≡ level
   pub function : Function
   pub enters : Enters m function Runs call
-  pub position : p ≡ position m call.frame
+  pub position : p ≡ enters.position
 
 -- the fault has this position, or none ever
 abbrev pub HasPosition : Position → Problem → Type 0
@@ -49,11 +115,48 @@ HasPosition p x = at_position p x ≡ x
 
 -- The host answered the fault to the instruction, and the fault has the position that the host gave it,
 -- or the instruction's if the host gave none. Or a chain ends in the fault, whose row says its position:
--- that of an index, of a bracket or of a property, the instruction's, or one that the host gave.
+-- that of a root, of an index, of a bracket, of a property or of a method, the instruction's, or one that
+-- the host gave.
 abbrev pub AnsweredSo : {S : Type 0} → Setup S → ProgramPoint S → Problem → Type 0
 AnsweredSo m at x =
     ((y : Problem) × HostAnswers m y at × (x ≡ at_position_if_none (position m at.frame) y))
     ⊎ RaisedByChain m x at
+
+-- this call by the chain, in the world in which the walk comes to it, ends with this fault
+abbrev pub ChainCallFails : {S : Type 0} {m : Setup S} {g : Function} {args : List Held}
+    {this : Option Place} {q : Position} {w : World S} {at : ProgramPoint S} →
+    ChainCalls m g args this q w at → Problem → Type 0
+ChainCallFails {S = S} {m = m} {at = at} k x =
+    let c = chain_of m.program k.index in
+    let cell = lent_cell m.program c.steps k.so_far.held in
+    let i = k.invokes in
+    (v : World S) × InvocationEnds m i.call
+    (under_for m (walk_of m c at k.so_far.value cell k.root k.cells) i.call) i.world (Failed x) v
+
+-- what a call of this function, at this position, ends with where the body ended with this fault: it is
+-- wrapped if a script may catch it, and else it goes on at the position
+abbrev pub out_of_body : View → Position → Function → Problem → Problem
+out_of_body p q g x =
+    if catchable x then InFunctionCall (name_of p g.name) (source_text p) x q else at_position q x
+
+-- The instruction is a chain, whose step of this number called a function. The function's body ended with
+-- a fault, and so the call ended with this one.
+pub record BodyFails {S : Type 0} (m : Setup S) (at : ProgramPoint S) (n : ℕ) (x : Problem) : Type 0
+  where
+    pub function : Function
+    pub inner : Problem
+    pub enters : Enters m function (λ body. (v : World S) × Ends m body (Failed inner) v) at
+    pub calls : ChainCalls m function enters.arguments enters.this enters.position enters.start at
+    pub step : calls.step ≡ n
+    pub fails : ChainCallFails calls x
+    pub is : x ≡ out_of_body m.program enters.position function inner
+
+-- The instruction is a chain, and it called a function whose body ended with a fault. What left the call
+-- is that fault, wrapped with the function's name, and it has the position of that very call.
+abbrev pub LeftByChain : {S : Type 0} → Setup S → ProgramPoint S → Problem → Type 0
+LeftByChain m at x = (n : ℕ) × (b : BodyFails m at n x)
+    × (x ≡ InFunctionCall (name_of m.program b.function.name) (source_text m.program) b.inner
+    b.enters.position)
 
 -- the instruction is no chain
 abbrev pub IsNoChain : Op → Type 0
@@ -61,10 +164,12 @@ IsNoChain (op.Chain k) = ⊥
 IsNoChain o = Unit {0}
 
 -- The fault was raised in a frame of this level. It has the position of the instruction that raised
--- it, if that is no chain; or the one that the host, or the rule of a chain, gave it there.
+-- it, if that is no chain; or that of a call by a chain, which it left; or the one that the host, or the
+-- rule of a chain, gave it there.
 abbrev pub TellsHere : {S : Type 0} → Setup S → ℕ → ProgramPoint S → Problem → Type 0
 TellsHere m level at x = (at.world.level ≡ level)
-    × ((IsNoChain at.instruction × HasPosition (position m at.frame) x) ⊎ AnsweredSo m at x)
+    × ((IsNoChain at.instruction × HasPosition (position m at.frame) x)
+    ⊎ (LeftByChain m at x ⊎ AnsweredSo m at x))
 
 -- the last operand is unit, as it is read
 abbrev pub ThrowsUnitAt : {S : Type 0} → Frame → World S → Type 0

@@ -1,35 +1,36 @@
 -- The spots to which the walk of a chain comes, and what it finds there where it ends in a fault.
-use Rattle.std.specs.Prelude.{◌≡◌, ◌⊎◌, ◌+◌, ◌&&◌, ℕ, ℤ, List, [], ◌∷◌, ◌++◌, Option, Some, None, Bool, true, false, Err, drop, map, option_map, take}
+pub use Rattle.grain_means.specs.Causes.Answers.{past, Passes, question_of, answered_world, CallEnds, lent, missing, refused, gave, failed, on_values, resolved, InvocationEnds, by_function, by_native, by_nothing}
+use Rattle.std.specs.Prelude.{◌≡◌, ◌⊎◌, ◌+◌, ◌<◌, ◌≤◌, codes, length, ℕ, ℤ, List, [], ◌∷◌, ◌++◌, Option, Some, None, Bool, true, false, Err, drop, map, option_map, take}
 use Rattle.grain_value.specs.Cells.{flat}
 use Rattle.grain_value.specs.Locating.{locate}
+use Rattle.grain_value.specs.Looking.{pointer_of}
+use Rattle.grain_value.specs.declared.stores.Cell.{Cell}
+use Rattle.grain_value.specs.declared.values.FnPtr.{FnPtr}
 use Rattle.grain_value.specs.Maps.{Entries, entry_at}
-use Rattle.grain_value.specs.Operands.{read_write, values_in}
 use Rattle.grain_value.specs.Parts.{part_type, with_part}
 use Rattle.grain_value.specs.Writing.{type_name_of}
-use Rattle.grain_value.specs.declared.natives.Native.{Native}
 use Rattle.grain_value.specs.declared.values.Dynamic.{Dynamic}
 use Rattle.grain_value.specs.declared.values.Dynamic.TheVariants as dynamic
 use Rattle.grain_value.specs.declared.values.Held.{Held}
 use Rattle.grain_value.specs.declared.values.locating.Spot.{Spot}
 use Rattle.grain_value.specs.declared.values.value_faults.ValueFault.TheVariants as fault
 use Rattle.grain_fault.specs.Absences.{is_dot_expr, is_indexing_type}
-use Rattle.grain_fault.specs.Positions.{at_position_if_none}
-use Rattle.grain_fault.specs.Problems.{FaultKind, Problem, Plain, InFunctionCall, InModule, SystemError, NoMemory, Arithmetic, ArrayBounds, BitFieldBounds, DataRace, DataTooLarge, MismatchDataType, NonPureCall, PropertyNotFound, StringBounds}
+use Rattle.grain_fault.specs.Problems.{FaultKind, Problem, Plain, InFunctionCall, InModule, SystemError, NoMemory, Arithmetic, ArrayBounds, BitFieldBounds, DataRace, DataTooLarge, MismatchDataType, PropertyNotFound, StackOverflow, StringBounds, Terminated, TooManyOperations, TooManyVariables}
 use Rattle.grain_fault.specs.declared.places.Position.{Position}
-use Rattle.grain_host.specs.Law as reply
-use Rattle.grain_host.specs.Signatures.{not_found}
+use Rattle.grain_host.specs.Law.{Stop}
 use Rattle.grain_ops.specs.Outcomes.{ArithmeticFault, TooLarge}
+use Rattle.grain_program.specs.declared.code.functions.Function.{Function}
 use Rattle.grain_program.specs.View.{name_of}
 use Rattle.grain_program.specs.declared.code.parts.AssignOp.{AssignOp}
 use Rattle.grain_program.specs.declared.code.chains.Step.{Step}
 use Rattle.grain_program.specs.declared.code.chains.Step.TheVariants as step
 use Rattle.grain_program.specs.declared.code.chains.StepFlags.{StepFlags}
-use Rattle.grain_means.specs.Worlds.{is_stop, Answer, Came, Failed, Place, Setup, World}
+use Rattle.grain_means.specs.Worlds.{Answer, Failed, Place, Setup, World}
 use Rattle.grain_means.specs.Places.{look, put}
-use Rattle.grain_means.specs.Rules.{Receiver, cells_given_back, first_is_read_only, flat_all, given, given_back, lent_at, lent_held, op_assigned, placed, race_text, roots_given_back, trees_in}
-use Rattle.grain_means.specs.Tasks.{Call, Task, Done, Mark, Look, Flatten, Write, Root, Drop, Need, Ill}
-use Rattle.grain_means.specs.Walks.{Course, OfPart, Rest, assigning, flattening, index_type, key_of, operand, operating, out_of_bounds, role_before, set_back, taken, walked, whole_walk}
-use Rattle.grain_means.specs.Causes.Natives.{IsCalled, Question, native_asked, reply_to}
+use Rattle.grain_means.specs.Rules.{Receiver, pointed_native, lent_at, op_assigned, placed, race_text}
+use Rattle.grain_means.specs.Tasks.{Call, Invocation, Pointed, Task, Done, Mark, Look, Flatten, Write, Root, Drop, Need, Invoke, Ill}
+use Rattle.grain_means.specs.Walks.{Course, OfPart, Rest, assigning, flattening, index_type, key_of, operand, operands_from, operating, out_of_bounds, role_before, set_back, taken, walked, whole_walk}
+use Rattle.grain_means.specs.Causes.Instructions.{IsCharged}
 
 -- A walk of a chain in the world. `course` is what the chain took from the operands, and `steps` are
 -- its steps. `start` is the world in which the walk begins, and `place` is where the walk's first root
@@ -42,57 +43,6 @@ pub record ChainWalk (S : Type 0) : Type 0 where
   pub others : ℕ
   pub start : World S
 
--- a mark is passed
-abbrev pub past : {S : Type 0} → World S → World S
-past w = record w { passed = w.passed + 1 }
-
--- memory is not out at the next mark
-abbrev pub Passes : {S : Type 0} → Setup S → World S → Type 0
-Passes m w = is_stop m.stop w.passed ≡ false
-
--- what a walk needs is a question to the host, on arguments as they are read
-abbrev pub question_of : {S : Type 0} → Call → Option Receiver → World S → List Held → Question S
-question_of c r w args =
-    record { host = w.host; cells = w.cells; name = c.name; lent = r; args = args }
-
--- the world once the host has answered a native of this key
-abbrev pub answered_world : {S : Type 0} → Setup S → ℕ → Option Receiver → List Held → World S →
-    World S
-answered_world m key r args w = record w {
-  host = m.law.call_after w.host key (lent_held r) (trees_in args);
-  scope = given_back m.law w.host key (trees_in args) r w.scope;
-  cells = cells_given_back m.law w.host key (trees_in args) r w.cells;
-  roots = roots_given_back m.law w.host key (trees_in args) r w.roots;
-  passed = w.passed + 1 + 1;
-}
-
--- How a call of a native by a walk ends where memory is not out, and the world then. It ends with a
--- fault if an argument is a cell whose content is lent, if there is no such native, or if the native
--- writes its first argument and that can only be read. Else the host answers with a value, or with a
--- fault, which gets the call's position if the host gave it none.
-pub data CallEnds {S : Type 0} (m : Setup S) (c : Call) (r : Option Receiver) (w : World S) :
-    Answer → World S → Type 0 where
-  lent : flat_all w.cells (map read_write c.values) ≡ None → Passes m w →
-      CallEnds m c r w (Failed (Plain (DataRace (race_text [])) c.position)) (past w)
-  missing : (args : List Held) → flat_all w.cells (map read_write c.values) ≡ Some args →
-      native_asked m (question_of c r w args) ≡ None → Passes m w →
-      CallEnds m c r w (Failed (not_found c.name (values_in (given r args)) c.position)) (past w)
-  refused : (args : List Held) → flat_all w.cells (map read_write c.values) ≡ Some args →
-      (n : Native) → native_asked m (question_of c r w args) ≡ Some n →
-      n.writes && first_is_read_only (given r args) ≡ true → Passes m w →
-      CallEnds m c r w (Failed (Plain (NonPureCall c.name) c.position)) (past w)
-  gave : (args : List Held) → flat_all w.cells (map read_write c.values) ≡ Some args →
-      (n : Native) → native_asked m (question_of c r w args) ≡ Some n →
-      IsCalled (question_of c r w args) n → Passes m w → Passes m (past w) → (v : Dynamic) →
-      reply_to m (question_of c r w args) n.key ≡ reply.Done v →
-      CallEnds m c r w (Came v) (answered_world m n.key r args w)
-  failed : (args : List Held) → flat_all w.cells (map read_write c.values) ≡ Some args →
-      (n : Native) → native_asked m (question_of c r w args) ≡ Some n →
-      IsCalled (question_of c r w args) n → Passes m w → Passes m (past w) → (x : Problem) →
-      reply_to m (question_of c r w args) n.key ≡ reply.Failed x → Passes m (past (past w)) →
-      CallEnds m c r w (Failed (at_position_if_none c.position x))
-      (past (answered_world m n.key r args w))
-
 -- what is left of the walk does nothing but drop roots, and then ends with the fault x of step n
 abbrev pub Falls : ℕ → Problem → Task → Type 0
 Falls n x (Done o) = o ≡ Ill n x
@@ -103,6 +53,15 @@ Falls n x (Write q v t) = ⊥
 Falls n x (Root h t) = ⊥
 Falls n x (Drop i go) = (h : Held) → Falls n x (go h)
 Falls n x (Need c go) = ⊥
+Falls n x (Invoke i go) = ⊥
+
+-- The method `call` of a value, or `curry`, asks for a pointer: that value is to be one; or `call` of a
+-- value that is none, whose first argument is to be one, as it is read. With these arguments:
+abbrev pub AsksPointerOf : List ℕ → List Dynamic → List Cell → Dynamic → Dynamic → Type 0
+AsksPointerOf text args cells d v =
+    ((v ≡ d) × ((text ≡ codes "curry") ⊎ ((text ≡ codes "call") × (args ≡ []))))
+    ⊎ ((text ≡ codes "call") × (pointer_of d ≡ None) ×
+    ((u : Dynamic) × (us : List Dynamic) × (args ≡ u ∷ us) × (flat cells u ≡ Some v)))
 
 module _ {S : Type 0} (m : Setup S) (c : ChainWalk S) where
   -- where a place of the walk lies in the world
@@ -112,6 +71,10 @@ module _ {S : Type 0} (m : Setup S) (c : ChainWalk S) where
   -- what is lent for a call
   abbrev pub lent_for : Call → World S → Option Receiver
   lent_for call w = lent_at w.roots (option_map world_of call.receiver)
+
+  -- the place of what a function has as its `this`
+  abbrev pub under_for : Invocation → Option Place
+  under_for i = option_map world_of i.this
 
   -- a task in a world comes to this in that world
   pub data WalksTo (t : Task) (v : World S) : Task → World S → Type 0 where
@@ -133,6 +96,9 @@ module _ {S : Type 0} (m : Setup S) (c : ChainWalk S) where
     heard : {call : Call} {go : Answer → Task} {w u : World S} {a : Answer} →
         CallEnds m call (lent_for call w) w a u → WalksTo t v (go a) u →
         WalksTo t v (Need call go) w
+    returned : {i : Invocation} {go : Answer → Task} {w u : World S} {a : Answer} →
+        InvocationEnds m i (under_for i) w a u → WalksTo t v (go a) u →
+        WalksTo t v (Invoke i go) w
 
   -- the walk comes to this in this world
   abbrev pub ComesTo : Task → World S → Type 0
@@ -208,8 +174,9 @@ module _ {S : Type 0} (m : Setup S) (c : ChainWalk S) where
     pub is : x ≡ Plain (PropertyNotFound (name_of c.course.setting.program name)) position
     pub last : Falls n x (at.rest (Ill n x))
 
-  -- an index, an answer in which the walk goes on, or what an operator answers is a cell whose content
-  -- is lent, and with that fault the walk ends
+  -- An index, an answer in which the walk goes on, what an operator answers, the first argument of the
+  -- method `call`, or the root of a chain whose first step asks whether it is unit, is a cell whose content
+  -- is lent. With that fault the walk ends.
   pub record ReadsLentCell (n : ℕ) (x : Problem) : Type 0 where
     pub value : Dynamic
     pub position : Position
@@ -281,25 +248,87 @@ module _ {S : Type 0} (m : Setup S) (c : ChainWalk S) where
     pub absent : is_indexing_type other ≡ true
     pub last : Falls n x (second.go (Failed other))
 
+  -- the walk comes to the call of a function, which the program has
+  pub record Invokes (n : ℕ) : Type 0 where
+    pub call : Invocation
+    pub go : Answer → Task
+    pub world : World S
+    pub comes : ComesTo (Invoke call go) world
+    pub step : call.step ≡ n
+    pub function : Function
+    pub arguments : List Held
+    pub is : resolved m.program call call.method ≡ Some (function, arguments)
+
+  -- The function is not entered: no operation is left, or the host ends the run; or no level is left; or
+  -- the function has too many parameters. With that fault the walk ends.
+  pub record IsNotEntered (n : ℕ) (x : Problem) : Type 0 where
+    pub invokes : Invokes n
+    pub why : let q = invokes.call.position in let w = invokes.world in
+        ((m.engine.limits.operations ≤ w.count) × (x ≡ Plain TooManyOperations q))
+        ⊎ (((v : Dynamic) × (w.count < m.engine.limits.operations)
+        × (m.law.progress_reply w.host (w.count + 1) ≡ Stop v) × (x ≡ Plain (Terminated v) q))
+        ⊎ ((IsCharged m w × (m.engine.limits.levels ≤ w.level) × (x ≡ Plain StackOverflow q))
+        ⊎ (IsCharged m w × (w.level < m.engine.limits.levels)
+        × (m.engine.limits.variables < length invokes.function.params)
+        × (x ≡ Plain TooManyVariables q))))
+    pub last : Falls n x (invokes.go (Failed x))
+
+  -- where a pointer names no function, the walk calls a native, and with its fault the walk ends
+  pub record PointedFails (n : ℕ) (x : Problem) : Type 0 where
+    pub call : Invocation
+    pub go : Answer → Task
+    pub world : World S
+    pub comes : ComesTo (Invoke call go) world
+    pub step : call.step ≡ n
+    pub pointer : FnPtr
+    pub is : call.method ≡ Pointed pointer
+    pub none : resolved m.program call call.method ≡ None
+    pub after : World S
+    pub ends : CallEnds m (pointed_native call pointer) (lent_at world.roots (under_for call)) world
+        (Failed x) after
+    pub last : Falls n x (go (Failed x))
+
+  -- A value that is to be a pointer is none: what stands at the place, or the first argument of `call`
+  -- as it is read. With that fault the walk ends.
+  pub record IsNoPointer (n : ℕ) (x : Problem) : Type 0 where
+    pub name : ℕ
+    pub argc : ℕ
+    pub first : ℕ
+    pub flags : StepFlags
+    pub position : Position
+    pub at : AtStep n (step.Method name argc first flags position)
+    pub value : Dynamic
+    pub asked : AsksPointerOf (name_of c.course.setting.program name)
+        (operands_from c.course first argc) at.world.cells (value_at at) value
+    pub none : pointer_of value ≡ None
+    pub is : x ≡ Plain (MismatchDataType (codes "Fn") (type_name_of value)) position
+    pub last : Falls n x (at.rest (Ill n x))
+
   -- why the walk ends in this fault, and blames the step of this number
   abbrev pub WalkRow : ℕ → Problem → Type 0
   WalkRow n x = OutOfBounds n x ⊎ (MistypesIndex n x ⊎ (LacksIndex n x ⊎ (LacksProperty n x ⊎
       (ReadsLentCell n x ⊎ (MistypesPart n x ⊎ (Calculates n x ⊎
-      (NativeFails n x ⊎ InsteadFails n x)))))))
+      (NativeFails n x ⊎ (InsteadFails n x ⊎ (IsNoPointer n x ⊎ (IsNotEntered n x ⊎
+      PointedFails n x))))))))))
 
-  -- Why the walk ends in a fault of this kind at this position that is not the fault of a call. Such a
+  -- Why the walk ends in a fault of this kind at this position that is not the fault of a native. Such a
   -- fault is of one of these kinds.
   abbrev pub KindRow : ℕ → FaultKind → Position → Type 0
   KindRow n (ArrayBounds size i) q = OutOfBounds n (Plain (ArrayBounds size i) q)
   KindRow n (StringBounds size i) q = OutOfBounds n (Plain (StringBounds size i) q)
   KindRow n (BitFieldBounds size i) q = OutOfBounds n (Plain (BitFieldBounds size i) q)
   KindRow n (MismatchDataType r a) q = MistypesIndex n (Plain (MismatchDataType r a) q)
-      ⊎ MistypesPart n (Plain (MismatchDataType r a) q)
+      ⊎ (MistypesPart n (Plain (MismatchDataType r a) q)
+      ⊎ IsNoPointer n (Plain (MismatchDataType r a) q))
   KindRow n (PropertyNotFound k) q =
       LacksIndex n (Plain (PropertyNotFound k) q) ⊎ LacksProperty n (Plain (PropertyNotFound k) q)
   KindRow n (DataRace s) q = ReadsLentCell n (Plain (DataRace s) q)
   KindRow n (Arithmetic s) q = Calculates n (Plain (Arithmetic s) q)
   KindRow n (DataTooLarge s) q = Calculates n (Plain (DataTooLarge s) q)
+  KindRow n TooManyOperations q = IsNotEntered n (Plain TooManyOperations q)
+  KindRow n (Terminated v) q = IsNotEntered n (Plain (Terminated v) q)
+  KindRow n StackOverflow q = IsNotEntered n (Plain StackOverflow q)
+  KindRow n TooManyVariables q = IsNotEntered n (Plain TooManyVariables q)
   KindRow n k q = ⊥
 
   abbrev pub OwnRow : ℕ → Problem → Type 0

@@ -1,5 +1,5 @@
 -- A chain: its root is found, a walk is taken from it, and the root goes back.
-use Rattle.std.specs.Prelude.{ℕ, ◌+◌, ◌&&◌, slice_get, slice_set, List, [], ◌∷◌, ◌++◌, Option, Some, None, Bool, if◌then◌else◌, length, take}
+use Rattle.std.specs.Prelude.{ℕ, ◌+◌, ◌&&◌, slice_get, slice_set, List, [], ◌∷◌, ◌++◌, Option, Some, None, Bool, false, if◌then◌else◌, length, take}
 use Rattle.grain_value.specs.declared.values.Dynamic.{Dynamic}
 use Rattle.grain_value.specs.declared.values.Held.{Held}
 use Rattle.grain_value.specs.declared.stores.Cell.{Cell}
@@ -7,10 +7,13 @@ use Rattle.grain_value.specs.Cells.{idle, lent}
 use Rattle.grain_value.specs.Looking.{cell_of}
 use Rattle.grain_value.specs.Operands.{top, under, arguments}
 use Rattle.grain_value.specs.Scopes.{set_held}
+use Rattle.grain_fault.specs.declared.places.Position.{Position}
 use Rattle.grain_fault.specs.Problems.{Plain, AssignmentToConstant}
 use Rattle.grain_program.specs.declared.code.chains.Chain.{Chain}
 use Rattle.grain_program.specs.declared.code.chains.Root.{Root}
 use Rattle.grain_program.specs.declared.code.chains.Root.TheVariants as root
+use Rattle.grain_program.specs.declared.code.chains.Step.{Step}
+use Rattle.grain_program.specs.declared.code.chains.Step.TheVariants as step
 use Rattle.grain_program.specs.declared.code.chains.Tail.{Tail}
 use Rattle.grain_program.specs.declared.code.chains.Tail.TheVariants as tail
 use Rattle.grain_program.specs.declared.code.parts.AssignOp.{AssignOp}
@@ -19,23 +22,26 @@ use Rattle.grain_program.specs.View.{View, name_of, chain_of, assign_op_of}
 use Rattle.grain_means.specs.Worlds.{Place, Frame, World, Act, Setup}
 use Rattle.grain_means.specs.Places.{look}
 use Rattle.grain_means.specs.Tasks.{Walked, Well, Ill, Task}
-use Rattle.grain_means.specs.Walks.{Course, whole_walk}
+use Rattle.grain_means.specs.Walks.{Course, asks_shared, whole_walk}
 use Rattle.grain_means.specs.Rules.Frames.{without, is_read_only}
 use Rattle.grain_means.specs.Rules.Faults.{position, marked, raised, data_race}
 use Rattle.grain_means.specs.Rules.Going.{pushed}
 use Rattle.grain_means.specs.Rules.Reads.{flattened}
 use Rattle.grain_means.specs.Rules.Entries.{at_slot}
 use Rattle.grain_means.specs.Rules.Natives.{trees_in}
+use Rattle.grain_means.specs.Rules.This.{at_place}
 use Rattle.grain_means.specs.Rules.InWorld.{walks}
 
 -- the name by which faults call a chain's root
 abbrev pub root_name : View → Root → List ℕ
 root_name p (root.Local name slot) = name_of p name
+root_name p (root.This q) = []
 root_name p root.Temporary = []
 
 -- how many operands a root is
 abbrev pub root_operands : Root → ℕ
 root_operands (root.Local name slot) = 0
+root_operands (root.This q) = 0
 root_operands root.Temporary = 1
 
 -- what its steps use
@@ -52,6 +58,16 @@ operator_of p tail.Read = None
 operator_of p (tail.Assign None) = None
 operator_of p (tail.Assign (Some a)) = Some (assign_op_of p a)
 
+-- whether a chain begins by asking whether its root is a shared variable
+abbrev pub asks_root : View → List Step → Bool
+asks_root p (step.Method name argc i flags q ∷ steps) =
+    asks_shared (name_of p name) argc
+asks_root p steps = false
+
+-- the cell that is lent for a walk from what a root holds, if it is one
+abbrev pub lent_cell : View → List Step → Held → Option ℕ
+lent_cell p steps h = if asks_root p steps then None else cell_of h.value
+
 -- the place of a root that is added to others
 abbrev pub new_root : List Held → Place
 new_root roots = record { root = length roots; path = [] }
@@ -59,12 +75,20 @@ new_root roots = record { root = length roots; path = [] }
 -- after the walk a root that is no cell goes back to the entry that held it; if no entry did, it goes
 abbrev pub back_from : {S : Type 0} → Root → Frame → Held → World S → World S
 back_from (root.Local name slot) f h w = record w { scope = set_held w.scope (f.base + slot) h }
+back_from (root.This q) f h w = w
 back_from root.Temporary f h w = w
 
 module _ {S : Type 0} (m : Setup S) where
+  -- where a fault of a chain's root is
+  abbrev pub root_position : Root → Frame → Position
+  root_position (root.Local name slot) f = position m f
+  root_position (root.This q) f = q
+  root_position root.Temporary f = position m f
+
   -- what a chain's root holds
   abbrev pub at_root : Root → Frame → World S → (Held → Act S) → Act S
   at_root (root.Local name slot) f w go = at_slot m f slot w go
+  at_root (root.This q) f w go = at_place m f.this q f w (λ p. go (look w.roots p))
   at_root root.Temporary f w go = go (top f.operands)
 
   -- what a chain assigns, as it is read, if it assigns something
@@ -97,6 +121,11 @@ module _ {S : Type 0} (m : Setup S) where
       (back (look w1.roots (new_root w.roots)) (record w1 { roots = take (length w.roots) w1.roots })))
       (record w { roots = w.roots ++ h ∷ [] })
 
+  -- The walk of the chain of index k from where a `this` stands, which stays there.
+  abbrev pub walk_at : ℕ → Task → ℕ → Frame → Place → World S → Act S
+  walk_at k task next f p w =
+      walks m k f p (length w.roots) task (λ o w1. chain_over k next f o w1) w
+
   -- The walk from what the cell of number n holds. That is lent: it is added as a root, which can only be
   -- read if the flag says so, and after the walk it goes back to the cell. If it is lent already, or the
   -- cell is not there, that is a fault in the frame f.
@@ -110,9 +139,14 @@ module _ {S : Type 0} (m : Setup S) where
       (λ h w1. record w1 { cells = slice_set w1.cells n (idle (record c.held { value = h.value })) })
       (record w { cells = slice_set w.cells n (lent c.held) })
 
+  -- the walk from a root that is no cell which is lent, and that is at this place if it is a `this`
+  abbrev pub walk_held : Root → Option Place → Held → ℕ → Task → ℕ → Frame → World S → Act S
+  walk_held (root.This q) (Some p) h k task next g w = walk_at k task next g p w
+  walk_held r p h k task next g w = walk_from k task next g h (back_from r g) w
+
   -- the walk from what the chain's root holds, or, if that is a cell, from what the cell holds
   abbrev pub walk_root : Option ℕ → Held → ℕ → Chain → Task → ℕ → Frame → Frame → World S → Act S
-  walk_root None h k c task next f g w = walk_from k task next g h (back_from c.root g) w
+  walk_root None h k c task next f g w = walk_held c.root g.this h k task next g w
   walk_root (Some n) h k c task next f g w =
       walk_cell (slice_get w.cells n) n (is_read_only w h) k task next
       (root_name m.program c.root) f g w
@@ -121,20 +155,21 @@ module _ {S : Type 0} (m : Setup S) where
   abbrev pub unless_constant : Chain → Held → Frame → World S → Act S → Act S
   unless_constant c h f w go =
       if assigns c.tail && is_read_only w h
-      then raised m f (Plain (AssignmentToConstant (root_name m.program c.root)) (position m f)) w
+      then raised m f
+      (Plain (AssignmentToConstant (root_name m.program c.root)) (root_position c.root f)) w
       else go
 
   -- The chain c, which has index k. In the frame f, in which the chain's first step is blamed, its root
   -- is found; if the chain assigns, the root may not be read-only, and the value that it assigns is read;
   -- and a mark is passed. Then comes the walk, on copies of the operands of the chain's steps, in the
   -- frame g, from which the chain's operands are gone. If the root is a cell, its content is lent for the
-  -- walk.
+  -- walk, unless the chain begins by asking whether it is one.
   abbrev pub chain_in : ℕ → Chain → ℕ → Frame → Frame → World S → Act S
   chain_in k c next f g w =
       at_root c.root f w (λ h. unless_constant c h f w
       (assigned_value c.tail (assigned_operand c f.operands) f w (λ v.
       marked m f w
-      (walk_root (cell_of h.value) h k c (whole_walk (course_of c f v) c.steps) next f g))))
+      (walk_root (lent_cell m.program c.steps h) h k c (whole_walk (course_of c f v) c.steps) next f g))))
 
   -- the chain of index k
   abbrev pub chain : ℕ → ℕ → Frame → World S → Act S

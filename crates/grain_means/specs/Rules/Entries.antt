@@ -12,6 +12,8 @@ use Rattle.grain_fault.specs.declared.faults.MalformedKind.TheVariants as kind
 use Rattle.grain_fault.specs.Problems.{Plain, AssignmentToConstant, TooManyVariables, Malformed}
 use Rattle.grain_program.specs.View.{name_of}
 use Rattle.grain_means.specs.Worlds.{Frame, World, Act, Setup}
+use Rattle.grain_means.specs.Places.{put}
+use Rattle.grain_means.specs.Rules.Homes.{Home, InScope, InCell, AtPlace, in_entry}
 use Rattle.grain_means.specs.Rules.Frames.{stepped, held_at, is_full, name_at, is_read_only}
 use Rattle.grain_means.specs.Rules.Faults.{position, marked, raised, data_race}
 use Rattle.grain_means.specs.Rules.Going.{onward, pushed}
@@ -26,12 +28,13 @@ module _ {S : Type 0} (m : Setup S) where
       if c.busy then data_race m name f w
       else marked m f w (λ w1. go (record w1 { cells = slice_set w1.cells n (idle h) }))
 
-  -- this is written into the entry at the index, or into the cell that the entry is
-  abbrev pub written : Option ℕ → ℕ → Held → List ℕ → Frame → World S → (World S → Act S) →
-      Act S
-  written None i h name f w go =
+  -- this is written; faults call where it is written by the name
+  abbrev pub written_at : Home → Held → List ℕ → Frame → World S → (World S → Act S) → Act S
+  written_at (InScope i) h name f w go =
       marked m f w (λ w1. go (record w1 { scope = set_held w1.scope i h }))
-  written (Some n) i h name f w go = cell_written (slice_get w.cells n) n h name f w go
+  written_at (InCell n) h name f w go = cell_written (slice_get w.cells n) n h name f w go
+  written_at (AtPlace p) h name f w go =
+      marked m f w (λ w1. go (record w1 { roots = put w1.roots p h.value }))
 
   -- a slot past the scope
   abbrev pub slot_past_scope : Frame → ℕ → World S → Act S
@@ -86,12 +89,15 @@ module _ {S : Type 0} (m : Setup S) where
   assignment_to_constant n f w =
       raised m f (Plain (AssignmentToConstant (name_of m.program n)) (position m f)) w
 
-  -- this into the entry of a slot, which holds something so far, or into the cell that it is; with
-  -- which the last operand is used up
+  -- this is written, with which the last operand is used up
+  abbrev pub assigned_at : Home → Held → List ℕ → ℕ → Frame → World S → Act S
+  assigned_at a h name next f w =
+      written_at a h name f w (onward m f (stepped f next (below f.operands)))
+
+  -- this into the entry of a slot, which holds something so far, or into the cell that it is
   abbrev pub write_entry : Held → ℕ → Held → List ℕ → ℕ → Frame → World S → Act S
   write_entry before slot h name next f w =
-      written (cell_of before.value) (f.base + slot) h name f w
-      (onward m f (stepped f next (below f.operands)))
+      assigned_at (in_entry (f.base + slot) (cell_of before.value)) h name next f w
 
   -- the last operand, as it is written into an entry that is a cell, or into any other
   abbrev pub operand_for : Option ℕ → Frame → World S → (Dynamic → Act S) → Act S

@@ -86,28 +86,43 @@ module _ {S : Type 0} (m : Setup S) where
   abbrev pub raised : Frame → Problem → World S → Act S
   raised f x w = marked f w (offered f x)
 
-  -- what the host says of the operations so far: the run goes on, or it is terminated, and then
-  -- what follows from that fault
-  abbrev pub on_verdict : Verdict → Position → Frame → (Problem → World S → Act S) → World S →
-      (World S → Act S) → Act S
-  on_verdict GoOn p f fails w go = go w
-  on_verdict (Stop v) p f fails w go = marked f w (fails (Plain (Terminated v) p))
+  -- What the host says of the operations so far: the run goes on, or it is terminated, and then what
+  -- follows from that fault. `out` says what follows where memory is out.
+  abbrev pub on_verdict_or : (World S → Act S) → Verdict → Position →
+      (Problem → World S → Act S) → World S → (World S → Act S) → Act S
+  on_verdict_or out GoOn p fails w go = go w
+  on_verdict_or out (Stop v) p fails w go = marked_or out w (fails (Plain (Terminated v) p))
 
   -- the host hears how many operations there were, with a mark before and one after
-  abbrev pub progressed : Position → Frame → (Problem → World S → Act S) → World S →
-      (World S → Act S) → Act S
-  progressed p f fails w go =
-      marked f w (λ w1. marked f (record w1 { host = m.law.progress_after w1.host w1.count }) (λ w2.
-      on_verdict (m.law.progress_reply w1.host w1.count) p f fails w2 go))
+  abbrev pub progressed_or : (World S → Act S) → Position → (Problem → World S → Act S) →
+      World S → (World S → Act S) → Act S
+  progressed_or out p fails w go =
+      marked_or out w (λ w1. marked_or out
+      (record w1 { host = m.law.progress_after w1.host w1.count }) (λ w2.
+      on_verdict_or out (m.law.progress_reply w1.host w1.count) p fails w2 go))
 
   -- one operation more, of which the host hears, or the fault at this position that there are too
   -- many, and then what follows from the fault
+  abbrev pub operation_taken : (World S → Act S) → Position → (Problem → World S → Act S) →
+      World S → (World S → Act S) → Act S
+  operation_taken out p fails w go =
+      if nat_lt w.count m.engine.limits.operations then
+      marked_or out w
+      (λ w1. progressed_or out p fails (record w1 { count = w1.count + 1 }) go) else
+      marked_or out w (fails (Plain TooManyOperations p))
+
+  -- the same where want of memory leaves the frame
+  abbrev pub on_verdict : Verdict → Position → Frame → (Problem → World S → Act S) → World S →
+      (World S → Act S) → Act S
+  on_verdict v p f fails w go = on_verdict_or (leave_by_fault f NoMemory) v p fails w go
+
+  abbrev pub progressed : Position → Frame → (Problem → World S → Act S) → World S →
+      (World S → Act S) → Act S
+  progressed p f fails w go = progressed_or (leave_by_fault f NoMemory) p fails w go
+
   abbrev pub charged_or : Position → Frame → (Problem → World S → Act S) → World S →
       (World S → Act S) → Act S
-  charged_or p f fails w go =
-      if nat_lt w.count m.engine.limits.operations then
-      marked f w (λ w1. progressed p f fails (record w1 { count = w1.count + 1 }) go) else
-      marked f w (fails (Plain TooManyOperations p))
+  charged_or p f fails w go = operation_taken (leave_by_fault f NoMemory) p fails w go
 
   -- an instruction costs an operation
   abbrev pub charged : Frame → World S → (World S → Act S) → Act S

@@ -1,20 +1,27 @@
 -- A walk in the world: its first root stands at a place, and its other roots are the last ones of the
 -- world.
-use Rattle.std.specs.Prelude.{ℕ, zero, suc, ◌+◌, List, [], ◌∷◌, ◌++◌, Option, Some, None, take, map, option_map, if◌then◌else◌}
+use Rattle.std.specs.Prelude.{ℕ, zero, suc, ◌+◌, List, [], ◌∷◌, ◌++◌, Option, Some, None, length, take, map, option_map, if◌then◌else◌}
 use Rattle.grain_value.specs.Cells.{flat}
 use Rattle.grain_value.specs.Operands.{read_write}
+use Rattle.grain_value.specs.View.{value_of}
+use Rattle.grain_value.specs.declared.values.Dynamic.TheVariants as dynamic
+use Rattle.grain_value.specs.declared.values.FnPtr.{FnPtr}
 use Rattle.grain_value.specs.declared.values.Held.{Held}
 use Rattle.grain_value.specs.declared.values.paths.PathStep.{PathStep}
 use Rattle.grain_fault.specs.Problems.{Problem, Plain, DataRace, NoMemory}
 use Rattle.grain_fault.specs.declared.places.Position.{Position}
 use Rattle.grain_program.specs.Chains.{slot_of}
+use Rattle.grain_program.specs.declared.code.functions.Function.{Function}
 use Rattle.grain_program.specs.View.{View}
 use Rattle.grain_means.specs.Worlds.{is_stop, Place, Answer, Came, Failed, Frame, World, Act, Setup}
 use Rattle.grain_means.specs.Places.{look, put}
-use Rattle.grain_means.specs.Tasks.{Task, Done, Mark, Look, Flatten, Write, Root, Drop, Need, Call, Walked}
+use Rattle.grain_means.specs.Tasks.{Task, Done, Mark, Look, Flatten, Write, Root, Drop, Need, Invoke, Call, Invocation, Method, Numbered, Pointed, Walked}
 use Rattle.grain_means.specs.Rules.Faults.{race_text, marked_or}
 use Rattle.grain_means.specs.Rules.Reads.{flat_all}
-use Rattle.grain_means.specs.Rules.Natives.{AtPlace, Receiver, native_or}
+use Rattle.grain_means.specs.Rules.Homes.{AtPlace}
+use Rattle.grain_means.specs.Rules.Natives.{Receiver, native_or}
+use Rattle.grain_means.specs.Rules.Calls.{body_called, body_failed, function_by_name, function_numbered}
+use Rattle.grain_means.specs.Rules.Pointers.{curried_in}
 
 -- Where a place of a walk lies in the world. The walk began at the place p of a world with n roots. So
 -- the walk's first root, which has number 0, is what stands at p, and the walk's root of number k + 1 is
@@ -41,6 +48,49 @@ lent_at roots (Some p) = Some (record { home = AtPlace p; held = look roots p })
 abbrev pub failed_so : {S : Type 0} → Setup S → (Answer → World S → Act S) → Problem → World S → Act S
 failed_so m heard x w = marked_or m (heard (Failed NoMemory)) w (heard (Failed x))
 
+-- the native that a walk calls where a pointer names no function
+abbrev pub pointed_native : Invocation → FnPtr → Call
+pointed_native i r = record {
+  step = i.step;
+  position = i.position;
+  name = r.name;
+  receiver = i.this;
+  values = map value_of r.curry ++ i.values;
+}
+
+-- the functions that a walk calls
+module _ {S : Type 0} (m : Setup S) where
+  -- a function that a walk calls is over: what follows from its value, or from its fault at the call
+  abbrev pub body_over : Position → Function → (Answer → World S → Act S) → Answer → World S → Act S
+  body_over q g heard (Came v) w = heard (Came v) w
+  body_over q g heard (Failed x) w =
+      body_failed m (heard (Failed NoMemory)) (λ y. heard (Failed y)) q g x w
+
+  -- A function that a walk calls, and then what follows from the answer. Its `this` is the place, if there
+  -- is one; what can only be read there is copied to a new root, which goes afterwards.
+  abbrev pub function_under : Position → Function → List Held → (Answer → World S → Act S) →
+      Option Place → World S → Act S
+  function_under q g args heard this w =
+      body_called m (heard (Failed NoMemory)) (λ x. heard (Failed x)) q g args this
+      (body_over q g heard) w
+
+  abbrev pub copy_dropped : ℕ → (Answer → World S → Act S) → Answer → World S → Act S
+  copy_dropped n heard a w = heard a (record w { roots = take n w.roots })
+
+  abbrev pub function_on : Position → Function → List Held → (Answer → World S → Act S) → Place →
+      World S → Act S
+  function_on q g args heard p w =
+      if (look w.roots p).read_only
+      then function_under q g args (copy_dropped (length w.roots) heard)
+      (Some (record { root = length w.roots; path = [] }))
+      (record w { roots = w.roots ++ look w.roots p ∷ [] })
+      else function_under q g args heard (Some p) w
+
+  abbrev pub function_called : Position → Function → List Held → (Answer → World S → Act S) →
+      Option Place → World S → Act S
+  function_called q g args heard None w = function_under q g args heard None w
+  function_called q g args heard (Some p) w = function_on q g args heard p w
+
 -- a walk of the chain of index k, in a frame
 module _ {S : Type 0} (m : Setup S) (k : ℕ) (f : Frame) where
   -- The native that a walk needs is called on its arguments as they are read. If one of them is a cell
@@ -57,6 +107,32 @@ module _ {S : Type 0} (m : Setup S) (k : ℕ) (f : Frame) where
   abbrev pub performed : Call → Option Place → (Answer → World S → Act S) → World S → Act S
   performed c p heard w =
       needed c (lent_at w.roots p) heard w (flat_all w.cells (map read_write c.values))
+
+  -- The function that a pointer names, on the pointer's values and then these; if there is none, the
+  -- native of that name, which is lent the place, if there is one.
+  abbrev pub pointed_called : Invocation → Option Place → (Answer → World S → Act S) → FnPtr →
+      Option Function → World S → Act S
+  pointed_called i p heard r None w =
+      performed (pointed_native i r) p heard w
+  pointed_called i p heard r (Some g) w =
+      function_called m i.position g (curried_in r ++ map read_write i.values) heard p w
+
+  -- The function of a number. The numbers of methods are looked up among the program's functions, so that
+  -- the walk of a chain calls no other; one that is not there would give unit.
+  abbrev pub numbered_called : Invocation → Option Place → (Answer → World S → Act S) →
+      Option Function → World S → Act S
+  numbered_called i p heard None w = heard (Came dynamic.Unit) w
+  numbered_called i p heard (Some g) w =
+      function_called m i.position g (map read_write i.values) heard p w
+
+  -- a function that a walk calls, under the place, if there is one
+  abbrev pub invoked : Invocation → Option Place → (Answer → World S → Act S) → Method → World S →
+      Act S
+  invoked i p heard (Numbered n) w =
+      numbered_called i p heard (function_numbered m.program (Some n)) w
+  invoked i p heard (Pointed r) w =
+      pointed_called i p heard r
+      (function_by_name m.program r.name (length r.curry + length i.values)) w
 
   -- A task of a walk that began at the place p of a world with n roots, and then what follows from how the
   -- walk ends.
@@ -75,3 +151,5 @@ module _ {S : Type 0} (m : Setup S) (k : ℕ) (f : Frame) where
       (record w { roots = take (n + i) w.roots })
   walks p n (Need c go) done w =
       performed c (option_map (placed p n) c.receiver) (λ a w1. walks p n (go a) done w1) w
+  walks p n (Invoke i go) done w =
+      invoked i (option_map (placed p n) i.this) (λ a w1. walks p n (go a) done w1) i.method w

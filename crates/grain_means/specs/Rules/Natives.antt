@@ -1,10 +1,8 @@
 -- Natives that the host is asked for.
-use Rattle.std.specs.Prelude.{ℕ, slice_set, List, [], ◌∷◌, Option, Some, None, Bool, false, if◌then◌else◌, ◌&&◌, map, option_map}
+use Rattle.std.specs.Prelude.{ℕ, List, [], ◌∷◌, Option, Some, None, Bool, false, if◌then◌else◌, ◌&&◌, map, option_map}
 use Rattle.grain_value.specs.declared.values.Dynamic.{Dynamic}
 use Rattle.grain_value.specs.declared.values.Held.{Held}
 use Rattle.grain_value.specs.declared.scopes.Entry.{Entry}
-use Rattle.grain_value.specs.Scopes.{set_held}
-use Rattle.grain_value.specs.Cells.{idle}
 use Rattle.grain_value.specs.declared.stores.Cell.{Cell}
 use Rattle.grain_value.specs.Operands.{values_in}
 use Rattle.grain_value.specs.Tree.{Tree}
@@ -13,8 +11,8 @@ use Rattle.grain_value.specs.declared.natives.Native.{Native}
 use Rattle.grain_value.specs.Writing.{kind_of}
 use Rattle.grain_fault.specs.Positions.{at_position_if_none}
 use Rattle.grain_fault.specs.Problems.{Problem, Plain, NonPureCall, NoMemory}
-use Rattle.grain_means.specs.Worlds.{Place, Frame, World, Act, Setup}
-use Rattle.grain_means.specs.Places.{put}
+use Rattle.grain_means.specs.Worlds.{Frame, World, Act, Setup}
+use Rattle.grain_means.specs.Rules.Homes.{Home, back_in_scope, back_in_cells, back_in_roots}
 use Rattle.grain_host.specs.Signatures.{not_found}
 use Rattle.grain_host.specs.Law.{Law, Reply, native_of}
 use Rattle.grain_host.specs.Law as reply
@@ -32,12 +30,6 @@ abbrev pub first_is_read_only : List Held → Bool
 first_is_read_only [] = false
 first_is_read_only (h ∷ hs) = h.read_only
 
--- where what a native was lent goes back to: the entry of the scope at this index, or the cell of
--- this number that the entry is; or a place among the roots
-pub data Home : Type 0 where
-  InScope : ℕ → Option ℕ → Home
-  AtPlace : Place → Home
-
 -- what a native is lent: what is held, and where it stands
 pub record Receiver : Type 0 where
   pub home : Home
@@ -50,29 +42,6 @@ lent_held r = option_map (λ q. q.held) r
 abbrev pub given : Option Receiver → List Held → List Held
 given None args = args
 given (Some r) args = r.held ∷ args
-
--- the scope once this is back in the entry; where the entry is a cell it stays
-abbrev pub back_in_entry : Option ℕ → ℕ → Held → List Entry → List Entry
-back_in_entry None i h scope = set_held scope i h
-back_in_entry (Some n) i h scope = scope
-
--- the cells once this is back in the cell, if the entry is one
-abbrev pub back_in_cell : Option ℕ → Held → List Cell → List Cell
-back_in_cell None h cells = cells
-back_in_cell (Some n) h cells = slice_set cells n (idle h)
-
--- the scope, the cells and the roots once this is back where it stood
-abbrev pub back_in_scope : Home → Held → List Entry → List Entry
-back_in_scope (InScope i cell) h scope = back_in_entry cell i h scope
-back_in_scope (AtPlace p) h scope = scope
-
-abbrev pub back_in_cells : Home → Held → List Cell → List Cell
-back_in_cells (InScope i cell) h cells = back_in_cell cell h cells
-back_in_cells (AtPlace p) h cells = cells
-
-abbrev pub back_in_roots : Home → Held → List Held → List Held
-back_in_roots (InScope i cell) h roots = roots
-back_in_roots (AtPlace p) h roots = put roots p h.value
 
 -- the scope once what was lent is back, as the native left it
 abbrev pub given_back : {S : Type 0} → Law S → S → ℕ → List Tree → Option Receiver →

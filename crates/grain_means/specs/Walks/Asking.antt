@@ -105,10 +105,10 @@ property_was_got n name q p done go (Failed x) =
     then asking n q index_get (Some p) (name ∷ []) done (got_instead n x done go)
     else done (Ill n x)
 
--- an indexer gave what an index names
-abbrev pub index_was_got : ℕ → Rest → (Dynamic → Task) → Answer → Task
-index_was_got n done go (Came v) = go v
-index_was_got n done go (Failed x) = done (Ill n x)
+-- an indexer gave what an index names, or what a method step called gave its answer
+abbrev pub was_given : ℕ → Rest → (Dynamic → Task) → Answer → Task
+was_given n done go (Came v) = go v
+was_given n done go (Failed x) = done (Ill n x)
 
 -- an indexer gave what an op-assignment changes; where it failed, the value is set as it is
 abbrev pub index_was_read : ℕ → Position → Place → Dynamic → Dynamic → Rest → (Dynamic → Task) →

@@ -1,5 +1,5 @@
 -- The new roots of a walk, and the way back over them.
-use Rattle.std.specs.Prelude.{ℕ, Bool, false, Option, Some, None, if◌then◌else◌}
+use Rattle.std.specs.Prelude.{ℕ, Bool, false, true, Option, Some, None, if◌then◌else◌}
 use Rattle.grain_value.specs.Operands.{read_write}
 use Rattle.grain_value.specs.Parts.{with_part, part_type}
 use Rattle.grain_value.specs.Writing.{type_name_of}
@@ -23,12 +23,19 @@ pub data Origin : Type 0 where
   -- what a getter gave for the property of this name: the setter of this name sets it. The flag says
   -- that the chain assigns the property, and does not only change what stands in it.
   OfProperty : (name setter : ℕ) → Position → (assigned : Bool) → Origin
+  -- what a method gave: nothing sets it, and it counts as a change, whatever was done in it
+  OfMethod : Origin
   -- what nothing sets: a missing key's unit, or a byte, a character or a bit that the chain reads
   OfNothing : Origin
 
+-- whether it counts as a change, whatever was done in the new root
+abbrev pub is_change : Origin → Bool
+is_change OfMethod = true
+is_change o = false
+
 -- an answer that is the chain's own value, as it is given
-abbrev pub own_value : Rest → Dynamic → Task
-own_value done v = done (Well v false)
+abbrev pub own_value : Origin → Rest → Dynamic → Task
+own_value o done v = done (Well v (is_change o))
 
 module _ (g : Setting) where
   abbrev pub put_part : ℕ → Spot → Place → Dynamic → Dynamic → Bool → Rest → Option Dynamic → Task
@@ -47,6 +54,7 @@ module _ (g : Setting) where
       if changed then set_by_index n q p i v u done else done (Well u false)
   set_back n (OfProperty name setter q assigned) p v u changed done =
       if changed then set_property g n name setter q assigned p v u done else done (Well u false)
+  set_back n OfMethod p v u changed done = done (Well u true)
   set_back n OfNothing p v u changed done = done (Well u changed)
 
   -- The way back over a new root: it goes, and where all went well, it is set back.
@@ -62,5 +70,5 @@ module _ (g : Setting) where
   -- step, is the answer as it is given, which may be a cell, and no root.
   abbrev pub into_answer : ℕ → Position → Bool → Origin → Next → Place → Rest → Dynamic → Task
   into_answer n q own o next p done v =
-      if own then own_value done v
+      if own then own_value o done v
       else flattening n q v done (λ u. rooted n o (read_write u) next p done)

@@ -85,7 +85,7 @@ at-further (s ∷ p) q t c e =
     let f = leads-found s p t (ap is_ok e) in
     at-step s (p ++ q) t f.0 f.1 ∙ at-further p q f.0 c (sym (at-step s p t f.0 f.1) ∙ e)
 
-put-further : (p q : List PathStep) (v t c : Tree) → at p t ≡ Ok c →
+pub put-further : (p q : List PathStep) (v t c : Tree) → at p t ≡ Ok c →
     put_tree (p ++ q) v t ≡ put_tree p (put_tree q v c) t
 put-further [] q v t c e = ap (put_tree q v) (here-same t c e)
 put-further (s ∷ p) q v t c e =

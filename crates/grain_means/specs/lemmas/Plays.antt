@@ -6,8 +6,8 @@ use Rattle.grain_value.specs.Cells.{flat}
 use Rattle.grain_value.specs.declared.values.Held.{Held}
 use Rattle.grain_means.specs.Worlds.{is_stop, Place, Frame, Act, World, Setup}
 use Rattle.grain_means.specs.Places.{or_unit, find, look, put}
-use Rattle.grain_means.specs.Tasks.{Task, Done, Mark, Look, Flatten, Write, Root, Drop, Need, Walked, Own, Play, Over, Asks, play, root_after}
-use Rattle.grain_means.specs.Rules.InWorld.{placed, performed, walks}
+use Rattle.grain_means.specs.Tasks.{Task, Done, Mark, Look, Flatten, Write, Root, Drop, Need, Invoke, Walked, Own, Play, Over, Asks, Calls, play, root_after}
+use Rattle.grain_means.specs.Rules.InWorld.{placed, performed, invoked, walks}
 use Rattle.grain_means.specs.lemmas.Spreading.{spread, Rooted, find-spread, put-spread, drop-spread, add-spread, rooted-put, rooted-add, rooted-take}
 
 -- a world with a walk's roots
@@ -22,6 +22,9 @@ module _ {S : Type 0} (m : Setup S) (k : ℕ) (f : Frame) (p : Place)
   played (Asks c go s) =
       performed m k f c (option_map (placed p (length w.roots)) c.receiver)
       (λ a w1. walks m k f p (length w.roots) (go a) done w1) (laid w p s)
+  played (Calls i go s) =
+      invoked m k f i (option_map (placed p (length w.roots)) i.this)
+      (λ a w1. walks m k f p (length w.roots) (go a) done w1) i.method (laid w p s)
 
   abbrev in_world : Task → World S → Act S
   in_world t v = walks m k f p (length w.roots) t done v
@@ -64,3 +67,4 @@ module _ {S : Type 0} (m : Setup S) (k : ℕ) (f : Frame) (p : Place)
         ∙ plays (go (look s.roots (root_after i))) (record s { roots = take (suc i) s.roots })
         (rooted-take g.read_only s.roots i h)
     plays (Need c go) s h = refl
+    plays (Invoke i go) s h = refl

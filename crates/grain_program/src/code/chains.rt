@@ -2,7 +2,7 @@
 
 ghost use Rattle.std.specs.Prelude.{⊤, ◌≡◌, ◌<◌, ◌≤◌, ◌+◌, ◌^◌, [], ◌∷◌, codes, length, take};
 ghost use Rattle.grain_program.specs.Bits.{step_bits};
-ghost use Rattle.grain_program.specs.Chains.{root_slots, step_slots, steps_slots, assigns, is_temporary, chain_takes};
+ghost use Rattle.grain_program.specs.Chains.{root_slots, step_slots, steps_slots, assigns, is_temporary, is_method_step, chain_takes};
 
 use bitflags::{Flag, Flags, bitflag_items};
 use grain_fault::Position;
@@ -45,6 +45,9 @@ impl Flags for StepFlags {
 pub enum Root {
     /// At an entry of the scope. The index is that of its name, by which faults call it.
     Local { name: u32, slot: u16 },
+    /// At the value on which the function that runs was called as a method. The position is that of
+    /// the script.
+    This { pos: Position },
     /// At a value that is taken from the operands.
     Temporary,
 }
@@ -57,6 +60,7 @@ impl Root {
     {
         match self {
             Root::Local { .. } | Root::Temporary => 0,
+            Root::This { .. } => 1,
         }
     }
 
@@ -65,7 +69,7 @@ impl Root {
         ensures { result ≡ is_temporary self }
     {
         match self {
-            Root::Local { .. } => false,
+            Root::Local { .. } | Root::This { .. } => false,
             Root::Temporary => true,
         }
     }
@@ -90,6 +94,15 @@ pub enum Step {
         flags: StepFlags,
         pos: Position,
     },
+    /// To what a method gives that is called on what stands there. The name is given by its index,
+    /// and the arguments are `argc` operands of the chain, from the one of the number `operand` on.
+    Method {
+        name: u32,
+        argc: u8,
+        operand: u32,
+        flags: StepFlags,
+        pos: Position,
+    },
 }
 
 impl Step {
@@ -100,7 +113,17 @@ impl Step {
     {
         match self {
             Step::Index { .. } => 2,
-            Step::Property { .. } => 1,
+            Step::Property { .. } | Step::Method { .. } => 1,
+        }
+    }
+
+    /// Whether it runs a method.
+    pub fn is_method(self) -> bool
+        ensures { result ≡ is_method_step self }
+    {
+        match self {
+            Step::Index { .. } | Step::Property { .. } => false,
+            Step::Method { .. } => true,
         }
     }
 }

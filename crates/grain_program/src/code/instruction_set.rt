@@ -43,6 +43,16 @@ pub enum Op {
     AssignLocal(u16, u16),
     /// `assign_local_op S N A`: an op-assignment to the entry.
     AssignLocalOp(u16, u16, u16),
+    /// `load_this`: what `this` is.
+    LoadThis,
+    /// `load_this_shared`: what `this` is; a cell stays a cell.
+    LoadThisShared,
+    /// `require_this`: there has to be a `this`.
+    RequireThis,
+    /// `assign_this`: an assignment to `this`.
+    AssignThis,
+    /// `assign_this_op A`: an op-assignment to `this`.
+    AssignThisOp(u16),
     /// `load_shared S`: what the entry holds; a cell stays a cell.
     LoadShared(u16),
     /// `share S`: makes the entry a cell, unless it is one.
@@ -156,6 +166,26 @@ pub(crate) fn tagged(tag: u8, rest: &[u8], op: &mut Op) -> usize
             let assign = &name[2..];
             *op = Op::AssignLocalOp(two_there(rest), two_there(name), two_there(assign));
             7
+        }
+        0x12 => {
+            *op = Op::LoadThis;
+            1
+        }
+        0x13 => {
+            *op = Op::LoadThisShared;
+            1
+        }
+        0x14 => {
+            *op = Op::RequireThis;
+            1
+        }
+        0x15 => {
+            *op = Op::AssignThis;
+            1
+        }
+        0x16 => {
+            *op = Op::AssignThisOp(two_there(rest));
+            3
         }
         0x17 => {
             *op = Op::LoadShared(two_there(rest));
@@ -280,6 +310,11 @@ impl Op {
             Op::DeclareConst(_) => "declare_const",
             Op::AssignLocal(_, _) => "assign_local",
             Op::AssignLocalOp(_, _, _) => "assign_local_op",
+            Op::LoadThis => "load_this",
+            Op::LoadThisShared => "load_this_shared",
+            Op::RequireThis => "require_this",
+            Op::AssignThis => "assign_this",
+            Op::AssignThisOp(_) => "assign_this_op",
             Op::LoadShared(_) => "load_shared",
             Op::Share(_) => "share",
             Op::IsShared => "is_shared",
@@ -359,6 +394,14 @@ impl Op {
                 let assign = Field::Assignment(assign);
                 let fields = Fields::three(Field::Slot(slot), Field::Name(name), assign);
                 plain(0x11, fields, 1, 0, Flow::Next)
+            }
+            Op::LoadThis => plain(0x12, Fields::none(), 0, 1, Flow::Next),
+            Op::LoadThisShared => plain(0x13, Fields::none(), 0, 1, Flow::Next),
+            Op::RequireThis => plain(0x14, Fields::none(), 0, 0, Flow::Next),
+            Op::AssignThis => plain(0x15, Fields::none(), 1, 0, Flow::Next),
+            Op::AssignThisOp(assign) => {
+                let fields = Fields::one(Field::Assignment(assign));
+                plain(0x16, fields, 1, 0, Flow::Next)
             }
             Op::LoadShared(slot) => {
                 let fields = Fields::one(Field::Slot(slot));

@@ -1,8 +1,8 @@
-//! The rules of chains: each has a step, none assigns to a temporary value, each step uses an operand
-//! that its chain has, and there are slots for all steps.
+//! The rules of chains: each has a step, none assigns to a temporary value or to what a method gives,
+//! each step uses operands that its chain has, and there are slots for all steps.
 
 ghost use Rattle.std.specs.Prelude.{◌≡◌, ◌<◌, ◌≤◌, ◌+◌, ◌^◌, length, Some, None, nat_le, if◌then◌else◌};
-ghost use Rattle.grain_program.specs.Chains.{root_slots, steps_slots, chain_slots, most_slots, has_operands, all_have_operands, is_good_chain, first_bad_chain};
+ghost use Rattle.grain_program.specs.Chains.{root_slots, steps_slots, chain_slots, most_slots, ends_in_method, has_operands, all_have_operands, is_good_chain, first_bad_chain};
 
 use crate::code::chains::{Chain, Step};
 use crate::verifier::refusals::Refusal;
@@ -10,17 +10,30 @@ use crate::verifier::refusals::Refusal;
 /// How many slots all chains of a program may have together.
 const MOST_SLOTS: u64 = 4_294_967_295;
 
-/// Whether the step uses one of this number of operands, if it uses any.
+/// Whether the last of the steps runs a method.
+fn ends_in_method(steps: &[Step]) -> bool
+    ensures { result ≡ ends_in_method steps.now }
+{
+    match steps.last() {
+        Some(step) => step.is_method(),
+        None => false,
+    }
+}
+
+/// Whether what the step uses, if it uses any, is among this number of operands.
 fn has_operands(operands: u32, step: Step) -> bool
     ensures { result ≡ has_operands operands step }
 {
     match step {
         Step::Index { operand, .. } => operand < operands,
         Step::Property { .. } => true,
+        Step::Method { argc, operand, .. } => {
+            u64::from(operand) + u64::from(argc) <= u64::from(operands)
+        }
     }
 }
 
-/// Whether each step uses one of this number of operands, if it uses any.
+/// Whether what each step uses, if it uses any, is among this number of operands.
 fn all_have_operands(operands: u32, steps: &[Step]) -> bool
     ensures { result ≡ all_have_operands operands steps.now }
 {
@@ -57,6 +70,9 @@ fn slots_of_good(before: u64, chain: &Chain) -> Option<u64>
         then Some (before + chain_slots chain.now) else None) }
 {
     if chain.steps.is_empty() || chain.tail.assigns() && chain.root.is_temporary() {
+        return None;
+    }
+    if chain.tail.assigns() && ends_in_method(chain.steps.as_slice()) {
         return None;
     }
     if !all_have_operands(chain.operands, chain.steps.as_slice()) {

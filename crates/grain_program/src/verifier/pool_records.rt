@@ -28,7 +28,7 @@ fn has_root_name(names: usize, root: Root) -> bool
 {
     match root {
         Root::Local { name, .. } => (name as usize) < names,
-        Root::Temporary => true,
+        Root::This { .. } | Root::Temporary => true,
     }
 }
 
@@ -44,6 +44,7 @@ fn has_step_names(names: usize, step: Step) -> bool
             setter,
             ..
         } => (name as usize) < names && (getter as usize) < names && (setter as usize) < names,
+        Step::Method { name, .. } => (name as usize) < names,
     }
 }
 

@@ -10,3 +10,13 @@ steps_slots-requires c = omega (
   ap steps_slots c.as_slice-steps.ensures,
   c.requires,
 )
+
+pub overflow_add-result : goal.overflow_add-result
+overflow_add-result c = omega (
+  arith,
+  steps_within c.min.result c.as_slice-steps.result.now,
+  ap steps_slots c.as_slice-steps.ensures,
+  c.slots.ensures.exact,
+  c.steps_slots.ensures,
+  c.requires,
+)

@@ -1,0 +1,182 @@
+-- What a stretch of a run keeps, as seen from where it began: what there is names cells of the store
+-- only, no cell is lent but those that were, and no root is a cell where none was.
+use Rattle.std.proofs.Common.{◌≡◌, ◌≤◌, ℕ, zero, suc, List, [], ◌∷◌, ◌++◌, Bool, true, false, length, take, refl}
+use Rattle.std.specs.List.{AllByRecursion}
+use Rattle.std.specs.Prelude.{slice_set}
+use Rattle.grain_value.specs.Cells.{idle, lent}
+use Rattle.grain_value.specs.declared.scopes.Entry.{Entry}
+use Rattle.grain_value.specs.declared.stores.Cell.{Cell}
+use Rattle.grain_value.specs.declared.values.Held.{Held}
+use Rattle.grain_host.specs.Law.{Law}
+use Rattle.grain_means.specs.Contained.{CellNames, Contained, EntryNames, HeldNames}
+use Rattle.grain_means.proofs.Naming.{CellHolds, all_joined, all_wider}
+use Rattle.grain_means.proofs.Containing.Roots.{Roots, roots_back, roots_named, roots_on, roots_same}
+
+-- the cells and the roots where a stretch began
+pub record Since : Type 0 where
+  pub cells : List Cell
+  pub roots : List Held
+
+-- no cell is lent that was not
+abbrev pub Lends : List Cell → List Cell → Type 0
+Lends [] before = Unit {0}
+Lends (c ∷ cs) [] = (c.busy ≡ false) × Lends cs []
+Lends (c ∷ cs) (b ∷ bs) = (b.busy ≡ false → c.busy ≡ false) × Lends cs bs
+
+pub lends_same : (cells : List Cell) → Lends cells cells
+lends_same [] = tt
+lends_same (c ∷ cs) = (λ e. e, lends_same cs)
+
+pub lends_set : (now before : List Cell) (i : ℕ) (h : Held) → Lends now before →
+    Lends (slice_set now i (idle h)) before
+lends_set [] before i h k = tt
+lends_set (c ∷ cs) [] zero h k = (refl, k.1)
+lends_set (c ∷ cs) [] (suc i) h k = (k.0, lends_set cs [] i h k.1)
+lends_set (c ∷ cs) (b ∷ bs) zero h k = (λ e. refl, k.1)
+lends_set (c ∷ cs) (b ∷ bs) (suc i) h k = (k.0, lends_set cs bs i h k.1)
+
+pub lends_added : (now before : List Cell) (h : Held) → Lends now before →
+    Lends (now ++ idle h ∷ []) before
+lends_added [] [] h k = (refl, tt)
+lends_added [] (b ∷ bs) h k = (λ e. refl, tt)
+lends_added (c ∷ cs) [] h k = (k.0, lends_added cs [] h k.1)
+lends_added (c ∷ cs) (b ∷ bs) h k = (k.0, lends_added cs bs h k.1)
+
+-- over two stretches
+pub lends_on : (now amid before : List Cell) → Lends now amid → Lends amid before → Lends now before
+lends_on [] amid before k l = tt
+lends_on (c ∷ cs) [] [] k l = (k.0, lends_on cs [] [] k.1 tt)
+lends_on (c ∷ cs) [] (b ∷ bs) k l = (λ e. k.0, lends_on cs [] bs k.1 tt)
+lends_on (c ∷ cs) (d ∷ ds) [] k l = (k.0 l.0, lends_on cs ds [] k.1 l.1)
+lends_on (c ∷ cs) (d ∷ ds) (b ∷ bs) k l = (λ e. k.0 (l.0 e), lends_on cs ds bs k.1 l.1)
+
+-- a cell that was lent has its content back
+pub lends_back : (now before : List Cell) (i : ℕ) (g h : Held) →
+    Lends now (slice_set before i (lent g)) → Lends (slice_set now i (idle h)) before
+lends_back [] before i g h k = tt
+lends_back (c ∷ cs) [] zero g h k = (refl, k.1)
+lends_back (c ∷ cs) [] (suc i) g h k = (k.0, lends_set cs [] i h k.1)
+lends_back (c ∷ cs) (b ∷ bs) zero g h k = (λ e. refl, k.1)
+lends_back (c ∷ cs) (b ∷ bs) (suc i) g h k = (k.0, lends_back cs bs i g h k.1)
+
+-- where no cell was lent, none is
+none_lent : (clean : Bool) (n k : ℕ) (now before : List Cell) → Lends now before →
+    AllByRecursion (CellNames clean n) before → AllByRecursion (CellHolds clean k) now →
+    AllByRecursion (CellNames clean k) now
+none_lent clean n k [] before l b h = tt
+none_lent clean n k (c ∷ cs) [] l b h = (
+  record { idle = l.0; flat = h.0.flat; names = h.0.names },
+  none_lent clean n k cs [] l.1 tt h.1,
+)
+none_lent clean n k (c ∷ cs) (d ∷ ds) l b h = (
+  record { idle = l.0 b.0.idle; flat = h.0.flat; names = h.0.names },
+  none_lent clean n k cs ds l.1 b.1 h.1,
+)
+
+-- a scope, a store of n cells, a host and roots
+pub record Kept {S : Type 0} (law : Law S) (clean : Bool) (n : ℕ) (since : Since) (scope : List Entry)
+    (cells : List Cell) (host : S) (roots : List Held) : Type 0 where
+  pub size : length cells ≡ n
+  pub entries : AllByRecursion (EntryNames clean n) scope
+  pub contents : AllByRecursion (CellHolds clean n) cells
+  pub reaches : law.reach host ≤ n
+  pub hands : clean ≡ true → law.holds_clean host ≡ true
+  pub lends : Lends cells since.cells
+  pub stand : Roots clean n roots since.roots
+
+module _ {S : Type 0} {law : Law S} {clean : Bool} where
+  -- what there is names cells of the store only
+  pub all_named : {n : ℕ} {since : Since} {scope : List Entry} {cells : List Cell} {host : S}
+      {roots : List Held} → Kept law clean n since scope cells host roots →
+      AllByRecursion (HeldNames clean n) roots
+  all_named {n} {since} {scope} {cells} {host} {roots} at =
+      roots_named clean n roots since.roots at.stand
+
+  -- where a run begins with no cell lent, and where it ends
+  pub begun : {n : ℕ} {scope : List Entry} {cells : List Cell} {host : S} (roots : List Held) →
+      Contained law clean n scope cells host → AllByRecursion (HeldNames clean n) roots →
+      Kept law clean n (record { cells = cells; roots = roots }) scope cells host roots
+  begun {n} {scope} {cells} {host} roots at named = record {
+    size = at.size;
+    entries = at.entries;
+    contents = all_wider (CellNames clean n) (CellHolds clean n)
+        (λ c p. record { flat = p.flat; names = p.names }) cells at.contents;
+    reaches = at.reaches;
+    hands = at.hands;
+    lends = lends_same cells;
+    stand = roots_same clean n roots named;
+  }
+
+  pub at_last : (n : ℕ) {k : ℕ} {since : Since} {scope : List Entry} {cells : List Cell} {host : S}
+      {roots : List Held} → AllByRecursion (CellNames clean n) since.cells →
+      Kept law clean k since scope cells host roots → Contained law clean k scope cells host
+  at_last n {k} {since} {scope} {cells} none at = record {
+    size = at.size;
+    entries = at.entries;
+    contents = none_lent clean n k cells since.cells at.lends none at.contents;
+    reaches = at.reaches;
+    hands = at.hands;
+  }
+
+  -- a stretch begins here, with a root more
+  pub with_root : {n : ℕ} {since : Since} {scope : List Entry} {cells : List Cell} {host : S}
+      {roots : List Held} (h : Held) → HeldNames clean n h →
+      Kept law clean n since scope cells host roots →
+      Kept law clean n (record { cells = cells; roots = roots ++ h ∷ [] }) scope cells host
+      (roots ++ h ∷ [])
+  with_root {n} {since} {scope} {cells} {host} {roots} h named at = record {
+    size = at.size;
+    entries = at.entries;
+    contents = at.contents;
+    reaches = at.reaches;
+    hands = at.hands;
+    lends = lends_same cells;
+    stand = roots_same clean n (roots ++ h ∷ [])
+        (all_joined (HeldNames clean n) roots (h ∷ []) (all_named at) (named, tt));
+  }
+
+  -- or with the roots that there are
+  pub from_here : {n : ℕ} {since : Since} {scope : List Entry} {cells : List Cell} {host : S}
+      {roots : List Held} → Kept law clean n since scope cells host roots →
+      Kept law clean n (record { cells = cells; roots = roots }) scope cells host roots
+  from_here {n} {since} {scope} {cells} {host} {roots} at = record {
+    size = at.size;
+    entries = at.entries;
+    contents = at.contents;
+    reaches = at.reaches;
+    hands = at.hands;
+    lends = lends_same cells;
+    stand = roots_same clean n roots (all_named at);
+  }
+
+  -- a root that was added is gone
+  pub root_gone : {k : ℕ} {before : List Cell} (amid : List Held) (h : Held) {scope : List Entry}
+      {cells : List Cell} {host : S} {roots : List Held} →
+      Kept law clean k (record { cells = before; roots = amid ++ h ∷ [] }) scope cells host roots →
+      Kept law clean k (record { cells = before; roots = amid }) scope cells host
+      (take (length amid) roots)
+  root_gone {k} {before} amid h {scope} {cells} {host} {roots} at = record {
+    size = at.size;
+    entries = at.entries;
+    contents = at.contents;
+    reaches = at.reaches;
+    hands = at.hands;
+    lends = at.lends;
+    stand = roots_back clean k amid h roots at.stand;
+  }
+
+  -- a stretch inside another
+  pub joined_on : {n k : ℕ} {since : Since} {scope before : List Entry} {cells amid : List Cell}
+      {host first : S} {roots stood : List Held} → Kept law clean n since before amid first stood →
+      Kept law clean k (record { cells = amid; roots = stood }) scope cells host roots →
+      Kept law clean k since scope cells host roots
+  joined_on {n} {k} {since} {scope} {before} {cells} {amid} {host} {first} {roots} {stood} was at =
+      record {
+        size = at.size;
+        entries = at.entries;
+        contents = at.contents;
+        reaches = at.reaches;
+        hands = at.hands;
+        lends = lends_on cells amid since.cells at.lends was.lends;
+        stand = roots_on clean n k roots stood since.roots at.stand was.stand;
+      }
