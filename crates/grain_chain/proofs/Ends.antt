@@ -72,6 +72,7 @@ module _ (e : Engine) (p : View) (w : Walk) (q : Awaits) where
   same_resumed None (awaits.IndexRead pos i n) a = refl
   same_resumed None (awaits.OpAssigned pos o) a = refl
   same_resumed None (awaits.Operator pos) a = refl
+  same_resumed None (awaits.Called b i) a = refl
   same_resumed (Some h) awaits.IndexSet a = refl
   same_resumed (Some h) (awaits.PropertySet name pos assigned v) a = refl
   same_resumed (Some h) (awaits.SetInstead x assigned) a = refl
@@ -81,6 +82,7 @@ module _ (e : Engine) (p : View) (w : Walk) (q : Awaits) where
   same_resumed (Some h) (awaits.IndexRead pos i n) a = refl
   same_resumed (Some h) (awaits.OpAssigned pos o) a = refl
   same_resumed (Some h) (awaits.Operator pos) a = refl
+  same_resumed (Some h) (awaits.Called b i) a = refl
 
   pub same_step : (r : Option Held) (s : Awaits) → IsAtStep p w s → IsAtStep p (taken_up w r q) s
   same_step None awaits.IndexSet h = tt
@@ -92,6 +94,7 @@ module _ (e : Engine) (p : View) (w : Walk) (q : Awaits) where
   same_step None (awaits.IndexRead pos i n) h = h
   same_step None (awaits.OpAssigned pos o) h = tt
   same_step None (awaits.Operator pos) h = tt
+  same_step None (awaits.Called b i) h = h
   same_step (Some r) awaits.IndexSet h = tt
   same_step (Some r) (awaits.PropertySet name pos assigned v) h = tt
   same_step (Some r) (awaits.SetInstead x assigned) h = tt
@@ -101,6 +104,7 @@ module _ (e : Engine) (p : View) (w : Walk) (q : Awaits) where
   same_step (Some r) (awaits.IndexRead pos i n) h = h
   same_step (Some r) (awaits.OpAssigned pos o) h = tt
   same_step (Some r) (awaits.Operator pos) h = tt
+  same_step (Some r) (awaits.Called b i) h = h
 
   pub same_still : (r : Option Held) (s : Awaits) → still p (taken_up w r q) s ≡ still p w s
   same_still None awaits.IndexSet = refl
@@ -112,6 +116,7 @@ module _ (e : Engine) (p : View) (w : Walk) (q : Awaits) where
   same_still None (awaits.IndexRead pos i n) = refl
   same_still None (awaits.OpAssigned pos o) = refl
   same_still None (awaits.Operator pos) = refl
+  same_still None (awaits.Called b i) = refl
   same_still (Some h) awaits.IndexSet = refl
   same_still (Some h) (awaits.PropertySet name pos assigned v) = refl
   same_still (Some h) (awaits.SetInstead x assigned) = refl
@@ -121,6 +126,7 @@ module _ (e : Engine) (p : View) (w : Walk) (q : Awaits) where
   same_still (Some h) (awaits.IndexRead pos i n) = refl
   same_still (Some h) (awaits.OpAssigned pos o) = refl
   same_still (Some h) (awaits.Operator pos) = refl
+  same_still (Some h) (awaits.Called b i) = refl
 
 same_marks : (w : Walk) (r : Option Held) (q : Awaits) → (taken_up w r q).marks ≡ 0
 same_marks w None q = refl

@@ -6,6 +6,7 @@ pub mod Keys
 pub mod Roots
 pub mod Stepping
 pub mod Spots
+pub mod MethodSteps
 pub mod Missing
 pub mod Named
 pub mod Backs

@@ -1,10 +1,12 @@
 -- The loops of a walk: over its steps, and over its newer roots.
 use Rattle.std.proofs.Common.{◌≡◌, ◌≤◌, ℕ, suc, List, [], ◌∷◌, ◌++◌, Bool, false, Option, Some, None, Result, Ok, Err, is_ok, length, refl, sym, ap, ◌∙◌, subst}
+use Rattle.std.specs.Prelude.{◌||◌}
 use Rattle.grain_value.specs.declared.memory.OutOfMemory.{OutOfMemory}
 use Rattle.grain_value.specs.declared.values.Dynamic.{Dynamic}
 use Rattle.grain_program.specs.View.{View}
 use Rattle.grain_means.specs.Tasks.{Task, Well}
-use Rattle.grain_means.specs.Walks.{set_back}
+use Rattle.grain_means.specs.Worlds.{Place}
+use Rattle.grain_means.specs.Walks.{Origin, OfPart, OfIndex, OfProperty, OfMethod, OfNothing, Rest, is_change, set_back}
 use Rattle.grain_chain.specs.Standings.{Standing, WentBack}
 use Rattle.grain_chain.specs.Walking.{roots_of, place_of, origin_of, Falls}
 use Rattle.grain_chain.specs.Going.{Reaches, Goes, GoesBack, Takes, CameBack, Went, NeedsOr, setting, rest}
@@ -57,45 +59,67 @@ module _ (x : Context) (w0 : Walk) (t0 : Task) where
       set_back (setting x (left_root w g t)) g.step (origin_of g.origin) (place_of (left_root w g t))
       g.root.value w.gives changed (rest x (left_root w g t))
 
+  -- what counts as a change is one on the way back too
+  counts : (w : Walk) (o : Origin) (p : Place) (v u : Dynamic) (changed : Bool) (done : Rest) →
+      set_back (setting x w) w.step o p v u changed done
+      ≡ set_back (setting x w) w.step o p v u (is_change o || changed) done
+  counts w (OfPart s) p v u changed done = refl
+  counts w (OfIndex i q) p v u changed done = refl
+  counts w (OfProperty name setter q assigned) p v u changed done = refl
+  counts w OfMethod p v u changed done = refl
+  counts w OfNothing p v u changed done = refl
+
   back_led : (w : Walk) (g : Gone) (t : Standing) (changed : Bool) →
       Led w (rest x w (Well w.gives changed)) → WentBack w.trail (Some g) t →
-      Led (left_root w g t) (returning w g t changed)
+      Led (left_root w g t) (returning w g t (is_change (origin_of g.origin) || changed))
   back_led w g t changed h went =
-      then_reaches x w0 w (left_root w g t) t0 (rest x w (Well w.gives changed))
-      (returning w g t changed) h (leaves x w g t w.gives changed went)
+      subst (λ (u : Task). Led (left_root w g t) u)
+      (counts (left_root w g t) (origin_of g.origin) (place_of (left_root w g t)) g.root.value w.gives
+      changed (rest x (left_root w g t)))
+      (then_reaches x w0 w (left_root w g t) t0 (rest x w (Well w.gives changed))
+      (returning w g t changed) h (leaves x w g t w.gives changed went))
 
-  pub back_answers : (w v : Walk) (g : Gone) (t : Standing) (changed : Bool) (a : WalkAnswer)
+  -- the same for the flag of the code
+  flag_led : (w : Walk) (g : Gone) (t : Standing) (changed now : Bool) →
+      Led w (rest x w (Well w.gives changed)) → WentBack w.trail (Some g) t →
+      now ≡ (is_change (origin_of g.origin) || changed) → Led (left_root w g t) (returning w g t now)
+  flag_led w g t changed now h went same =
+      subst (λ (b : Bool). Led (left_root w g t) (returning w g t b)) (sym same)
+      (back_led w g t changed h went)
+
+  pub back_answers : (w v : Walk) (g : Gone) (t : Standing) (changed now : Bool) (a : WalkAnswer)
       (r : Result (Option WalkAnswer) OutOfMemory) → Led w (rest x w (Well w.gives changed)) →
-      WentBack w.trail (Some g) t → r ≡ Ok (Some a) →
-      GoesBack x (left_root w g t) (returning w g t changed) changed r v → Goes x w0 t0 (Ok a) v
-  back_answers w v g t changed a r h went e back =
-      let led = back_led w g t changed h went in
+      WentBack w.trail (Some g) t → now ≡ (is_change (origin_of g.origin) || changed) → r ≡ Ok (Some a) →
+      GoesBack x (left_root w g t) (returning w g t now) now r v → Goes x w0 t0 (Ok a) v
+  back_answers w v g t changed now a r h went same e back =
+      let led = flag_led w g t changed now h went same in
       let here = subst (λ (q : Result (Option WalkAnswer) OutOfMemory).
-      GoesBack x (left_root w g t) (returning w g t changed) changed q v) e back in
+      GoesBack x (left_root w g t) (returning w g t now) now q v) e back in
       λ k. go_on (led k) (here k) tt
 
-  pub back_gives_up : (w v : Walk) (g : Gone) (t : Standing) (changed : Bool)
+  pub back_gives_up : (w v : Walk) (g : Gone) (t : Standing) (changed now : Bool)
       (r : Result (Option WalkAnswer) OutOfMemory) (q : Result WalkAnswer OutOfMemory) →
-      Led w (rest x w (Well w.gives changed)) → WentBack w.trail (Some g) t → is_ok r ≡ false →
-      is_ok q ≡ false → GoesBack x (left_root w g t) (returning w g t changed) changed r v →
+      Led w (rest x w (Well w.gives changed)) → WentBack w.trail (Some g) t →
+      now ≡ (is_change (origin_of g.origin) || changed) → is_ok r ≡ false →
+      is_ok q ≡ false → GoesBack x (left_root w g t) (returning w g t now) now r v →
       Goes x w0 t0 q v
-  back_gives_up w v g t changed (Err o) (Err u) h went e f back =
-      let led = back_led w g t changed h went in λ k. go_on (led k) (back k) tt
-  back_gives_up w v g t changed (Ok a) (Err u) h went e f back = cc
-  back_gives_up w v g t changed (Err o) (Ok a) h went e f back = cc
-  back_gives_up w v g t changed (Ok b) (Ok a) h went e f back = cc
+  back_gives_up w v g t changed now (Err o) (Err u) h went same e f back =
+      let led = flag_led w g t changed now h went same in λ k. go_on (led k) (back k) tt
+  back_gives_up w v g t changed now (Ok a) (Err u) h went same e f back = cc
+  back_gives_up w v g t changed now (Err o) (Ok a) h went same e f back = cc
+  back_gives_up w v g t changed now (Ok b) (Ok a) h went same e f back = cc
 
-  pub back_turns : (w v : Walk) (g : Gone) (t : Standing) (changed : Bool)
+  pub back_turns : (w v : Walk) (g : Gone) (t : Standing) (changed now : Bool)
       (r : Result (Option WalkAnswer) OutOfMemory) → Led w (rest x w (Well w.gives changed)) →
-      WentBack w.trail (Some g) t → r ≡ Ok None →
-      GoesBack x (left_root w g t) (returning w g t changed) changed r v →
-      Led v (rest x v (Well v.gives changed)) × CameBack (left_root w g t) v
-  back_turns w v g t changed r h went e back =
-      let led = back_led w g t changed h went in
+      WentBack w.trail (Some g) t → now ≡ (is_change (origin_of g.origin) || changed) → r ≡ Ok None →
+      GoesBack x (left_root w g t) (returning w g t now) now r v →
+      Led v (rest x v (Well v.gives now)) × CameBack (left_root w g t) v
+  back_turns w v g t changed now r h went same e back =
+      let led = flag_led w g t changed now h went same in
       let here = subst (λ (q : Result (Option WalkAnswer) OutOfMemory).
-      GoesBack x (left_root w g t) (returning w g t changed) changed q v) e back in
-      let all : Led v (rest x v (Well w.gives changed)) = λ k. go_on (led k) (here.0 k) tt in (
-        subst (λ (d : Dynamic). Led v (rest x v (Well d changed)))
+      GoesBack x (left_root w g t) (returning w g t now) now q v) e back in
+      let all : Led v (rest x v (Well w.gives now)) = λ k. go_on (led k) (here.0 k) tt in (
+        subst (λ (d : Dynamic). Led v (rest x v (Well d now)))
             (sym (ap (λ (u : Walk). u.gives) here.1.same)) all,
         here.1,
       )

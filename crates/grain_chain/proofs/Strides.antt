@@ -21,7 +21,7 @@ use Rattle.grain_chain.specs.declared.requests.WalkAnswer.{WalkAnswer}
 use Rattle.grain_chain.specs.declared.requests.WalkAnswer.TheVariants as answer
 use Rattle.grain_chain.specs.declared.walks.Walk.{Walk}
 
--- with one mark more behind it
+-- with one more mark after it
 abbrev pub marked : Walk → Walk
 marked w = record w { marks = w.marks + 1 }
 

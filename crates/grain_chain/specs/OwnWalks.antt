@@ -1,12 +1,12 @@
--- How code is joined to a walk by itself.
+-- How the code is compared with a walk by itself, which `play` defines.
 use Rattle.std.specs.Prelude.{◌≡◌, ◌≤◌, ℕ, List, Option, Bool, true, false}
 use Rattle.grain_value.specs.declared.values.Held.{Held}
 use Rattle.grain_value.specs.declared.stores.Cell.{Cell}
 use Rattle.grain_means.specs.Simulation.{NoStopWithin, StopsHere}
 use Rattle.grain_means.specs.Tasks.{Task, Own, play}
 
--- A walk by itself, beside these cells, came from the first state to the second one, and from the first
--- task to the second one, which is left. `out` says that memory is out there.
+-- With these cells, a walk by itself that begins at the state `old` with the task `start` comes to the
+-- state `new`, where the task `now` is left to do. `out` says that memory is out there.
 pub record WalksOn (cells : List Cell) (old : Own) (start : Task) (out : Bool) (new : Own)
     (now : Task) : Type 0 where
   pub order : old.passed ≤ new.passed

@@ -1,4 +1,4 @@
--- The roots of a walk of the code, and where it stands in the newest of them.
+-- The roots of a walk of the code, and its place in the newest one.
 use Rattle.std.specs.Prelude.{◌≡◌, ℕ, List, [], ◌∷◌, ◌++◌, Option, Some, None, Bool, true, false, Result, Ok, Err, is_some}
 use Rattle.grain_value.specs.View.{tree}
 use Rattle.grain_value.specs.Paths.{at, Leads}
@@ -18,8 +18,7 @@ use Rattle.grain_means.specs.Walks.{with_key}
 use Rattle.grain_chain.specs.declared.origins.Outer.{Outer}
 use Rattle.grain_chain.specs.declared.trails.Gone.{Gone}
 
--- the roots after which there is a newer one, the oldest first, and the newest with the way to the place
--- in it
+-- all roots but the newest, the oldest first; the newest; and the path to the walk's place in it
 pub record Standing : Type 0 where
   pub outer : List Outer
   pub here : Held
@@ -38,12 +37,12 @@ pub record Leading (s : Standing) : Type 0 where
 abbrev pub Stands : Standing → Dynamic → Type 0
 Stands s v = at s.path (tree s.here.value) ≡ Ok (tree v)
 
--- the root that is left where all newer ones go
+-- the first root, which stays when all others are left
 abbrev pub oldest : List Outer → Held → Held
 oldest [] h = h
 oldest (o ∷ os) h = o.root
 
--- the newest root went, and the walk stands in the one around it; or there is none around it
+-- the newest root was left, and the one before it is now the newest; or there is none before it
 abbrev pub WentBack : Standing → Option Gone → Standing → Type 0
 WentBack s None t = (s.outer ≡ []) × (t ≡ s)
 WentBack s (Some g) t =
@@ -54,27 +53,27 @@ WentBack s (Some g) t =
 abbrev pub put_there : Standing → Dynamic → Standing
 put_there s v = record s { here = put_held s.path v s.here }
 
--- with one key more in the map at the place, at which unit stands; the place is then that key's
+-- with one more key, with unit, in the map at the place; the place is then that of the key
 abbrev pub key_added : Standing → List ℕ → Dynamic → Standing
 key_added s key v = record s {
   here = put_held s.path (with_key key v) s.here;
   path = s.path ++ Key key ∷ [];
 }
 
--- A byte, a character or a bit of what stands at the place was put back. Where what is put back is of
--- another type, and after want of memory, nothing was done.
+-- A byte, a character or a bit was put back into the value at the place. If it does not have the type
+-- that fits there, or if memory ran out, nothing was done.
 abbrev pub PartPut : Standing → Option Dynamic → Result Bool OutOfMemory → Standing → Type 0
 PartPut s (Some v) (Ok b) t = (b ≡ true) × (t ≡ put_there s v)
 PartPut s None (Ok b) t = (b ≡ false) × (t ≡ s)
 PartPut s d (Err e) t = t ≡ s
 
--- an op-assignment that is built in was done at the place, or nothing changed
+-- a built-in op-assignment was done at the place, or nothing changed
 abbrev pub AssignedThere : Standing → AssignAnswer → Outcome → Standing → Type 0
 AssignedThere s assigned.NotBuiltIn o t = (o ≡ NotBuiltIn) × (t ≡ s)
 AssignedThere s assigned.Done o t = (r : Dynamic) × (o ≡ Gave r) × (t ≡ put_there s r)
 AssignedThere s (assigned.Failed x) o t = FailsSo x o × (t ≡ s)
 
--- whether a map has a key; None of a value that is no map
+-- whether a map has a key; None if the value is no map
 abbrev pub has_key : Dynamic → List ℕ → Option Bool
 has_key (dynamic.Map es) k = Some (is_some (entry_at k es))
 has_key v k = None

@@ -25,7 +25,7 @@ use grain_value::{Dynamic, Held, OutOfMemory, Text};
 use std::alloc::Global;
 
 impl Walk {
-    // What was needed came to a value.
+    // Goes on after a request that gave a value.
     pub(crate) fn came(
         &mut self,
         context: Context<'_>,
@@ -52,10 +52,11 @@ impl Walk {
                 self.well(context, true)
             }
             Awaits::Operator(pos) => self.store_answer(context, pos, value),
+            Awaits::Called { into, .. } => self.go_in(context, into, value),
         }
     }
 
-    // Goes on in an answer, which is a new root. The chain's own value is the answer as it is given.
+    // Makes an answer a new root, and goes on in it; or, if `own`, makes it the chain's value as it is.
     fn go_in(
         &mut self,
         context: Context<'_>,
@@ -77,7 +78,7 @@ impl Walk {
         } = into;
         if own {
             self.gives = value;
-            return self.well(context, false);
+            return self.well(context, origin.is_change());
         }
         let Ok(content) = flat_copy(self.alloc, context.cells, value) else {
             return Err(OutOfMemory);
@@ -119,7 +120,7 @@ impl Walk {
         }
     }
 
-    // What was needed came to a fault.
+    // Goes on after a request that gave a fault.
     pub(crate) fn refused(
         &mut self,
         context: Context<'_>,
@@ -160,10 +161,11 @@ impl Walk {
             } => self.not_read(bracket, index, fault),
             Awaits::OpAssigned(pos, op) => self.not_assigned(context, pos, op, fault),
             Awaits::Operator(_) => Ok(self.failed(fault)),
+            Awaits::Called { .. } => Ok(self.failed(fault)),
         }
     }
 
-    // An indexer has not set a value. That there is none is no fault.
+    // An indexer has not set a value. A missing indexer is no fault.
     fn not_set(
         &mut self,
         context: Context<'_>,
@@ -180,7 +182,7 @@ impl Walk {
         Ok(self.failed(fault))
     }
 
-    // A setter has not set a property: if there is none, an indexer does.
+    // A setter has not set a property: if the host has none, an indexer is asked.
     fn property_not_set(
         &mut self,
         context: Context<'_>,
@@ -202,7 +204,7 @@ impl Walk {
         Ok(self.failed(fault))
     }
 
-    // A getter has not got a property: if there is none, an indexer gives it.
+    // A getter has not given a property: if the host has none, an indexer is asked.
     fn property_not_got(
         &mut self,
         context: Context<'_>,
@@ -226,7 +228,8 @@ impl Walk {
         Ok(self.failed(fault))
     }
 
-    // An indexer has not got a property either, of which the getter failed.
+    // An indexer has not given a property either, after its getter failed. If the host has no
+    // indexer, the getter's fault ends the walk.
     fn not_got_instead(
         &mut self,
         first: EvalAltResult,
@@ -243,7 +246,8 @@ impl Walk {
         Ok(self.failed(fault))
     }
 
-    // An indexer has not given what an op-assignment changes: the value is set as it is.
+    // An indexer has not given the value that an op-assignment changes: if the fault can be caught,
+    // the chain's value is set as it is.
     fn not_read(
         &mut self,
         bracket: Position,
@@ -261,7 +265,7 @@ impl Walk {
         Ok(self.failed(fault))
     }
 
-    // The host's op-assignment has not assigned: if there is none, the host's operator does.
+    // The host's op-assignment has not assigned: if the host has none, its operator is asked.
     fn not_assigned(
         &mut self,
         context: Context<'_>,
@@ -281,7 +285,7 @@ impl Walk {
         Ok(self.failed(fault))
     }
 
-    // No indexer has set a property, of which the setter failed.
+    // An indexer has not set a property either, after its setter failed.
     fn not_set_instead(
         &mut self,
         context: Context<'_>,
@@ -300,8 +304,8 @@ impl Walk {
         Ok(self.failed(fault))
     }
 
-    // There is no setter, and no indexer: that is the setter's fault, but for a value that was only
-    // changed.
+    // Neither a setter nor an indexer is there: the setter's fault if the chain assigns the
+    // property, and no fault if its value was only changed.
     fn unset(
         &mut self,
         context: Context<'_>,
@@ -320,7 +324,7 @@ impl Walk {
     }
 }
 
-// Whether a fault says that there is no function of the name at the index.
+// Whether a fault says that there is no function of the name with this index.
 fn is_missing(alloc: Global, program: &Program, name: u32, fault: &EvalAltResult) -> bool
     ensures { result ≡ says_missing (name_of program.now name) (problem_of fault.now) }
 {

@@ -1,4 +1,4 @@
-//! Marks, and what a walk asks for at them.
+//! Marks and requests.
 
 ghost use Rattle.std.specs.Prelude.{◌≡◌, ◌+◌, ◌∷◌, [], ℕ, IfOk, IfErr};
 ghost use Rattle.grain_value.specs.View.{tree};
@@ -8,7 +8,7 @@ ghost use Rattle.grain_fault.specs.Problems.{problem_of};
 ghost use Rattle.grain_program.specs.View.{View as AnyProgram, name_of};
 ghost use Rattle.grain_means.specs.Walks.{failing};
 ghost use Rattle.grain_chain.specs.Walking.{lends};
-ghost use Rattle.grain_chain.specs.Going.{Goes, Needs, rest, Asked, IsRequest, Lends, fallen, Settles};
+ghost use Rattle.grain_chain.specs.Going.{Goes, Needs, rest, Asked, AskedFor, IsRequest, Lends, fallen, Settles};
 ghost use Rattle.grain_chain.specs.declared.contexts.Context.{Context as AnyContext};
 ghost use Rattle.grain_chain.specs.declared.requests.WalkAnswer.TheVariants as answer;
 
@@ -22,14 +22,14 @@ use grain_value::{Array, Dynamic, Held, OutOfMemory, Store, Text};
 use std::alloc::Global;
 
 impl Walk {
-    // How many marks are passed once one more is. There is no memory where they cannot be counted.
+    // The number of marks with one more. `OutOfMemory` if it does not fit 64 bits.
     pub(crate) fn next_mark(&self) -> Result<u64, OutOfMemory>
         ensures { IfOk result (λ marks. marks ≡ self.now.marks + 1) }
     {
         self.marks.checked_add(1).ok_or(OutOfMemory)
     }
 
-    // A mark is passed.
+    // Passes a mark.
     pub(crate) fn pass(&mut self) -> Result<(), OutOfMemory>
         ensures passed { IfOk result (λ _. self.new ≡ record self.old { marks = self.old.marks + 1 }) }
         ensures unchanged { IfErr result (λ _. self.new ≡ self.old) }
@@ -38,7 +38,7 @@ impl Walk {
         Ok(())
     }
 
-    // The walk is over by a fault of the step that is taken: the newer roots go.
+    // Ends the walk with a fault of the present step; only the first root stays.
     pub(crate) fn failed(&mut self, fault: EvalAltResult) -> WalkAnswer
         ensures answer { result ≡ answer.Faulted fault self.old.step }
         ensures left { self.new ≡ fallen self.old }
@@ -50,7 +50,7 @@ impl Walk {
         }
     }
 
-    // A fault that is raised, at a mark.
+    // Raises a fault, at a mark.
     pub(crate) fn raise(&mut self, fault: EvalAltResult) -> Result<WalkAnswer, OutOfMemory>
         ensures goes { (x : AnyContext) → Goes x self.old
             (failing self.old.step (problem_of fault) (rest x self.old)) result self.new }
@@ -60,7 +60,7 @@ impl Walk {
         Ok(self.failed(fault))
     }
 
-    // Where there was no memory for the next mark, the walk is over.
+    // Turns `OutOfMemory` into the fault `Memory`, which ends the walk.
     pub(crate) fn settle(&mut self, went: Result<WalkAnswer, OutOfMemory>) -> WalkAnswer
         ensures { Settles went self.old result self.new }
     {
@@ -70,8 +70,7 @@ impl Walk {
         }
     }
 
-    // Asks for a native, at a mark. What stands where the walk stands is lent to it, if the awaited
-    // says so.
+    // Asks for a native, at a mark. The value at the walk's place is lent to it, if `awaits` says so.
     pub(crate) fn ask(
         &mut self,
         pos: Position,
@@ -81,33 +80,61 @@ impl Walk {
     ) -> Result<WalkAnswer, OutOfMemory>
         ensures { Asked self.old pos name.now arguments awaits result self.new }
     {
-        let request = self.request(pos, name, awaits.lends(), arguments)?;
-        self.pass()?;
+        let name = Text::copy_of(self.alloc, name)?;
+        self.ask_for(pos, What::Native(name), arguments, awaits)
+    }
+
+    // Asks for a call, at a mark. The value at the walk's place is lent to it, if `awaits` says so.
+    pub(crate) fn ask_for(
+        &mut self,
+        pos: Position,
+        what: What,
+        arguments: Array,
+        awaits: Awaits,
+    ) -> Result<WalkAnswer, OutOfMemory>
+        ensures { AskedFor self.old pos what arguments awaits result self.new }
+    {
+        let request = self.request(pos, what, arguments, awaits.lends())?;
         self.awaits = awaits;
         Ok(WalkAnswer::Need(request))
     }
 
+    // The request for a call, at its mark. If memory runs out, nothing changes.
     fn request(
-        &self,
+        &mut self,
         pos: Position,
-        name: &str,
-        lends: bool,
+        what: What,
         arguments: Array,
+        lends: bool,
     ) -> Result<Request, OutOfMemory>
-        ensures { IfOk result (λ r. IsRequest self.now pos name.now lends arguments r) }
+        ensures made { IfOk result (λ request.
+            IsRequest self.old pos what lends arguments request) }
+        ensures passed { IfOk result (λ _. self.new ≡ record self.old { marks = self.old.marks + 1 }) }
+        ensures unchanged { IfErr result (λ _. self.new ≡ self.old) }
     {
-        let name = Text::copy_of(self.alloc, name)?;
-        let receiver = self.receiver(lends)?;
+        let receiver = self.lend(lends)?;
         Ok(Request {
             step: self.step,
             pos,
-            what: What::Native(name),
+            what,
             receiver,
             arguments,
         })
     }
 
-    // What is lent with a request, if so: a copy of what stands where the walk stands.
+    // The receiver of a request, at its mark. If memory runs out, nothing changes.
+    fn lend(&mut self, lends: bool) -> Result<Option<Held>, OutOfMemory>
+        ensures lent { IfOk result (λ receiver. Lends self.old lends receiver) }
+        ensures passed { IfOk result (λ _. self.new ≡ record self.old { marks = self.old.marks + 1 }) }
+        ensures unchanged { IfErr result (λ _. self.new ≡ self.old) }
+    {
+        let marks = self.next_mark()?;
+        let receiver = self.receiver(lends)?;
+        self.marks = marks;
+        Ok(receiver)
+    }
+
+    // The receiver of a request: a copy of the value at the walk's place, or none.
     fn receiver(&self, lends: bool) -> Result<Option<Held>, OutOfMemory>
         ensures { IfOk result (λ receiver. Lends self.now lends receiver) }
     {
@@ -120,7 +147,7 @@ impl Walk {
     }
 }
 
-// One argument.
+// A list of one argument.
 pub(crate) fn one(alloc: Global, value: Dynamic) -> Result<Array, OutOfMemory>
     ensures { IfOk result (λ values. values ≡ tree value ∷ []) }
 {
@@ -129,7 +156,7 @@ pub(crate) fn one(alloc: Global, value: Dynamic) -> Result<Array, OutOfMemory>
     Ok(values)
 }
 
-// Two arguments.
+// A list of two arguments.
 pub(crate) fn two(alloc: Global, first: Dynamic, second: Dynamic) -> Result<Array, OutOfMemory>
     ensures { IfOk result (λ values. values ≡ tree first ∷ tree second ∷ []) }
 {
@@ -139,7 +166,7 @@ pub(crate) fn two(alloc: Global, first: Dynamic, second: Dynamic) -> Result<Arra
     Ok(values)
 }
 
-// A value as it is read: of a cell a copy of what it holds. None where that is lent.
+// The value itself, or a copy of what it holds if it is a cell. Returns None if that is lent.
 pub(crate) fn flat_copy(
     alloc: Global,
     cells: &Store,
@@ -156,7 +183,7 @@ pub(crate) fn flat_copy(
     }
 }
 
-// The text of a name.
+// The name with this index, as a text.
 pub(crate) fn named(alloc: Global, program: &Program, name: u32) -> Result<Dynamic, OutOfMemory>
     ensures { IfOk result (λ value. value ≡ dynamic.Text (name_of program.now name)) }
 {

@@ -1,4 +1,4 @@
-//! On what a walk runs.
+//! What a walk only reads: the engine, the program and the cells.
 
 ghost use Rattle.std.specs.Prelude.{◌≡◌, ◌<◌, Some, slice_get};
 ghost use Rattle.grain_program.specs.View.{name_of, chain_of};
@@ -9,7 +9,7 @@ use grain_global::Engine;
 use grain_program::{Program, Step, Tail};
 use grain_value::Store;
 
-/// On what a walk runs.
+/// What a walk only reads: the engine, the program and the cells.
 #[derive(Clone, Copy)]
 pub(crate) struct Context<'a> {
     pub(crate) engine: &'a Engine,
@@ -17,7 +17,7 @@ pub(crate) struct Context<'a> {
     pub(crate) cells: &'a Store,
 }
 
-/// The name at the index, empty if there is none.
+/// The name with this index; empty if there is none.
 pub(crate) fn name_at(program: &Program, index: u32) -> &str
     ensures { result.now ≡ name_of program.now index }
 {
@@ -27,7 +27,7 @@ pub(crate) fn name_at(program: &Program, index: u32) -> &str
     }
 }
 
-/// How many steps the chain of the index has, 0 if there is none.
+/// How many steps the chain with this index has; 0 if there is no such chain.
 pub(crate) fn count_of_steps(program: &Program, chain: u32) -> usize
     ensures { result ≡ count_of program.now chain }
 {
@@ -37,7 +37,7 @@ pub(crate) fn count_of_steps(program: &Program, chain: u32) -> usize
     }
 }
 
-/// The step of a number of the chain of the index.
+/// Step `number` of the chain with this index.
 pub(crate) fn step_at(program: &Program, chain: u32, number: usize) -> Step
     requires { number < count_of program.now chain }
     ensures { slice_get (steps_of program.now chain) number ≡ Some result }
@@ -48,7 +48,7 @@ pub(crate) fn step_at(program: &Program, chain: u32, number: usize) -> Step
     }
 }
 
-/// The tail of the chain of the index. It reads if there is no such chain.
+/// The tail of the chain with this index; `Read` if there is no such chain.
 fn tail_of(program: &Program, chain: u32) -> Tail
     ensures { result ≡ (chain_of program.now chain).tail }
 {
@@ -58,7 +58,7 @@ fn tail_of(program: &Program, chain: u32) -> Tail
     }
 }
 
-/// What the chain of the index does where its steps end.
+/// What the chain with this index does after its last step.
 pub(crate) fn ending_of(program: &Program, chain: u32) -> Ending
     requires { HasOperator program.now ((chain_of program.now chain).tail) }
     ensures { result ≡ ending_in program.now ((chain_of program.now chain).tail) }

@@ -1,4 +1,4 @@
-//! The faults that a walk raises itself.
+//! The faults that a walk raises by itself.
 
 ghost use Rattle.std.specs.Prelude.{◌≡◌, ℕ, IfOk, codes};
 ghost use Rattle.grain_value.specs.Writing.{type_name_of};
@@ -18,7 +18,7 @@ use grain_value::{Dynamic, OutOfMemory, Spot, Text};
 use std::alloc::Global;
 
 impl Walk {
-    // The fault that a value is a cell whose content is lent.
+    // Raises the fault that a value is a lent cell.
     pub(crate) fn race(&mut self, pos: Position) -> Result<WalkAnswer, OutOfMemory>
         ensures goes { (x : AnyContext) → Goes x self.old
             (failing self.old.step (Plain (DataRace (codes "variable ''")) pos) (rest x self.old))
@@ -30,7 +30,7 @@ impl Walk {
     }
 }
 
-// The fault that nothing stands at an index.
+// The fault that an index is out of bounds.
 pub(crate) fn out_of_bounds(
     target: &Dynamic,
     length: usize,
@@ -46,7 +46,7 @@ pub(crate) fn out_of_bounds(
     }
 }
 
-// The fault that an index is of another type than its value asks for.
+// The fault that an index has another type than the indexed value asks for.
 pub(crate) fn wrong_index(
     alloc: Global,
     target: &Dynamic,
@@ -86,7 +86,7 @@ pub(crate) fn wrong_part(
     Ok(EvalAltResult::ErrorMismatchDataType(wanted, got, pos))
 }
 
-// The fault of an op-assignment, at a position.
+// The fault of an op-assignment, with this position. `OutOfMemory` if it is `Memory`.
 pub(crate) fn placed(fault: EvalAltResult, pos: Position) -> Result<EvalAltResult, OutOfMemory>
     ensures { (o : AnyOutcome) → FailsSo fault o → FailsAt pos result o }
 {

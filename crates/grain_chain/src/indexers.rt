@@ -1,10 +1,10 @@
-//! The host's indexers, which a walk asks.
+//! What a walk asks of the host's indexers.
 
 ghost use Rattle.std.specs.Prelude.{◌<◌, ◌+◌, ◌∷◌, [], true, false, Some, codes};
 ghost use Rattle.grain_value.specs.View.{tree};
 ghost use Rattle.grain_value.specs.declared.values.Dynamic.TheVariants as dynamic;
 ghost use Rattle.grain_program.specs.View.{View as AnyProgram};
-ghost use Rattle.grain_means.specs.Walks.{by_indexer, Operates, index_was_got, into_answer, asking, index_get, OfIndex, set_by_index};
+ghost use Rattle.grain_means.specs.Walks.{by_indexer, Operates, was_given, into_answer, asking, index_get, OfIndex, set_by_index};
 ghost use Rattle.grain_chain.specs.Walking.{place_of, role_in, count, steps_left, backs};
 ghost use Rattle.grain_chain.specs.Going.{Goes, Needs, setting, rest, next_step, Asked};
 ghost use Rattle.grain_chain.specs.declared.contexts.Context.{Context as AnyContext};
@@ -19,7 +19,7 @@ use grain_value::{Dynamic, OutOfMemory};
 use std::mem;
 
 impl Walk {
-    // The host's indexers, for an index of a value that has none of its own.
+    // Asks the host's indexers, at a value that has no indices of its own.
     pub(crate) fn by_indexer(
         &mut self,
         role: Role,
@@ -41,7 +41,7 @@ impl Walk {
         }
     }
 
-    // Asks an indexer for what the walk goes on in, which is the chain's own value or not.
+    // Asks an indexer for the value in which the walk goes on, or, if `own`, for the chain's value.
     fn get_own_by_index(
         &mut self,
         pos: Position,
@@ -51,7 +51,7 @@ impl Walk {
     ) -> Result<WalkAnswer, OutOfMemory>
         ensures goes { (x : AnyContext) → Goes x self.old
             (asking self.old.step bracket index_get (Some (place_of self.old)) (index ∷ [])
-            (rest x self.old) (index_was_got self.old.step (rest x self.old)
+            (rest x self.old) (was_given self.old.step (rest x self.old)
             (into_answer (setting x self.old) self.old.step pos own (OfIndex index bracket)
             (next_step x self.old) (place_of self.old) (rest x self.old)))) result self.new }
         ensures needs { (p : AnyProgram) → self.old.step < count p self.old →
@@ -67,7 +67,7 @@ impl Walk {
         self.get_by_index(bracket, argument, Awaits::IndexGot(into))
     }
 
-    // Asks an indexer for what an op-assignment changes.
+    // Asks an indexer for the value that an op-assignment changes.
     fn read_by_index(
         &mut self,
         bracket: Position,

@@ -1,4 +1,5 @@
-//! Index steps.
+//! Index steps: at values that have indices of their own, and at those for which the host's
+//! indexers are asked.
 
 ghost use Rattle.std.specs.Prelude.{◌≡◌, ◌<◌, ◌+◌, ℕ, true, false, Some, Ok, Err, IfOk};
 ghost use Rattle.grain_fault.specs.declared.places.Position.{Position as AnyPosition};
@@ -26,7 +27,8 @@ use grain_value::{Dynamic, Held, OutOfMemory, PathStep, Spot, Text, ValueFault};
 use std::alloc::Global;
 
 impl Walk {
-    // An index step, with the mark at its start. None says that the walk goes on at the next step.
+    // Takes an index step, with the mark at its start. Returns None if the walk goes on
+    // at the next step.
     pub(crate) fn index(
         &mut self,
         context: Context<'_>,
@@ -51,7 +53,7 @@ impl Walk {
         }
     }
 
-    // An index step at a value that has no indices of its own, with the mark at its start.
+    // Takes an index step at a value that has no indices of its own, with the mark at its start.
     fn index_by_host(
         &mut self,
         context: Context<'_>,
@@ -70,13 +72,14 @@ impl Walk {
         ensures needs { NeedsOr context.entry.program.now self.new result
             (steps_left context.entry.program.now self.old + 3) }
     {
+        // Only the contract names it.
         let _ = context;
         let index = self.operand(operand)?;
         self.pass()?;
         stop(self.by_indexer(role, pos, bracket, index))
     }
 
-    // An index step at a value that has indices of its own, with the mark at its start.
+    // Takes an index step at a value that has indices of its own, with the mark at its start.
     fn index_by_value(
         &mut self,
         context: Context<'_>,
@@ -101,8 +104,8 @@ impl Walk {
         }
     }
 
-    // An operand of the chain.
-    fn operand(&self, operand: u32) -> Result<Dynamic, OutOfMemory>
+    // A copy of the operand of this number, or unit if the chain has none.
+    pub(crate) fn operand(&self, operand: u32) -> Result<Dynamic, OutOfMemory>
         ensures { IfOk result (λ value. value ≡ operand_of self.now operand) }
     {
         match self.operands.get(operand as usize) {
@@ -111,8 +114,9 @@ impl Walk {
         }
     }
 
-    // An operand of the chain, as it is read. None where it is a cell whose content is lent.
-    fn flat_operand(
+    // A copy of the operand of this number, or, if it is a cell, of what it holds. Returns None
+    // if that is lent.
+    pub(crate) fn flat_operand(
         &self,
         context: Context<'_>,
         operand: u32,
@@ -129,7 +133,7 @@ impl Walk {
         }
     }
 
-    // Goes where an index leads in a value that has indices of its own.
+    // Looks an index up in a value that has indices of its own, and goes there.
     fn at_index(
         &mut self,
         context: Context<'_>,
@@ -153,7 +157,7 @@ impl Walk {
         }
     }
 
-    // An index that names nothing in a value that has indices of its own.
+    // Handles an index that names nothing there.
     fn not_there(
         &mut self,
         context: Context<'_>,
@@ -224,7 +228,7 @@ impl Walk {
         }
     }
 
-    // Goes to a byte, a character or a bit, which is a newer root.
+    // Goes to a byte, a character or a bit, which becomes a new root.
     fn at_part(&mut self, role: Role, spot: Spot) -> Result<Option<WalkAnswer>, OutOfMemory>
         ensures takes { (x : AnyContext) (v : AnyValue) → Stands self.old.trail v → Takes x self.old
             (rooted (setting x self.old) self.old.step
@@ -240,7 +244,7 @@ impl Walk {
         Ok(None)
     }
 
-    // An index of a map, which does not have the key.
+    // Handles an index that is a key which the map lacks.
     fn missing_index(
         &mut self,
         context: Context<'_>,
@@ -263,7 +267,7 @@ impl Walk {
     }
 }
 
-// What a byte, a character or a bit is as a newer root: what is only read is not put back.
+// Where a byte, character or bit comes from as a root: it is put back unless the chain only reads it.
 fn origin_of_part(role: Role, spot: Spot) -> Origin
     ensures { (v : AnyValue) → origin_of result ≡ origin_of_part (role_in role v) spot }
 {
@@ -273,7 +277,7 @@ fn origin_of_part(role: Role, spot: Spot) -> Origin
     }
 }
 
-// The key that an index of a map is, empty if it is no text.
+// The key that an index means; empty if it is no text.
 fn key_of(alloc: Global, index: Dynamic) -> Text
     ensures { result ≡ key_of index }
 {

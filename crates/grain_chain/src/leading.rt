@@ -1,4 +1,4 @@
-//! Where steps lead: further down in the same root, or to a newer one; and keys that a map does not have.
+//! Going further down in the same root, going into a new one, and missing keys.
 
 ghost use Rattle.std.specs.Prelude.{◌≡◌, ◌+◌, ◌++◌, ◌∷◌, [], ℕ, IfOk, IfErr};
 ghost use Rattle.grain_value.specs.View.{tree};
@@ -20,7 +20,7 @@ use grain_fault::{EvalAltResult, Position};
 use grain_value::{Dynamic, Held, OutOfMemory, PathStep, Text};
 
 impl Walk {
-    // One step further down in the same root.
+    // Goes one step further down in the same root, at a mark.
     pub(crate) fn deeper(&mut self, step: PathStep) -> Result<(), OutOfMemory>
         requires { Leads (self.old.trail.path ++ step ∷ []) (tree self.old.trail.here.value) }
         ensures deeper { IfOk result (λ _. self.new ≡ record self.old {
@@ -35,7 +35,7 @@ impl Walk {
         Ok(())
     }
 
-    // A newer root, in which the walk goes on.
+    // Goes into a new root, at a mark.
     pub(crate) fn enter(&mut self, origin: Origin, root: Held) -> Result<(), OutOfMemory>
         ensures entered { IfOk result (λ _. WentIn self.old origin root self.new) }
         ensures unchanged { IfErr result (λ _. self.new ≡ self.old) }
@@ -46,8 +46,8 @@ impl Walk {
         Ok(())
     }
 
-    // A key that a map does not have: it is added where the chain assigns there. None says that the
-    // walk goes on at the next step.
+    // Handles a key that the map lacks: a chain that assigns here adds it; under `strict_properties` it
+    // is a fault; else the walk goes on at unit. Returns None if the walk goes on at the next step.
     pub(crate) fn missing_key(
         &mut self,
         context: Context<'_>,
@@ -77,7 +77,7 @@ impl Walk {
         Ok(None)
     }
 
-    // Adds a key to the map, at which unit stands, and goes there.
+    // Adds the key, with unit, to the map at the walk's place, and goes to it, at a mark.
     fn add_key(&mut self, key: Text) -> Result<(), OutOfMemory>
         requires { (entries : Entries) × Stands self.old.trail (dynamic.Map entries) }
         ensures added { (v : AnyValue) → Stands self.old.trail v → IfOk result (λ _.
@@ -94,7 +94,7 @@ impl Walk {
     }
 }
 
-// Whether a chain assigns at a step.
+// Whether the chain assigns at a step with this role.
 fn assigns(role: Role) -> bool
     ensures { (v : AnyValue) → result ≡ assigning (role_in role v) }
 {

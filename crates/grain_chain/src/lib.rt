@@ -1,4 +1,5 @@
-//! The walk of a chain along a place: `a.b[i].c`, and what is done there.
+//! The walk of a chain such as `a.b[i].c = v`: its steps, one after the other, and what the
+//! chain does at the place to which they lead.
 #![tactic(auto)]
 
 mod answers;
@@ -8,7 +9,9 @@ mod faults;
 mod indexers;
 mod indexing;
 mod leading;
+mod methods;
 mod origins;
+mod pointers;
 mod properties;
 mod requests;
 mod returning;

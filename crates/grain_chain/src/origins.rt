@@ -1,13 +1,14 @@
-//! What the newer roots of a walk are, and what its requests are for.
+//! Where the roots of a walk came from, and what its requests are for.
 
-ghost use Rattle.std.specs.Prelude.{◌≡◌};
-ghost use Rattle.grain_chain.specs.Walking.{lends};
+ghost use Rattle.std.specs.Prelude.{◌≡◌, ◌||◌};
+ghost use Rattle.grain_means.specs.Walks.{is_change};
+ghost use Rattle.grain_chain.specs.Walking.{lends, origin_of};
 
 use grain_fault::{EvalAltResult, Position};
 use grain_program::AssignOp;
 use grain_value::{Dynamic, Held, Path, Spot};
 
-/// What a newer root is, and so what becomes of it on the way back.
+/// Where a root came from, which decides how it is set back.
 #[derive(Drop)]
 pub(crate) enum Origin {
     /// A byte, a character or a bit: it is put back.
@@ -18,19 +19,23 @@ pub(crate) enum Origin {
         index: Dynamic,
         bracket: Position,
     },
-    /// What a getter gave: the setter sets it. Where the chain does not assign the property itself,
-    /// it is no fault that there is none.
+    /// What a getter gave: the setter sets it. If the chain does not assign the property itself, a
+    /// missing setter is no fault.
     Property {
         name: u32,
         setter: u32,
         pos: Position,
         assigned: bool,
     },
-    /// A missing key's unit that nothing sets.
+    /// What a method gave: nothing is set back, and it counts as a change.
+    Method,
+    /// Nothing is set back: a missing key's unit, or a byte, a character or a bit that the
+    /// chain only reads.
     Nothing,
 }
 
-/// A root after which there is a newer one, and the place in it whose step gave that one.
+/// A root that is not the newest, the path to the place in it, the step that led from there to the
+/// next root, and where the next root came from.
 #[derive(Drop)]
 pub(crate) struct Outer {
     pub(crate) root: Held,
@@ -39,21 +44,21 @@ pub(crate) struct Outer {
     pub(crate) origin: Origin,
 }
 
-/// What the chain does where its steps end.
+/// What a chain does after its last step.
 #[derive(Clone, Copy, PartialEq, Eq)]
 pub(crate) enum Ending {
-    /// It gives what stands there.
+    /// It gives the value there.
     Read,
     /// It writes its value there.
     Write,
-    /// It assigns its value by an op-assignment.
+    /// It assigns its value there by an op-assignment.
     Operate(AssignOp),
 }
 
-/// What a step does besides leading on.
+/// What a step does at the place to which it leads.
 #[derive(Clone, Copy, PartialEq, Eq)]
 pub(crate) enum Role {
-    /// It passes on.
+    /// It is not the last one: the walk goes on.
     Passes,
     /// It is the last one, and the chain reads there.
     Reads,
@@ -66,24 +71,27 @@ pub(crate) enum Role {
 /// What is done in a new root.
 #[derive(Drop)]
 pub(crate) enum Go {
-    /// The further steps are taken.
+    /// The remaining steps are taken.
     Further,
     /// The chain's value is assigned by its op-assignment, whose faults have this position.
     Operate(Position, AssignOp),
 }
 
-/// What becomes of an answer, which is a new root.
+/// What is done with an answer of a getter, an indexer or a method: it becomes a new root, or, if
+/// `own`, the chain's value.
 #[derive(Drop)]
 pub(crate) struct Into {
-    /// The position of the fault that it is a cell that is lent.
+    /// The position of `ErrorDataRace`, raised if the answer is a lent cell.
     pub(crate) pos: Position,
-    /// Whether it is the chain's own value, which may be a cell.
+    /// Whether it becomes the chain's value. It then stays as it is, even if it is a cell.
     pub(crate) own: bool,
+    /// Where the new root came from.
     pub(crate) origin: Origin,
+    /// What is done in the new root.
     pub(crate) go: Go,
 }
 
-/// What the answer to the last request is for.
+/// What the last request was for, which decides what the walk does with the answer to it.
 #[derive(Drop)]
 pub(crate) enum Awaits {
     /// An indexer sets a value.
@@ -95,7 +103,7 @@ pub(crate) enum Awaits {
         assigned: bool,
         set: Dynamic,
     },
-    /// An indexer sets a property of which the setter failed with this fault.
+    /// An indexer sets a property after its setter failed with this fault.
     SetInstead {
         fault: EvalAltResult,
         assigned: bool,
@@ -106,32 +114,54 @@ pub(crate) enum Awaits {
         pos: Position,
         into: Into,
     },
-    /// An indexer gives a property of which the getter failed with this fault.
+    /// An indexer gives a property after its getter failed with this fault.
     GotInstead {
         fault: EvalAltResult,
         into: Into,
     },
     /// An indexer gives what an index names.
     IndexGot(Into),
-    /// An indexer gives what an op-assignment changes.
+    /// An indexer gives the value that an op-assignment changes.
     IndexRead {
         bracket: Position,
         index: Dynamic,
         into: Into,
     },
-    /// An op-assignment of the host's assigns the chain's value.
+    /// The host's op-assignment assigns the chain's value.
     OpAssigned(Position, AssignOp),
-    /// An operator of the host's gives what is assigned.
+    /// The host's operator gives the value that is then assigned.
     Operator(Position),
+    /// A method gives a value. `lends` says whether the value at the walk's place is its receiver.
+    Called {
+        lends: bool,
+        into: Into,
+    },
+}
+
+impl Origin {
+    /// Whether the root counts as a change, whatever was done in it.
+    pub(crate) fn is_change(&self) -> bool
+        ensures { result ≡ is_change (origin_of self.now) }
+    {
+        matches!(self, Origin::Method)
+    }
+
+    /// Whether something changed once the root is left, if `changed` says so of the root.
+    pub(crate) fn counts(&self, changed: bool) -> bool
+        ensures { result ≡ (is_change (origin_of self.now) || changed) }
+    {
+        self.is_change() || changed
+    }
 }
 
 impl Awaits {
-    /// Whether a place is lent with the request after which this is awaited.
+    /// Whether the request for this lends the value at the walk's place.
     pub(crate) fn lends(&self) -> bool
         ensures { result ≡ lends self.now }
     {
         match self {
             Awaits::Operator(_) => false,
+            Awaits::Called { lends, .. } => *lends,
             _ => true,
         }
     }

@@ -1,4 +1,4 @@
-//! Property steps.
+//! Property steps: at maps, and at values for which the host's getters and setters are asked.
 
 ghost use Rattle.std.specs.Prelude.{◌≡◌, ◌<◌, ◌+◌, ◌∷◌, [], ℕ, Some, None, true, false};
 ghost use Rattle.grain_value.specs.declared.values.Dynamic.{Dynamic as AnyValue};
@@ -21,7 +21,8 @@ use grain_value::{Array, Dynamic, OutOfMemory, PathStep, Text};
 use std::mem;
 
 impl Walk {
-    // A property step, with the mark at its start. None says that the walk goes on at the next step.
+    // Takes a property step, with the mark at its start. Returns None if the walk goes on
+    // at the next step.
     pub(crate) fn property(
         &mut self,
         context: Context<'_>,
@@ -47,7 +48,7 @@ impl Walk {
         }
     }
 
-    // A property step at a map, with the mark at its start.
+    // Takes a property step at a map, with the mark at its start.
     fn property_by_key(
         &mut self,
         context: Context<'_>,
@@ -74,7 +75,7 @@ impl Walk {
         self.missing_key(context, role, pos, Origin::Nothing, key)
     }
 
-    // A property step at a value that is no map, with the mark at its start.
+    // Takes a property step at a value that is no map, with the mark at its start.
     fn property_by_host(
         &mut self,
         context: Context<'_>,
@@ -99,7 +100,7 @@ impl Walk {
         stop(self.by_accessor(context, role, name, getter, setter, pos))
     }
 
-    // The host's getters and setters, for a property of a value that is no map.
+    // Asks the host's getters and setters, for a property of a value that is no map.
     fn by_accessor(
         &mut self,
         context: Context<'_>,
@@ -138,7 +139,7 @@ impl Walk {
         }
     }
 
-    // Asks a getter for what the walk goes on in, which is the chain's own value or not.
+    // Asks a getter for the value in which the walk goes on, or, if `own`, for the chain's value.
     fn get_own_property(
         &mut self,
         context: Context<'_>,
@@ -195,7 +196,7 @@ impl Walk {
         self.ask(pos, getter, values, Awaits::PropertyGot { name, pos, into })
     }
 
-    // Asks an indexer for a property of which the getter failed.
+    // Asks an indexer for a property after its getter failed.
     pub(crate) fn get_instead(
         &mut self,
         context: Context<'_>,
@@ -270,7 +271,7 @@ impl Walk {
         self.ask(pos, setter, values, awaits)
     }
 
-    // Asks an indexer to set a property of which the setter failed.
+    // Asks an indexer to set a property after its setter failed.
     pub(crate) fn set_instead(
         &mut self,
         context: Context<'_>,
@@ -294,7 +295,7 @@ impl Walk {
     }
 }
 
-// Whether a map has a key. None where the value is no map.
+// Whether a map has a key. Returns None if the value is no map.
 fn has_key(value: &Dynamic, key: &str) -> Option<bool>
     ensures { result ≡ has_key value.now key.now }
 {

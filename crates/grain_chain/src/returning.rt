@@ -1,13 +1,13 @@
-//! The way back of a walk, over its newer roots.
+//! The way back of a walk: each new root is left and set back where it came from.
 
-ghost use Rattle.std.specs.Prelude.{◌≡◌, ◌+◌, ℕ, Bool, IfOk, IfErr};
+ghost use Rattle.std.specs.Prelude.{◌≡◌, ◌+◌, ℕ, Bool, true, IfOk, IfErr};
 ghost use Rattle.grain_value.specs.Parts.{with_part, part_type};
 ghost use Rattle.grain_value.specs.Writing.{type_name_of};
 ghost use Rattle.grain_value.specs.declared.values.Dynamic.{Dynamic as AnyValue};
 ghost use Rattle.grain_fault.specs.Problems.{Plain, MismatchDataType};
 ghost use Rattle.grain_chain.specs.Standings.{Stands};
 ghost use Rattle.grain_means.specs.Tasks.{Well};
-ghost use Rattle.grain_means.specs.Walks.{set_back, failing, OfPart, OfIndex, OfProperty};
+ghost use Rattle.grain_means.specs.Walks.{set_back, failing, is_change, OfPart, OfIndex, OfProperty};
 ghost use Rattle.grain_chain.specs.Walking.{place_of, origin_of, backs};
 ghost use Rattle.grain_program.specs.View.{View as AnyProgram};
 ghost use Rattle.grain_chain.specs.Going.{Goes, GoesBack, Needs, NeedsOr, WrotePart, setting, rest};
@@ -24,7 +24,7 @@ use grain_value::{Dynamic, OutOfMemory, Spot};
 use std::mem;
 
 impl Walk {
-    // The steps are taken, and what the walk gives is known: each newer root goes, and is set back.
+    // Walks back: leaves each new root and sets it back, and then ends with what the walk gives.
     pub(crate) fn well(
         &mut self,
         context: Context<'_>,
@@ -34,12 +34,14 @@ impl Walk {
             (rest context.entry self.old (Well self.old.gives changed)) result self.new }
         ensures needs { Needs context.entry.program.now self.new result (backs self.old) }
     {
+        let mut changed = changed;
         'back: loop {
             let Some(gone) = self.trail.leave() else {
                 let value = mem::replace(&mut self.gives, Dynamic::Unit);
                 return Ok(WalkAnswer::Ended { value, changed });
             };
             self.step = gone.step;
+            changed = gone.origin.counts(changed);
             match self.set_back(context, gone.origin, gone.root.value, changed)? {
                 None => {}
                 Some(answer) => return Ok(answer),
@@ -47,7 +49,7 @@ impl Walk {
         }
     }
 
-    // Sets a root back that has gone. None says that the way back goes on.
+    // Sets back a root that was left. Returns None if the way back goes on.
     fn set_back(
         &mut self,
         context: Context<'_>,
@@ -55,6 +57,7 @@ impl Walk {
         inner: Dynamic,
         changed: bool,
     ) -> Result<Option<WalkAnswer>, OutOfMemory>
+        requires { is_change (origin_of origin) ≡ true → changed ≡ true }
         ensures goes { GoesBack context.entry self.old
             (set_back (setting context.entry self.old) self.old.step (origin_of origin)
             (place_of self.old) inner self.old.gives changed (rest context.entry self.old))
@@ -70,6 +73,7 @@ impl Walk {
                 pos,
                 assigned,
             } => self.property_back(context, name, setter, pos, assigned, inner, changed),
+            Origin::Method => Ok(None),
             Origin::Nothing => Ok(None),
         }
     }
@@ -133,8 +137,8 @@ impl Walk {
         self.refuse_part(spot, &part)
     }
 
-    // Writes a byte, a character or a bit where the walk stands, at a mark, and says whether it is of
-    // the type that stands there.
+    // Writes a byte, a character or a bit into the value at the walk's place, at a mark. If it does
+    // not have the type that fits there, it says false, and nothing is done.
     fn write_part(&mut self, spot: Spot, part: &Dynamic) -> Result<bool, OutOfMemory>
         ensures wrote { IfOk result (λ is_put. (v : AnyValue) × (Stands self.old.trail v
             × WrotePart self.old (with_part v spot part.now) is_put self.new)) }
@@ -148,7 +152,7 @@ impl Walk {
         Ok(false)
     }
 
-    // What is put back is of another type than what stands there.
+    // Raises the fault that what is put back has another type.
     fn refuse_part(&mut self, spot: Spot, part: &Dynamic) -> Result<Option<WalkAnswer>, OutOfMemory>
         ensures goes { (x : AnyContext) (changed : Bool) → GoesBack x self.old
             (failing self.old.step (Plain (MismatchDataType (part_type spot) (type_name_of part.now))

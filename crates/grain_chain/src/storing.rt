@@ -1,4 +1,4 @@
-//! What a walk does where its steps end.
+//! What a chain does after its last step: it reads, writes or assigns.
 
 ghost use Rattle.std.specs.Prelude.{◌+◌, ◌-◌, true, false};
 ghost use Rattle.grain_value.specs.declared.values.Dynamic.TheVariants as dynamic;
@@ -21,7 +21,8 @@ use grain_value::{Dynamic, OutOfMemory};
 use std::mem;
 
 impl Walk {
-    // Where the steps end: the chain reads, writes or assigns there. The last step is blamed for it.
+    // Does what the chain does after its last step: it reads, writes or assigns there. Its faults
+    // blame the last step.
     pub(crate) fn end(&mut self, context: Context<'_>) -> Result<WalkAnswer, OutOfMemory>
         ensures goes { Goes context.entry self.old
             (ended (setting context.entry self.old) (last_role (course context.entry self.old))
@@ -40,7 +41,7 @@ impl Walk {
         }
     }
 
-    // Gives a copy of what stands where the walk stands.
+    // Gives a copy of the value at the walk's place.
     fn read(&mut self, context: Context<'_>) -> Result<WalkAnswer, OutOfMemory>
         ensures goes { Goes context.entry self.old
             (at_mark self.old.step (rest context.entry self.old)
@@ -54,7 +55,7 @@ impl Walk {
         self.well(context, false)
     }
 
-    // Writes a value where the walk stands.
+    // Writes a value at the walk's place.
     fn write(&mut self, context: Context<'_>, value: Dynamic) -> Result<WalkAnswer, OutOfMemory>
         ensures goes { Goes context.entry self.old
             (at_mark self.old.step (rest context.entry self.old)
@@ -121,7 +122,7 @@ impl Walk {
         self.ask(pos, name, values, Awaits::OpAssigned(pos, op))
     }
 
-    // Asks for the host's operator, on a copy of what stands where the walk stands.
+    // Asks for the host's operator, on a copy of the value at the walk's place.
     pub(crate) fn ask_operator(
         &mut self,
         context: Context<'_>,
@@ -140,7 +141,7 @@ impl Walk {
         self.ask(pos, name, values, Awaits::Operator(pos))
     }
 
-    // Puts an operator's answer where the walk stands.
+    // Writes an operator's answer at the walk's place.
     pub(crate) fn store_answer(
         &mut self,
         context: Context<'_>,

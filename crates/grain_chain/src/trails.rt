@@ -1,4 +1,6 @@
-//! The roots of a walk, and where it stands in the newest of them.
+//! The roots of a walk, and its place in the newest one. The first root is the value at which the walk
+//! began. The others are values that getters, indexers and methods gave, units of missing keys, and
+//! bytes, characters and bits.
 
 ghost use Rattle.std.specs.Prelude.{◌≡◌, ◌++◌, ◌∷◌, [], Ok, is_ok, IfOk, IfErr, if◌then◌else◌};
 ghost use Rattle.grain_value.specs.View.{tree};
@@ -22,12 +24,12 @@ use std::alloc::Global;
 use std::marker::Model;
 use std::mem;
 
-/// The roots of a walk, and the place in the newest at which it stands. Each path leads to a value.
+/// The roots of a walk, and the walk's place in the newest one. Each path leads to a value.
 #[derive(Drop)]
 pub(crate) struct Trail {
-    // the roots after which there is a newer one, the oldest first
+    // all roots but the newest, the oldest first
     outer: Vec<Outer>,
-    // the newest root, and the way to the place in it
+    // the newest root, and the path to the walk's place in it
     here: Held,
     path: Path,
 }
@@ -46,7 +48,7 @@ impl Model for Trail {
     ghost invariant = { λ t. Leading (record { outer = t.outer.items; here = t.here; path = t.path }) };
 }
 
-/// A newer root that went, with the step that gave it and what it is.
+/// A root that the walk has left, the step that gave it, and where it came from.
 #[derive(Drop)]
 pub(crate) struct Gone {
     pub(crate) root: Held,
@@ -55,7 +57,7 @@ pub(crate) struct Gone {
 }
 
 impl Trail {
-    /// One root, at whose top the walk stands. It takes no memory.
+    /// A trail of one root, standing at the root itself. It takes no memory.
     pub(crate) fn new(alloc: Global, root: Held) -> Trail
         ensures { result ≡ record { outer = []; here = root; path = [] } }
     {
@@ -66,7 +68,7 @@ impl Trail {
         }
     }
 
-    /// What stands where the walk stands.
+    /// The value at the walk's place.
     pub(crate) fn target(&self) -> &Dynamic
         ensures { Stands self.now result.now }
     {
@@ -83,15 +85,15 @@ impl Trail {
         self.here.read_only
     }
 
-    /// Puts a value where the walk stands.
+    /// Puts a value at the walk's place.
     pub(crate) fn put(&mut self, value: Dynamic)
         ensures { self.new ≡ record self.old { here = put_held self.old.path value self.old.here } }
     {
         discard(self.here.value.put_at(&self.path, value));
     }
 
-    /// One step further down in the same root. After want of memory, which there also is for a place
-    /// deeper than `MOST_LEVELS`, all is as it was.
+    /// Goes one step further down in the same root. It fails, and nothing changes, if memory runs out
+    /// or if the place would be deeper than `MOST_LEVELS`.
     pub(crate) fn deepen(&mut self, step: PathStep) -> Result<(), OutOfMemory>
         requires { Leads (self.old.path ++ step ∷ []) (tree self.old.here.value) }
         ensures deeper { IfOk result (λ _.
@@ -104,8 +106,8 @@ impl Trail {
         self.path.push(step)
     }
 
-    /// Adds a key to the map where the walk stands, at which unit then stands, and goes there. After
-    /// want of memory all is as it was.
+    /// Adds the key, with unit, to the map at the walk's place, and goes to it. If memory runs out,
+    /// nothing changes.
     pub(crate) fn add_key(&mut self, alloc: Global, key: Text) -> Result<(), OutOfMemory>
         requires { (entries : Entries) × Stands self.old (dynamic.Map entries) }
         ensures added { (value : AnyValue) → Stands self.old value →
@@ -125,8 +127,8 @@ impl Trail {
         }
     }
 
-    /// Puts a byte, a character or a bit back into what stands where the walk stands, and says whether
-    /// it is of the type that stands there. If not, and after want of memory, all is as it was.
+    /// Puts a byte, a character or a bit back into the value at the walk's place, and says whether it
+    /// has the type that fits there. If not, or if memory runs out, nothing changes.
     pub(crate) fn put_part(
         &mut self,
         alloc: Global,
@@ -142,7 +144,7 @@ impl Trail {
         is_put
     }
 
-    /// An op-assignment that is built in, to what stands where the walk stands.
+    /// Does a built-in op-assignment to the value at the walk's place.
     pub(crate) fn assign(
         &mut self,
         alloc: Global,
@@ -159,7 +161,7 @@ impl Trail {
         answer
     }
 
-    /// A newer root, which this step gave. After want of memory all is as it was.
+    /// Goes into a new root, which this step gave. If memory runs out, nothing changes.
     pub(crate) fn enter(
         &mut self,
         alloc: Global,
@@ -191,7 +193,7 @@ impl Trail {
         }
     }
 
-    // A root that was put aside is the newest again.
+    // Makes a root that was put aside the newest again.
     fn take_back(&mut self, outer: Outer)
         requires { Leads outer.path (tree outer.root.value) }
         ensures { self.new ≡ record self.old { here = outer.root; path = outer.path } }
@@ -206,7 +208,7 @@ impl Trail {
         self.path = path;
     }
 
-    /// The newest root goes, if there is one around it.
+    /// Leaves the newest root, and goes back to the one before it. Returns None if it is the first.
     pub(crate) fn leave(&mut self) -> Option<Gone>
         ensures { WentBack self.old result self.new }
     {
@@ -224,7 +226,7 @@ impl Trail {
         Some(Gone { root, step, origin })
     }
 
-    /// All newer roots go.
+    /// Leaves all roots but the first.
     pub(crate) fn fall(&mut self)
         ensures { self.new ≡ record { outer = []; here = oldest self.old.outer self.old.here; path = [] } }
     {
@@ -237,7 +239,7 @@ impl Trail {
         self.outer.clear();
     }
 
-    /// The newest root.
+    /// Ends the trail, and gives its newest root.
     pub(crate) fn into_root(self) -> Held
         ensures { result ≡ self.here }
     {
@@ -245,11 +247,12 @@ impl Trail {
     }
 }
 
+// Drops a value that another has replaced.
 fn discard(value: Dynamic) {
     drop(value);
 }
 
-// Adds a key to a map, at which unit then stands.
+// Adds a key, with unit, to a map. A value that is no map stays as it is.
 fn add(map: &mut Dynamic, key: Text) -> Result<(), OutOfMemory>
     ensures { map.new ≡ (if is_ok result then with_key key map.old else map.old) }
 {
@@ -262,7 +265,7 @@ fn add(map: &mut Dynamic, key: Text) -> Result<(), OutOfMemory>
     }
 }
 
-// A copy of a path, with a key after it. There is no memory for more than `MOST_LEVELS` steps.
+// A copy of a path, with a key after it. It refuses more than `MOST_LEVELS` steps as if memory were out.
 fn further(alloc: Global, path: &Path, key: Text) -> Result<Path, OutOfMemory>
     ensures { IfOk result (λ longer. longer ≡ path.now ++ step.Key key ∷ []) }
 {
@@ -277,6 +280,7 @@ fn further(alloc: Global, path: &Path, key: Text) -> Result<Path, OutOfMemory>
     Ok(longer)
 }
 
+// A copy of a step of a path.
 fn copied(alloc: Global, step: &PathStep) -> Result<PathStep, OutOfMemory>
     ensures { IfOk result (λ copy. copy ≡ step.now) }
 {

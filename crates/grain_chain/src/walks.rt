@@ -19,20 +19,26 @@ use grain_value::{Array, Dynamic, Held, OutOfMemory, Store};
 use std::alloc::Global;
 use std::mem;
 
-/// A walk along a place, as far as it has come.
+/// The walk of a chain, as far as it has come.
 #[derive(Drop)]
 pub struct Walk {
+    // the roots, and the walk's place in the newest
     pub(crate) trail: Trail,
-    // the number of the step that is taken
+    // the number of the present step, from 0
     pub(crate) step: usize,
+    // what the last request was for
     pub(crate) awaits: Awaits,
     // what the walk gives: it is set where the steps end
     pub(crate) gives: Dynamic,
+    // where its values and lists take their memory from
     pub(crate) alloc: Global,
+    // the index of the chain
     pub(crate) chain: u32,
+    // the operands of the chain's steps
     pub(crate) operands: Array,
+    // what the chain does after its last step
     pub(crate) ending: Ending,
-    // the value that the chain assigns: unit where it assigns none, or no longer needs it
+    // the value that the chain assigns: unit if it assigns none, or no longer needs it
     pub(crate) value: Dynamic,
     // the position of the chain's instruction
     pub(crate) pos: Position,
@@ -41,7 +47,8 @@ pub struct Walk {
 }
 
 impl Walk {
-    /// A walk from a root, and where it came to.
+    /// Begins a walk of a chain at a root, and walks until it needs a call, ends, or fails.
+    /// `operands` are those of its steps; `value` is what it assigns, or unit.
     pub fn start(
         alloc: Global,
         engine: &Engine,
@@ -58,7 +65,7 @@ impl Walk {
             (whole_walk (new_course engine.now program.now pos chain operands value)
             (steps_of program.now chain)) result.0 result.1 }
         ensures falls { Falls program.now result.0 result.1 (4 * count_of program.now chain + 3) }
-        // The first root keeps its flag.
+        // The first root keeps its read-only flag.
         ensures rooted { Rooted root.read_only (roots_at result.0 result.1) }
     {
         let context = Context {
@@ -84,7 +91,8 @@ impl Walk {
         (walk, answer)
     }
 
-    /// Goes on with what came of the last request, and the receiver as it was left.
+    /// Goes on after a request: with the value or the fault that the call gave, and with what
+    /// the call left of the receiver.
     pub fn resume(
         &mut self,
         engine: &Engine,
@@ -99,7 +107,7 @@ impl Walk {
             self.new result }
         ensures falls { Falls program.now self.new result
             (still program.now self.old self.old.awaits) }
-        // Want of memory is handed on.
+        // If `outcome` is `Memory`, so is the answer.
         ensures carries { StopPersists (is_want outcome) 0 (is_out result) self.new.marks }
         ensures rooted { (b : Bool) → Rooted b (roots_of self.old) → Rooted b (roots_at self.new result) }
     {
@@ -114,7 +122,7 @@ impl Walk {
         self.settle(went)
     }
 
-    // A receiver is back in its place, and no mark was passed since.
+    // Puts the receiver back where it was copied from, and counts marks from 0.
     fn take_back(&mut self, receiver: Option<Held>)
         ensures { self.new ≡ received self.old receiver }
     {
@@ -125,7 +133,7 @@ impl Walk {
         }
     }
 
-    // Goes on with an outcome.
+    // Goes on with the value or the fault that a call gave.
     fn hear(
         &mut self,
         context: Context<'_>,
@@ -152,7 +160,7 @@ impl Walk {
         self.marks
     }
 
-    /// The root at which the walk began, as it is now.
+    /// The newest root, as it is now. Once the walk is over, that is the root at which it began.
     pub fn finish(self) -> Held
         ensures { result ≡ self.trail.here }
     {

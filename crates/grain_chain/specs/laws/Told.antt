@@ -1,5 +1,5 @@
--- What is so of every walk that did what a task says: its first root keeps its flag, and want of memory
--- that it is given is its answer.
+-- What holds of every walk that did what a task says: its first root keeps its flag, and if it is told
+-- that memory ran out, it answers that too.
 use Rattle.std.proofs.Common.{◌≡◌, ◌<◌, ℕ, suc, ◌+◌, List, [], ◌∷◌, ◌++◌, Bool, true, false, Option, Some, None, Result, Ok, Err, take, refl, sym, ap, ◌∙◌, subst, arith}
 use Rattle.std.specs.Prelude.{nat_eq, if◌then◌else◌}
 use Rattle.std.proofs.lemmas.Bool.Decides.{nat_tests}
@@ -14,13 +14,15 @@ use Rattle.grain_means.specs.Worlds.{Failed, is_stop}
 use Rattle.grain_means.specs.Simulation.{NoStopWithin, StopsHere, StopPersists}
 use Rattle.grain_means.specs.lemmas.Spreading.{Rooted, rooted-put, rooted-add, rooted-take}
 use Rattle.grain_means.specs.Places.{put, put_held}
-use Rattle.grain_means.specs.Tasks.{Task, Done, Mark, Look, Flatten, Write, Root, Drop, Need, Own, Play, Over, Asks, Well, Ill, play}
+use Rattle.grain_means.specs.Tasks.{Task, Done, Mark, Look, Flatten, Write, Root, Drop, Need, Invoke, Own, Play, Over, Asks, Calls, Well, Ill, play}
 use Rattle.grain_chain.specs.OwnWalks.{WalksOn, own}
-use Rattle.grain_chain.specs.Walking.{Did, roots_of, place_of, roots_at, rest_of, setting_of, left_to_do, resumed, with_receiver, is_out, no_memory, is_want, outcome_of}
+use Rattle.grain_chain.specs.Walking.{Did, roots_of, place_of, roots_at, rest_of, setting_of, left_to_do, lent, task_for, resumed, with_receiver, is_out, no_memory, is_want, outcome_of}
 use Rattle.grain_chain.specs.Standings.{oldest}
 use Rattle.grain_chain.specs.laws.Ways.{put-here, fell}
 use Rattle.grain_chain.specs.declared.origins.Awaits.{Awaits}
 use Rattle.grain_chain.specs.declared.origins.Awaits.TheVariants as awaits
+use Rattle.grain_chain.specs.declared.requests.What.{What}
+use Rattle.grain_chain.specs.declared.requests.What.TheVariants as what
 use Rattle.grain_chain.specs.declared.requests.WalkAnswer.{WalkAnswer}
 use Rattle.grain_chain.specs.declared.requests.WalkAnswer.TheVariants as answer
 use Rattle.grain_chain.specs.declared.walks.Walk.{Walk}
@@ -52,16 +54,18 @@ played cells a b t u out h = (
   h.equal (stop_at out b.passed) (none_within out a.passed b.passed) (stops out b.passed),
 )
 
--- where a walk by itself stands still
+-- the state in which a walk by itself stops
 abbrev state_of : Play → Own
 state_of (Over o s) = s
 state_of (Asks c f s) = s
+state_of (Calls i f s) = s
 
--- the fault by which it is over; want of memory where there is none
+-- the fault by which it is over; `NoMemory` if there is none
 abbrev problem_in : Play → Problem
 problem_in (Over (Ill n x) s) = x
 problem_in (Over (Well v changed) s) = NoMemory
 problem_in (Asks c f s) = NoMemory
+problem_in (Calls i f s) = NoMemory
 
 module _ (stop : Option ℕ) (cells : List Cell) (b : Bool) where
   abbrev Keeps : Play → Type 0
@@ -84,11 +88,18 @@ module _ (stop : Option ℕ) (cells : List Cell) (b : Bool) where
   keeps (Drop n f) s h =
       keeps (f _) (record s { roots = take (suc n) s.roots }) (rooted-take b s.roots n h)
   keeps (Need c f) s h = h
+  keeps (Invoke i f) s h = h
 
 module _ (e : Engine) (p : View) (cells : List Cell) where
   ends : (stop : Option ℕ) (b : Bool) (w : Walk) (a : WalkAnswer) (rs : List Held) (k : ℕ) →
       Rooted b (state_of (play stop cells (left_to_do e p w a) (own rs k))).roots → Rooted b rs
-  ends stop b w (answer.Need r) rs k h = h
+  ends stop b w (answer.Need r) rs k h = needs r.what h where
+    needs : (call : What) → Rooted b (state_of (play stop cells
+        (task_for call r (lent w r.receiver) (resumed e p w w.awaits)) (own rs k))).roots →
+        Rooted b rs
+    needs (what.Native name) h = h
+    needs (what.Compiled n) h = h
+    needs (what.Pointer f) h = h
   ends stop b w (answer.Ended v changed) rs k h = h
   ends stop b w (answer.Faulted x n) rs k h = h
 
@@ -102,7 +113,7 @@ module _ (e : Engine) (p : View) (cells : List Cell) where
       (subst (λ (q : Play). Rooted b (state_of q).roots) run.1
       (keeps run.0 cells b t (own before (0 + passed)) h))
 
-  -- want of memory goes on at once
+  -- `NoMemory` is handed on at once
   refused : (w : Walk) (s : Awaits) →
       resumed e p w s (Failed NoMemory) ≡ rest_of e p w (Ill w.step NoMemory)
   refused w awaits.IndexSet = refl
@@ -114,6 +125,7 @@ module _ (e : Engine) (p : View) (cells : List Cell) where
   refused w (awaits.IndexRead q i n) = refl
   refused w (awaits.OpAssigned q a) = refl
   refused w (awaits.Operator q) = refl
+  refused w (awaits.Called b i) = refl
 
   falls_with : (w : Walk) (receiver : Option Held) (n : ℕ) (k : ℕ) →
       (h : Held) × WalksOn cells (own (with_receiver w receiver) k) (rest_of e p w (Ill n NoMemory)) false
@@ -136,7 +148,13 @@ module _ (e : Engine) (p : View) (cells : List Cell) where
   is_over : (stop : Option ℕ) (w : Walk) (a : WalkAnswer) (n : ℕ) (s : Own) (rs : List Held) (k : ℕ) →
       Over (Ill n NoMemory) s ≡ play stop cells (left_to_do e p w a) (own rs k) →
       (is_out a ≡ true) × (k ≡ s.passed)
-  is_over stop w (answer.Need r) n s rs k h = cc
+  is_over stop w (answer.Need r) n s rs k h = needs r.what h where
+    needs : (call : What) → Over (Ill n NoMemory) s ≡ play stop cells
+        (task_for call r (lent w r.receiver) (resumed e p w w.awaits)) (own rs k) →
+        (false ≡ true) × (k ≡ s.passed)
+    needs (what.Native name) h = cc
+    needs (what.Compiled i) h = cc
+    needs (what.Pointer f) h = cc
   is_over stop w (answer.Ended v changed) n s rs k h = cc
   is_over stop w (answer.Faulted x m) n s rs k h =
       (ap no_memory (sym (ap problem_in h)), ap (λ (q : Play). (state_of q).passed) (sym h))
@@ -159,7 +177,7 @@ module _ (e : Engine) (p : View) (cells : List Cell) where
       ∙ run.1) in
       (over.0, omega (arith, over.1))
 
-  -- want of memory is handed on
+  -- `NoMemory` is handed on
   pub carries : (w v : Walk) (receiver : Option Held) (outcome : Result Dynamic EvalAltResult)
       (a : WalkAnswer) →
       Did e p cells (with_receiver w receiver) 0 (resumed e p w w.awaits (outcome_of outcome)) v a →

@@ -1,4 +1,4 @@
--- The roots of a walk, and the way back over the newer ones.
+-- The roots of a walk, and the way back over all of them but the first.
 use Rattle.std.proofs.Common.{◌≡◌, ◌+◌, ℕ, suc, List, [], ◌∷◌, ◌++◌, Option, Some, Ok, Bool, false, length, map, take, refl, sym, ap, ◌∙◌, subst, arith}
 use Rattle.std.specs.Prelude.{slice_get, slice_set}
 use Rattle.grain_value.specs.declared.values.Dynamic.{Dynamic}

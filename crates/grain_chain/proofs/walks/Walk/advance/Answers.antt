@@ -1,12 +1,15 @@
-use Rattle.std.proofs.Common.{◌≡◌, ◌<◌, false, Ok, refl, sym, ap, ◌∙◌, subst, arith}
+use Rattle.std.proofs.Common.{◌≡◌, ◌<◌, false, Some, Ok, refl, sym, ap, ◌∙◌, subst, arith}
 use Rattle.grain_means.specs.Walks
-use Rattle.grain_chain.specs.Going.{rest}
+use Rattle.std.specs.Prelude.{codes}
+use Rattle.grain_fault.specs.Problems.{Plain, DataRace}
+use Rattle.grain_fault.specs.declared.places.Position.{Position}
+use Rattle.grain_chain.specs.Going.{Goes, rest}
 use Rattle.grain_chain.specs.declared.walks.Walk.{Walk}
 use Rattle.grain_chain.proofs.Strides.{then_goes}
 use Rattle.grain_chain.proofs.Stepping.{needs_more}
 use Rattle.grain_means.specs.Tasks.{Task}
 use Rattle.grain_chain.specs.Walking.{count, steps_left}
-use Rattle.grain_chain.proofs.Stepping.{ahead, takes_next, skips_next, turns_less, take_on, then_reaches}
+use Rattle.grain_chain.proofs.Stepping.{ahead, takes_next, skips_next, races_next, turns_less, take_on, then_reaches}
 use Rattle.grain_chain.proofs.Loops.{Led, step_answers, step_gives_up, step_turns, answers_less}
 use Rattle.std.proofs.Common.{rules, is_ok, ◌≤◌}
 use Rattle.grain_chain.proofs.Stepping.{no_steps}
@@ -43,21 +46,35 @@ returns-then-self-count-clause-needs c =
 pub step_at-step-requires : goal.step_at-step-requires
 step_at-step-requires c = omega (arith, c.steps.invariant.all, c.if-self-count.false)
 
-pub returns-then-ends_before-clause-goes : goal.returns-then-ends_before-clause-goes
-returns-then-ends_before-clause-goes c =
+pub returns-in_default-clause-goes : goal.returns-in_default-clause-goes
+returns-in_default-clause-goes c =
+    let w0 = c.args.self.now in
+    let w = c.steps.self in
+    let x = c.args.context in
+    let unit = c.in_default.ensures in
+    then_goes x w0 w c.race_before.new.self (ahead x w0) (ahead x w) c.race_before.result
+    c.steps.invariant.walks
+    (then_goes x w w c.race_before.new.self (ahead x w) _ c.race_before.result
+    (races_next x w c.step_at-step.result unit.0 c.step_at-step.ensures unit.1.0 unit.1.1)
+    (subst (λ (q : Position). Goes x w (Walks.at_mark w.step (rest x w) (Walks.failing w.step
+    (Plain (DataRace (codes "variable ''")) q) (rest x w))) c.race_before.result
+    c.race_before.new.self) c.position_of.ensures (c.race_before.ensures.goes x)))
+
+pub returns-then-ends-clause-goes : goal.returns-then-ends-clause-goes
+returns-then-ends-clause-goes c =
     let w0 = c.args.self.now in
     let w = c.steps.self in
     let x = c.args.context in
     let p = x.program.now in
     let inv = c.steps.invariant in
-    let unit = c.ends_before.ensures in
+    let unit = c.in-Some.ensures in
     then_goes x w0 w c.skip.new.self (ahead x w0) (ahead x w) c.skip.result inv.walks
     (then_goes x w w c.skip.new.self (ahead x w) _ c.skip.result
     (skips_next x w c.step_at-step.result unit.0 c.step_at-step.ensures unit.1.0
-    (sym unit.1.1 ∙ c.if-ends_before.true)) c.skip.ensures.goes)
+    (ap Some (sym c.if-ends.true) ∙ unit.1.1)) c.skip.ensures.goes)
 
-pub returns-then-ends_before-clause-needs : goal.returns-then-ends_before-clause-needs
-returns-then-ends_before-clause-needs c =
+pub returns-then-ends-clause-needs : goal.returns-then-ends-clause-needs
+returns-then-ends-clause-needs c =
     let w0 = c.args.self.now in
     let w = c.steps.self in
     let x = c.args.context in
@@ -75,11 +92,11 @@ returns-in_err-take-clause-goes c =
     let x = c.args.context in
     let p = x.program.now in
     let inv = c.steps.invariant in
-    let unit = c.ends_before.ensures in
+    let unit = c.in-Some.ensures in
     let led = then_reaches x w0 w w (ahead x w0) (ahead x w)
     (Walks.at_mark w.step (rest x w) (take_on x w c.step_at-step.result)) inv.walks
     (takes_next x w c.step_at-step.result unit.0 c.step_at-step.ensures unit.1.0
-    (sym unit.1.1 ∙ c.if-ends_before.false)) in
+    (ap Some (sym c.if-ends.false) ∙ unit.1.1)) in
     let out : is_ok c.from_residual.result ≡ false = search rules in
     let none : is_ok c.take.result ≡ false = search rules in
     step_gives_up x w0 (ahead x w0) w c.take.new.self _ c.take.result c.from_residual.result
@@ -92,11 +109,11 @@ step_on-requires c =
     let x = c.args.context in
     let p = x.program.now in
     let inv = c.steps.invariant in
-    let unit = c.ends_before.ensures in
+    let unit = c.in-Some.ensures in
     let led = then_reaches x w0 w w (ahead x w0) (ahead x w)
     (Walks.at_mark w.step (rest x w) (take_on x w c.step_at-step.result)) inv.walks
     (takes_next x w c.step_at-step.result unit.0 c.step_at-step.ensures unit.1.0
-    (sym unit.1.1 ∙ c.if-ends_before.false)) in
+    (ap Some (sym c.if-ends.false) ∙ unit.1.1)) in
     let got = step_turns x w0 (ahead x w0) w c.take.new.self _ c.take.result led
     (c.in_ok-take.was ∙ ap Ok c.in-None.is) c.take.ensures.takes in
     subst (λ (u : Walk). u.step < count p u) (sym got.1.same)
@@ -109,11 +126,11 @@ steps-preserved c =
     let x = c.args.context in
     let p = x.program.now in
     let inv = c.steps.invariant in
-    let unit = c.ends_before.ensures in
+    let unit = c.in-Some.ensures in
     let led = then_reaches x w0 w w (ahead x w0) (ahead x w)
     (Walks.at_mark w.step (rest x w) (take_on x w c.step_at-step.result)) inv.walks
     (takes_next x w c.step_at-step.result unit.0 c.step_at-step.ensures unit.1.0
-    (sym unit.1.1 ∙ c.if-ends_before.false)) in
+    (ap Some (sym c.if-ends.false) ∙ unit.1.1)) in
     let got = step_turns x w0 (ahead x w0) w c.take.new.self _ c.take.result led
     (c.in_ok-take.was ∙ ap Ok c.in-None.is) c.take.ensures.takes in
     let here : w.step < count p w = omega (arith, inv.all, c.if-self-count.false) in
@@ -126,27 +143,27 @@ steps-preserved c =
           (subst (λ (u : Walk). c.count_of_steps-count.result ≡ count p u) (sym got.1.same) inv.all);
     }
 
-pub returns-in-Some-clause-goes : goal.returns-in-Some-clause-goes
-returns-in-Some-clause-goes c =
+pub returns-in-Some-2-clause-goes : goal.returns-in-Some-2-clause-goes
+returns-in-Some-2-clause-goes c =
     let w0 = c.args.self.now in
     let w = c.steps.self in
     let x = c.args.context in
     let p = x.program.now in
     let inv = c.steps.invariant in
-    let unit = c.ends_before.ensures in
+    let unit = c.in-Some.ensures in
     let led = then_reaches x w0 w w (ahead x w0) (ahead x w)
     (Walks.at_mark w.step (rest x w) (take_on x w c.step_at-step.result)) inv.walks
     (takes_next x w c.step_at-step.result unit.0 c.step_at-step.ensures unit.1.0
-    (sym unit.1.1 ∙ c.if-ends_before.false)) in
-    step_answers x w0 (ahead x w0) w c.take.new.self _ c.in-Some.answer c.take.result led
-    (c.in_ok-take.was ∙ ap Ok c.in-Some.is) c.take.ensures.takes
+    (ap Some (sym c.if-ends.false) ∙ unit.1.1)) in
+    step_answers x w0 (ahead x w0) w c.take.new.self _ c.in-Some-2.answer c.take.result led
+    (c.in_ok-take.was ∙ ap Ok c.in-Some-2.is) c.take.ensures.takes
 
-pub returns-in-Some-clause-needs : goal.returns-in-Some-clause-needs
-returns-in-Some-clause-needs c =
+pub returns-in-Some-2-clause-needs : goal.returns-in-Some-2-clause-needs
+returns-in-Some-2-clause-needs c =
     let w0 = c.args.self.now in
     let w = c.steps.self in
     let x = c.args.context in
     let p = x.program.now in
     let inv = c.steps.invariant in
-    answers_less p c.take.new.self c.in-Some.answer c.take.result _ _
-    (c.in_ok-take.was ∙ ap Ok c.in-Some.is) c.take.ensures.needs (omega (arith, inv.less))
+    answers_less p c.take.new.self c.in-Some-2.answer c.take.result _ _
+    (c.in_ok-take.was ∙ ap Ok c.in-Some-2.is) c.take.ensures.needs (omega (arith, inv.less))

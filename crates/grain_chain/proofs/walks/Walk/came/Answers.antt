@@ -121,19 +121,34 @@ returns-in-OpAssigned-clause-needs c =
     (sym c.in-OpAssigned.is) (needs_more p c.well-in-OpAssigned.new.self
     c.well-in-OpAssigned.result _ _ c.well-in-OpAssigned.ensures.needs (omega arith))
 
-pub returns-clause-goes : goal.returns-clause-goes
-returns-clause-goes c =
+pub returns-in-Operator-clause-goes : goal.returns-in-Operator-clause-goes
+returns-in-Operator-clause-goes c =
     let x = c.args.context in
     subst (λ (s : Awaits). Goes x c.args.self.now (resumed x.engine.now x.program.now c.args.self.now s
     (Came c.args.value)) c.store_answer.result c.store_answer.new.self) (sym c.in-Operator.is)
     c.store_answer.ensures.goes
 
-pub returns-clause-needs : goal.returns-clause-needs
-returns-clause-needs c =
+pub returns-in-Operator-clause-needs : goal.returns-in-Operator-clause-needs
+returns-in-Operator-clause-needs c =
     let p = c.args.context.program.now in
     subst (λ (s : Awaits). Needs p c.store_answer.new.self c.store_answer.result (still p c.args.self.now s))
     (sym c.in-Operator.is) (needs_more p c.store_answer.new.self
     c.store_answer.result _ _ c.store_answer.ensures.needs (omega arith))
+
+pub returns-clause-goes : goal.returns-clause-goes
+returns-clause-goes c =
+    let x = c.args.context in
+    subst (λ (s : Awaits). Goes x c.args.self.now (resumed x.engine.now x.program.now c.args.self.now s
+    (Came c.args.value)) c.go_in-in-Called.result c.go_in-in-Called.new.self)
+    (sym c.in-Called.is) c.go_in-in-Called.ensures.goes
+
+pub returns-clause-needs : goal.returns-clause-needs
+returns-clause-needs c =
+    let p = c.args.context.program.now in
+    subst (λ (s : Awaits). Needs p c.go_in-in-Called.new.self c.go_in-in-Called.result
+    (still p c.args.self.now s))
+    (sym c.in-Called.is) (needs_more p c.go_in-in-Called.new.self
+    c.go_in-in-Called.result _ _ c.go_in-in-Called.ensures.needs (omega arith))
 
 pub go_in-requires : goal.go_in-requires
 go_in-requires c = record {
@@ -160,5 +175,12 @@ pub go_in-requires-in-IndexRead : goal.go_in-requires-in-IndexRead
 go_in-requires-in-IndexRead c = record {
   at =
       subst (λ (s : Awaits). IsAtStep c.args.context.program.now c.args.self.now s) c.in-IndexRead.is
+      c.requires.at;
+}
+
+pub go_in-requires-in-Called : goal.go_in-requires-in-Called
+go_in-requires-in-Called c = record {
+  at =
+      subst (λ (s : Awaits). IsAtStep c.args.context.program.now c.args.self.now s) c.in-Called.is
       c.requires.at;
 }

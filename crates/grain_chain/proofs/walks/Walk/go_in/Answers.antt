@@ -1,5 +1,7 @@
-use Rattle.std.proofs.Common.{false, Some, None, Err, refl, sym, ◌∙◌, arith}
-use Rattle.grain_chain.specs.Going.{rest}
+use Rattle.std.proofs.Common.{Bool, false, Some, None, Err, refl, sym, ◌∙◌, subst, arith}
+use Rattle.grain_means.specs.Walks.{is_change}
+use Rattle.grain_chain.specs.Walking.{origin_of}
+use Rattle.grain_chain.specs.Going.{Goes, rest}
 use Rattle.grain_chain.specs.declared.walks.Walk.{Walk}
 use Rattle.grain_chain.proofs.Strides.{from_same}
 use Rattle.grain_chain.proofs.Stepping.{needs_more}
@@ -14,10 +16,13 @@ returns-then-own-clause-goes c =
     let w = c.args.self.now in
     let x = c.args.context in
     let w1 : Walk = record w { gives = c.args.value } in
-    pick_true x w c.well.new.self c.args.into.own (rest x w (Well c.args.value false)) _ c.well.result
-    c.if-own.true
-    (from_same x w w1 c.well.new.self (rest x w (Well c.args.value false)) c.well.result (λ k. refl)
-    c.well.ensures.goes)
+    let o = origin_of c.args.into.origin in
+    pick_true x w c.well.new.self c.args.into.own (rest x w (Well c.args.value (is_change o))) _
+    c.well.result c.if-own.true
+    (subst (λ (b : Bool). Goes x w (rest x w (Well c.args.value b)) c.well.result c.well.new.self)
+    c.is_change.ensures
+    (from_same x w w1 c.well.new.self (rest x w (Well c.args.value c.is_change.result)) c.well.result
+    (λ k. refl) c.well.ensures.goes))
 
 pub returns-then-own-clause-needs : goal.returns-then-own-clause-needs
 returns-then-own-clause-needs c =

@@ -124,6 +124,16 @@ pub returns-clause-goes : goal.returns-clause-goes
 returns-clause-goes c =
     let x = c.args.context in
     subst (λ (s : Awaits). Goes x c.args.self.now (resumed x.engine.now x.program.now c.args.self.now s
+    (Failed (problem_of c.args.fault))) (Ok c.failed-in-Called.result) c.failed-in-Called.new.self)
+    (sym c.in-Called.is)
+    (fails x c.args.self.now c.failed-in-Called.new.self c.args.fault c.failed-in-Called.result
+    c.failed-in-Called.ensures.answer
+    c.failed-in-Called.ensures.left)
+
+pub returns-in-Operator-clause-goes : goal.returns-in-Operator-clause-goes
+returns-in-Operator-clause-goes c =
+    let x = c.args.context in
+    subst (λ (s : Awaits). Goes x c.args.self.now (resumed x.engine.now x.program.now c.args.self.now s
     (Failed (problem_of c.args.fault))) (Ok c.failed-in-Operator.result) c.failed-in-Operator.new.self)
     (sym c.in-Operator.is)
     (fails x c.args.self.now c.failed-in-Operator.new.self c.args.fault c.failed-in-Operator.result

@@ -1,5 +1,7 @@
-use Rattle.std.proofs.Common.{None, Ok, sym, subst}
+use Rattle.std.proofs.Common.{◌≡◌, Bool, true, None, Ok, sym, ap, subst}
+use Rattle.grain_means.specs.Tasks.{Well}
 use Rattle.grain_means.specs.Walks
+use Rattle.grain_means.specs.Walks.{is_change}
 use Rattle.grain_chain.specs.Walking.{place_of}
 use Rattle.grain_chain.specs.Going.{GoesBack, rest, setting}
 use Rattle.grain_chain.specs.declared.origins.Origin.{Origin as CodeOrigin}
@@ -41,3 +43,15 @@ returns-in-Nothing-clause-goes c =
     (place_of c.args.self.now) c.args.inner c.args.self.now.gives c.args.changed
     (rest c.args.context c.args.self.now)) c.args.changed (Ok None) c.args.self.now) (sym c.in-Nothing.is)
     (as_it_was c.args.context c.args.self.now c.args.changed)
+
+pub returns-in-Method-clause-goes : goal.returns-in-Method-clause-goes
+returns-in-Method-clause-goes c =
+    let counts : true ≡ c.args.changed =
+    sym (c.requires (ap (λ (o : CodeOrigin). is_change (origin_of o)) c.in-Method.is)) in
+    subst (λ (o : CodeOrigin). GoesBack c.args.context c.args.self.now (Walks.set_back
+    (setting c.args.context c.args.self.now) c.args.self.now.step (origin_of o)
+    (place_of c.args.self.now) c.args.inner c.args.self.now.gives c.args.changed
+    (rest c.args.context c.args.self.now)) c.args.changed (Ok None) c.args.self.now) (sym c.in-Method.is)
+    (subst (λ (b : Bool). GoesBack c.args.context c.args.self.now
+    (rest c.args.context c.args.self.now (Well c.args.self.now.gives true)) b (Ok None) c.args.self.now)
+    counts (as_it_was c.args.context c.args.self.now true))

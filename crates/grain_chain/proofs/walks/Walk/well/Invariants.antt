@@ -7,7 +7,7 @@ use Rattle.grain_chain.proofs.walks.Walk.well.Given as goal
 abbrev pub invariant-back : goal.invariant-back
 invariant-back l = record {
   walks : Led l.fn.context l.fn.self (rest l.fn.context l.fn.self (Well l.fn.self.gives l.fn.changed)) l.self
-      (rest l.fn.context l.self (Well l.self.gives l.fn.changed));
+      (rest l.fn.context l.self (Well l.self.gives l.changed));
   less : length l.self.trail.outer ≤ length l.fn.self.trail.outer;
 }
 

@@ -1,0 +1,11 @@
+use Rattle.std.proofs.Common.{refl}
+use Rattle.grain_chain.specs.declared.walks.Walk.{Walk}
+use Rattle.grain_chain.proofs.Strides.{from_same}
+use Rattle.grain_chain.proofs.walks.Walk.give_own.Goals as goal
+
+pub returns-clause-goes : goal.returns-clause-goes
+returns-clause-goes c =
+    let w = c.args.self.now in
+    let x = c.args.context in
+    let w1 : Walk = record w { gives = c.args.value } in
+    from_same x w w1 c.well.new.self _ c.well.result (λ k. refl) c.well.ensures.goes
