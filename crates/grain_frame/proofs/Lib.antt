@@ -1,3 +1,4 @@
+mod Newest
 mod AssignedEntries
 mod Flattening
 mod Currying
@@ -9,3 +10,5 @@ mod Refusing
 mod Sharing
 mod Lending
 mod Handled
+mod Homes
+mod Lent

@@ -16,7 +16,7 @@ use Rattle.grain_host.specs.Law.{Law, native_of}
 use Rattle.grain_global.specs.declared.engines.Engine.{Engine}
 use Rattle.grain_stack.specs.declared.handlers.Handler.{Handler}
 use Rattle.grain_means.specs.Worlds.{Act, Frame, Place, Setup, World}
-use Rattle.grain_means.specs.Rules.{InScope, Receiver, native, kinds_in, trees_in, raised}
+use Rattle.grain_means.specs.Rules.{Home, Receiver, native, kinds_in, trees_in, raised}
 use Rattle.grain_host.specs.Signatures.{not_found}
 use Rattle.grain_value.specs.View.{value_of}
 use Rattle.grain_value.specs.laws.Same.{value_of-tree}
@@ -34,6 +34,7 @@ use Rattle.grain_frame.specs.declared.native_calls.Sought.TheVariants as sought
 use Rattle.grain_frame.specs.declared.runs.Progress.{Progress}
 use Rattle.grain_frame.specs.declared.runs.Progress.TheVariants as progress
 use Rattle.grain_frame.specs.declared.runs.Run.{Run}
+use Rattle.grain_frame.proofs.Newest.{keeps_both}
 
 -- the trees of what is held are its values
 values_are : (hs : List Held) → map value_of (trees_in hs) ≡ values_in hs
@@ -54,15 +55,14 @@ seeks_none law host name word args a q x describes none same is = inl (
 )
 
 -- no native takes what is lent and this argument
-pub lent_none : {H : Type 0} (law : Law H) (host : H) (name word : List ℕ) (index : ℕ)
-    (cell : Option ℕ) (h v : Held) (kinds : List ℕ) (values : List Tree) (q : Position) (x :
-    EvalAltResult) →
+pub lent_none : {H : Type 0} (law : Law H) (host : H) (name word : List ℕ) (home : Home)
+    (h v : Held) (kinds : List ℕ) (values : List Tree) (q : Position) (x : EvalAltResult) →
     kinds ≡ kinds_in (h ∷ v ∷ []) → values ≡ trees_in (h ∷ v ∷ []) →
     native_of law host word kinds ≡ None → word ≡ name →
     problem_of x ≡ not_found name (map value_of values) q →
-    Seeks law host name (Some (record { home = InScope index cell; held = h })) (v ∷ []) q
+    Seeks law host name (Some (record { home = home; held = h })) (v ∷ []) q
     (sought.Fault x)
-lent_none law host name word index cell h v kinds values q x kinds_are trees_are none same is = inl (
+lent_none law host name word home h v kinds values q x kinds_are trees_are none same is = inl (
   subst (λ (w : List ℕ). native_of law host w (kinds_in (h ∷ v ∷ [])) ≡ None) same
       (subst (λ (ks : List ℕ). native_of law host word ks ≡ None) kinds_are none),
   is ∙ ap (λ (vs : List Dynamic). not_found name vs q)
@@ -152,10 +152,12 @@ kept_on f g h s t u one two = record {
   outer = two.outer ∙ one.outer;
   saved = two.saved ∙ one.saved;
   level = two.level ∙ one.level;
+  this = keeps_both s.level s.receivers t.receivers u.receivers one.this
+      (rw one.level at two.this);
   later = omega (arith, one.later, two.later);
 }
 
-later_lands : {H : Type 0} (engine : Engine) (f f' : Activation) (s t s' : Run H) (ts : List ℕ)
+pub later_lands : {H : Type 0} (engine : Engine) (f f' : Activation) (s t s' : Run H) (ts : List ℕ)
     (takes gives : ℕ) (hs : List Handler) (r : Result Progress OutOfMemory) → s.count ≤ t.count →
     t.stacks ≡ s.stacks → ContinuesAt engine t f s' f' ts takes gives hs r →
     ContinuesAt engine s f s' f' ts takes gives hs r
@@ -209,6 +211,7 @@ module _ {H : Type 0} (law : Law H) (p : View) (engine : Engine) (f : Activation
     outer = refl;
     saved = refl;
     level = refl;
+    this = (refl, refl);
     later = omega arith;
   })
 
@@ -254,6 +257,7 @@ module _ {H : Type 0} (law : Law H) (p : View) (engine : Engine) (f : Activation
         outer = refl;
         saved = refl;
         level = refl;
+        this = (refl, refl);
         later = omega arith;
       }));
       lands = rw (es, run) (omega arith, refl);

@@ -56,6 +56,7 @@ shares {H = H} law p engine f s n host h slot index next cell mid scope at numbe
         outer = refl;
         saved = refl;
         level = refl;
+        this = (refl, refl);
         later = omega arith;
       };
       lands = (inl refl, omega arith, refl, inr (omega arith, ahead));

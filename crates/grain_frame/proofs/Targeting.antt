@@ -1,5 +1,5 @@
 -- What a target holds is taken out of it, and something is put back.
-use Rattle.std.proofs.Common.{◌≡◌, ◌∙◌, ◌<◌, ◌+◌, ℕ, zero, suc, List, [], ◌∷◌, Option, Some, None, Bool, true, false, length, refl, sym, ap, subst, arith}
+use Rattle.std.proofs.Common.{◌≡◌, ◌∙◌, ◌<◌, ℕ, zero, suc, List, [], ◌∷◌, Option, Some, None, Bool, true, false, length, refl, sym, ap, subst, arith}
 use Rattle.std.specs.Prelude.{◌||◌, is_some, option_map, slice_get, slice_set}
 use Rattle.grain_value.specs.Cells.{content, content_flag, flat, idle, is_busy, lent, standing}
 use Rattle.grain_value.specs.Looking.{cell_of}
@@ -9,35 +9,48 @@ use Rattle.grain_value.specs.declared.stores.Cell.{Cell}
 use Rattle.grain_value.specs.declared.values.Dynamic.{Dynamic}
 use Rattle.grain_value.specs.declared.values.Dynamic.TheVariants as dynamic
 use Rattle.grain_value.specs.declared.values.Held.{Held}
-use Rattle.grain_fault.specs.Problems.{Problem}
-use Rattle.grain_program.specs.View.{name_of}
-use Rattle.grain_program.specs.declared.code.parts.AssignOp.{AssignOp}
-use Rattle.grain_means.specs.Worlds.{Act, Frame, Place, Setup, World}
-use Rattle.grain_host.specs.Signatures.{says_missing}
-use Rattle.grain_means.specs.Rules.{back_in_cell, back_in_entry, cell_written, content_now, flag_of_cell, held_at, held_or, marked, op_assign_failed, operator_assigned, written}
+use Rattle.grain_stack.specs.Views.{StacksView}
+use Rattle.grain_means.specs.Rules.{flag_of_cell, held_at}
 use Rattle.grain_means.specs.lemmas.Scopes.{length_set_held}
-use Rattle.grain_frame.specs.Targets.{AssignedTarget, Assigns, CanBeLent, FreeCell, HeldBy, HoldsAt, IsLentAt, content_at, put_in, taken_out, value_or_unit}
+use Rattle.grain_frame.specs.Abstraction.{this_of}
+use Rattle.grain_frame.specs.Receivers.{KeepsBound, with_newest}
+use Rattle.grain_frame.specs.Targets.{AssignedTarget, CanBeLent, CanBeWritten, HoldsAt, HoldsWritable, IsLentAt, content_at, put_in, taken_out, target_in, value_or_unit}
 use Rattle.grain_ops.specs.Outcomes.{Outcome}
-use Rattle.grain_frame.specs.Abstraction.{frame_in}
-use Rattle.grain_frame.specs.declared.activations.Activation.{Activation}
 use Rattle.grain_ops.specs.Answers as ops
 use Rattle.grain_ops.specs.declared.answers.AssignAnswer.{AssignAnswer}
 use Rattle.grain_ops.specs.declared.answers.AssignAnswer.TheVariants as assigned
+use Rattle.grain_frame.specs.declared.receivers.Bound.{Bound}
 use Rattle.grain_frame.specs.declared.runs.Run.{Run}
 use Rattle.grain_frame.specs.declared.targets.Target.{Target}
+use Rattle.grain_frame.specs.declared.targets.Target.TheVariants as to
 use Rattle.grain_frame.specs.lemmas.Entries.{entry_twice, same_entry}
 use Rattle.grain_frame.proofs.Handing.{one_held}
+use Rattle.grain_frame.proofs.Newest.{keeps_others, newest_is, newest_same, newest_twice}
 
 abbrev cell_held : Option Cell → Held → Held
 cell_held None h = h
 cell_held (Some c) h = c.held
 
+pub one_cell : (o : Option Cell) (a b : Held) → o ≡ Some (idle a) → o ≡ Some (idle b) → a ≡ b
+one_cell o a b first second = ap (λ (x : Option Cell). cell_held x a) (sym first ∙ second)
+
 -- a target holds one thing
-pub one_at : {H : Type 0} (s : Run H) (i : ℕ) (c : Option ℕ) (a b : Held) → HeldBy s i c a →
-    HeldBy s i c b → a ≡ b
-one_at s i None a b first second = one_held (held_at s.scope i) a b first second
-one_at s i (Some n) a b first second =
-    ap (λ (o : Option Cell). cell_held o a) (sym first ∙ second)
+pub one_at : {H : Type 0} (s : Run H) (t : Target) (a b : Held) → HoldsAt s t a →
+    HoldsAt s t b → a ≡ b
+one_at s (to.Entry i) a b first second = one_held (held_at s.scope i) a b first second
+one_at s (to.Cell n) a b first second = one_cell (slice_get s.cells n) a b first second
+one_at s to.This a b first second = one_held (this_of s) a b first second
+
+-- what can be written is there
+pub written_some : (o : Option Held) → CanBeWritten o → is_some o ≡ true
+written_some None can = absurd can
+written_some (Some h) can = refl
+
+pub plain_one : (o : Option Held) (h : Held) → o ≡ Some h → CanBeWritten o → h.read_only ≡ false
+plain_one o h is can = subst (λ (x : Option Held). CanBeWritten x) is can
+
+pub plain_there : (o : Option Held) (h : Held) → o ≡ Some h → h.read_only ≡ false → CanBeWritten o
+plain_there o h is plain = subst (λ (x : Option Held). CanBeWritten x) (sym is) plain
 
 -- of two writes the second counts
 cell_twice : (cs : List Cell) (n : ℕ) (a b : Cell) →
@@ -55,31 +68,21 @@ same_cell (d ∷ cs) (suc n) c is = ap (λ (l : List Cell). d ∷ l) (same_cell 
 
 pub put_twice : {H : Type 0} (s : Run H) (t : Target) (u h : Held) →
     put_in (taken_out s t u) t h ≡ put_in s t h
-put_twice {H = H} s t u h = at t.index t.cell where
-  at : (i : ℕ) (c : Option ℕ) →
-      put_in (taken_out s (record { index = i; cell = c }) u) (record { index = i; cell = c }) h
-      ≡ put_in s (record { index = i; cell = c }) h
-  at i None = ap (λ (es : List Entry). record s { scope = es })
-      (entry_twice s.scope i (read_write dynamic.Unit) h)
-  at i (Some n) = ap (λ (cs : List Cell). record s { cells = cs })
-      (cell_twice s.cells n (lent u) (idle h))
+put_twice s (to.Entry i) u h = ap (λ (es : List Entry). record s { scope = es })
+    (entry_twice s.scope i (read_write dynamic.Unit) h)
+put_twice s (to.Cell n) u h = ap (λ (cs : List Cell). record s { cells = cs })
+    (cell_twice s.cells n (lent u) (idle h))
+put_twice s to.This u h = ap (λ (bs : List Bound). record s { receivers = bs })
+    (newest_twice s.receivers (read_write dynamic.Unit) h)
 
 -- what is put back as it was
-pub put_same : {H : Type 0} (s : Run H) (i : ℕ) (c : Option ℕ) (h : Held) → HeldBy s i c h →
-    put_in s (record { index = i; cell = c }) h ≡ s
-put_same s i None h is =
+pub put_same : {H : Type 0} (s : Run H) (t : Target) (h : Held) → HoldsAt s t h → put_in s t h ≡ s
+put_same s (to.Entry i) h is =
     ap (λ (es : List Entry). record s { scope = es }) (same_entry s.scope i h is)
-put_same s i (Some n) h is =
+put_same s (to.Cell n) h is =
     ap (λ (cs : List Cell). record s { cells = cs }) (same_cell s.cells n (idle h) is)
-
--- the run once what was lent is back, in the meaning's words
-pub back_is : {H : Type 0} (s : Run H) (i : ℕ) (c : Option ℕ) (h : Held) →
-    put_in s (record { index = i; cell = c }) h ≡ record s {
-      scope = back_in_entry c i h s.scope;
-      cells = back_in_cell c h s.cells;
-    }
-back_is s i None h = refl
-back_is s i (Some n) h = refl
+put_same s to.This h is =
+    ap (λ (bs : List Bound). record s { receivers = bs }) (newest_same s.level s.receivers h is)
 
 set_is_there : (cs : List Cell) (n : ℕ) (b : Bool) (d : Cell) →
     option_map is_busy (slice_get cs n) ≡ Some b → slice_get (slice_set cs n d) n ≡ Some d
@@ -90,42 +93,74 @@ set_is_there (c ∷ cs) (suc n) b d is = set_is_there cs n b d is
 -- the target is lent from then on
 pub lent_then : {H : Type 0} (s : Run H) (t : Target) (u : Held) → CanBeLent s t →
     IsLentAt (taken_out s t u) t
-lent_then {H = H} s t u can = at t.index t.cell can.entry can.free where
-  at : (i : ℕ) (c : Option ℕ) → i < length s.scope → FreeCell s c →
-      IsLentAt (taken_out s (record { index = i; cell = c }) u) (record { index = i; cell = c })
-  at i None entry free = record {
-    entry = omega (arith, entry, length_set_held s.scope i (read_write dynamic.Unit));
-    lent = tt;
-  }
-  at i (Some n) entry free = record {
-    entry = entry;
-    lent = ap (λ (o : Option Cell). option_map is_busy o)
-        (set_is_there s.cells n false (lent u) free);
-  }
+lent_then s (to.Entry i) u can =
+    omega (arith, can, length_set_held s.scope i (read_write dynamic.Unit))
+lent_then s (to.Cell n) u can = ap (λ (o : Option Cell). option_map is_busy o)
+    (set_is_there s.cells n false (lent u) can)
+lent_then s to.This u can = ap is_some
+    (newest_is s.level s.receivers (read_write dynamic.Unit) (written_some (this_of s) can))
 
 -- as many entries of the scope as before
-pub long_as : {H : Type 0} (s : Run H) (i : ℕ) (c : Option ℕ) (h : Held) →
-    length (put_in s (record { index = i; cell = c }) h).scope ≡ length s.scope
-long_as s i None h = length_set_held s.scope i h
-long_as s i (Some n) h = refl
+pub long_as : {H : Type 0} (s : Run H) (t : Target) (h : Held) →
+    length (put_in s t h).scope ≡ length s.scope
+long_as s (to.Entry i) h = length_set_held s.scope i h
+long_as s (to.Cell n) h = refl
+long_as s to.This h = refl
 
--- the target can be lent again
+-- The target can be lent again: what is back has the flag of what was lent, which could be written.
+put_again : {H : Type 0} (s : Run H) (t : Target) (u h : Held) → CanBeLent s t → HoldsAt s t u →
+    h.read_only ≡ u.read_only → CanBeLent (put_in s t h) t
+put_again s (to.Entry i) u h can there flag = omega (arith, can, length_set_held s.scope i h)
+put_again s (to.Cell n) u h can there flag = ap (λ (o : Option Cell). option_map is_busy o)
+    (set_is_there s.cells n false (idle h) can)
+put_again s to.This u h can there flag = plain_there (this_of (put_in s to.This h)) h
+    (newest_is s.level s.receivers h (written_some (this_of s) can))
+    (flag ∙ plain_one (this_of s) u there can)
+
 pub lent_again : {H : Type 0} (s after : Run H) (t : Target) (u h : Held) → CanBeLent s t →
-    after ≡ put_in (taken_out s t u) t h → CanBeLent after t
-lent_again {H = H} s after t u h can is =
+    HoldsAt s t u → h.read_only ≡ u.read_only → after ≡ put_in (taken_out s t u) t h →
+    CanBeLent after t
+lent_again {H = H} s after t u h can there flag is =
     subst (λ (r : Run H). CanBeLent r t) (sym (is ∙ put_twice s t u h))
-    (at t.index t.cell can.entry can.free) where
-      at : (i : ℕ) (c : Option ℕ) → i < length s.scope → FreeCell s c →
-          CanBeLent (put_in s (record { index = i; cell = c }) h) (record { index = i; cell = c })
-      at i None entry free = record {
-        entry = omega (arith, entry, length_set_held s.scope i h);
-        free = tt;
-      }
-      at i (Some n) entry free = record {
-        entry = entry;
-        free = ap (λ (o : Option Cell). option_map is_busy o)
-            (set_is_there s.cells n false (idle h) free);
-      }
+    (put_again s t u h can there flag)
+
+-- the frame has a `this` if it had one, and each other is as it was
+pub put_keeps_this : {H : Type 0} (s : Run H) (t : Target) (h : Held) → CanBeLent s t →
+    KeepsBound s.level s.receivers (put_in s t h).receivers
+put_keeps_this s (to.Entry i) h can = (refl, refl)
+put_keeps_this s (to.Cell n) h can = (refl, refl)
+put_keeps_this s to.This h can =
+    keeps_others s.level s.receivers h (written_some (this_of s) can)
+
+-- where only the operands differ, a target can be lent too
+pub lends_beside : {H : Type 0} (s : Run H) (v : StacksView) (t : Target) → CanBeLent s t →
+    CanBeLent (record s { stacks = v }) t
+lends_beside s v (to.Entry i) can = can
+lends_beside s v (to.Cell n) can = can
+lends_beside s v to.This can = can
+
+-- a target is written beside the operands
+pub put_stacks : {H : Type 0} (s : Run H) (v : StacksView) (t : Target) (h : Held) →
+    record (put_in s t h) { stacks = v } ≡ put_in (record s { stacks = v }) t h
+put_stacks s v (to.Entry i) h = refl
+put_stacks s v (to.Cell n) h = refl
+put_stacks s v to.This h = refl
+
+pub put_keeps : {H : Type 0} (s : Run H) (t : Target) (h : Held) →
+    (put_in s t h).stacks ≡ s.stacks
+put_keeps s (to.Entry i) h = refl
+put_keeps s (to.Cell n) h = refl
+put_keeps s to.This h = refl
+
+-- only the scope, the cells and the newest `this` differ
+pub put_differs : {H : Type 0} (s : Run H) (t : Target) (h : Held) → put_in s t h ≡ record s {
+  scope = (put_in s t h).scope;
+  cells = (put_in s t h).cells;
+  receivers = (put_in s t h).receivers;
+}
+put_differs s (to.Entry i) h = refl
+put_differs s (to.Cell n) h = refl
+put_differs s to.This h = refl
 
 -- an index within a scope has an entry
 pub entry_at : (es : List Entry) (i : ℕ) → i < length es → (h : Held) × (held_at es i ≡ Some h)
@@ -140,17 +175,7 @@ free_content None free = absurd cc
 free_content (Some c) free =
     let idles : c.busy ≡ false = cc in rw idles refl
 
--- what a target's entry holds is what the target holds, as it is read
-pub content_read : {H : Type 0} (s : Run H) (t : Target) (h : Held) →
-    held_at s.scope t.index ≡ Some h → cell_of h.value ≡ t.cell → FreeCell s t.cell →
-    flat s.cells h.value ≡ Some (content_at s t)
-content_read s t h there is free = at t.cell is free where
-  at : (c : Option ℕ) → cell_of h.value ≡ c → FreeCell s c →
-      flat s.cells h.value ≡ Some (content_at s (record { index = t.index; cell = c }))
-  at None is free = rw (is, there) refl
-  at (Some n) is free = rw is (free_content (slice_get s.cells n) free)
-
-flagged : (v : Dynamic) (b : Bool) → b ≡ false →
+pub flagged : (v : Dynamic) (b : Bool) → b ≡ false →
     record { value = v; read_only = b } ≡ read_write v
 flagged v b plain = rw plain refl
 
@@ -167,64 +192,64 @@ idle_cell (Some c) free flag =
       as_idle g b idles plain =
           rw (idles, flagged g.value g.read_only plain) refl
 
--- a target that can be written holds its content
-pub holds_content : {H : Type 0} (s : Run H) (t : Target) (h : Held) →
-    held_at s.scope t.index ≡ Some h → h.read_only ≡ false →
-    flag_of_cell t.cell s.cells ≡ false → FreeCell s t.cell →
-    HoldsAt s t (read_write (content_at s t))
-holds_content s t h there plain flag free = at t.cell flag free where
-  at : (c : Option ℕ) → flag_of_cell c s.cells ≡ false → FreeCell s c →
-      HoldsAt s (record { index = t.index; cell = c })
-      (read_write (content_at s (record { index = t.index; cell = c })))
-  at None flag free = rw (there, ← plain) refl
-  at (Some n) flag free = idle_cell (slice_get s.cells n) free flag
+-- a cell whose content can be read is not lent
+readable_free : (o : Option Cell) → is_some (content o) ≡ true → option_map is_busy o ≡ Some false
+readable_free None read = absurd cc
+readable_free (Some d) read = by_flag d.held d.busy read where
+  by_flag : (h : Held) (b : Bool) →
+      is_some (content (Some (record { held = h; busy = b }))) ≡ true → Some b ≡ Some false
+  by_flag h true read = absurd cc
+  by_flag h false read = refl
 
--- what an entry holds now, or its cell, is what the target holds
-pub content_same : {H : Type 0} (s : Run H) (t : Target) (h : Held) → t.index < length s.scope →
-    content_now t.cell t.index h s.scope s.cells ≡ content_at s t
-content_same s t h within = at t.cell where
-  by_entry : (o : Option Held) (g : Held) → o ≡ Some g → (held_or h o).value ≡ value_or_unit o
-  by_entry o g is = rw is refl
+-- what can be written has no flag of its own
+pub left_plain : (a b : Bool) → (a || b) ≡ false → a ≡ false
+left_plain true b plain = absurd cc
+left_plain false b plain = refl
 
-  at : (c : Option ℕ) → content_now c t.index h s.scope s.cells
-      ≡ content_at s (record { index = t.index; cell = c })
-  at None =
-      let there = entry_at s.scope t.index within in
-      by_entry (held_at s.scope t.index) there.0 there.1
-  at (Some n) = refl
+pub right_plain : (a b : Bool) → (a || b) ≡ false → b ≡ false
+right_plain true b plain = absurd cc
+right_plain false b plain = plain
 
--- a cell that is not lent is written
-free_written : {S : Type 0} (m : Setup S) (o : Option Cell) (n : ℕ) (h : Held) (name : List ℕ)
-    (f : Frame) (w : World S) (go : World S → Act S) → option_map is_busy o ≡ Some false →
-    cell_written m o n h name f w go
-    ≡ marked m f w (λ w1. go (record w1 { cells = slice_set w1.cells n (idle h) }))
-free_written m None n h name f w go free = absurd cc
-free_written m (Some c) n h name f w go free =
-    let idles : c.busy ≡ false = cc in rw idles refl
+-- what is held, and can be written, is held so
+pub held_plainly : (o : Option Held) (h : Held) → o ≡ Some h → h.read_only ≡ false →
+    o ≡ Some (read_write (value_or_unit o))
+held_plainly o h is plain = rw (is, ← plain) refl
 
--- so is a target
-pub target_written : {H : Type 0} (m : Setup H) (s : Run H) (t : Target) (h : Held)
-    (name : List ℕ) (f : Frame) (w : World H) (go : World H → Act H) → FreeCell s t.cell →
-    w.cells ≡ s.cells → written m t.cell t.index h name f w go
-    ≡ marked m f w (λ w1. go (record w1 {
-      scope = back_in_entry t.cell t.index h w1.scope;
-      cells = back_in_cell t.cell h w1.cells;
-    }))
-target_written m s t h name f w go free same = at t.cell free where
-  at : (c : Option ℕ) → FreeCell s c → written m c t.index h name f w go
-      ≡ marked m f w (λ w1. go (record w1 {
-        scope = back_in_entry c t.index h w1.scope;
-        cells = back_in_cell c h w1.cells;
-      }))
-  at None free = refl
-  at (Some n) free =
-      free_written m (slice_get w.cells n) n h name f w go (rw same free)
+pub held_value : (o : Option Held) (h : Held) → o ≡ Some h → value_or_unit o ≡ h.value
+held_value o h is = rw is refl
 
-pub one_cell : (o : Option Cell) (a b : Held) → o ≡ Some (idle a) → o ≡ Some (idle b) → a ≡ b
-one_cell o a b first second = ap (λ (x : Option Cell). cell_held x a) (sym first ∙ second)
+-- what stands here, or the cell that it is, is a target
+module _ {H : Type 0} (s : Run H) (here : Target) (h : Held)
+    (free : is_some (flat s.cells h.value) ≡ true) where
+  pub cell_lends : CanBeLent s here → CanBeLent s (target_in here (cell_of h.value))
+  cell_lends can = at (cell_of h.value) refl where
+    at : (c : Option ℕ) → cell_of h.value ≡ c → CanBeLent s (target_in here c)
+    at None is = can
+    at (Some n) is = readable_free (slice_get s.cells n) (rw is at free)
+
+  -- what it holds is what is read there
+  pub cell_read : content_at s here ≡ h.value →
+      flat s.cells h.value ≡ Some (content_at s (target_in here (cell_of h.value)))
+  cell_read whole = at (cell_of h.value) refl where
+    at : (c : Option ℕ) → cell_of h.value ≡ c →
+        flat s.cells h.value ≡ Some (content_at s (target_in here c))
+    at None is = rw (is, whole) refl
+    at (Some n) is =
+        rw is (free_content (slice_get s.cells n)
+        (readable_free (slice_get s.cells n) (rw is at free)))
+
+  -- it holds its content
+  pub cell_holds : HoldsWritable s here → flag_of_cell (cell_of h.value) s.cells ≡ false →
+      HoldsWritable s (target_in here (cell_of h.value))
+  cell_holds whole flag = at (cell_of h.value) refl where
+    at : (c : Option ℕ) → cell_of h.value ≡ c → HoldsWritable s (target_in here c)
+    at None is = whole
+    at (Some n) is =
+        idle_cell (slice_get s.cells n)
+        (readable_free (slice_get s.cells n) (rw is at free)) (rw is at flag)
 
 -- the content of a cell was lent to an op-assignment, and is back
-module _ {H : Type 0} (s : Run H) (n i : ℕ) (h : Held) (v : Dynamic) (mid after : List Cell)
+module _ {H : Type 0} (s : Run H) (n : ℕ) (h : Held) (v : Dynamic) (mid after : List Cell)
     (holds : slice_get s.cells n ≡ Some (idle h)) (taken : mid ≡ slice_set s.cells n (lent h))
     (back : after ≡ slice_set mid n (idle (record h { value = v }))) where
   written_once : after ≡ slice_set s.cells n (idle (record h { value = v }))
@@ -240,77 +265,45 @@ module _ {H : Type 0} (s : Run H) (n i : ℕ) (h : Held) (v : Dynamic) (mid afte
       ∙ same_cell s.cells n (idle h) holds))
 
   pub content_assigned : (r : AssignAnswer) (o : Outcome) → ops.Assigns r o h.value v →
-      AssignedTarget r o s (record s { cells = after }) (record { index = i; cell = Some n }) h
+      AssignedTarget r o s (record s { cells = after }) (to.Cell n) h
   content_assigned assigned.NotBuiltIn o did = (did.0, as_before did.1)
   content_assigned assigned.Done o did =
       (v, did, ap (λ (cs : List Cell). record s { cells = cs }) written_once)
   content_assigned (assigned.Failed x) o did = (did.0, as_before did.1)
 
+-- so was a `this`
+module _ {H : Type 0} (s : Run H) (h : Held) (v : Dynamic) (mid after : List Bound)
+    (holds : this_of s ≡ Some h) (taken : mid ≡ with_newest (read_write dynamic.Unit) s.receivers)
+    (back : after ≡ with_newest (record h { value = v }) mid) where
+  this_once : after ≡ with_newest (record h { value = v }) s.receivers
+  this_once = back ∙
+      (ap (λ (bs : List Bound). with_newest (record h { value = v }) bs) taken
+      ∙ newest_twice s.receivers (read_write dynamic.Unit) (record h { value = v }))
+
+  this_before : v ≡ h.value → record s { receivers = after } ≡ s
+  this_before same =
+      ap (λ (bs : List Bound). record s { receivers = bs })
+      (this_once ∙ (ap (λ (x : Dynamic). with_newest (record h { value = x }) s.receivers) same
+      ∙ newest_same s.level s.receivers h holds))
+
+  pub this_assigned : (r : AssignAnswer) (o : Outcome) → ops.Assigns r o h.value v →
+      AssignedTarget r o s (record s { receivers = after }) to.This h
+  this_assigned assigned.NotBuiltIn o did = (did.0, this_before did.1)
+  this_assigned assigned.Done o did =
+      (v, did, ap (λ (bs : List Bound). record s { receivers = bs }) this_once)
+  this_assigned (assigned.Failed x) o did = (did.0, this_before did.1)
+
 -- a target that can be lent holds something
 pub held_there : {H : Type 0} (s : Run H) (t : Target) → CanBeLent s t →
     (h : Held) × HoldsAt s t h
-held_there {H = H} s t can = at t.cell can.free where
+held_there s (to.Entry i) can = entry_at s.scope i can
+held_there s (to.Cell n) can = by_cell (slice_get s.cells n) can where
   by_cell : (o : Option Cell) → option_map is_busy o ≡ Some false →
       (h : Held) × (o ≡ Some (idle h))
   by_cell None free = absurd cc
   by_cell (Some d) free =
       let idles : d.busy ≡ false = cc in (d.held, rw (← idles) refl)
-
-  at : (c : Option ℕ) → FreeCell s c →
-      (h : Held) × HoldsAt s (record { index = t.index; cell = c }) h
-  at None free = entry_at s.scope t.index can.entry
-  at (Some n) free = by_cell (slice_get s.cells n) free
-
--- where the host has no op-assignment of its name, its operator is asked
-pub failed_is : {H : Type 0} (m : Setup H) (a : AssignOp) (s : Run H) (f : Activation) (t : Target)
-    (h v : Held) (slot n next : ℕ) (x : Problem) (place : Option Place) (w : World H) →
-    Assigns f t slot h → t.index < length s.scope → w.scope ≡ s.scope → w.cells ≡ s.cells →
-    says_missing (name_of m.program a.op_assign_name) x ≡ true →
-    op_assign_failed m a h v slot n next (frame_in f s place) x w
-    ≡ operator_assigned m (name_of m.program a.op_name) h (read_write (content_at s t)) v slot n
-    next (frame_in f s place) w
-failed_is {H = H} m a s f t h v slot n next x place w to within scope cells missing =
-    asked ∙ ap (λ (u : Held). operator_assigned m (name_of m.program a.op_name) h u v slot n next
-    (frame_in f s place) w) held_same where
-      now : Dynamic
-      now = content_now (cell_of h.value) (f.base + slot) h w.scope w.cells
-
-      asked : op_assign_failed m a h v slot n next (frame_in f s place) x w
-          ≡ operator_assigned m (name_of m.program a.op_name) h (record h { value = now }) v slot n
-          next (frame_in f s place) w
-      asked = rw missing refl
-
-      now_is : now ≡ content_at s t
-      now_is =
-          ap (λ (c : Option ℕ). content_now c (f.base + slot) h w.scope w.cells) to.cell
-          ∙ (ap (λ (i : ℕ). content_now t.cell i h w.scope w.cells) to.at
-          ∙ (ap (λ (es : List Entry). content_now t.cell t.index h es w.cells) scope
-          ∙ (ap (λ (cs : List Cell). content_now t.cell t.index h s.scope cs) cells
-          ∙ content_same s t h within)))
-
-      held_same : record h { value = now } ≡ read_write (content_at s t)
-      held_same = flagged now h.read_only to.plain
-          ∙ ap (λ (u : Dynamic). read_write u) now_is
-
--- a cell whose content can be read is not lent
-pub readable_free : {H : Type 0} (s : Run H) (v : Dynamic) (c : Option ℕ) → cell_of v ≡ c →
-    is_some (flat s.cells v) ≡ true → FreeCell s c
-readable_free s v None is read = tt
-readable_free s v (Some n) is read = by_cell (slice_get s.cells n) (rw is at read) where
-  by_flag : (h : Held) (b : Bool) →
-      is_some (content (Some (record { held = h; busy = b }))) ≡ true → Some b ≡ Some false
-  by_flag h true read = absurd cc
-  by_flag h false read = refl
-
-  by_cell : (o : Option Cell) → is_some (content o) ≡ true → option_map is_busy o ≡ Some false
-  by_cell None read = absurd cc
-  by_cell (Some d) read = by_flag d.held d.busy read
-
--- what can be written has no flag of its own
-pub left_plain : (a b : Bool) → (a || b) ≡ false → a ≡ false
-left_plain true b plain = absurd cc
-left_plain false b plain = refl
-
-pub right_plain : (a b : Bool) → (a || b) ≡ false → b ≡ false
-right_plain true b plain = absurd cc
-right_plain false b plain = plain
+held_there s to.This can = by_this (this_of s) can where
+  by_this : (o : Option Held) → CanBeWritten o → (h : Held) × (o ≡ Some h)
+  by_this None can = absurd can
+  by_this (Some h) can = (h, refl)

@@ -2,6 +2,7 @@
 use Rattle.std.specs.Prelude.{◌≡◌, ◌⊎◌, ◌<◌, ◌≤◌, ◌+◌, ◌-◌, ℕ, List, Bool, true, false, Option, Some, None, Result, Ok, Err, length, map, option_map}
 use Rattle.std.specs.List.{AllByRecursion}
 use Rattle.grain_value.specs.declared.values.Dynamic.{Dynamic}
+use Rattle.grain_value.specs.declared.values.Held.{Held}
 use Rattle.grain_value.specs.declared.memory.OutOfMemory.{OutOfMemory}
 use Rattle.grain_value.specs.Operands.{top}
 use Rattle.grain_fault.specs.Problems.{Problem, NoMemory, problem_of}
@@ -24,6 +25,7 @@ use Rattle.grain_means.specs.Rules.{leave_by_fault, offered, instr, or_return}
 use Rattle.grain_means.specs.Simulation.{LocalState, Computation, Simulates, SimulatesExactly}
 use Rattle.grain_means.specs.Means.{setup}
 use Rattle.grain_global.specs.StepsView.{StepsView}
+use Rattle.grain_frame.specs.Receivers.{KeepsBound, bound_at}
 use Rattle.grain_frame.specs.declared.activations.Activation.{Activation}
 use Rattle.grain_frame.specs.declared.contexts.Context.{Context}
 use Rattle.grain_frame.specs.declared.runs.Run.{Run}
@@ -32,13 +34,17 @@ use Rattle.grain_frame.specs.declared.runs.Progress.TheVariants as progress
 use Rattle.grain_frame.specs.declared.native_calls.NativeEnd.{NativeEnd}
 use Rattle.grain_frame.specs.declared.native_calls.NativeEnd.TheVariants as native_end
 
+-- the `this` of the running frame, if it has one
+abbrev pub this_of : {H : Type 0} → Run H → Option Held
+this_of s = bound_at s.level s.receivers
+
 -- the world's parts that a run has
 abbrev pub abstraction : {H : Type 0} → Run H → StepsView → H → LocalState H
 abstraction s n host = record {
   scope = s.scope;
   cells = s.cells;
   host = host;
-  this = None;
+  this = this_of s;
   count = s.count;
   level = s.level;
   trace = s.stacks.trace;
@@ -134,8 +140,8 @@ ContinuesAt engine s f s' f' targets takes gives handlers (Ok progress.Failed) =
     × (s'.stacks.handlers ≡ s.stacks.handlers)
 ContinuesAt engine s f s' f' targets takes gives handlers (Err e) = Unit {0}
 
--- the frame is the same but for its address and its floor, the frames around it are as they were,
--- with their scopes, and the level is the same
+-- The frame is the same but for its address and its floor. The frames around it are as they were, with
+-- their scopes and each `this`. The level is the same, and the frame has a `this` if it had one.
 pub record KeepsFrame {H : Type 0} (f : Activation) (s : Run H) (f' : Activation) (s' : Run H) :
     Type 0 where
   pub chunk : f'.chunk ≡ f.chunk
@@ -146,6 +152,7 @@ pub record KeepsFrame {H : Type 0} (f : Activation) (s : Run H) (f' : Activation
   pub outer : s'.stacks.outer ≡ s.stacks.outer
   pub saved : s'.saved ≡ s.saved
   pub level : s'.level ≡ s.level
+  pub this : KeepsBound s.level s.receivers s'.receivers
   pub later : s.count ≤ s'.count
 
 -- an instruction can begin in the frame that takes and gives these numbers of operands: they and the
@@ -200,6 +207,25 @@ Performs m a o next result b =
     Implements m a (λ m place w. instr m o next (frame_in a.frame a.run place) w)
     (leads_of o next) (takes_of m.program o) (gives_of o) a.run.stacks.handlers result b
 
+-- The same of code that may read or write the frame's `this`: the two are one where the place that the
+-- frame has for it holds the code's.
+pub record ImplementsBound {H : Type 0} (m : Setup H) (a : Moment H) (rule : Computation H)
+    (targets : List ℕ) (takes gives : ℕ) (handlers : List Handler)
+    (result : Result Progress OutOfMemory) (b : Moment H) : Type 0 where
+  pub same : Simulates m
+      (abstraction a.run a.counts a.host) rule
+      (is_out result) (abstraction b.run b.counts b.host)
+      (continuation result b.run.fault (frame_in b.frame b.run))
+  pub kept : KeepsFrame a.frame a.run b.frame b.run
+  pub lands : ContinuesAt m.engine a.run a.frame b.run b.frame targets takes gives handlers result
+  pub before : b.counts.before ≡ a.counts.before
+
+abbrev pub PerformsBound : {H : Type 0} → Setup H → Moment H → Op → ℕ →
+    Result Progress OutOfMemory → Moment H → Type 0
+PerformsBound m a o next result b =
+    ImplementsBound m a (λ m place w. instr m o next (frame_in a.frame a.run place) w)
+    (leads_of o next) (takes_of m.program o) (gives_of o) a.run.stacks.handlers result b
+
 -- a frame runs: it stands where the typing of its chunk knows it and its handlers, and has noted no
 -- fault
 pub record Runs {H : Type 0} (program : View) (f : Activation) (s : Run H) : Type 0 where
@@ -235,6 +261,14 @@ abbrev pub charge_continuation : {H : Type 0} → Result Bool OutOfMemory → Ev
 charge_continuation (Ok true) x f go fails m place w = go m place w
 charge_continuation (Ok false) x f go fails m place w = fails m place (problem_of x) w
 charge_continuation (Err e) x f go fails m place w = leave_by_fault m (f place) NoMemory w
+
+-- the same of an operation that a call at a position takes, where `out` follows if memory is out
+abbrev pub taken_continuation : {H : Type 0} → Result Bool OutOfMemory → EvalAltResult →
+    Computation H → Computation H → (Setup H → Option Place → Problem → World H → Act H) →
+    Computation H
+taken_continuation (Ok true) x out go fails m place w = go m place w
+taken_continuation (Ok false) x out go fails m place w = fails m place (problem_of x) w
+taken_continuation (Err e) x out go fails m place w = out m place w
 
 -- an operation is taken if the frame goes on; else a fault lies in the run, and perhaps an
 -- operation is taken

@@ -1,10 +1,12 @@
 -- How the machine's code is joined to the meaning: what the code has of a world, and what a stretch of
 -- it does. `lemmas` has what the crate above cites.
+pub mod Receivers
 pub mod Abstraction
 pub mod Handling
 pub mod Operated
 pub mod Natives
 pub mod Targets
+pub mod This
 pub mod Refusals
 pub mod Pointers
 pub mod lemmas

@@ -8,7 +8,7 @@ use Rattle.grain_value.specs.declared.natives.Native.{Native}
 use Rattle.grain_fault.specs.declared.places.Position.{Position}
 use Rattle.grain_fault.specs.Positions.{at_position_if_none}
 use Rattle.grain_fault.specs.Problems.{Problem, Plain, NonPureCall, problem_of}
-use Rattle.grain_host.specs.Law.{Law, Reply, native_of}
+use Rattle.grain_host.specs.Law.{Law, Reply, native_of, written}
 use Rattle.grain_host.specs.Law as reply
 use Rattle.grain_host.specs.Signatures.{not_found}
 use Rattle.grain_means.specs.Worlds.{Frame, Place, Setup}
@@ -19,7 +19,9 @@ use Rattle.grain_frame.specs.declared.native_calls.Sought.{Sought}
 use Rattle.grain_frame.specs.declared.native_calls.Sought.TheVariants as sought
 use Rattle.grain_frame.specs.declared.native_calls.NativeEnd.{NativeEnd}
 use Rattle.grain_frame.specs.declared.native_calls.NativeEnd.TheVariants as native_end
+use Rattle.grain_frame.specs.Targets.{put_in}
 use Rattle.grain_frame.specs.declared.runs.Run.{Run}
+use Rattle.grain_frame.specs.declared.targets.Target.{Target}
 
 -- what a host is given of these arguments
 pub record Describes (a : Arguments) (args : List Held) : Type 0 where
@@ -69,18 +71,30 @@ served_run law s host key r values =
       cells = cells_given_back law host key values r s.cells;
     }
 
--- the host was called with a key, what is lent and values: two marks are passed; where memory is
--- out, nothing changed
+-- the host was called with a key, what is lent and values: two marks are passed, and the run is then
+-- `t`; where memory is out, nothing changed
+abbrev pub ServesTo : {H : Type 0} → Law H → Run H → StepsView → H → ℕ → Option Held → List Tree →
+    Position → Run H → Result NativeEnd OutOfMemory → Run H → StepsView → H → Type 0
+ServesTo law s n host key lent values p t (Ok (native_end.Value v)) s' n' host' =
+    (reply.Done v ≡ law.call_reply host key lent values)
+    × (host' ≡ law.call_after host key lent values) × (s' ≡ t)
+    × (n' ≡ record n { passed = n.passed + 1 + 1 })
+ServesTo law s n host key lent values p t (Ok (native_end.Fault x)) s' n' host' = (y : Problem)
+    × (reply.Failed y ≡ law.call_reply host key lent values)
+    × (host' ≡ law.call_after host key lent values)
+    × (problem_of x ≡ at_position_if_none p y) × (s' ≡ t)
+    × (n' ≡ record n { passed = n.passed + 1 + 1 })
+ServesTo law s n host key lent values p t (Err e) s' n' host' =
+    (host' ≡ host) × (s' ≡ s) × (n' ≡ n)
+
+-- what is lent goes back where it stood
 abbrev pub Serves : {H : Type 0} → Law H → Run H → StepsView → H → ℕ → Option Receiver → List Tree →
     Position → Result NativeEnd OutOfMemory → Run H → StepsView → H → Type 0
-Serves law s n host key r values p (Ok (native_end.Value v)) s' n' host' =
-    (reply.Done v ≡ law.call_reply host key (lent_held r) values)
-    × (host' ≡ law.call_after host key (lent_held r) values)
-    × (s' ≡ served_run law s host key r values)
-    × (n' ≡ record n { passed = n.passed + 1 + 1 })
-Serves law s n host key r values p (Ok (native_end.Fault x)) s' n' host' = (y : Problem)
-    × (reply.Failed y ≡ law.call_reply host key (lent_held r) values)
-    × (host' ≡ law.call_after host key (lent_held r) values)
-    × (problem_of x ≡ at_position_if_none p y) × (s' ≡ served_run law s host key r values)
-    × (n' ≡ record n { passed = n.passed + 1 + 1 })
-Serves law s n host key r values p (Err e) s' n' host' = (host' ≡ host) × (s' ≡ s) × (n' ≡ n)
+Serves law s n host key r values p =
+    ServesTo law s n host key (lent_held r) values p (served_run law s host key r values)
+
+-- what a target holds was lent
+abbrev pub ServesAt : {H : Type 0} → Law H → Run H → StepsView → H → ℕ → Target → Held → List Tree →
+    Position → Result NativeEnd OutOfMemory → Run H → StepsView → H → Type 0
+ServesAt law s n host key t h values p =
+    ServesTo law s n host key (Some h) values p (put_in s t (written law host key values h))

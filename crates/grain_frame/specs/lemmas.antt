@@ -1,6 +1,8 @@
--- What the crate above cites: from what a method did to a turn of the frame (Arms), faults that are
--- raised (Failing), operations that are asked for (Charging), and entries that are written (Entries).
+-- What the crate above cites: from what a method did to a turn of the frame (Arms), what reads or writes a
+-- frame's `this` (Bound), faults that are raised (Failing), operations that are asked for (Charging), and
+-- entries that are written (Entries).
 pub mod Arms
+pub mod Bound
 pub mod Failing
 pub mod Charging
 pub mod Entries

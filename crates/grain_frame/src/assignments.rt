@@ -1,15 +1,16 @@
-//! Assignments to an entry of the scope, or to the cell that it is.
+//! Assignments to an entry of the scope or to `this`, or to the cell that one of them is.
 
-ghost use Rattle.std.specs.Prelude.{◌≡◌, ◌<◌, ◌≤◌, ◌∷◌, [], ℕ, length, Some, None, IfOk, IfSome, is_some, true, slice_get};
+ghost use Rattle.std.specs.Prelude.{◌≡◌, ◌<◌, ◌≤◌, ◌∷◌, [], ℕ, length, Some, None, IfOk, IfSome, is_some, true, false, slice_get};
 ghost use Rattle.grain_value.specs.declared.values.Held.{Held};
 ghost use Rattle.grain_value.specs.Cells.{flat, idle};
 ghost use Rattle.grain_value.specs.Operands.{top};
 ghost use Rattle.grain_program.specs.Indices.{InPools};
-ghost use Rattle.grain_means.specs.Rules.{held_at, if_fast, op_assigned, store_outcome};
+ghost use Rattle.grain_means.specs.Rules.{held_at, if_fast, op_assigned, outcome_at};
 ghost use Rattle.grain_ops.specs.Outcomes.{Gave};
 ghost use Rattle.grain_ops.specs.Operators.{assignment};
-ghost use Rattle.grain_frame.specs.Abstraction.{frame_in, Implements, Performs, Ready, setup_of, moment};
-ghost use Rattle.grain_frame.specs.Targets.{FreeCell, CanBeLent, HoldsAt, AssignedTarget, AssignsHere, CanAssign, content_at, kept_operand, kept_value};
+ghost use Rattle.grain_frame.specs.Abstraction.{frame_in, ImplementsBound, PerformsBound, Ready, setup_of, moment, this_of};
+ghost use Rattle.grain_frame.specs.Targets.{FreeCell, CanBeLent, CanBeWritten, HoldsAt, HoldsWritable, AssignedTarget, CanAssign, assigned_name, content_at, home_of, kept_operand, kept_value};
+ghost use Rattle.grain_frame.specs.declared.targets.Target.TheVariants as to;
 ghost use Rattle.grain_program.specs.declared.code.instruction_set.Op.TheVariants as op;
 ghost use Rattle.grain_value.specs.declared.values.Dynamic.TheVariants as dynamic;
 
@@ -26,13 +27,13 @@ use grain_stack::Stacks;
 use grain_value::{Dynamic, Held, OutOfMemory, Token};
 use std::sync::ledger::Ledger;
 
-/// An op-assignment of the last operand: where it writes, the index of the variable's name, the
-/// operators, the copy of the content of the operand's cell that was kept, if it is one, and the
-/// address at which the frame goes on.
+/// An op-assignment of the last operand: where it writes, the index of the variable's name, if it is a
+/// variable, the operators, the copy of the content of the operand's cell that was kept, if it is one, and
+/// the address at which the frame goes on.
 #[derive(Drop)]
 pub struct Assignment {
     pub target: Target,
-    pub variable: u16,
+    pub variable: Option<u16>,
     pub operator: AssignOp,
     pub kept: Option<Dynamic>,
     pub next: usize,
@@ -65,7 +66,8 @@ impl<H: Host> Run<H> {
         requires ready { Ready frame.old self.old (op.AssignLocal slot name) next }
         requires pools { InPools context.program.now (op.AssignLocal slot name) }
         ensures performs { (host : H) →
-            Performs (setup_of H.law context.entry) (moment frame.old self.old steps.old host)
+            PerformsBound (setup_of H.law context.entry)
+            (moment frame.old self.old steps.old host)
             (op.AssignLocal slot name) next result (moment frame.new self.new steps.new host) }
     {
         let target = match self.target_at(frame, slot) {
@@ -95,7 +97,7 @@ impl<H: Host> Run<H> {
     ) -> Result<Progress, OutOfMemory>
         requires ready { Ready frame.old self.old (op.AssignLocalOp slot name assign_op) next }
         requires pools { InPools context.program.now (op.AssignLocalOp slot name assign_op) }
-        ensures performs { Performs (setup_of H.law context.entry)
+        ensures performs { PerformsBound (setup_of H.law context.entry)
             (moment frame.old self.old steps.old host.old) (op.AssignLocalOp slot name assign_op)
             next result (moment frame.new self.new steps.new host.new) }
     {
@@ -106,7 +108,7 @@ impl<H: Host> Run<H> {
         let kept = self.kept_operand()?;
         let assignment = Assignment {
             target,
-            variable: name,
+            variable: Some(name),
             operator: *context.program.assign_op(u32::from(assign_op)),
             kept,
             next,
@@ -117,7 +119,7 @@ impl<H: Host> Run<H> {
     // A copy of what the last operand's cell holds, if it is a cell. So the operand is read once,
     // whatever is written into the cell then.
     #[inline(always)]
-    fn kept_operand(&self) -> Result<Option<Dynamic>, OutOfMemory>
+    pub(crate) fn kept_operand(&self) -> Result<Option<Dynamic>, OutOfMemory>
         requires operand { 0 < length self.now.stacks.operands }
         requires readable { is_some (flat self.now.cells (top self.now.stacks.operands).value)
             ≡ true }
@@ -132,7 +134,7 @@ impl<H: Host> Run<H> {
 
     // An op-assignment to a target that can be written.
     #[inline(always)]
-    fn op_assign_target<L: Ledger>(
+    pub(crate) fn op_assign_target<L: Ledger>(
         &mut self,
         context: Context<'_>,
         host: &mut H,
@@ -141,14 +143,17 @@ impl<H: Host> Run<H> {
         assignment: &Assignment,
     ) -> Result<Progress, OutOfMemory>
         requires can { CanAssign context.program.now frame.old self.old assignment.now }
-        ensures implements { (h : Held) (slot : ℕ) → AssignsHere self.old frame.old
-            assignment.now.target slot h →
-            Implements (setup_of H.law context.entry) (moment frame.old self.old steps.old host.old)
-            (λ m place w. store_outcome m (op_assigned m.engine assignment.now.operator
+        requires writable { HoldsWritable self.old assignment.now.target }
+        ensures implements { (h : Held) → h.read_only ≡ false →
+            ImplementsBound (setup_of H.law context.entry)
+            (moment frame.old self.old steps.old host.old)
+            (λ m place w. outcome_at m (home_of assignment.now.target place)
+            (assigned_name m.program assignment.now.variable)
+            (op_assigned m.engine assignment.now.operator
             (content_at self.old assignment.now.target)
             (kept_operand assignment.now.kept self.old.stacks.operands).value)
             assignment.now.operator h (content_at self.old assignment.now.target)
-            (kept_operand assignment.now.kept self.old.stacks.operands) slot assignment.now.variable
+            (kept_operand assignment.now.kept self.old.stacks.operands)
             assignment.now.next (frame_in frame.old self.old place) w)
             (assignment.now.next ∷ []) 1 0 self.old.stacks.handlers result
             (moment frame.new self.new steps.new host.new) }
@@ -188,10 +193,38 @@ impl<H: Host> Run<H> {
             (assignment context.entry.engine.now.limits token h.value
             (kept_operand kept.now self.old.stacks.operands).value)) self.old self.new target h }
     {
-        match target.cell {
-            None => self.assign_variable(context, token, target.index, kept),
-            Some(cell) => self.assign_content(context, token, cell, kept),
+        match target {
+            Target::Entry(index) => self.assign_variable(context, token, index, kept),
+            Target::Cell(cell) => self.assign_content(context, token, cell, kept),
+            Target::This => self.assign_to_this(context, token, kept),
         }
+    }
+
+    // The same for `this`.
+    #[cold]
+    #[inline(never)]
+    fn assign_to_this(
+        &mut self,
+        context: Context<'_>,
+        token: Token,
+        kept: &Option<Dynamic>,
+    ) -> AssignAnswer
+        requires there { CanBeWritten (this_of self.old) }
+        requires operand { 0 < length self.old.stacks.operands }
+        ensures assigned { (h : Held) → this_of self.old ≡ Some h →
+            AssignedTarget result (if_fast context.entry.engine.now.fast_operators
+            (assignment context.entry.engine.now.limits token h.value
+            (kept_operand kept.now self.old.stacks.operands).value)) self.old self.new to.This h }
+    {
+        if !context.engine.fast_operators {
+            return AssignAnswer::NotBuiltIn;
+        }
+        let mut held = self.receivers.replace(Held::read_write(Dynamic::Unit));
+        let value = operand(&self.stacks, kept);
+        let limits = &context.engine.limits;
+        let assigned = assign(self.alloc, token, &mut held.value, value, limits);
+        let _unit = self.receivers.replace(held);
+        assigned
     }
 
     // The same for an entry.
@@ -209,7 +242,7 @@ impl<H: Host> Run<H> {
             AssignedTarget result (if_fast context.entry.engine.now.fast_operators
             (assignment context.entry.engine.now.limits token h.value
             (kept_operand kept.now self.old.stacks.operands).value)) self.old self.new
-            (record { index = index; cell = None }) h }
+            (to.Entry index) h }
     {
         let value = operand(&self.stacks, kept);
         assign_entry(
@@ -232,14 +265,13 @@ impl<H: Host> Run<H> {
         cell: usize,
         kept: &Option<Dynamic>,
     ) -> AssignAnswer
-        requires free { FreeCell self.old (Some cell) }
+        requires free { FreeCell self.old cell }
         requires operand { 0 < length self.old.stacks.operands }
-        ensures assigned { (i : ℕ) (h : Held) →
-            slice_get self.old.cells cell ≡ Some (idle h) →
+        ensures assigned { (h : Held) → slice_get self.old.cells cell ≡ Some (idle h) →
             AssignedTarget result (if_fast context.entry.engine.now.fast_operators
             (assignment context.entry.engine.now.limits token h.value
             (kept_operand kept.now self.old.stacks.operands).value)) self.old self.new
-            (record { index = i; cell = Some cell }) h }
+            (to.Cell cell) h }
     {
         let Some(number) = self.integer_for(context, token, cell, kept) else {
             return self.assign_lent(context, token, cell, kept);
@@ -282,14 +314,13 @@ impl<H: Host> Run<H> {
         cell: usize,
         kept: &Option<Dynamic>,
     ) -> AssignAnswer
-        requires free { FreeCell self.old (Some cell) }
+        requires free { FreeCell self.old cell }
         requires operand { 0 < length self.old.stacks.operands }
-        ensures assigned { (i : ℕ) (h : Held) →
-            slice_get self.old.cells cell ≡ Some (idle h) →
+        ensures assigned { (h : Held) → slice_get self.old.cells cell ≡ Some (idle h) →
             AssignedTarget result (if_fast context.entry.engine.now.fast_operators
             (assignment context.entry.engine.now.limits token h.value
             (kept_operand kept.now self.old.stacks.operands).value)) self.old self.new
-            (record { index = i; cell = Some cell }) h }
+            (to.Cell cell) h }
     {
         if !context.engine.fast_operators {
             return AssignAnswer::NotBuiltIn;

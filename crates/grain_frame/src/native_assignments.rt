@@ -10,11 +10,12 @@ ghost use Rattle.grain_value.specs.Writing.{kind_of};
 ghost use Rattle.grain_fault.specs.Problems.{Problem, problem_of};
 ghost use Rattle.grain_program.specs.View.{name_of};
 ghost use Rattle.grain_means.specs.Worlds.{Setup, Frame, Place, World, Act};
-ghost use Rattle.grain_means.specs.Rules.{flattened, native, native_assigned, op_assign_failed, operator_assigned, write_entry};
-ghost use Rattle.grain_means.specs.Simulation.{SimulatesExactly};
-ghost use Rattle.grain_frame.specs.Abstraction.{abstraction, frame_in, is_out, native_continuation, Implements, setup_of, moment};
-ghost use Rattle.grain_frame.specs.Natives.{IsAt, Seeks, Serves};
-ghost use Rattle.grain_frame.specs.Targets.{Assigns, AssignsHere, CanAssign, CanBeLent, HoldsAt, content_at, kept_operand, receiver_at};
+ghost use Rattle.grain_means.specs.Rules.{assigned_at, flattened, native, native_assigned_at, op_assign_failed_at, operator_at};
+ghost use Rattle.grain_means.specs.Simulation.{Simulates};
+ghost use Rattle.grain_frame.specs.Abstraction.{abstraction, frame_in, is_out, native_continuation, ImplementsBound, setup_of, moment};
+ghost use Rattle.grain_frame.specs.Natives.{IsAt, Seeks, ServesAt};
+ghost use Rattle.grain_frame.specs.Receivers.{KeepsBound};
+ghost use Rattle.grain_frame.specs.Targets.{CanAssign, CanBeLent, HoldsAt, HoldsWritable, assigned_name, content_at, home_of, kept_operand, receiver_at};
 ghost use Rattle.grain_frame.specs.declared.targets.Target.{Target};
 
 use crate::activations::Activation;
@@ -60,9 +61,9 @@ fn seek_lent<H: Host>(
     operand: &Dynamic,
     position: Position,
 ) -> Result<Sought, OutOfMemory>
-    ensures { (target : Target) (h v : Held) → h.value ≡ lent.now → h.read_only ≡ false →
-        v.value ≡ operand.now → IfOk result (λ s. Seeks H.law host.now name.now
-        (Some (receiver_at target h)) (v ∷ []) position s) }
+    ensures { (target : Target) (place : Option Place) (h v : Held) → h.value ≡ lent.now →
+        h.read_only ≡ false → v.value ≡ operand.now → IfOk result (λ s. Seeks H.law host.now name.now
+        (Some (receiver_at target place h)) (v ∷ []) position s) }
 {
     let kinds = kinds_of(alloc, lent, operand)?;
     let Some(native) = host.resolve(name.as_str(), &kinds) else {
@@ -88,13 +89,15 @@ impl<H: Host> Run<H> {
     ) -> Result<NativeEnd, OutOfMemory>
         requires target { CanBeLent self.old target }
         ensures same { (h : Held) → HoldsAt self.old target h →
-            Serves H.law self.old steps.old host.old key (Some (receiver_at target h))
+            ServesAt H.law self.old steps.old host.old key target h
             values position result self.new steps.new host.new }
         ensures run { self.new ≡ record self.old {
           scope = self.new.scope;
           cells = self.new.cells;
+          receivers = self.new.receivers;
         } }
         ensures long { length self.new.scope ≡ length self.old.scope }
+        ensures this { KeepsBound self.old.level self.old.receivers self.new.receivers }
         ensures again { CanBeLent self.new target }
         ensures before { steps.new.before ≡ steps.old.before }
     {
@@ -128,18 +131,21 @@ impl<H: Host> Run<H> {
             (go : Setup H → Option Place → Dynamic → World H → Act H)
             (fails : Setup H → Option Place → Problem → World H → Act H) → m.law ≡ H.law →
             IsAt m f position →
-            HoldsAt self.old target h →
-            Seeks H.law host.old name (Some (receiver_at target h)) args position
-            sought → SimulatesExactly m (abstraction self.old steps.old host.old)
-            (λ m place w. native m name (Some (receiver_at target h)) args (f place) w
+            HoldsAt self.old target h → h.read_only ≡ false →
+            ((place : Option Place) →
+            Seeks H.law host.old name (Some (receiver_at target place h)) args position sought) →
+            Simulates m (abstraction self.old steps.old host.old)
+            (λ m place w. native m name (Some (receiver_at target place h)) args (f place) w
             (go m place) (fails m place))
             (is_out result) (abstraction self.new steps.new host.new)
             (native_continuation result f go fails) }
         ensures run { self.new ≡ record self.old {
           scope = self.new.scope;
           cells = self.new.cells;
+          receivers = self.new.receivers;
         } }
         ensures long { length self.new.scope ≡ length self.old.scope }
+        ensures this { KeepsBound self.old.level self.old.receivers self.new.receivers }
         ensures again { CanBeLent self.new target }
         ensures before { steps.new.before ≡ steps.old.before }
     {
@@ -162,12 +168,14 @@ impl<H: Host> Run<H> {
         assignment: &Assignment,
     ) -> Result<Progress, OutOfMemory>
         requires can { CanAssign context.program.now frame.old self.old assignment.now }
-        ensures implements { (h : Held) (slot : ℕ) → AssignsHere self.old frame.old
-            assignment.now.target slot h →
-            Implements (setup_of H.law context.entry) (moment frame.old self.old steps.old host.old)
-            (λ m place w. native_assigned m assignment.now.operator h
+        requires writable { HoldsWritable self.old assignment.now.target }
+        ensures implements { (h : Held) → h.read_only ≡ false →
+            ImplementsBound (setup_of H.law context.entry)
+            (moment frame.old self.old steps.old host.old)
+            (λ m place w. native_assigned_at m (home_of assignment.now.target place)
+            (assigned_name m.program assignment.now.variable) assignment.now.operator h
             (content_at self.old assignment.now.target)
-            (kept_operand assignment.now.kept self.old.stacks.operands) slot assignment.now.variable
+            (kept_operand assignment.now.kept self.old.stacks.operands)
             assignment.now.next (frame_in frame.old self.old place) w)
             (assignment.now.next ∷ []) 1 0 self.old.stacks.handlers result
             (moment frame.new self.new steps.new host.new) }
@@ -203,11 +211,12 @@ impl<H: Host> Run<H> {
         fault: EvalAltResult,
     ) -> Result<Progress, OutOfMemory>
         requires can { CanAssign context.program.now frame.old self.old assignment.now }
-        ensures implements { (h : Held) (slot : ℕ) →
-            Assigns frame.old assignment.now.target slot h →
-            Implements (setup_of H.law context.entry) (moment frame.old self.old steps.old host.old)
-            (λ m place w. op_assign_failed m assignment.now.operator h
-            (kept_operand assignment.now.kept self.old.stacks.operands) slot assignment.now.variable
+        ensures implements { (h : Held) → h.read_only ≡ false →
+            ImplementsBound (setup_of H.law context.entry)
+            (moment frame.old self.old steps.old host.old)
+            (λ m place w. op_assign_failed_at m (home_of assignment.now.target place)
+            (assigned_name m.program assignment.now.variable) assignment.now.operator h
+            (kept_operand assignment.now.kept self.old.stacks.operands)
             assignment.now.next (frame_in frame.old self.old place) (problem_of fault) w)
             (assignment.now.next ∷ []) 1 0 self.old.stacks.handlers result
             (moment frame.new self.new steps.new host.new) }
@@ -231,12 +240,14 @@ impl<H: Host> Run<H> {
         assignment: &Assignment,
     ) -> Result<Progress, OutOfMemory>
         requires can { CanAssign context.program.now frame.old self.old assignment.now }
-        ensures implements { (h : Held) (slot : ℕ) →
-            Assigns frame.old assignment.now.target slot h →
-            Implements (setup_of H.law context.entry) (moment frame.old self.old steps.old host.old)
-            (λ m place w. operator_assigned m (name_of m.program assignment.now.operator.op_name) h
+        ensures implements { (h : Held) → h.read_only ≡ false →
+            ImplementsBound (setup_of H.law context.entry)
+            (moment frame.old self.old steps.old host.old)
+            (λ m place w. operator_at m (home_of assignment.now.target place)
+            (assigned_name m.program assignment.now.variable)
+            (name_of m.program assignment.now.operator.op_name) h
             (read_write (content_at self.old assignment.now.target))
-            (kept_operand assignment.now.kept self.old.stacks.operands) slot assignment.now.variable
+            (kept_operand assignment.now.kept self.old.stacks.operands)
             assignment.now.next (frame_in frame.old self.old place) w)
             (assignment.now.next ∷ []) 1 0 self.old.stacks.handlers result
             (moment frame.new self.new steps.new host.new) }
@@ -264,17 +275,18 @@ impl<H: Host> Run<H> {
         value: Dynamic,
     ) -> Result<Progress, OutOfMemory>
         requires can { CanAssign context.program.now frame.old self.old assignment.now }
-        ensures implements { (host : H) (h : Held) (slot : ℕ) → Assigns frame.old
-            assignment.now.target slot h →
-            Implements (setup_of H.law context.entry) (moment frame.old self.old steps.old host)
-            (λ m place w. flattened m (read_write value) (name_of m.program assignment.now.variable)
-            (frame_in frame.old self.old place) w (λ v. write_entry m h slot (read_write v)
-            (name_of m.program assignment.now.variable) assignment.now.next
+        ensures implements { (host : H) → ImplementsBound (setup_of H.law context.entry)
+            (moment frame.old self.old steps.old host)
+            (λ m place w. flattened m (read_write value)
+            (assigned_name m.program assignment.now.variable)
+            (frame_in frame.old self.old place) w
+            (λ v. assigned_at m (home_of assignment.now.target place) (read_write v)
+            (assigned_name m.program assignment.now.variable) assignment.now.next
             (frame_in frame.old self.old place) w)) (assignment.now.next ∷ []) 1 0
             self.old.stacks.handlers result (moment frame.new self.new steps.new host) }
     {
         let Some(value) = self.read_of(value)? else {
-            return self.data_race_of(context, steps, frame.address, assignment.variable);
+            return self.data_race_in(context, steps, frame.address, assignment.variable);
         };
         let _operand = self.stacks.pop();
         self.write(assignment.target, Held::read_write(value));

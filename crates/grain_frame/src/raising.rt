@@ -1,7 +1,7 @@
 //! The faults that instructions raise. They are made and raised apart from the instruction, so that
 //! an instruction that raises none pays nothing for it.
 
-ghost use Rattle.std.specs.Prelude.{◌≡◌, ◌<◌, ◌++◌, length, Ok, IfOk};
+ghost use Rattle.std.specs.Prelude.{◌≡◌, ◌<◌, ◌++◌, length, Ok, IfOk, IfSome};
 ghost use Rattle.grain_program.specs.View.{position_of, name_of};
 ghost use Rattle.grain_means.specs.Rules.{race_text, name_at};
 ghost use Rattle.grain_fault.specs.Positions.{at_position};
@@ -10,6 +10,7 @@ ghost use Rattle.grain_ops.specs.Outcomes.{Outcome};
 ghost use Rattle.grain_ops.specs.Answers.{FailsSo};
 ghost use Rattle.grain_frame.specs.Abstraction.{Raises};
 ghost use Rattle.grain_frame.specs.Operated.{RaisesOutcome};
+ghost use Rattle.grain_frame.specs.Targets.{assigned_name};
 ghost use Rattle.grain_fault.specs.declared.faults.MalformedKind.TheVariants as kind;
 
 use crate::contexts::Context;
@@ -119,6 +120,28 @@ impl<H: Host> Run<H> {
     {
         let name = context.program.name(u32::from(name));
         self.data_race(context, steps, address, name.as_str())
+    }
+
+    // A cell that is lent, in what was to be assigned to: the variable whose name stands at the index, or
+    // `this`.
+    #[cold]
+    #[inline(never)]
+    pub(crate) fn data_race_in<L: Ledger>(
+        &mut self,
+        context: Context<'_>,
+        steps: &mut Steps<L>,
+        address: usize,
+        variable: Option<u16>,
+    ) -> Result<Progress, OutOfMemory>
+        requires { IfSome variable (λ n. n < length context.program.now.names) }
+        ensures { Raises self.old steps.old
+            (Plain (DataRace (race_text (assigned_name context.entry.program.now variable)))
+            (position_of context.entry.program.now address)) result self.new steps.new }
+    {
+        match variable {
+            Some(name) => self.data_race_of(context, steps, address, name),
+            None => self.data_race(context, steps, address, ""),
+        }
     }
 
     // An entry of the scope that is a cell, which is lent.

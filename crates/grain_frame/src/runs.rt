@@ -3,6 +3,7 @@
 ghost use Rattle.std.specs.Prelude.{◌≡◌, ◌<◌, ◌+◌, nat_lt, true, if◌then◌else◌};
 ghost use Rattle.grain_fault.specs.declared.faults.EvalAltResult.TheVariants as fault;
 
+use crate::receivers::Receivers;
 use crate::saved::SavedScopes;
 use grain_fault::EvalAltResult;
 use grain_global::{Engine, Steps};
@@ -16,8 +17,8 @@ use std::sync::ledger::Ledger;
 
 /// What a run has, but for its frame: where it takes memory from, the stacks, the scope of the
 /// running frame and those of the frames that wait for it, the cells, the operations and the level,
-/// and the fault that was raised in a frame, until it is taken up. The host, of type `H`, is lent to
-/// those functions alone that reach it.
+/// the fault that was raised in a frame, until it is taken up, and the `this` of each frame that has one.
+/// The host, of type `H`, is lent to those functions alone that reach it.
 #[derive(Drop)]
 pub struct Run<H> {
     pub alloc: Global,
@@ -28,6 +29,7 @@ pub struct Run<H> {
     pub count: u64,
     pub level: usize,
     pub fault: EvalAltResult,
+    pub receivers: Receivers,
     pub host: PhantomData<H>,
 }
 

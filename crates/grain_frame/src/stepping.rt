@@ -55,6 +55,11 @@ impl<H: Host> Run<H> {
             Op::AssignLocalOp(slot, name, op) => {
                 self.assign_local_op(context, host, steps, frame, slot, name, op, next)
             }
+            Op::LoadThis => self.load_this(context, steps, frame, next),
+            Op::LoadThisShared => self.load_this_shared(context, steps, frame, next),
+            Op::RequireThis => Ok(self.require_this(context, steps, frame, next)),
+            Op::AssignThis => self.assign_this(context, steps, frame, next),
+            Op::AssignThisOp(op) => self.assign_this_op(context, host, steps, frame, op, next),
             Op::LoadShared(slot) => self.load_shared(context, steps, frame, slot, next),
             Op::Share(slot) => self.share(context, steps, frame, slot, next),
             Op::IsShared => Ok(self.is_shared(steps, frame, next)),

@@ -1,11 +1,14 @@
-//! Where an assignment writes: an entry of the scope, or the cell that it is; or why it does not.
+//! Where an assignment writes: an entry of the scope, `this`, or the cell that one of them is; or why it
+//! does not.
 
-ghost use Rattle.std.specs.Prelude.{◌≡◌, ◌<◌, ◌≤◌, ◌+◌, length};
+ghost use Rattle.std.specs.Prelude.{◌≡◌, ◌<◌, ◌≤◌, ◌+◌, length, is_some, true};
 ghost use Rattle.grain_value.specs.declared.values.Held.{Held};
+ghost use Rattle.grain_program.specs.View.{name_of};
 ghost use Rattle.grain_means.specs.Rules.{flag_of_cell};
-ghost use Rattle.grain_frame.specs.Abstraction.{Raises};
-ghost use Rattle.grain_frame.specs.Targets.{CanBeLent, IsLentAt, HoldsAt, content_at, taken_out, put_in};
+ghost use Rattle.grain_frame.specs.Abstraction.{Raises, this_of};
+ghost use Rattle.grain_frame.specs.Targets.{CanBeLent, IsLentAt, HoldsAt, content_at, taken_out, target_in, put_in};
 ghost use Rattle.grain_frame.specs.Refusals.{FindsAt, refusal_fault};
+ghost use Rattle.grain_frame.specs.declared.targets.Target.TheVariants as to;
 
 use crate::activations::Activation;
 use crate::contexts::Context;
@@ -16,27 +19,61 @@ use grain_value::{Dynamic, Held, OutOfMemory};
 use std::mem;
 use std::sync::ledger::Ledger;
 
-/// An entry of the scope at an index, or the cell that it is.
+/// Where an assignment writes.
 #[derive(Clone, Copy, Debug, PartialEq, Eq)]
-pub struct Target {
-    /// The index of the entry.
-    pub index: usize,
-    /// The cell, if the entry is one.
-    pub cell: Option<usize>,
+pub enum Target {
+    /// The entry of the scope at this index, which is no cell.
+    Entry(usize),
+    /// The cell of this number.
+    Cell(usize),
+    /// The `this` of the running frame, which is no cell.
+    This,
 }
 
-/// Why nothing is assigned to the entry of a slot.
+/// Why nothing is assigned.
 #[derive(Clone, Copy, Debug, PartialEq, Eq)]
 pub enum Refusal {
     /// There is no entry at this index.
     NoEntry(usize),
     /// The operand, or the entry, is a cell that is lent.
     Lent,
-    /// The entry can only be read.
+    /// It can only be read.
     Constant,
+    /// The frame has no `this`.
+    Unbound,
+}
+
+impl Target {
+    // The entry at an index, or the cell that it is.
+    #[inline(always)]
+    fn of_entry(index: usize, cell: Option<usize>) -> Target
+        ensures { result ≡ target_in (to.Entry index) cell }
+    {
+        match cell {
+            Some(cell) => Target::Cell(cell),
+            None => Target::Entry(index),
+        }
+    }
 }
 
 impl<H: Host> Run<H> {
+    // The frame's `this` is this value.
+    fn set_this(&mut self, held: Held)
+        requires { is_some (this_of self.old) ≡ true }
+        ensures { self.new ≡ put_in self.old to.This held }
+    {
+        let _old = self.receivers.replace(held);
+    }
+
+    // Takes the frame's `this`, and leaves unit in its place.
+    fn take_this(&mut self) -> Held
+        requires { is_some (this_of self.old) ≡ true }
+        ensures held { HoldsAt self.old to.This result }
+        ensures run { self.new ≡ taken_out self.old to.This result }
+    {
+        self.receivers.replace(Held::read_write(Dynamic::Unit))
+    }
+
     // Where an assignment of the last operand to the entry of a slot writes, or why it does not.
     #[inline(always)]
     pub(crate) fn target_at(&self, frame: &Activation, slot: u16) -> Result<Target, Refusal>
@@ -60,7 +97,7 @@ impl<H: Host> Run<H> {
         if !free {
             return Err(Refusal::Lent);
         }
-        Ok(Target { index, cell })
+        Ok(Target::of_entry(index, cell))
     }
 
     // Raises the fault that nothing is assigned to the variable of this name.
@@ -76,13 +113,15 @@ impl<H: Host> Run<H> {
     ) -> Result<Progress, OutOfMemory>
         requires { name < length context.program.now.names }
         ensures { Raises self.old steps.old
-            (refusal_fault context.entry.program.now (length self.old.scope) address name refusal)
+            (refusal_fault context.entry.program.now (length self.old.scope) address
+            (name_of context.entry.program.now name) refusal)
             result self.new steps.new }
     {
         match refusal {
             Refusal::NoEntry(index) => Ok(self.slot_past_scope(context, steps, address, index)),
             Refusal::Lent => self.data_race_of(context, steps, address, name),
             Refusal::Constant => self.assignment_to_constant(context, steps, address, name),
+            Refusal::Unbound => Ok(self.unbound_this(context, steps, address)),
         }
     }
 
@@ -103,13 +142,17 @@ impl<H: Host> Run<H> {
         requires { CanBeLent self.now target }
         ensures { result.now ≡ content_at self.now target }
     {
-        match target.cell {
-            None => match self.scope.get(target.index) {
+        match target {
+            Target::Entry(index) => match self.scope.get(index) {
                 Some(held) => &held.value,
                 None => unreachable!(),
             },
-            Some(cell) => match self.cells.find(cell) {
+            Target::Cell(cell) => match self.cells.find(cell) {
                 Some(value) => value,
+                None => unreachable!(),
+            },
+            Target::This => match self.receivers.at(self.level) {
+                Some(held) => &held.value,
                 None => unreachable!(),
             },
         }
@@ -122,15 +165,16 @@ impl<H: Host> Run<H> {
         ensures held { HoldsAt self.old target result }
         ensures run { self.new ≡ taken_out self.old target result }
     {
-        match target.cell {
-            None => match self.scope.get_mut(target.index) {
+        match target {
+            Target::Entry(index) => match self.scope.get_mut(index) {
                 Some(place) => mem::replace(place, Held::read_write(Dynamic::Unit)),
                 None => unreachable!(),
             },
-            Some(cell) => match self.cells.lend(cell) {
+            Target::Cell(cell) => match self.cells.lend(cell) {
                 Ok(held) => held,
                 Err(_) => unreachable!(),
             },
+            Target::This => self.take_this(),
         }
     }
 
@@ -139,9 +183,10 @@ impl<H: Host> Run<H> {
         requires { IsLentAt self.old target }
         ensures { self.new ≡ put_in self.old target held }
     {
-        match target.cell {
-            None => self.scope.set(target.index, held),
-            Some(cell) => self.cells.give_back(cell, held),
+        match target {
+            Target::Entry(index) => self.scope.set(index, held),
+            Target::Cell(cell) => self.cells.give_back(cell, held),
+            Target::This => self.set_this(held),
         }
     }
 
@@ -151,9 +196,10 @@ impl<H: Host> Run<H> {
         requires { CanBeLent self.old target }
         ensures { self.new ≡ put_in self.old target held }
     {
-        match target.cell {
-            None => self.scope.set(target.index, held),
-            Some(cell) => self.cells.set(cell, held),
+        match target {
+            Target::Entry(index) => self.scope.set(index, held),
+            Target::Cell(cell) => self.cells.set(cell, held),
+            Target::This => self.set_this(held),
         }
     }
 }

@@ -1,7 +1,8 @@
 -- A call, its body, and what follows it.
-use Rattle.std.proofs.Common.{◌≡◌, ◌-◌, ◌∙◌, ℕ, zero, suc, List, [], ◌∷◌, ◌++◌, Option, None, Bool, true, false, Ok, length, refl, sym, subst, ap, arith, length-append}
+use Rattle.std.proofs.Common.{◌≡◌, ◌+◌, ◌-◌, ◌∙◌, ℕ, zero, suc, List, [], ◌∷◌, ◌++◌, Option, None, Bool, true, false, Ok, length, refl, sym, subst, ap, arith, length-append}
 use Rattle.std.specs.Prelude.{slice_index_or}
 use Rattle.grain_value.specs.declared.scopes.Entry.{Entry}
+use Rattle.grain_value.specs.declared.values.Held.{Held}
 use Rattle.grain_value.specs.Operands.{under}
 use Rattle.grain_fault.specs.Problems.{NoMemory, problem_of}
 use Rattle.grain_program.specs.declared.code.functions.Function.{Function}
@@ -10,10 +11,12 @@ use Rattle.grain_stack.specs.Views.{StackFrame, StacksView, innermost, without_f
 use Rattle.grain_means.specs.Worlds.{Go, End, Then, Answer, Failed, Setup, Frame, InFrame, Place}
 use Rattle.grain_means.specs.Rules.{leave_by_fault, offered, without, frame_at, enter_function, resume_caller}
 use Rattle.grain_means.specs.Simulation.{LocalState, Computation, Simulates, SimulatesExactly, StopPersists, stopped, world}
-use Rattle.grain_means.specs.lemmas.Stretches.{same, compose, continued, alone}
+use Rattle.grain_means.specs.lemmas.Stretches.{same, compose, continued}
 use Rattle.grain_global.specs.StepsView.{StepsView}
-use Rattle.grain_frame.specs.Abstraction.{abstraction, frame_in, handlers_in, continuation}
+use Rattle.grain_frame.specs.Abstraction.{abstraction, frame_in, handlers_in, continuation, this_of}
 use Rattle.grain_vm.specs.Calls.{caller_of, call_continuation, CallEntered, CallRefused, EnterResult}
+use Rattle.grain_vm.specs.Driving.{beside}
+use Rattle.grain_vm.proofs.MethodCalls.{elsewhere}
 use Rattle.grain_vm.proofs.Offering.{memory_leaves}
 use Rattle.grain_frame.specs.declared.activations.Activation.{Activation}
 use Rattle.grain_frame.specs.declared.runs.Run.{Run}
@@ -23,27 +26,29 @@ module _ {H : Type 0} {m : Setup H} (f : Option Place → Frame) (next : ℕ) (g
   -- the body was run, and the caller goes on
   pub call_ran : {old mid after there new : LocalState H} {inner outer : Option Place → Frame}
       (scope : List Entry) (level : ℕ) {b : Answer} {one two : Bool} {last : Computation H} →
-      SimulatesExactly m old
-      (λ p place w. enter_function p g (length g.params) (f place) next w) false mid
+      (x : Option Held) → SimulatesExactly m old
+      (λ p place w. enter_function p g (length g.params) (f place) next w) false
+      (record mid { this = x })
       (λ p place w. Then (Go (InFrame (frame_at g.chunk 0 None)) w)
       (λ a w2. resume_caller p g (without (length g.params) (f place)) next a
       (record w2 { scope = scope; level = level }))) →
       ((place : Option Place) → inner place ≡ frame_at g.chunk 0 place) → mid.this ≡ None →
       Simulates m mid (λ p place w. Go (InFrame (inner place)) w) one after
       (λ p place w. End b w) →
-      there ≡ record after { scope = scope; level = level } →
+      there ≡ record after { scope = scope; level = level; this = x } →
       ((place : Option Place) → outer place ≡ without (length g.params) (f place)) →
       SimulatesExactly m there (λ p place w. resume_caller p g (outer place) next b w) two new
       last → StopPersists one after.passed two new.passed →
       Simulates m old (λ p place w. enter_function p g (length g.params) (f place) next w) two new
       last
-  call_ran {old} {mid} {after} {there} {new} {inner} {outer} scope level {b = b} {one} {two} {last}
+  call_ran {old} {mid} {after} {there} {new} {inner} {outer} scope level {b = b} {one} {two} {last} x
       begins at none ran is rest resumes persists =
-      let body : Simulates m mid (λ p place w. Go (InFrame (frame_at g.chunk 0 None)) w) one after
+      let body : Simulates m (record mid { this = x })
+      (λ p place w. Go (InFrame (frame_at g.chunk 0 None)) w) one (record after { this = x })
       (λ p place w. End b w) =
-      alone {first = λ p place w. Go (InFrame (frame_at g.chunk 0 place)) w} none (by_frame at ran)
-      in
-      let here : SimulatesExactly m (record after { scope = scope; level = level })
+      elsewhere {first = λ p place w. Go (InFrame (frame_at g.chunk 0 place)) w} x none
+      (by_frame at ran) in
+      let here : SimulatesExactly m (record after { scope = scope; level = level; this = x })
       (λ p place w. resume_caller p g (outer place) next b w) two new last =
       subst (λ (q : LocalState H).
       SimulatesExactly m q (λ p place w. resume_caller p g (outer place) next b w) two new last)
@@ -68,10 +73,10 @@ module _ {H : Type 0} {m : Setup H} (f : Option Place → Frame) (next : ℕ) (g
             })) ran tt
 
         -- the caller's scope and level are back
-        goes_on : SimulatesExactly m (record after { scope = scope; level = level })
+        goes_on : SimulatesExactly m (record after { scope = scope; level = level; this = x })
             (λ p place w. resume_caller p g (outer place) next b w) two new last →
             ((place : Option Place) → outer place ≡ without (length g.params) (f place)) →
-            SimulatesExactly m after
+            SimulatesExactly m (record after { this = x })
             (λ p place w. resume_caller p g (without (length g.params) (f place)) next b
             (record w { scope = scope; level = level })) two new last
         goes_on h rest =
@@ -100,6 +105,11 @@ not_begun {m = m} {old} {new} {start} b s s1 g f next e h =
     subst (λ (q : Bool). SimulatesExactly m old start false new
     (call_continuation (Ok q) s s1 g f next)) e h
 
+-- where a call has not begun, the frame has its own `this`
+pub refused_this : {H : Type 0} (s s1 : Run H) (n : StepsView) (host : H) → CallRefused s s1 →
+    beside s1.scope (this_of s) s1 n host ≡ abstraction s1 n host
+refused_this s s1 n host kept = rw (kept.level, kept.receivers) refl
+
 -- the fault is raised in the frame as it stands
 pub refused_here : {H : Type 0} {m : Setup H} {old new : LocalState H} {start : Computation H}
     (f : Activation) (s s1 : Run H) → CallRefused s s1 →
@@ -121,7 +131,7 @@ pub memory_passes : {H : Type 0} {m : Setup H} (f : Activation) (s t : Run H) (g
     (λ k place w. resume_caller k g (frame_in f s place) next (Failed NoMemory) w) true
     (abstraction t n host) (λ k place w. leave_by_fault k (frame_in f t place) NoMemory w)
 memory_passes {H = H} {m = m} f s t g next n host e = record {
-  this = refl;
+  this = ap (λ (q : LocalState H). q.this) e;
   order = omega arith;
   equal = λ stop clear halts u place.
       memory_leaves (stopped m stop) (handlers_in s.stacks.handlers) (frame_in f s place)
@@ -147,6 +157,24 @@ last_saved [] x zero e = refl
 last_saved [] x (suc n) e = absurd (omega (arith, e))
 last_saved (y ∷ xs) x zero e = absurd (omega (arith, e))
 last_saved (y ∷ xs) x (suc n) e = last_saved xs x n (omega (arith, e))
+
+-- after a frame on a scope of its own, the caller's scope and level are back
+module _ {H : Type 0} (s s2 : Run H) (waiting : s2.saved ≡ s.saved ++ s.scope ∷ [])
+    (up : s2.level ≡ s.level + 1) where
+  pub one_less : length s2.saved - 1 ≡ length s.saved
+  one_less =
+      omega (
+        arith,
+        ap (λ (l : List (List Entry)). length l) waiting,
+        length-append s.saved (s.scope ∷ []),
+      )
+
+  pub scope_back : (caller_of s2).scope ≡ s.scope
+  scope_back = ap (λ (l : List (List Entry)). slice_index_or l (length s2.saved - 1) []) waiting ∙
+      last_saved s.saved s.scope (length s2.saved - 1) one_less
+
+  pub level_back : (caller_of s2).level ≡ s.level
+  level_back = omega (arith, up)
 
 module _ {H : Type 0} (engine : Engine) (f f' : Activation) (s s1 s2 s' : Run H) (g : Function)
     (k next : ℕ) (entered : CallEntered engine g s s1) (outer : s2.stacks.outer ≡ s1.stacks.outer)
@@ -175,25 +203,16 @@ module _ {H : Type 0} (engine : Engine) (f f' : Activation) (s s1 s2 s' : Run H)
   handlers_back : (caller_of s2).stacks.handlers ≡ s.stacks.handlers
   handlers_back = ap (λ (v : StacksView). v.handlers) stacks_back
 
-  one_less : length s2.saved - 1 ≡ length s.saved
-  one_less =
-      omega (
-        arith,
-        ap (λ (l : List (List Entry)). length l) waiting,
-        length-append s.saved (s.scope ∷ []),
-      )
-
-  scope_back : (caller_of s2).scope ≡ s.scope
-  scope_back = ap (λ (l : List (List Entry)). slice_index_or l (length s2.saved - 1) []) waiting ∙
-      last_saved s.saved s.scope (length s2.saved - 1) one_less
-
-  level_back : (caller_of s2).level ≡ s.level
-  level_back = omega (arith, level, entered.level)
-
-  -- what the code has once the caller's scope and level are back
-  pub there_is : (n : StepsView) (host : H) → abstraction (caller_of s2) n host ≡
-      record (abstraction s2 n host) { scope = s.scope; level = s.level }
-  there_is n host = rw (scope_back, level_back, ap (λ (v : StacksView). v.trace) stacks_back) refl
+  -- what the code has once the caller's scope and level are back, with its `this`
+  pub there_is : s2.receivers ≡ s.receivers → (n : StepsView) (host : H) →
+      abstraction (caller_of s2) n host ≡
+      record (abstraction s2 n host) { scope = s.scope; level = s.level; this = this_of s }
+  there_is bound n host = rw (
+    scope_back s s2 waiting (level ∙ entered.level),
+    level_back s s2 waiting (level ∙ entered.level),
+    ap (λ (v : StacksView). v.trace) stacks_back,
+    bound,
+  ) refl
 
   -- the caller's frame is without the arguments
   pub outer_is : length g.params ≡ k → (place : Option Place) → frame_in f (caller_of s2) place ≡

@@ -18,7 +18,7 @@ use Rattle.grain_means.specs.Rules.{offered, caught, leave_by_fault, offered_to}
 use Rattle.grain_means.specs.Simulation.{LocalState, Computation, Simulates, SimulatesExactly, stopped, world}
 use Rattle.grain_means.specs.lemmas.Stretches.{same, compose, before}
 use Rattle.grain_global.specs.StepsView.{StepsView}
-use Rattle.grain_frame.specs.Abstraction.{abstraction, frame_in, handler_in, handlers_in, try_in, tries_in, is_out, Above, CanCatch, Runs}
+use Rattle.grain_frame.specs.Abstraction.{abstraction, frame_in, handler_in, handlers_in, this_of, try_in, tries_in, is_out, Above, CanCatch, Runs}
 use Rattle.grain_vm.specs.Catching.{found, catch_continuation, activation_at, caught_or_left, stop_continuation, Caught, CaughtAt, CaughtBy, StandsFor}
 use Rattle.grain_vm.specs.declared.loops.Stop.{Stop}
 use Rattle.grain_vm.specs.declared.loops.Stop.TheVariants as stop
@@ -60,7 +60,7 @@ module _ {H : Type 0} (m : Setup H) (f : Activation) (s s1 : Run H) (n : StepsVi
             (λ k place w.
             Go (InCatch (frame_in f s1 place) (handler_in h) (problem_of s1.fault)) w)
         first = record {
-          this = refl;
+          this = ap (λ (q : Run H). this_of q) others;
           order = omega arith;
           equal = λ stop clear halts u place.
               offers (stopped m stop) (frame_in f s place) (world (abstraction s n host) u)
@@ -118,6 +118,43 @@ module _ {H : Type 0} (m : Setup H) (f : Activation) (s s1 : Run H) (n : StepsVi
           Leads true t (caught_or_left (Err e) t.fault (frame_in f t))
       leaves_out e did = left_at true NoMemory (caught_on (Err e) did)
 
+-- a fault is offered to the frame's handlers, and none catches
+pub none_catches : {H : Type 0} (m : Setup H) (f : Activation) (s s1 t : Run H) (n : StepsView)
+    (host : H) →
+    ((k : Setup H) (g : Frame) (w : World H) →
+    offered_to k (handlers_in s.stacks.handlers) g (problem_of s.fault) w
+    ≡ found k None s1.stacks.handlers g s1.fault w) →
+    s1 ≡ record s {
+      stacks = record s.stacks { handlers = s1.stacks.handlers };
+      fault = s1.fault;
+    } → t ≡ record s1 {
+      scope = take f.floor s1.scope;
+      stacks = record s1.stacks {
+        noted = true;
+        trace = s1.stacks.trace ++ record { address = f.address; slot = f.slot } ∷ [];
+      };
+    } → Simulates m (abstraction s n host)
+    (λ k place w. offered k (frame_in f s place) (problem_of s.fault) w) false
+    (abstraction t n host) (caught_or_left (Ok None) t.fault (frame_in f t))
+none_catches {H} m f s s1 t n host offers others is =
+    let fault : t.fault ≡ s1.fault = ap (λ (q : Run H). q.fault) is in
+    subst (λ (y : EvalAltResult). Simulates m (abstraction s n host)
+    (λ k place w. offered k (frame_in f s place) (problem_of s.fault) w) false
+    (abstraction t n host) (caught_or_left (Ok None) y (frame_in f t))) (sym fault)
+    (left_out (abstraction s1 n host) (abstraction t n host) (frame_in f s1) f.floor f.address f.slot
+    (λ place. refl) (λ place. refl) (λ place. refl) (rw is refl) (same leaves)) where
+      leaves : SimulatesExactly m (abstraction s n host)
+          (λ k place w. offered k (frame_in f s place) (problem_of s.fault) w) false
+          (abstraction s1 n host)
+          (λ k place w. leave_by_fault k (frame_in f s1 place) (problem_of s1.fault) w)
+      leaves = record {
+        this = ap (λ (q : Run H). this_of q) others;
+        order = omega arith;
+        equal = λ stop clear halts u place.
+            offers (stopped m stop) (frame_in f s place) (world (abstraction s n host) u)
+            ∙ rw others refl;
+      }
+
 -- the handler that catches has its operands and its name, and stands in a typing
 pub can_catch : {H : Type 0} (p : View) (f : Activation) (s s1 : Run H) (h : Handler) →
     CanCatch p f s → StandsFor s.stacks.handlers (h ∷ s1.stacks.handlers) →
@@ -158,6 +195,7 @@ module _ {H : Type 0} (s s1 s2 : Run H) (h : Handler)
           outer = k.outer ∙ ap (λ (q : Run H). q.stacks.outer) others;
           saved = k.saved ∙ ap (λ (q : Run H). q.saved) others;
           level = k.level ∙ ap (λ (q : Run H). q.level) others;
+          receivers = k.receivers ∙ ap (λ (q : Run H). q.receivers) others;
           later = omega (arith, k.later, ap (λ (q : Run H). q.count) others);
         },
         by.1 ∙ ap (λ (q : Run H). q.stacks.noted) others,

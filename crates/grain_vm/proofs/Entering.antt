@@ -1,5 +1,5 @@
 -- A call that begins, once an operation was asked for.
-use Rattle.std.proofs.Common.{◌≡◌, ◌+◌, ℕ, Option, Bool, true, false, Result, Ok, Err, length, subst}
+use Rattle.std.proofs.Common.{◌≡◌, ◌+◌, ℕ, Option, Bool, true, false, Result, Ok, Err, length, refl, subst}
 use Rattle.grain_value.specs.declared.memory.OutOfMemory.{OutOfMemory}
 use Rattle.grain_fault.specs.Problems.{Problem}
 use Rattle.grain_program.specs.View.{View}
@@ -12,8 +12,9 @@ use Rattle.grain_means.specs.Simulation.{LocalState, Computation, SimulatesExact
 use Rattle.grain_means.specs.Means.{setup}
 use Rattle.grain_means.specs.lemmas.Stretches.{then_exactly}
 use Rattle.grain_global.specs.StepsView.{StepsView}
-use Rattle.grain_frame.specs.Abstraction.{abstraction, frame_in, is_out, ChargeResult}
+use Rattle.grain_frame.specs.Abstraction.{abstraction, frame_in, is_out, this_of, ChargeResult}
 use Rattle.grain_vm.specs.Calls.{call_continuation}
+use Rattle.grain_vm.specs.Driving.{beside}
 use Rattle.grain_frame.specs.declared.activations.Activation.{Activation}
 use Rattle.grain_frame.specs.declared.runs.Run.{Run}
 use Rattle.grain_frame.specs.lemmas.Charging.{SimulatesCharge}
@@ -41,17 +42,18 @@ module _ {H : Type 0} (law : Law H) (p : View) (engine : Engine) (f : Activation
       ChargeResult engine s t (Ok b) → (r : Result Bool OutOfMemory) (next : ℕ) →
       SimulatesExactly (setup law p engine) (abstraction t k mid)
       (λ m place w. function_entered m g count (frame_in f t place) next w) (is_out r)
-      (abstraction s' n' mid) (call_continuation r t s' g (frame_in f t) next) →
+      (beside s'.scope (this_of t) s' n' mid) (call_continuation r t s' g (frame_in f t) next) →
       SimulatesExactly (setup law p engine) (abstraction s n host)
       (λ m place w. enter_function m g count (frame_in f s place) next w) (is_out r)
-      (abstraction s' n' mid) (call_continuation r s s' g (frame_in f s) next)
+      (beside s'.scope (this_of s) s' n' mid) (call_continuation r s s' g (frame_in f s) next)
   begun false eb does run r next enters = absurd cc
   begun true eb does run r next enters =
       then_exactly (does (frame_in f s)
       (λ m place. function_entered m g count (frame_in f s place) next) (fails_in s))
       (same_call (s.count + 1) next r (subst (λ (q : Run H). SimulatesExactly (setup law p engine)
       (abstraction t k mid) (λ m place w. function_entered m g count (frame_in f q place) next w)
-      (is_out r) (abstraction s' n' mid) (call_continuation r q s' g (frame_in f q) next)) run.0
+      (is_out r) (beside s'.scope (this_of q) s' n' mid)
+      (call_continuation r q s' g (frame_in f q) next)) run.0
       enters))
 
   -- a fault is raised in the caller's frame before its operation was taken, or then
@@ -59,13 +61,14 @@ module _ {H : Type 0} (law : Law H) (p : View) (engine : Engine) (f : Activation
       SimulatesCharge law p engine f.address s n host (Ok b) t k mid → (next : ℕ) →
       SimulatesExactly (setup law p engine) (abstraction s n host)
       (λ m place w. enter_function m g count (frame_in f s place) next w) false
-      (abstraction t k mid) (call_continuation (Ok false) s t g (frame_in f s) next)
+      (beside t.scope (this_of s) t k mid)
+      (call_continuation (Ok false) s t g (frame_in f s) next)
   call_refused true eb does next = absurd cc
   call_refused false eb does next =
       let did = does (frame_in f s)
       (λ m place. function_entered m g count (frame_in f s place) next) (fails_in s) in
       record {
-        this = did.this;
+        this = refl;
         order = did.order;
         equal = λ stop clear halts u place.
             did.equal stop clear halts u place;
@@ -75,12 +78,12 @@ module _ {H : Type 0} (law : Law H) (p : View) (engine : Engine) (f : Activation
   pub call_wants : (e : OutOfMemory) → SimulatesCharge law p engine f.address s n host (Err e) t k mid →
       (next : ℕ) → SimulatesExactly (setup law p engine) (abstraction s n host)
       (λ m place w. enter_function m g count (frame_in f s place) next w) true
-      (abstraction t k mid) (call_continuation (Err e) s t g (frame_in f s) next)
+      (beside t.scope (this_of s) t k mid) (call_continuation (Err e) s t g (frame_in f s) next)
   call_wants e does next =
       let did = does (frame_in f s)
       (λ m place. function_entered m g count (frame_in f s place) next) (fails_in s) in
       record {
-        this = did.this;
+        this = refl;
         order = did.order;
         equal = λ stop clear halts u place.
             did.equal stop clear halts u place;

@@ -10,7 +10,7 @@ use Rattle.grain_fault.specs.declared.faults.EvalAltResult.{EvalAltResult}
 use Rattle.grain_fault.specs.declared.faults.EvalAltResult.TheVariants as fault
 use Rattle.grain_program.specs.View.{View}
 use Rattle.grain_host.specs.Law.{IsLawful, Law}
-use Rattle.grain_means.specs.Contained.{AnswerNames, ConstantsName, Contained, KeepsToStore, ResultNames, WithinStore}
+use Rattle.grain_means.specs.Contained.{AnswerNames, ConstantsName, Contained, KeepsToStore, ResultNames, RootsName, WithinStore}
 use Rattle.grain_global.specs.declared.engines.Engine.{Engine}
 use Rattle.grain_means.specs.Worlds.{Answer, Failed, Place, Setup, World}
 use Rattle.grain_means.specs.Rules.{called}
@@ -40,8 +40,10 @@ abbrev Kept : (H : Type 0) → Type 0
 Kept H =
     (m : Setup H) (this : Option Place) (w v : World H) (a : Answer) (clean : Bool) (n : ℕ) →
     IsLawful m.law → ConstantsName clean n m.program →
-    Contained m.law clean n w.scope w.cells w.host → Ends m (called m this w) a v →
+    Contained m.law clean n w.scope w.cells w.host → RootsName clean n w.roots →
+    Ends m (called m this w) a v →
     (k : ℕ) × (n ≤ k) × Contained m.law clean k v.scope v.cells v.host × AnswerNames clean k a
+    × RootsName clean k v.roots
 
 module _ {H : Type 0} (counted : Counted H) (law : Law H) (p : View) (e : Engine) (b : Begin H)
     (trace : List Fault) (scope : List Entry) (cells : List Cell) (host : H)
@@ -202,7 +204,7 @@ module _ {H : Type 0} (counted : Counted H) (law : Law H) (p : View) (e : Engine
       let run =
       at_stop back h (Some passed) (clear_before 0 passed) (halts_there (is_out back) passed) in
       let done = kept (stopped_at (Some passed)) None (world at_first no_environment)
-      (world at_last no_environment) (answer_of back) clean n lawful constants (begun start) run in
+      (world at_last no_environment) (answer_of back) clean n lawful constants (begun start) tt run in
       (done.0, done.1, done.2, by_result done.0 back done.3) where
         -- the host vouches for what it hands over
         begun : {clean : Bool} {n : ℕ} → WithinStore law clean n b.scope b.cells b.host →

@@ -1,5 +1,5 @@
 -- A function that is found, and what follows its call.
-use Rattle.std.proofs.Common.{◌≡◌, ◌<◌, ◌+◌, ◌-◌, ◌∙◌, ℕ, zero, suc, List, [], ◌∷◌, ◌++◌, Option, Some, None, Result, Ok, Err, false, length, map, refl, sym, subst, ap, arith, length-append}
+use Rattle.std.proofs.Common.{◌≡◌, ◌<◌, ◌≤◌, ◌+◌, ◌-◌, ◌∙◌, ℕ, zero, suc, List, [], ◌∷◌, ◌++◌, Option, Some, None, Result, Ok, Err, false, length, map, refl, sym, subst, ap, arith, length-append}
 use Rattle.std.proofs.lemmas.List.{length-drop, length-map, length-take}
 use Rattle.std.specs.Prelude.{slice_get}
 use Rattle.grain_value.specs.View.{trees, value_of}
@@ -13,7 +13,8 @@ use Rattle.grain_value.specs.declared.values.FnPtr.{FnPtr}
 use Rattle.grain_value.specs.declared.values.Held.{Held}
 use Rattle.grain_program.specs.View.{View}
 use Rattle.grain_program.specs.Effects.{takes_of, gives_of, leads_of}
-use Rattle.grain_program.specs.Lookups.{function_by_text, CalledByText}
+use Rattle.grain_program.specs.Lookups.{Called, function_by_text, function_of, CalledByText}
+use Rattle.grain_program.specs.Indices.{InPools}
 use Rattle.grain_program.specs.Typing.{In}
 use Rattle.grain_program.specs.declared.code.functions.Function.{Function}
 use Rattle.grain_program.specs.declared.code.instruction_set.Op.{Op}
@@ -22,12 +23,13 @@ use Rattle.grain_stack.specs.Views.{StacksView}
 use Rattle.grain_host.specs.Law.{Law}
 use Rattle.grain_global.specs.declared.engines.Engine.{Engine}
 use Rattle.grain_means.specs.Worlds.{Setup, Frame, World}
-use Rattle.grain_means.specs.Rules.{function_numbered, function_by_name, curried_in, operand_under, instr, enter_function, call_function, call_pointer, not_a_pointer}
+use Rattle.grain_means.specs.Rules.{function_found, function_numbered, function_by_name, curried_in, operand_under, instr, enter_function, call_function, call_pointer, not_a_pointer}
 use Rattle.grain_means.specs.Simulation.{Simulates, SimulatesExactly}
 use Rattle.grain_means.specs.Means.{setup}
 use Rattle.grain_means.specs.lemmas.Stretches.{same, compose}
 use Rattle.grain_global.specs.StepsView.{StepsView}
-use Rattle.grain_frame.specs.Abstraction.{abstraction, frame_in, is_out, continuation, KeepsFrame, ContinuesAt, Implements, Performs, Runs, StandsAt, Stepped, moment}
+use Rattle.grain_frame.specs.Abstraction.{abstraction, frame_in, is_out, continuation, KeepsFrame, ContinuesAt, Implements, Moment, Performs, PerformsBound, ReadyIn, Runs, StandsAt, Stepped, moment, this_of}
+use Rattle.grain_vm.specs.Methods.{NoneAbove}
 use Rattle.grain_vm.specs.Finding.{Finds, FindsFunction, FindsHere, IsCall, found_of}
 use Rattle.grain_frame.specs.declared.activations.Activation.{Activation}
 use Rattle.grain_vm.specs.declared.finding.Found.{Found}
@@ -35,6 +37,8 @@ use Rattle.grain_vm.specs.declared.finding.Found.TheVariants as found
 use Rattle.grain_frame.specs.declared.runs.Progress.{Progress}
 use Rattle.grain_frame.specs.declared.runs.Run.{Run}
 use Rattle.grain_frame.specs.lemmas.Arms.{arm, done, lands_on}
+use Rattle.grain_frame.specs.lemmas.Bound.{arm_bound}
+use Rattle.grain_frame.specs.Receivers.{KeepsBound}
 
 -- a function that is there has a number among them
 within : (fs : List Function) (i : ℕ) (g : Function) → slice_get fs i ≡ Some g → i < length fs
@@ -43,7 +47,7 @@ within (x ∷ fs) zero g e = omega arith
 within (x ∷ fs) (suc i) g e = omega (arith, within fs i g e)
 
 -- what is there at one place is one
-one_there : (fs : List Function) (i : ℕ) (g h : Function) → slice_get fs i ≡ Some g →
+pub one_there : (fs : List Function) (i : ℕ) (g h : Function) → slice_get fs i ≡ Some g →
     slice_get fs i ≡ Some h → g ≡ h
 one_there fs i g h a b =
     let both : Some g ≡ Some h = sym a ∙ b in cc
@@ -74,8 +78,37 @@ kept_before {H = H} f f2 s s1 s2 others kept = record {
   outer = kept.outer ∙ ap (λ (q : Run H). q.stacks.outer) others;
   saved = kept.saved ∙ ap (λ (q : Run H). q.saved) others;
   level = kept.level ∙ ap (λ (q : Run H). q.level) others;
+  this = subst (λ (q : Run H). KeepsBound q.level q.receivers s2.receivers) others kept.this;
   later = omega (arith, kept.later, ap (λ (q : Run H). q.count) others);
 }
+
+-- the function of a name was found
+pub named_found : {H : Type 0} (law : Law H) (p : View) (engine : Engine) (f : Activation) (s : Run H)
+    (n : StepsView) (name count next number : ℕ) (host : H) → Some number ≡ function_of p name count →
+    Called p name count number → count ≤ length s.stacks.operands →
+    FindsFunction (setup law p engine) (moment f s n host) (op.Call name count) next number
+    (moment f s n host)
+named_found law p engine f s n name count next number host e called enough = record {
+  exists = within p.functions number called.function called.is;
+  goes = λ g is. record {
+    this = refl;
+    order = omega arith;
+    equal = λ stop clear halts u place. rw (is_found g is, sym (all g is)) refl;
+  };
+  operands = λ g is. omega (arith, all g is, enough);
+  frame = refl;
+  others = refl;
+  before = refl;
+} where
+  is_found : (g : Function) → slice_get p.functions number ≡ Some g →
+      function_found p name count ≡ Some g
+  is_found g is = is_numbered p (function_of p name count) number g e is
+
+  all : (g : Function) → slice_get p.functions number ≡ Some g → length g.params ≡ count
+  all g is =
+      ap (λ (k : Function). length k.params)
+      (one_there p.functions number g called.function is called.is)
+      ∙ called.count_is
 
 -- the run in which a pointer's values stand in its place
 module _ {H : Type 0} (law : Law H) (p : View) (engine : Engine) (f : Activation) (s s1 : Run H)
@@ -177,7 +210,7 @@ module _ {H : Type 0} (law : Law H) (p : View) (engine : Engine) (f : Activation
       (moment f2 s2 n2 host2)
   pointed_done f2 s2 n2 host2 {r} none did = record {
     same = record {
-      this = did.same.this;
+      this = did.same.this ∙ ap (λ (q : Run H). this_of q) others;
       order = did.same.order;
       equal = λ stop clear halts u place.
           comes.equal stop (λ k a b. absurd (omega (arith, a, b))) tt u place
@@ -227,6 +260,8 @@ found_here law p engine f f' s s' n n' o next host host' (Ok (found.Function num
     call did =
     subst (λ (k : ℕ). FindsHere (setup law p engine) (moment f s n host) (Ok
     (found.Function number k)) (moment f' s' n' host')) (sym did.0) (o, at, call, did.1)
+found_here law p engine f f' s s' n n' o next host host' (Ok (found.Chain index to)) runs at call
+    did = absurd did
 found_here law p engine f f' s s' n n' o next host host' (Err e) runs at call did =
     arm refl call.keeps at runs did
 
@@ -240,6 +275,8 @@ found_kept law p engine f f' s s' n n' o next host host' (Ok (found.Done q)) did
     (did.kept.chunk, did.kept.base)
 found_kept law p engine f f' s s' n n' o next host host' (Ok (found.Function number to)) did =
     (ap (λ (a : Activation). a.chunk) did.1.frame, ap (λ (a : Activation). a.base) did.1.frame)
+found_kept law p engine f f' s s' n n' o next host host' (Ok (found.Chain index to)) did =
+    absurd did
 found_kept law p engine f f' s s' n n' o next host host' (Err e) did =
     (did.kept.chunk, did.kept.base)
 
@@ -308,3 +345,55 @@ found_stepped {H = H} law p engine f f1 f2 s s1 s2 n n1 n2 number next host host
           (takes_of p o) (gives_of o) stacks.handlers r
           (omega (arith, finds.operands g is, call.gives))
           (omega (arith, finds.operands g is)) refl here from
+
+-- a chain at which the frame stands was walked, and the instruction is done
+pub chain_stepped : {H : Type 0} (law : Law H) (p : View) (engine : Engine) (f f1 f2 : Activation)
+    (s s1 s2 : Run H) (n n1 n2 : StepsView) (index next : ℕ) (host host1 host2 : H)
+    {r : Result Progress OutOfMemory} → Runs p f s →
+    FindsHere (setup law p engine) (moment f s n host) (Ok (found.Chain index next))
+    (moment f1 s1 n1 host1) →
+    PerformsBound (setup law p engine) (moment f1 s1 n1 host1) (op.Chain index) next r
+    (moment f2 s2 n2 host2) →
+    Stepped (setup law p engine) (moment f s n host) r (moment f2 s2 n2 host2)
+chain_stepped {H = H} law p engine f f1 f2 s s1 s2 n n1 n2 index next host host1 host2 {r} runs finds
+    did =
+    arm_bound refl refl finds.0 runs
+    (subst (λ (a : Moment H). PerformsBound (setup law p engine) a (op.Chain index) next r
+    (moment f2 s2 n2 host2)) finds.1 did)
+
+-- and before, it can be walked: nothing is done yet
+pub chain_ready : {H : Type 0} (m : Setup H) (a b : Moment H) (index next : ℕ) →
+    Runs m.program a.frame a.run → FindsHere m a (Ok (found.Chain index next)) b →
+    ReadyIn m.program b.frame b.run (op.Chain index) next × InPools m.program (op.Chain index)
+chain_ready {H = H} m a b index next runs finds =
+    let at = finds.0 in
+    let provides = at.seen.provides in
+    let here : ReadyIn m.program a.frame a.run (op.Chain index) next = record {
+      inside = runs.inside;
+      operands = provides.enough;
+      room = omega (arith, provides.room, runs.room);
+      ahead = omega (arith, provides.wide, at.next_is);
+    } in (
+      subst (λ (x : Moment H). ReadyIn m.program x.frame x.run (op.Chain index) next) (sym finds.1) here,
+      provides.pools,
+    )
+
+pub chain_unbound : {H : Type 0} (m : Setup H) (a b : Moment H) (index next : ℕ) →
+    FindsHere m a (Ok (found.Chain index next)) b → NoneAbove a.run.level a.run.receivers →
+    NoneAbove b.run.level b.run.receivers
+chain_unbound {H = H} m a b index next finds none =
+    subst (λ (x : Moment H). NoneAbove x.run.level x.run.receivers) (sym finds.1) none
+
+-- the frame has its chunk and its base, whatever was found of the instruction at which it stands
+pub here_kept : {H : Type 0} (m : Setup H) (a b : Moment H) (r : Result Found OutOfMemory) →
+    FindsHere m a r b → (b.frame.chunk ≡ a.frame.chunk) × (b.frame.base ≡ a.frame.base)
+here_kept m a b (Ok (found.Done q)) did = (did.kept.chunk, did.kept.base)
+here_kept m a b (Ok (found.Function number next)) did = (
+  ap (λ (f : Activation). f.chunk) did.3.frame,
+  ap (λ (f : Activation). f.base) did.3.frame,
+)
+here_kept {H = H} m a b (Ok (found.Chain index next)) did = (
+  ap (λ (x : Moment H). x.frame.chunk) did.1,
+  ap (λ (x : Moment H). x.frame.base) did.1,
+)
+here_kept m a b (Err e) did = (did.kept.chunk, did.kept.base)

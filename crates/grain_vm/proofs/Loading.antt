@@ -60,6 +60,7 @@ module _ {H : Type 0} (law : Law H) (p : View) (engine : Engine) (f : Activation
     outer = refl;
     saved = refl;
     level = refl;
+    this = (refl, refl);
     later = omega arith;
   }
 
@@ -142,6 +143,7 @@ module _ {H : Type 0} (law : Law H) (p : View) (engine : Engine) (f : Activation
       outer = refl;
       saved = refl;
       level = refl;
+      this = (refl, refl);
       later = omega arith;
     };
     lands = (
@@ -199,6 +201,7 @@ module _ {H : Type 0} (law : Law H) (p : View) (engine : Engine) (f : Activation
       outer = refl;
       saved = refl;
       level = refl;
+      this = (refl, refl);
       later = omega arith;
     };
     lands = (

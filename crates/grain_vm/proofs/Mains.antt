@@ -1,5 +1,5 @@
 -- How main is entered and left.
-use Rattle.std.proofs.Common.{◌≡◌, ◌∙◌, ◌+◌, ℕ, List, [], ◌∷◌, Bool, false, Option, None, length, refl, ap, sym, subst, arith}
+use Rattle.std.proofs.Common.{◌≡◌, ◌∙◌, ◌+◌, ℕ, List, [], ◌∷◌, Bool, false, Option, Some, None, length, refl, ap, sym, subst, arith}
 use Rattle.grain_value.specs.declared.scopes.Entry.{Entry}
 use Rattle.grain_value.specs.declared.stores.Cell.{Cell}
 use Rattle.grain_value.specs.declared.values.Held.{Held}
@@ -12,11 +12,13 @@ use Rattle.grain_program.specs.View.{View}
 use Rattle.grain_stack.specs.Views.{StackFrame, StacksView, with_frame, without_frame}
 use Rattle.grain_means.specs.Worlds.{Go, End, Then, Answer, Setup, Frame, InFrame, Place}
 use Rattle.grain_means.specs.Rules.{called, closed, main_frame}
-use Rattle.grain_means.specs.Simulation.{LocalState, Computation, Simulates, SimulatesExactly, StopPersists}
-use Rattle.grain_means.specs.lemmas.Stretches.{same, compose, continued}
+use Rattle.grain_means.specs.Simulation.{Binds, LocalState, Computation, Simulates, SimulatesExactly, StopPersists, no_environment, puts}
+use Rattle.grain_means.specs.lemmas.Stretches.{clear_before, same, compose, continued, halts_there}
 use Rattle.grain_global.specs.StepsView.{StepsView}
 use Rattle.grain_frame.specs.Abstraction.{abstraction, Runs}
+use Rattle.grain_frame.specs.Receivers.{bound_at}
 use Rattle.grain_frame.specs.declared.activations.Activation.{Activation}
+use Rattle.grain_frame.specs.declared.receivers.Bound.{Bound}
 use Rattle.grain_frame.specs.declared.runs.Run.{Run}
 
 module _ {H : Type 0} {m : Setup H} where
@@ -105,14 +107,15 @@ answered_stack {H = H} {m = m} {old} {start} {out} {out'} {b} {b'} s t v n host 
 
 -- what the code has when a call begins
 pub first_state : {H : Type 0} (trace : List Fault) (scope held : List Entry)
-    (cells kept : List Cell) (host : H) (count level before : ℕ) (n : StepsView) → trace ≡ [] →
-    held ≡ scope → kept ≡ cells → n ≡ record { before = before; begun = 0; passed = 0 } →
+    (cells kept : List Cell) (receivers : List Bound) (host : H) (count level before : ℕ)
+    (n : StepsView) → trace ≡ [] → held ≡ scope → kept ≡ cells →
+    n ≡ record { before = before; begun = 0; passed = 0 } → receivers ≡ [] →
     ◌≡◌ {A = LocalState H}
     (record {
       scope = held;
       cells = kept;
       host = host;
-      this = None;
+      this = bound_at level receivers;
       count = count;
       level =
           level;
@@ -131,5 +134,17 @@ pub first_state : {H : Type 0} (trace : List Fault) (scope held : List Entry)
       ran = 0;
       passed = 0;
     })
-first_state trace scope held cells kept host count level before n et es ec en =
-    rw (et, es, ec, en) refl
+first_state trace scope held cells kept receivers host count level before n et es ec en er =
+    rw (et, es, ec, en, er) refl
+
+-- a call that begins without a `this` ends without one
+pub without_this : {H : Type 0} {m : Setup H} {old : LocalState H} {start : Computation H}
+    {out : Bool} {new : LocalState H} {now : Computation H} → old.this ≡ None →
+    Simulates m old start out new now → Simulates m old start out (record new { this = None }) now
+without_this {H = H} {m = m} {old} {start} {out} {new} {now} none h =
+    subst (λ (x : Option Held). Simulates m old start out (record new { this = x }) now)
+    (by new.this (h.leads (Some new.passed) (clear_before old.passed new.passed)
+    (halts_there out new.passed) no_environment None (rw none tt)).0) h where
+      by : (x : Option Held) → Binds (puts [] None x) None x → x ≡ None
+      by None bound = refl
+      by (Some t) bound = absurd bound

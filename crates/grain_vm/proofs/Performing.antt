@@ -16,21 +16,24 @@ use Rattle.grain_host.specs.Faults.{handed_back}
 use Rattle.grain_host.specs.Law.{Law, IsLawful, MayBeAnswered, native_of, receiver_after, written}
 use Rattle.grain_host.specs.Law as reply
 use Rattle.grain_host.specs.Signatures.{not_found}
-use Rattle.grain_means.specs.Worlds.{Act, Answer, Failed, Frame, Place, Setup, World}
-use Rattle.grain_means.specs.Tasks.{Task, Need, Walked}
+use Rattle.grain_means.specs.Worlds.{Answer, Failed, Frame, Place, Setup}
+use Rattle.grain_means.specs.Tasks.{Call, Task, Need}
 use Rattle.grain_means.specs.Rules.{race_text, flat_all, kinds_in, trees_in, first_is_read_only}
-use Rattle.grain_means.specs.Rules.Natives.{Home, given}
-use Rattle.grain_means.specs.Driving.{walk_act, LentAt, lent_back, all_given}
-use Rattle.grain_means.specs.Simulation.{LocalState, Computation, SimulatesExactly}
+use Rattle.grain_means.specs.Rules.Homes.{Home}
+use Rattle.grain_means.specs.Rules.Natives.{given}
+use Rattle.grain_means.specs.Driving.{all_given}
+use Rattle.grain_means.specs.Simulation.{Binds, LocalState, Computation, Simulates, puts}
+use Rattle.grain_means.specs.lemmas.Roots.{puts-bound}
 use Rattle.grain_means.specs.lemmas.Spreading.{Rooted}
-use Rattle.grain_means.specs.lemmas.Driving.{hears_race, hears_memory, hears_none, hears_constant, hears_value, hears_fault}
 use Rattle.grain_global.specs.StepsView.{StepsView}
 use Rattle.grain_chain.specs.Walking.{call_for, no_memory, outcome_of, is_want}
 use Rattle.grain_chain.specs.declared.requests.Request.{Request}
-use Rattle.grain_vm.specs.Driving.{beside, lent_from, RaisesOne, HearsHost, SameFlag}
+use Rattle.grain_vm.specs.Driving.{beside, lent_from, name_in, RaisesOne, HearsHost, SameFlag}
+use Rattle.grain_vm.specs.Seats.{Rests, Seat, Seated, first_held, walk_seated}
 use Rattle.grain_frame.specs.Natives.{Seeks}
 use Rattle.grain_frame.specs.declared.native_calls.Sought.TheVariants as sought
 use Rattle.grain_frame.specs.declared.runs.Run.{Run}
+use Rattle.grain_vm.proofs.Lending.{hears_race, hears_memory, hears_none, hears_constant, hears_value, hears_fault}
 use Rattle.grain_vm.proofs.Reading.{given_from}
 
 -- a fault at another position is no want of memory, if it was none
@@ -56,56 +59,61 @@ may_answer (SystemError s x) e = refl
 may_answer NoMemory e = absurd cc
 
 module _ {H : Type 0} (law : Law H) (lawful : IsLawful law) (m : Setup H) (own : m.law ≡ law) (k : ℕ)
-    (f : Option Place → Frame) (h : Held)
-    (done : Setup H → Option Place → ℕ → Walked → World H → Act H) (r : Request) (q : Option Place)
-    (go : Answer → Task) (rs : List Held) (scope : List Entry) (s : Run H) (n : StepsView) (host : H)
-    (rooted : Rooted h.read_only rs) (at : LentAt rs q r.receiver)
-    (still : lent_back rs q r.receiver ≡ rs) where
+    (f : Option Place → Frame) (seat : Seat) (done : Rests H) (r : Request) (q : Option Place)
+    (go : Answer → Task) (rs : List Held) (scope : List Entry) (this : Option Held) (s : Run H)
+    (n : StepsView) (host : H) (seated : Seated seat this)
+    (rooted : Rooted (first_held seat).read_only rs) (at : Binds rs q r.receiver) where
   abbrev ls : LocalState H
-  ls = beside scope s n host
+  ls = beside scope this s n host
+
+  abbrev call : Call
+  call = call_for (name_in r.what) r q
 
   abbrev before : Computation H
-  before = walk_act k f h done (Need (call_for r q) go) rs
+  before = walk_seated k f seat done (Need call go) rs
 
   abbrev after : Answer → List Held → Computation H
-  after a us = walk_act k f h done (go a) us
+  after a us = walk_seated k f seat done (go a) us
+
+  still : puts rs q r.receiver ≡ rs
+  still = puts-bound rs q r.receiver at
 
   -- what the code says of what came of it
   abbrev pub Performed : Result Dynamic EvalAltResult → Option Held → StepsView → H → Type 0
   Performed o left n' host' =
-      SimulatesExactly m ls before (is_want o) (beside scope s n' host')
-      (after (outcome_of o) (lent_back rs q left))
+      Simulates m ls before (is_want o) (beside scope this s n' host')
+      (after (outcome_of o) (puts rs q left))
 
-  wants : SimulatesExactly m ls before true ls (after (Failed NoMemory) (lent_back rs q r.receiver))
+  wants : Simulates m ls before true ls (after (Failed NoMemory) (puts rs q r.receiver))
   wants =
-      subst (λ us. SimulatesExactly m ls before true ls (after (Failed NoMemory) us)) (sym still)
-      (hears_memory m k f h done (call_for r q) go rs r.receiver rooted at ls)
+      subst (λ us. Simulates m ls before true ls (after (Failed NoMemory) us)) (sym still)
+      (hears_memory m k f seat done call go rs r.receiver rooted at ls seated)
 
   -- memory is out
   pub performs_memory : (e : EvalAltResult) → problem_of e ≡ NoMemory →
       Performed (Err e) r.receiver n host
   performs_memory e is =
-      subst (λ (y : Problem). SimulatesExactly m ls before (no_memory y) ls
-      (after (Failed y) (lent_back rs q r.receiver))) (sym is) wants
+      subst (λ (y : Problem). Simulates m ls before (no_memory y) ls
+      (after (Failed y) (puts rs q r.receiver))) (sym is) wants
 
   fails : (e : EvalAltResult) (y : Problem) (us : List Held) (n' : StepsView) (host' : H) →
       no_memory y ≡ false → problem_of e ≡ y →
-      SimulatesExactly m ls before false (beside scope s n' host') (after (Failed y) us) →
-      SimulatesExactly m ls before (no_memory (problem_of e)) (beside scope s n' host')
+      Simulates m ls before false (beside scope this s n' host') (after (Failed y) us) →
+      Simulates m ls before (no_memory (problem_of e)) (beside scope this s n' host')
       (after (Failed (problem_of e)) us)
   fails e y us n' host' wants_none is does =
-      subst (λ (z : Problem). SimulatesExactly m ls before (no_memory z) (beside scope s n' host')
+      subst (λ (z : Problem). Simulates m ls before (no_memory z) (beside scope this s n' host')
       (after (Failed z) us)) (sym is)
-      (subst (λ (b : Bool). SimulatesExactly m ls before b (beside scope s n' host')
+      (subst (λ (b : Bool). Simulates m ls before b (beside scope this s n' host')
       (after (Failed y) us)) (sym wants_none) does)
 
   fails_here : (e : EvalAltResult) (y : Problem) → no_memory y ≡ false → problem_of e ≡ y →
-      SimulatesExactly m ls before false
-      (beside scope s (record n { passed = n.passed + 1 }) host) (after (Failed y) rs) →
+      Simulates m ls before false
+      (beside scope this s (record n { passed = n.passed + 1 }) host) (after (Failed y) rs) →
       Performed (Err e) r.receiver (record n { passed = n.passed + 1 }) host
   fails_here e y wants_none is does =
-      subst (λ us. SimulatesExactly m ls before (no_memory (problem_of e))
-      (beside scope s (record n { passed = n.passed + 1 }) host) (after (Failed (problem_of e)) us))
+      subst (λ us. Simulates m ls before (no_memory (problem_of e))
+      (beside scope this s (record n { passed = n.passed + 1 }) host) (after (Failed (problem_of e)) us))
       (sym still) (fails e y rs (record n { passed = n.passed + 1 }) host wants_none is does)
 
   -- one of the arguments is a cell whose content is lent
@@ -118,17 +126,17 @@ module _ {H : Type 0} (law : Law H) (lawful : IsLawful law) (m : Setup H) (own :
   performs_race e n' none (inr raised) =
       subst (λ (l : StepsView). Performed (Err e) r.receiver l host) (sym raised.1)
       (fails_here e (Plain (DataRace (race_text [])) r.pos) refl raised.0
-      (hears_race m k f h done (call_for r q) go rs r.receiver rooted at ls none))
+      (hears_race m k f seat done call go rs r.receiver rooted at ls seated none))
 
   module _ (args : List Held)
       (flat : flat_all s.cells (map read_write (map value_of r.arguments)) ≡ Some args) (home : Home)
     where
       found : (o : Option Native) →
-          native_of law host (call_for r q).name (kinds_in (given (lent_from home r.receiver) args)) ≡ o →
-          native_of m.law host (call_for r q).name (kinds_in (all_given r.receiver args)) ≡ o
+          native_of law host call.name (kinds_in (given (lent_from home r.receiver) args)) ≡ o →
+          native_of m.law host call.name (kinds_in (all_given r.receiver args)) ≡ o
       found o is =
-          ap (λ (l : Law H). native_of l host (call_for r q).name (kinds_in (all_given r.receiver args))) own
-          ∙ ap (λ (l : List Held). native_of law host (call_for r q).name (kinds_in l))
+          ap (λ (l : Law H). native_of l host call.name (kinds_in (all_given r.receiver args))) own
+          ∙ ap (λ (l : List Held). native_of law host call.name (kinds_in l))
           (sym (given_from home r.receiver args)) ∙ is
 
       flag : (one : Native) (b : Bool) →
@@ -140,23 +148,23 @@ module _ {H : Type 0} (law : Law H) (lawful : IsLawful law) (m : Setup H) (own :
 
       -- there is no such native, or it may not be called
       pub performs_refused : (e : EvalAltResult) →
-          Seeks law host (call_for r q).name (lent_from home r.receiver) args r.pos (sought.Fault e) →
+          Seeks law host call.name (lent_from home r.receiver) args r.pos (sought.Fault e) →
           Performed (Err e) r.receiver (record n { passed = n.passed + 1 }) host
       performs_refused e (inl none) =
-          fails_here e (not_found (call_for r q).name (values_in (all_given r.receiver args)) r.pos) refl
-          (none.1 ∙ ap (λ (l : List Held). not_found (call_for r q).name (values_in l) r.pos)
+          fails_here e (not_found call.name (values_in (all_given r.receiver args)) r.pos) refl
+          (none.1 ∙ ap (λ (l : List Held). not_found call.name (values_in l) r.pos)
           (given_from home r.receiver args))
-          (hears_none m k f h done (call_for r q) go rs r.receiver rooted at ls args flat
+          (hears_none m k f seat done call go rs r.receiver rooted at ls seated args flat
           (found None none.0))
       performs_refused e (inr one) =
-          fails_here e (Plain (NonPureCall (call_for r q).name) r.pos) refl one.3
-          (hears_constant m k f h done (call_for r q) go rs r.receiver rooted at ls args flat one.0
+          fails_here e (Plain (NonPureCall call.name) r.pos) refl one.3
+          (hears_constant m k f seat done call go rs r.receiver rooted at ls seated args flat one.0
           (found (Some one.0) one.1) (flag one.0 true one.2))
 
       -- it was called
       pub performs_called : (key : ℕ) (values : List Tree) (o : Result Dynamic EvalAltResult)
           (n' : StepsView) (host' : H) (left : Option Held) →
-          Seeks law host (call_for r q).name (lent_from home r.receiver) args r.pos
+          Seeks law host call.name (lent_from home r.receiver) args r.pos
           (sought.Native key values) →
           HearsHost law host key r.receiver values r.pos n o n' host' left →
           Performed o left n' host'
@@ -167,7 +175,7 @@ module _ {H : Type 0} (law : Law H) (lawful : IsLawful law) (m : Setup H) (own :
           seeks.4
           (subst (λ (j : ℕ). HearsHost law host j r.receiver values r.pos n o n' host' left) seeks.3
           heard))) where
-            is : native_of m.law host (call_for r q).name (kinds_in (all_given r.receiver args))
+            is : native_of m.law host call.name (kinds_in (all_given r.receiver args))
                 ≡ Some seeks.0
             is = found (Some seeks.0) seeks.1
 
@@ -186,17 +194,17 @@ module _ {H : Type 0} (law : Law H) (lawful : IsLawful law) (m : Setup H) (own :
                 HearsHost m.law host seeks.0.key r.receiver (trees_in args) r.pos n o n' host' left →
                 Performed o left n' host'
             by (Ok v) did =
-                rw (did.1, did.2, did.3) (hears_value m k f h done (call_for r q) go rs r.receiver rooted
-                at ls args flat seeks.0 is writes v did.0)
+                rw (did.1, did.2, did.3) (hears_value m k f seat done call go rs r.receiver rooted
+                at ls seated args flat seeks.0 is writes v did.0)
             by (Err e) (inl memory) =
                 rw (memory.1, memory.2, memory.3) (performs_memory e memory.0)
             by (Err e) (inr did) =
                 rw (did.3, did.4, did.5) (fails e (at_position_if_none r.pos did.0)
-                (lent_back rs q (receiver_after m.law host seeks.0.key r.receiver (trees_in args)))
+                (puts rs q (receiver_after m.law host seeks.0.key r.receiver (trees_in args)))
                 (record n { passed = n.passed + 1 + 1 + 1 })
                 (m.law.call_after host seeks.0.key r.receiver (trees_in args))
                 (placed_fault r.pos did.0 (may_answer did.0 (may did.0 did.1))) did.2
-                (hears_fault m k f h done (call_for r q) go rs r.receiver rooted at ls args flat seeks.0
+                (hears_fault m k f seat done call go rs r.receiver rooted at ls seated args flat seeks.0
                 is writes did.0 did.1))
 
 pub same_flag : (x : Option Held) → SameFlag x x

@@ -1,6 +1,7 @@
 -- Arguments of a native that a walk needs, as they are read.
 use Rattle.std.proofs.Common.{◌≡◌, ◌∙◌, ◌+◌, ℕ, zero, suc, List, [], ◌∷◌, ◌++◌, Option, Some, None, false, map, drop, refl, sym, ap, subst, inl, arith}
 use Rattle.std.specs.Prelude.{slice_get}
+use Rattle.std.proofs.Math.Seq.{append_snoc}
 use Rattle.grain_value.specs.Tree.{Tree}
 use Rattle.grain_value.specs.View.{tree, value_of}
 use Rattle.grain_value.specs.Cells.{flat}
@@ -16,7 +17,8 @@ use Rattle.grain_fault.specs.Problems.{problem_of}
 use Rattle.grain_host.specs.Law.{Law, native_of}
 use Rattle.grain_host.specs.Signatures.{not_found}
 use Rattle.grain_means.specs.Driving.{all_given}
-use Rattle.grain_means.specs.Rules.Natives.{Home, given}
+use Rattle.grain_means.specs.Rules.Homes.{Home}
+use Rattle.grain_means.specs.Rules.Natives.{given}
 use Rattle.grain_frame.specs.Natives.{Seeks}
 use Rattle.grain_vm.specs.Driving.{lent_from}
 use Rattle.grain_frame.specs.declared.native_calls.Sought.TheVariants as sought
@@ -39,16 +41,11 @@ next_tree ts i t e = next_suc ts i t e ∙ ap (λ (k : ℕ). t ∷ drop k ts) on
   one : suc i ≡ i + 1
   one = omega arith
 
-regroup : (before : List Held) (h : Held) (rest : List Held) →
-    before ++ h ∷ rest ≡ (before ++ h ∷ []) ++ rest
-regroup [] h rest = refl
-regroup (x ∷ before) h rest = ap (λ (l : List Held). x ∷ l) (regroup before h rest)
-
 one_more : (before : List Held) (v : Dynamic) (h : Held) (o : Option (List Held)) →
     joined before (flat_before (Some v) h o)
     ≡ joined (before ++ record h { value = v } ∷ []) o
 one_more before v h None = refl
-one_more before v h (Some rest) = ap Some (regroup before (record h { value = v }) rest)
+one_more before v h (Some rest) = ap Some (sym (append_snoc before (record h { value = v }) rest))
 
 -- one more was read
 pub reads_on : (cells : List Cell) (ts : List Tree) (i : ℕ) (d v : Dynamic) (before : List Held) →
@@ -97,10 +94,14 @@ given_flag None [] h e = e
 given_flag None (y ∷ hs) h e = refl
 given_flag (Some x) hs h e = refl
 
-pub regrouped_trees : (before : List Tree) (t : Tree) (rest : List Tree) →
-    before ++ t ∷ rest ≡ (before ++ t ∷ []) ++ rest
-regrouped_trees [] t rest = refl
-regrouped_trees (x ∷ before) t rest = ap (λ (l : List Tree). x ∷ l) (regrouped_trees before t rest)
+-- one value more was copied, and those that are left come after it
+pub copied_on : (all more ts : List Tree) (i : ℕ) (t : Tree) (whole : List Tree) →
+    more ≡ all ++ t ∷ [] → slice_get ts i ≡ Some t → all ++ drop i ts ≡ whole →
+    more ++ drop (i + 1) ts ≡ whole
+copied_on all more ts i t whole is at was =
+    ap (λ (l : List Tree). l ++ drop (i + 1) ts) is
+    ∙ append_snoc all t (drop (i + 1) ts)
+    ∙ ap (λ (l : List Tree). all ++ l) (sym (next_tree ts i t at)) ∙ was
 
 -- the trees of what is held are its values
 values_are : (hs : List Held) → map value_of (trees_in hs) ≡ values_in hs

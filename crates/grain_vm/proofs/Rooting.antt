@@ -1,10 +1,9 @@
 -- What a chain takes from the operands, and what is found of its root.
-use Rattle.std.proofs.Common.{◌≡◌, ◌∙◌, ◌<◌, ◌≤◌, ◌+◌, ◌-◌, ℕ, zero, suc, List, [], ◌∷◌, Option, Some, None, Bool, true, false, if◌then◌else◌, length, refl, sym, ap, subst, arith}
-use Rattle.std.specs.Prelude.{is_some, option_map, slice_get, slice_set, take}
+use Rattle.std.proofs.Common.{◌≡◌, ◌∙◌, ◌<◌, ◌≤◌, ◌+◌, ◌-◌, ℕ, List, [], ◌∷◌, Option, Some, None, Bool, true, false, if◌then◌else◌, length, refl, sym, ap, arith}
+use Rattle.std.specs.Prelude.{◌==◌, is_some, option_map, slice_get, take}
 use Rattle.std.proofs.lemmas.List.{take_all, take-take, length-take-le}
-use Rattle.grain_value.specs.Cells.{content, idle, is_busy, lent}
+use Rattle.grain_value.specs.Cells.{content, is_busy}
 use Rattle.grain_value.specs.Operands.{top, under}
-use Rattle.grain_value.specs.Scopes.{set_held}
 use Rattle.grain_value.specs.declared.stores.Cell.{Cell}
 use Rattle.grain_value.specs.declared.values.Held.{Held}
 use Rattle.grain_program.specs.Chains.{assigns, chain_takes, is_temporary}
@@ -18,7 +17,10 @@ use Rattle.grain_program.specs.declared.code.chains.Tail.TheVariants as tail
 use Rattle.grain_chain.specs.Walking.{HasOperator}
 use Rattle.grain_means.specs.Rules.Chains.{assigned_operand, root_operands}
 use Rattle.grain_means.specs.lemmas.Scopes.{length_set_held}
-use Rattle.grain_vm.specs.Chains.{CanTake, HasChainOperands, IsTaken, RootTaken, between, home_in, is_free, left_by, root_held, with_root, without_root, without_value}
+use Rattle.grain_frame.specs.Receivers.{bound_at, with_newest}
+use Rattle.grain_frame.specs.declared.receivers.Bound.{Bound}
+use Rattle.grain_vm.specs.Chains.{CanPutBack, CanTake, HasChainOperands, RootTaken, between, home_in, is_free, left_by, root_held, without_root, without_value}
+use Rattle.grain_vm.specs.Underway.{BoundAway}
 use Rattle.grain_vm.specs.declared.roots.Home.{Home}
 use Rattle.grain_vm.specs.declared.roots.Home.TheVariants as home
 use Rattle.grain_frame.specs.declared.runs.Run.{Run}
@@ -26,6 +28,7 @@ use Rattle.grain_frame.specs.lemmas.Entries.{is_within}
 
 root_same : (r : Root) → (if is_temporary r then 1 else 0) ≡ root_operands r
 root_same (root.Local name slot) = refl
+root_same (root.This q) = refl
 root_same root.Temporary = refl
 
 value_one : (b : Bool) → b ≡ true → ◌≡◌ {A = ℕ} (if b then 1 else 0) 1
@@ -58,6 +61,7 @@ under_none ops = sym (take_all (length ops - 0) ops (omega arith))
 
 root_gone : (r : Root) (ops : List Held) → without_root r ops ≡ under (root_operands r) ops
 root_gone (root.Local name slot) ops = under_none ops
+root_gone (root.This q) ops = under_none ops
 root_gone root.Temporary ops = refl
 
 value_gone : (t : Tail) (ops : List Held) →
@@ -129,85 +133,94 @@ free_cell (Some d) free = by d.held d.busy free where
 pub can_take : {H : Type 0} (s : Run H) (i : ℕ) (r : Root) (x : Option ℕ) (h : Held) →
     root_held s i r ≡ Some h → is_free s (home_in i r x) ≡ true → CanTake s (home_in i r x)
 can_take s i (root.Local name slot) None h there free = is_within s.scope i h there
+can_take s i (root.This q) None h there free = ap (λ (o : Option Held). is_some o) there
 can_take s i root.Temporary None h there free = tt
 can_take s i r (Some n) h there free = free_cell (slice_get s.cells n) free
 
-set_there : (cs : List Cell) (n : ℕ) (c d : Cell) → slice_get cs n ≡ Some c →
-    slice_get (slice_set cs n d) n ≡ Some d
-set_there [] n c d is = absurd cc
-set_there (b ∷ cs) zero c d is = refl
-set_there (b ∷ cs) (suc n) c d is = set_there cs n c d is
+-- the newest `this` is of the level still, and holds what was put there
+pub newest_put : (level : ℕ) (bs : List Bound) (h : Held) → is_some (bound_at level bs) ≡ true →
+    bound_at level (with_newest h bs) ≡ Some h
+newest_put level [] h there = absurd cc
+newest_put level (b ∷ bs) h there = by (b.level == level) there where
+  by : (q : Bool) → is_some (if q then Some b.held else None) ≡ true →
+      (if q then Some h else None) ≡ Some h
+  by true there = refl
+  by false there = absurd cc
 
--- it is away then
-pub is_taken : {H : Type 0} (s s' : Run H) (a : Home) (operand held : Held) → CanTake s a →
-    RootTaken s a operand held s' → IsTaken s' a
-is_taken s s' (home.Entry i) operand held can taken =
+-- the root can be put back there
+pub can_put_back : {H : Type 0} (s s' : Run H) (a : Home) (operand held : Held) → CanTake s a →
+    RootTaken s a operand held s' → CanPutBack s' a
+can_put_back s s' (home.Entry i) operand held can taken =
     rw taken.1 (omega (arith, can, length_set_held s.scope i operand))
-is_taken s s' (home.Cell n) operand held can taken =
-    rw taken.1 (ap (λ (o : Option Cell). option_map is_busy o)
-    (set_there s.cells n (idle held) (lent held) taken.0))
-is_taken s s' home.Operand operand held can taken = tt
+can_put_back s s' (home.Cell n) operand held can taken = tt
+can_put_back s s' home.Operand operand held can taken = tt
+can_put_back s s' home.This operand held can taken =
+    rw taken.1 (ap (λ (o : Option Held). is_some o) (newest_put s.level s.receivers operand can))
 
 -- nothing else changes
-pub only_root : {H : Type 0} (s s' t : Run H) (a : Home) (operand held back : Held) →
-    RootTaken s a operand held s' → t ≡ with_root s' a back →
-    t ≡ record s { scope = t.scope; cells = t.cells }
-only_root s s' t (home.Entry i) operand held back taken is =
-    let here = is ∙ ap (λ q. with_root q (home.Entry i) back) taken.1 in rw here refl
-only_root s s' t (home.Cell n) operand held back taken is =
-    let here = is ∙ ap (λ q. with_root q (home.Cell n) back) taken.1 in rw here refl
-only_root s s' t home.Operand operand held back taken is =
-    let here = is ∙ taken.1 in rw here refl
+pub only_root : {H : Type 0} (s s' : Run H) (a : Home) (operand held : Held) →
+    RootTaken s a operand held s' →
+    s' ≡ record s { scope = s'.scope; cells = s'.cells; receivers = s'.receivers }
+only_root s s' (home.Entry i) operand held taken = rw taken.1 refl
+only_root s s' (home.Cell n) operand held taken = rw taken.1 refl
+only_root s s' home.Operand operand held taken = rw taken.1 refl
+only_root s s' home.This operand held taken = rw taken.1 refl
 
 -- as many entries of the scope as before
-pub long_still : {H : Type 0} (s s' t : Run H) (a : Home) (operand held back : Held) →
-    RootTaken s a operand held s' → t ≡ with_root s' a back → length t.scope ≡ length s.scope
-long_still s s' t (home.Entry i) operand held back taken is =
-    let here = is ∙ ap (λ q. with_root q (home.Entry i) back) taken.1 in
-    rw here (length_set_held (set_held s.scope i operand) i back
-    ∙ length_set_held s.scope i operand)
-long_still s s' t (home.Cell n) operand held back taken is =
-    let here = is ∙ ap (λ q. with_root q (home.Cell n) back) taken.1 in rw here refl
-long_still s s' t home.Operand operand held back taken is =
-    let here = is ∙ taken.1 in rw here refl
+pub long_still : {H : Type 0} (s s' : Run H) (a : Home) (operand held : Held) →
+    RootTaken s a operand held s' → length s'.scope ≡ length s.scope
+long_still s s' (home.Entry i) operand held taken =
+    rw taken.1 (length_set_held s.scope i operand)
+long_still s s' (home.Cell n) operand held taken = rw taken.1 refl
+long_still s s' home.Operand operand held taken = rw taken.1 refl
+long_still s s' home.This operand held taken = rw taken.1 refl
+
+-- each `this` is as it was, but for the frame's own
+pub bound_away : {H : Type 0} (s s' : Run H) (a : Home) (operand held : Held) →
+    RootTaken s a operand held s' → BoundAway a s s'
+bound_away s s' (home.Entry i) operand held taken = rw taken.1 refl
+bound_away s s' (home.Cell n) operand held taken = rw taken.1 refl
+bound_away s s' home.Operand operand held taken = rw taken.1 refl
+bound_away {H = H} s s' home.This operand held taken =
+    (operand, ap (λ (q : Run H). q.receivers) taken.1)
 
 pub can_still : {H : Type 0} (s t : Run H) (ops : List Held) (a : Home) →
     t ≡ record s { stacks = record s.stacks { operands = ops } } → CanTake s a → CanTake t a
 can_still s t ops (home.Entry i) is can = rw is can
 can_still s t ops (home.Cell n) is can = rw is can
 can_still s t ops home.Operand is can = tt
+can_still s t ops home.This is can = rw is can
 
--- the root is back, and the chain's operands are gone
-module _ {H : Type 0} (s s0 s1 s2 t : Run H) (c : Chain) (a : Home) (operand held back : Held)
-    (has : HasChainOperands c s.stacks.operands)
-    (gone : s0 ≡ record s { stacks = record s.stacks { operands = left_by c s.stacks.operands } })
-    (taken : RootTaken s0 a operand held s1) (again : s2 ≡ s1) (put : t ≡ with_root s2 a back) where
-  put_here : t ≡ with_root s1 a back
-  put_here = put ∙ ap (λ (q : Run H). with_root q a back) again
-
-  pub rest_is : t ≡ record s {
-    stacks = record s.stacks { operands = under (chain_takes c) s.stacks.operands };
-    scope = t.scope;
-    cells = t.cells;
-  }
-  rest_is =
-      only_root s0 s1 t a operand held back taken put_here
-      ∙ ap (λ (q : Run H). record q { scope = t.scope; cells = t.cells }) gone
-      ∙ ap (λ (l : List Held). record s {
-        stacks = record s.stacks { operands = l };
-        scope = t.scope;
-        cells = t.cells;
-      }) (left_is c s.stacks.operands has)
-
-  pub rest_long : length t.scope ≡ length s.scope
-  rest_long =
-      long_still s0 s1 t a operand held back taken put_here
-      ∙ ap (λ (q : Run H). length q.scope) gone
-
--- the root is away until then
-pub taken_still : {H : Type 0} (s s0 s1 s2 : Run H) (c : Chain) (a : Home) (operand held : Held) →
+-- the chain's operands are gone, and the root is away
+pub others_are : {H : Type 0} (s s0 s1 : Run H) (c : Chain) (a : Home) (operand held : Held) →
+    HasChainOperands c s.stacks.operands →
     s0 ≡ record s { stacks = record s.stacks { operands = left_by c s.stacks.operands } } →
-    RootTaken s0 a operand held s1 → s2 ≡ s1 → CanTake s a → IsTaken s2 a
-taken_still {H = H} s s0 s1 s2 c a operand held gone taken again can =
-    subst (λ (q : Run H). IsTaken q a) (sym again)
-    (is_taken s0 s1 a operand held (can_still s s0 (left_by c s.stacks.operands) a gone can) taken)
+    RootTaken s0 a operand held s1 →
+    s1 ≡ record s {
+      stacks = record s.stacks { operands = under (chain_takes c) s.stacks.operands };
+      scope = s1.scope;
+      cells = s1.cells;
+      receivers = s1.receivers;
+    }
+others_are {H = H} s s0 s1 c a operand held has gone taken =
+    only_root s0 s1 a operand held taken
+    ∙ ap (λ (q : Run H). record q {
+      scope = s1.scope;
+      cells = s1.cells;
+      receivers = s1.receivers;
+    }) gone
+    ∙ ap (λ (l : List Held). record s {
+      stacks = record s.stacks { operands = l };
+      scope = s1.scope;
+      cells = s1.cells;
+      receivers = s1.receivers;
+    }) (left_is c s.stacks.operands has)
+
+-- the same from a run on that has the same
+pub bound_from : {H : Type 0} (s t u : Run H) (a : Home) → t.receivers ≡ s.receivers →
+    BoundAway a t u → BoundAway a s u
+bound_from s t u (home.Entry i) is away = away ∙ is
+bound_from s t u (home.Cell n) is away = away ∙ is
+bound_from s t u home.Operand is away = away ∙ is
+bound_from s t u home.This is away =
+    (away.0, away.1 ∙ ap (λ (bs : List Bound). with_newest away.0 bs) is)

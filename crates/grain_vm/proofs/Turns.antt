@@ -16,7 +16,11 @@ use Rattle.grain_host.specs.Law.{Law}
 use Rattle.grain_global.specs.declared.engines.Engine.{Engine}
 use Rattle.grain_means.specs.Means.{setup}
 use Rattle.grain_frame.specs.Abstraction.{abstraction, tries_in, Above, instruction_here, continuation, KeepsFrame, Progresses, Runs, Stepped, moment}
+use Rattle.grain_frame.specs.Receivers.{KeepsBound}
+use Rattle.grain_frame.specs.declared.receivers.Bound.{Bound}
 use Rattle.grain_vm.specs.Attempts.{Unchanged}
+use Rattle.grain_vm.specs.Methods.{NoneAbove}
+use Rattle.grain_vm.proofs.BoundFrames.{still_none}
 use Rattle.grain_frame.specs.Abstraction.{begun_one}
 use Rattle.grain_frame.specs.declared.runs.Progress.{Progress}
 use Rattle.grain_frame.specs.declared.runs.Progress.TheVariants as progress
@@ -121,6 +125,19 @@ progresses_on engine s t u f g h (inr a) (inl b) le =
 progresses_on engine s t u f g h (inr a) (inr b) le =
     inr (omega (arith, a.0, b.0), omega (arith, a.1, b.1))
 
+-- what each of two stretches keeps of the frames' `this` both keep
+pub kept_bound : {level now : ℕ} (a b c : List Bound) → now ≡ level → KeepsBound level a b →
+    KeepsBound now b c → KeepsBound level a c
+kept_bound {level} {now} a b c same one two =
+    let next : KeepsBound level b c = subst (λ (l : ℕ). KeepsBound l b c) same two in
+    (next.0 ∙ one.0, next.1 ∙ one.1)
+
+-- no frame above has a `this` afterwards
+pub none_on : {level now : ℕ} (a b : List Bound) → now ≡ level → KeepsBound level a b →
+    NoneAbove level a → NoneAbove now b
+none_on {level} {now} a b same kept none =
+    subst (λ (l : ℕ). NoneAbove l b) (sym same) (still_none level a b kept none)
+
 -- two turns are one
 pub both : {H : Type 0} (law : Law H) (p : View) (engine : Engine) (f g h : Activation)
     (s t u : Run H) (n k l : StepsView) (host : H) → Stepped (setup law p engine)
@@ -140,6 +157,8 @@ both law p engine f g h s t u n k l host one two = record {
     outer = two.kept.outer ∙ one.kept.outer;
     saved = two.kept.saved ∙ one.kept.saved;
     level = two.kept.level ∙ one.kept.level;
+    this = kept_bound s.receivers t.receivers u.receivers one.kept.level one.kept.this
+        two.kept.this;
     later = omega (arith, one.kept.later, two.kept.later);
   };
   stays = (

@@ -15,7 +15,7 @@ use Rattle.grain_vm.specs.declared.attempts.Pending.{Pending}
 use Rattle.grain_vm.specs.declared.attempts.Pending.TheVariants as pending
 use Rattle.grain_frame.specs.Abstraction.{moment, IsNoCall, Stepped, StandsAt}
 
--- where a try did what it tried, and where it did not
+-- what holds if a try did what it tried, and what holds if it did not
 abbrev pub OnTrue : Bool → Type 0 → Type 0
 OnTrue true T = T
 OnTrue false T = Unit {0}
@@ -33,7 +33,7 @@ Unchanged f s n f' s' n' = (s' ≡ s) × (f' ≡ f) × (n' ≡ n)
 abbrev pub StandsAtJump : {H : Type 0} → View → Activation → Run H → ℕ → Type 0
 StandsAtJump program f s target = (next : ℕ) × StandsAt program f s (op.Jump target) next
 
--- the instruction at which the frame stands calls no function
+-- the instruction at which the frame stands is neither `call` nor `call_fn_ptr`
 abbrev pub CallsNothing : View → Activation → Type 0
 CallsNothing program f =
     (o : Op) (width : ℕ) → op_at program.code f.address ≡ Some (o, width) → IsNoCall o
@@ -58,7 +58,7 @@ Attempted m f s n f' s' n' (attempt.Jump target) =
 Attempted m f s n f' s' n' (attempt.Pending p) =
     Unchanged f s n f' s' n' × IsPending m.program f s p
 
--- what came of it by whether it was done, and what else
+-- what came of it, by whether it was done, and what came of it if not
 abbrev pub attempt_or : Bool → Attempt → Attempt
 attempt_or true other = attempt.Done
 attempt_or false other = other

@@ -1,9 +1,14 @@
 -- How a call begins and ends, and what a frame that is over gave.
-use Rattle.std.specs.Prelude.{◌≡◌, ◌<◌, ◌+◌, ◌-◌, ℕ, [], ◌∷◌, ◌++◌, Bool, true, false, Option, None, Result, Ok, Err, length, take, slice_index_or}
+use Rattle.std.specs.Prelude.{◌≡◌, ◌⊎◌, ◌<◌, ◌≤◌, ◌+◌, ◌-◌, ℕ, [], ◌∷◌, ◌++◌, Bool, true, false, Option, None, Result, Ok, Err, length, take, slice_index_or}
 use Rattle.grain_value.specs.declared.values.Dynamic.{Dynamic}
 use Rattle.grain_value.specs.declared.memory.OutOfMemory.{OutOfMemory}
 use Rattle.grain_value.specs.Operands.{top, under}
-use Rattle.grain_fault.specs.Problems.{NoMemory, problem_of}
+use Rattle.grain_fault.specs.Classes.{catchable}
+use Rattle.grain_fault.specs.Positions.{at_position}
+use Rattle.grain_fault.specs.Problems.{InFunctionCall, NoMemory, Problem, problem_of}
+use Rattle.grain_fault.specs.declared.places.Position.{Position}
+use Rattle.grain_global.specs.StepsView.{StepsView}
+use Rattle.grain_program.specs.View.{View, name_of, source_text}
 use Rattle.grain_fault.specs.declared.faults.EvalAltResult.{EvalAltResult}
 use Rattle.grain_program.specs.declared.code.functions.Function.{Function}
 use Rattle.grain_program.specs.declared.code.parts.Chunk.{Chunk}
@@ -12,6 +17,7 @@ use Rattle.grain_stack.specs.Views.{innermost, without_frame}
 use Rattle.grain_means.specs.Worlds.{Go, End, Then, Answer, Came, Failed, Frame, InFrame, Place}
 use Rattle.grain_means.specs.Rules.{leave_by_fault, offered, without, frame_at, resume_caller}
 use Rattle.grain_means.specs.Simulation.{Computation}
+use Rattle.grain_frame.specs.Receivers.{KeepsBound}
 use Rattle.grain_frame.specs.declared.activations.Activation.{Activation}
 use Rattle.grain_frame.specs.declared.runs.Run.{Run}
 use Rattle.grain_frame.specs.declared.runs.Progress.{Progress}
@@ -43,11 +49,24 @@ abbrev pub finished_with : {H : Type 0} → Result (Result Dynamic EvalAltResult
     Computation H
 finished_with r m place w = End (answer_of r) w
 
--- A call has begun: its operation is taken, its frame is entered, around which the caller's stands
--- without the arguments, the caller's scope is put aside, and the level is one higher.
+-- What a frame that ran leaves as it was: the frames around it, with their scopes and each `this`, its
+-- own level and room. It has a `this` if it had one, and no operation is given back.
+pub record LeavesAround {H : Type 0} (s : Run H) (n : StepsView) (s' : Run H) (n' : StepsView) :
+    Type 0 where
+  pub outer : s'.stacks.outer ≡ s.stacks.outer
+  pub room : s'.stacks.room ≡ s.stacks.room
+  pub saved : s'.saved ≡ s.saved
+  pub level : s'.level ≡ s.level
+  pub this : KeepsBound s.level s.receivers s'.receivers
+  pub later : s.count ≤ s'.count
+  pub before : n'.before ≡ n.before
+
+-- A call has begun: its operation is charged, its frame is entered, the caller's frame, without the
+-- arguments, is the next one outside it, the caller's scope is put aside, and the level is one higher.
 pub record CallEntered {H : Type 0} (engine : Engine) (g : Function) (s s' : Run H) : Type 0 where
   pub saved : s'.saved ≡ s.saved ++ s.scope ∷ []
   pub level : s'.level ≡ s.level + 1
+  pub receivers : s'.receivers ≡ s.receivers
   pub caller : s'.stacks.outer
       ≡ record (innermost s.stacks) { operands = under (length g.params) s.stacks.operands }
       ∷ s.stacks.outer
@@ -58,20 +77,21 @@ pub record CallEntered {H : Type 0} (engine : Engine) (g : Function) (s s' : Run
   pub count : s'.count ≡ s.count + 1
   pub allowed : s.count < engine.limits.operations
 
--- a fault is raised before the call has begun, or memory is out: the scopes, the level and the frames
--- around are as they were, and all operands and handlers are there
+-- a fault is raised before the call has begun, or memory is out: the scopes, the level, the outer
+-- frames, the operands and the handlers are as they were
 pub record CallRefused {H : Type 0} (s s' : Run H) : Type 0 where
   pub scope : s'.scope ≡ s.scope
   pub saved : s'.saved ≡ s.saved
   pub level : s'.level ≡ s.level
+  pub receivers : s'.receivers ≡ s.receivers
   pub room : s'.stacks.room ≡ s.stacks.room
   pub noted : s'.stacks.noted ≡ s.stacks.noted
   pub outer : s'.stacks.outer ≡ s.stacks.outer
   pub operands : s'.stacks.operands ≡ s.stacks.operands
   pub handlers : s'.stacks.handlers ≡ s.stacks.handlers
 
--- the frame of a function whose operation is taken is entered, or the run is as it was but for a
--- fault
+-- the frame of a function whose operation is charged is entered, or only the fault of
+-- the run has changed
 abbrev pub FrameEntered : {H : Type 0} → Function → Run H → Run H → Result Bool OutOfMemory → Type 0
 FrameEntered g s s' (Ok true) = (s'.saved ≡ s.saved ++ s.scope ∷ []) × (s'.level ≡ s.level + 1)
     × (s'.stacks.outer
@@ -79,7 +99,7 @@ FrameEntered g s s' (Ok true) = (s'.saved ≡ s.saved ++ s.scope ∷ []) × (s'.
     ∷ s.stacks.outer)
     × (s'.stacks.operands ≡ []) × (s'.stacks.handlers ≡ [])
     × (s'.stacks.room ≡ g.chunk.max_stack)
-    × (s'.stacks.noted ≡ false) × (s'.count ≡ s.count)
+    × (s'.stacks.noted ≡ false) × (s'.count ≡ s.count) × (s'.receivers ≡ s.receivers)
 FrameEntered g s s' (Ok false) = CallRefused s s' × (s'.count ≡ s.count)
 FrameEntered g s s' (Err e) = CallRefused s s' × (s'.count ≡ s.count)
 
@@ -100,7 +120,7 @@ call_continuation (Ok true) s s' g f next m place w =
 call_continuation (Ok false) s s' g f next m place w = offered m (f place) (problem_of s'.fault) w
 call_continuation (Err e) s s' g f next m place w = leave_by_fault m (f place) NoMemory w
 
--- the run of the frame around the innermost one, which is left
+-- the run after the innermost frame is left, in the frame around it
 abbrev pub caller_of : {H : Type 0} → Run H → Run H
 caller_of s = record s {
   stacks = without_frame s.stacks.outer s.stacks;
@@ -109,7 +129,7 @@ caller_of s = record s {
   level = s.level - 1;
 }
 
--- the caller's frame after a call: where it goes on, it has one operand more
+-- the caller's frame after a call: if it goes on, it has one more operand
 abbrev pub CallReturned : {H : Type 0} → Activation → Run H → Activation → Run H → ℕ →
     Result Progress OutOfMemory → Type 0
 CallReturned f s f' s' next (Ok progress.Continues) =
@@ -119,3 +139,16 @@ CallReturned f s f' s' next (Ok progress.Continues) =
 CallReturned f s f' s' next (Ok progress.Returned) = ⊥
 CallReturned f s f' s' next (Ok progress.Failed) = (f' ≡ f) × (s' ≡ record s { fault = s'.fault })
 CallReturned f s f' s' next (Err e) = (f' ≡ f) × (s' ≡ record s { fault = s'.fault })
+
+-- The fault of a call at a position, after this one left the body of the function: one that cannot be
+-- caught gets the position; any other is wrapped, at a mark, or memory is out there.
+abbrev pub WrapsBy : Bool → View → Function → Position → Problem → Problem → StepsView → StepsView →
+    Type 0
+WrapsBy true p g q x y n n' =
+    ((y ≡ NoMemory) × (n' ≡ n))
+    ⊎ ((y ≡ InFunctionCall (name_of p g.name) (source_text p) x q)
+    × (n' ≡ record n { passed = n.passed + 1 }))
+WrapsBy false p g q x y n n' = (y ≡ at_position q x) × (n' ≡ n)
+
+abbrev pub WrapsSo : View → Function → Position → Problem → Problem → StepsView → StepsView → Type 0
+WrapsSo p g q x y n n' = WrapsBy (catchable x) p g q x y n n'

@@ -18,31 +18,31 @@ use Rattle.grain_vm.specs.declared.loops.Stop.{Stop}
 use Rattle.grain_vm.specs.declared.loops.Stop.TheVariants as stop
 use Rattle.grain_frame.specs.declared.runs.Run.{Run}
 
--- the innermost, if there is one, has caught nothing yet
+-- the innermost handler, if there is one, has caught nothing yet
 abbrev pub IsArmed : List Handler → Type 0
 IsArmed [] = Unit {0}
 IsArmed (h ∷ hs) = h.caught ≡ None
 
--- what an offered fault comes to: a handler catches it, which has these around it, or it leaves the
--- frame
+-- what happens to a fault that is offered: a handler catches it, with these handlers around it, or it
+-- leaves the frame
 abbrev pub found : {S : Type 0} → Setup S → Option Handler → List Handler → Frame →
     EvalAltResult → World S → Act S
 found m None hs f x w = leave_by_fault m f (problem_of x) w
 found m (Some h) hs f x w =
     Go (InCatch (record f { handlers = handlers_in hs }) (handler_in h) (problem_of x)) w
 
--- handlers that stand in a typing, and in front of which this one stands, if there is one
+-- these handlers, with this one before them, if there is one
 abbrev pub with_found : Option Handler → List Handler → List Handler
 with_found None hs = hs
 with_found (Some h) hs = h ∷ hs
 
--- the handlers stand in every typing, and above every base, that these do
+-- wherever the old handlers fit, in a typing and above a base, the new ones do too
 pub record StandsFor (old new : List Handler) : Type 0 where
   pub covered : (p : View) (c : Chunk) (depth : ℕ) → IsCovered p c depth (tries_in old) →
       IsCovered p c depth (tries_in new)
   pub above : (base : ℕ) → Above base old → Above base new
 
--- what is to be done once a handler caught: the frame goes on at the target, or a fault leaves it
+-- what is to be done after a handler caught: the frame goes on at the target, or a fault leaves it
 abbrev pub catch_continuation : {H : Type 0} → Result Bool OutOfMemory → EvalAltResult → ℕ →
     (Option Place → Frame) → Computation H
 catch_continuation (Ok true) x target f m place w = Go (InFrame (resumed (f place) target)) w
@@ -56,6 +56,7 @@ pub record KeepsRun {H : Type 0} (s s' : Run H) : Type 0 where
   pub outer : s'.stacks.outer ≡ s.stacks.outer
   pub saved : s'.saved ≡ s.saved
   pub level : s'.level ≡ s.level
+  pub receivers : s'.receivers ≡ s.receivers
   pub later : s.count ≤ s'.count
 
 -- the frame goes on at an address, or a fault has left it
@@ -65,9 +66,9 @@ caught_or_left (Ok (Some target)) x f m place w = Go (InFrame (resumed (f place)
 caught_or_left (Ok None) x f m place w = End (Failed (problem_of x)) w
 caught_or_left (Err e) x f m place w = End (Failed NoMemory) w
 
--- After a handler caught: if the frame goes on, there are as many operands as at the handler's push,
--- it stands before the others and has caught a fault, there are no fewer entries of the scope than at
--- its push, and an operation was taken. The frames around are as they were.
+-- After a handler caught: if the frame goes on, there are as many operands as when the handler was
+-- pushed, the handler is the innermost and has caught a fault, the scope has no fewer entries than at
+-- the push, and an operation was charged. The outer frames are as they were.
 abbrev pub CaughtBy : {H : Type 0} → Engine → Handler → Run H → Run H → Result Bool OutOfMemory →
     Type 0
 CaughtBy engine h s s' (Ok true) = KeepsRun s s' × (s'.stacks.noted ≡ s.stacks.noted) ×
@@ -77,15 +78,15 @@ CaughtBy engine h s s' (Ok true) = KeepsRun s s' × (s'.stacks.noted ≡ s.stack
 CaughtBy engine h s s' (Ok false) = KeepsRun s s' × (s'.stacks.noted ≡ s.stacks.noted)
 CaughtBy engine h s s' (Err e) = KeepsRun s s' × (s'.stacks.noted ≡ s.stacks.noted)
 
--- After a fault was offered: the frames around are as they were, and if the frame goes on, an
--- operation was taken.
+-- After a fault was offered: the outer frames are as they were, and if the frame goes on, an
+-- operation was charged.
 abbrev pub Caught : {H : Type 0} → Engine → Run H → Run H → Result (Option ℕ) OutOfMemory → Type 0
 Caught engine s s' (Ok (Some target)) = KeepsRun s s' × (s'.stacks.noted ≡ s.stacks.noted) ×
     (s.count < s'.count) × (s.count < engine.limits.operations)
 Caught engine s s' (Ok None) = KeepsRun s s'
 Caught engine s s' (Err e) = KeepsRun s s'
 
--- if the frame goes on, it is typed at the address
+-- if the frame goes on, the verifier's typing has it at the address
 abbrev pub CaughtAt : {H : Type 0} → View → Activation → Run H → Result (Option ℕ) OutOfMemory →
     Type 0
 CaughtAt p f s (Ok (Some target)) = (f.base ≤ length s.scope) ×
@@ -107,7 +108,7 @@ stop_continuation (Ok (stop.Fault address floor slot)) c base s m place w =
     offered m (frame_in (activation_at c base address floor slot) s place) (problem_of s.fault) w
 stop_continuation (Err e) c base s m place w = End (Failed NoMemory) w
 
--- after a fault the frame has noted none, and its handlers can catch
+-- after a fault the trace has no note of the frame yet, and its handlers can catch
 abbrev pub StopsSo : {H : Type 0} → View → Chunk → ℕ → Run H → Result Stop OutOfMemory → Type 0
 StopsSo p c base s (Ok stop.Value) = Unit {0}
 StopsSo p c base s (Ok (stop.Fault address floor slot)) =

@@ -1,5 +1,5 @@
 -- How the walk of a chain is driven: what it needs is asked of the host.
-use Rattle.std.specs.Prelude.{◌≡◌, ◌⊎◌, ◌+◌, ℕ, List, [], Option, Some, None, Bool, true, false, Result, Ok, Err, map, option_map, take}
+use Rattle.std.specs.Prelude.{◌≡◌, ◌⊎◌, ◌+◌, ℕ, suc, List, [], Option, Some, None, Bool, true, false, Result, Ok, Err, map, option_map, take}
 use Rattle.grain_value.specs.Tree.{Tree}
 use Rattle.grain_value.specs.View.{value_of}
 use Rattle.grain_value.specs.Operands.{read_write}
@@ -13,39 +13,50 @@ use Rattle.grain_fault.specs.Problems.{Problem, NoMemory, problem_of}
 use Rattle.grain_fault.specs.declared.faults.EvalAltResult.{EvalAltResult}
 use Rattle.grain_host.specs.Law.{Law, receiver_after}
 use Rattle.grain_host.specs.Law as reply
-use Rattle.grain_means.specs.Worlds.{Act, Frame, Place, Setup, World}
+use Rattle.grain_means.specs.Worlds.{Answer, Frame, Place, Setup, World}
 use Rattle.grain_means.specs.Places.{look}
-use Rattle.grain_means.specs.Tasks.{Walked, Well, Ill}
-use Rattle.grain_means.specs.Rules.Natives.{Home, Receiver}
+use Rattle.grain_means.specs.Tasks.{Task, Walked, Well, Ill}
+use Rattle.grain_means.specs.Rules.Homes.{Home}
+use Rattle.grain_means.specs.Rules.Natives.{Receiver}
 use Rattle.grain_means.specs.Rules.Chains.{chain_over}
 use Rattle.grain_means.specs.Driving.{all_given}
 use Rattle.grain_means.specs.Rules.{flat_all, kinds_in, trees_in, first_is_read_only}
-use Rattle.grain_means.specs.Simulation.{LocalState}
+use Rattle.grain_means.specs.Simulation.{LocalState, Binds, Simulates, puts}
+use Rattle.grain_means.specs.lemmas.Spreading.{Rooted}
 use Rattle.grain_global.specs.StepsView.{StepsView}
-use Rattle.grain_chain.specs.Walking.{no_memory}
+use Rattle.grain_chain.specs.Walking.{is_want, no_memory, outcome_of, still}
+use Rattle.grain_chain.specs.declared.requests.What.{What}
+use Rattle.grain_chain.specs.declared.requests.What.TheVariants as what
+use Rattle.grain_chain.specs.declared.requests.WalkAnswer.{WalkAnswer}
+use Rattle.grain_chain.specs.declared.requests.WalkAnswer.TheVariants as answer
+use Rattle.grain_chain.specs.declared.walks.Walk.{Walk}
+use Rattle.grain_program.specs.View.{View}
 use Rattle.grain_frame.specs.Abstraction.{abstraction}
 use Rattle.grain_frame.specs.declared.native_calls.Arguments.{Arguments}
+use Rattle.grain_vm.specs.Seats.{Rests, Seat, Seated, first_held, walk_seated}
 use Rattle.grain_vm.specs.declared.driving.WalkEnd.{WalkEnd}
 use Rattle.grain_vm.specs.declared.driving.WalkEnd.TheVariants as walk_end
 use Rattle.grain_frame.specs.declared.runs.Run.{Run}
 
--- what the code has, with another scope: while a walk is under way, its root may be away from its entry
-abbrev pub beside : {H : Type 0} → List Entry → Run H → StepsView → H → LocalState H
-beside scope s n host = record (abstraction s n host) { scope = scope }
+-- the state of the code, but with this scope and this `this`: while a walk is under way, its root may
+-- be away from its entry or from the frame's `this`
+abbrev pub beside : {H : Type 0} → List Entry → Option Held → Run H → StepsView → H → LocalState H
+beside scope this s n host = record (abstraction s n host) { scope = scope; this = this }
 
--- what a host is given of these arguments, which come after what is lent
+-- the description that a host is given of a receiver, if there is one, and the arguments after it
 pub record DescribesAfter (x : Option Held) (a : Arguments) (args : List Held) : Type 0 where
   pub kinds : a.kinds ≡ kinds_in (all_given x args)
   pub values : a.values ≡ trees_in args
   pub read_only : a.read_only ≡ first_is_read_only (all_given x args)
 
--- values that can be written, each as it is read, or that one of them is a cell whose content is lent
+-- the description has each of these values as it is read; or there is none, because one of
+-- them is a lent cell
 abbrev pub ReadsAll : List Cell → Option Held → List Tree → Option Arguments → Type 0
 ReadsAll cells x ts None = flat_all cells (map read_write (map value_of ts)) ≡ None
 ReadsAll cells x ts (Some a) = (args : List Held)
     × (flat_all cells (map read_write (map value_of ts)) ≡ Some args) × DescribesAfter x a args
 
--- what is lent, with where it stands
+-- the receiver, if there is one, with where it is held
 abbrev pub lent_from : Home → Option Held → Option Receiver
 lent_from home x = option_map (λ h. record { home = home; held = h }) x
 
@@ -55,8 +66,8 @@ RaisesOne x e n n' =
     ((problem_of e ≡ NoMemory) × (n' ≡ n))
     ⊎ ((problem_of e ≡ x) × (n' ≡ record n { passed = n.passed + 1 }))
 
--- The host was called with a key, what is lent and values: two marks are passed, and one more where its
--- fault is raised. Where memory is out, nothing changed.
+-- The host was called with a key, a receiver, if there is one, and values. Two marks are passed, and
+-- one more if its fault is raised. If memory is out, nothing has changed.
 abbrev pub HearsHost : {H : Type 0} → Law H → H → ℕ → Option Held → List Tree → Position →
     StepsView → Result Dynamic EvalAltResult → StepsView → H → Option Held → Type 0
 HearsHost law host key x values p n (Ok v) n' host' left =
@@ -72,16 +83,39 @@ HearsHost law host key x values p n (Err e) n' host' left =
     × (left ≡ receiver_after law host key x values)
     × (n' ≡ record n { passed = n.passed + 1 + 1 + 1 }))
 
--- what is lent is back, with the flag that it had
+-- the receiver is back, if one was lent, with the flag that it had
 abbrev pub SameFlag : Option Held → Option Held → Type 0
 SameFlag None None = Unit {0}
 SameFlag None (Some h) = ⊥
 SameFlag (Some h) None = ⊥
 SameFlag (Some h) (Some g) = g.read_only ≡ h.read_only
 
--- what follows a walk does not look at whether something changed
-abbrev pub IgnoresChange : {H : Type 0} → (Setup H → Option Place → ℕ → Walked → World H → Act H) →
-    Type 0
+-- a request is for a native, by its name
+abbrev pub IsNative : What → Type 0
+IsNative (what.Native name) = Unit {0}
+IsNative (what.Compiled n) = ⊥
+IsNative (what.Pointer f) = ⊥
+
+abbrev pub name_in : What → List ℕ
+name_in (what.Native name) = name
+name_in (what.Compiled n) = []
+name_in (what.Pointer f) = []
+
+-- A call that a walk needs was done, with this outcome, and this is what is left of what was lent to it.
+-- So it is in each walk that has the task, wherever the walk stands.
+abbrev pub Answers : {H : Type 0} → Setup H → (Option Place → (Answer → Task) → Task) →
+    Option Held → Run H → StepsView → H → Result Dynamic EvalAltResult → Option Held → Run H →
+    StepsView → H → Type 0
+Answers {H = H} m task lent s n host o left s' n' host' =
+    (k : ℕ) (f : Option Place → Frame) (seat : Seat) (done : Rests H) (q : Option Place)
+    (go : Answer → Task) (rs : List Held) (scope : List Entry) (this : Option Held) →
+    Seated seat this → Rooted (first_held seat).read_only rs → Binds rs q lent →
+    Simulates m (beside scope this s n host) (walk_seated k f seat done (task q go) rs) (is_want o)
+    (beside scope this s' n' host')
+    (walk_seated k f seat done (go (outcome_of o)) (puts rs q left))
+
+-- what is done after a walk does not depend on whether something changed
+abbrev pub IgnoresChange : {H : Type 0} → Rests H → Type 0
 IgnoresChange {H = H} done =
     (m : Setup H) (place : Option Place) (n : ℕ) (v : Dynamic) (b : Bool) (w : World H) →
     done m place n (Well v b) w ≡ done m place n (Well v true) w
@@ -95,10 +129,16 @@ abbrev pub end_is_out : WalkEnd → Bool
 end_is_out (walk_end.Value v) = false
 end_is_out (walk_end.Fault x n) = no_memory (problem_of x)
 
--- what follows from how a walk of the chain of index k ended, in a frame without the chain's operands:
--- its root goes back, and then its value is pushed or its fault is raised
+-- what is done after the walk of the chain with index k ended, in a frame without the chain's operands:
+-- its root is put back, and then its value is pushed or its fault is raised
 abbrev pub after_walk : {H : Type 0} → ℕ → ℕ → (Option Place → Frame) →
-    (Held → World H → World H) → Setup H → Option Place → ℕ → Walked → World H → Act H
+    (Held → World H → World H) → Rests H
 after_walk k next f back m place n o w =
     chain_over m k next (f place) o
     (back (look w.roots (record { root = n; path = [] })) (record w { roots = take n w.roots }))
+
+-- how many requests there are still, at most
+abbrev pub left_of : View → Walk → WalkAnswer → ℕ
+left_of p w (answer.Need r) = suc (still p w w.awaits)
+left_of p w (answer.Ended v changed) = 0
+left_of p w (answer.Faulted x n) = 0

@@ -5,6 +5,7 @@ use Rattle.grain_program.specs.Effects.{takes_of, gives_of, leads_of, handling_o
 use Rattle.grain_program.specs.declared.code.effects.Handling.TheVariants as handling
 use Rattle.grain_program.specs.declared.code.functions.Function.{Function}
 use Rattle.grain_program.specs.declared.code.instruction_set.Op.{Op}
+use Rattle.grain_program.specs.declared.code.instruction_set.Op.TheVariants as op
 use Rattle.grain_means.specs.Rules.{instr, enter_function}
 use Rattle.grain_means.specs.Simulation.{SimulatesExactly}
 use Rattle.grain_means.specs.Worlds.{Setup}
@@ -13,9 +14,9 @@ use Rattle.grain_vm.specs.declared.finding.Found.{Found}
 use Rattle.grain_vm.specs.declared.finding.Found.TheVariants as found
 use Rattle.grain_frame.specs.declared.runs.Progress.{Progress}
 
--- The instruction calls the function of this number, which is there, on the last operands. Nothing
--- of the call has begun: the run is as it was but for the operands, among which there are now as
--- many arguments as the function has parameters in the place of what the instruction takes.
+-- The instruction calls the function of this number, which exists, on the last operands. The call
+-- has not begun: only the operands of the run have changed. In place of those that the instruction
+-- takes there are now the arguments, one for each parameter of the function.
 pub record FindsFunction {H : Type 0} (m : Setup H) (a : Moment H) (o : Op)
     (next number : ℕ) (b : Moment H) : Type 0 where
   pub exists : number < length m.program.functions
@@ -33,17 +34,18 @@ pub record FindsFunction {H : Type 0} (m : Setup H) (a : Moment H) (o : Op)
       ≡ record a.run { stacks = record a.run.stacks { operands = b.run.stacks.operands } }
   pub before : b.counts.before ≡ a.counts.before
 
--- what was done without a function, unless memory is out
+-- an instruction that was done without a function, unless memory ran out
 abbrev pub found_of : Result Progress OutOfMemory → Result Found OutOfMemory
 found_of (Ok p) = Ok (found.Done p)
 found_of (Err e) = Err e
 
--- what the instruction comes to: it is done, or it calls a function
+-- what is found of an instruction that walks along no place: it is done, or it calls a function
 abbrev pub Finds : {H : Type 0} → Setup H → Moment H → Op → ℕ → Result Found OutOfMemory →
     Moment H → Type 0
 Finds m a o next (Ok (found.Done p)) b = Performs m a o next (Ok p) b
 Finds m a o next (Ok (found.Function number to)) b =
     (to ≡ next) × FindsFunction m a o next number b
+Finds m a o next (Ok (found.Chain index to)) b = ⊥
 Finds m a o next (Err e) b = Performs m a o next (Err e) b
 
 -- an instruction that may call a function: it leads to the next one, gives one value and keeps the
@@ -53,11 +55,13 @@ pub record IsCall (o : Op) (next : ℕ) : Type 0 where
   pub gives : gives_of o ≡ 1
   pub keeps : handling_of o ≡ handling.Keep
 
--- the same of the instruction at which the frame stands
+-- the same of the instruction at which the frame stands; if it is a chain, nothing is done yet
 abbrev pub FindsHere : {H : Type 0} → Setup H → Moment H → Result Found OutOfMemory → Moment H →
     Type 0
 FindsHere m a (Ok (found.Done p)) b = Stepped m a (Ok p) b
 FindsHere m a (Ok (found.Function number next)) b =
     (o : Op) × StandsAt m.program a.frame a.run o next × IsCall o next
     × FindsFunction m a o next number b
+FindsHere m a (Ok (found.Chain index next)) b =
+    StandsAt m.program a.frame a.run (op.Chain index) next × (b ≡ a)
 FindsHere m a (Err e) b = Stepped m a (Err e) b

@@ -1,5 +1,5 @@
--- An instruction and the one after it, done in one turn of the loop. What lies between them is the
--- meaning's alone: the code never stands there.
+-- An instruction and the one after it, done in one turn of the loop. The state between the two
+-- exists only in the definition: the code is never in it.
 use Rattle.std.specs.Prelude.{◌⊎◌, ℕ, ℤ, [], ◌∷◌, ◌++◌, Bool, Ok}
 use Rattle.grain_value.specs.declared.values.Dynamic.TheVariants as dynamic
 use Rattle.grain_value.specs.Operands.{under, read_write}
@@ -12,7 +12,7 @@ use Rattle.grain_frame.specs.declared.runs.Progress.TheVariants as progress
 use Rattle.grain_frame.specs.declared.runs.Run.{Run}
 use Rattle.grain_frame.specs.Abstraction.{marked_once, begun_one}
 
--- the run once an operator has given a truth value for the last two operands
+-- the run after an operator has given a truth value for the last two operands
 abbrev pub judged : {H : Type 0} → Run H → Bool → Run H
 judged s truth = record s {
   stacks = record s.stacks {
@@ -20,7 +20,7 @@ judged s truth = record s {
   };
 }
 
--- the run once an integer is loaded
+-- the run after an integer is loaded
 abbrev pub loaded : {H : Type 0} → Run H → ℤ → Run H
 loaded s z = record s {
   stacks = record s.stacks {
@@ -34,7 +34,7 @@ without_two s = record s {
   stacks = record s.stacks { operands = under 2 s.stacks.operands };
 }
 
--- the counts once a load is done and the instruction after it has begun
+-- the counts after a load is done and the instruction after it has begun
 abbrev pub begun_behind : StepsView → StepsView
 begun_behind n = begun_one (marked_once n)
 

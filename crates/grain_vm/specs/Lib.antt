@@ -1,6 +1,6 @@
--- What a machine is seen as. The words of its contracts are passed on: what a program means, and
--- why it ends so. A reader of the public contracts reads VmView and Machines; the others have the
--- words of the contracts inside.
+-- What contracts see of a machine, and the definitions that they name: what a program means, and
+-- why it ends so. The public contracts need only VmView and Machines; the others are for the
+-- contracts inside the crate.
 pub mod VmView
 pub mod MachineView
 pub mod Machines
@@ -9,8 +9,11 @@ pub mod Following
 pub mod Finding
 pub mod Calls
 pub mod Catching
+pub mod Seats
 pub mod Driving
 pub mod Chains
+pub mod Methods
+pub mod Underway
 pub use Rattle.grain_global.specs.StepsView
 pub use Rattle.grain_means.specs.Worlds
 pub use Rattle.grain_means.specs.Rules

@@ -1,4 +1,4 @@
--- A machine, without where its parts lie in memory.
+-- What contracts see of a `Machine`.
 use Rattle.grain_global.specs.declared.engines.Engine.{Engine}
 use Rattle.grain_stack.specs.Views.{StacksView}
 

@@ -28,7 +28,7 @@ finish trace scope cells host global answer =
           global;
     }
 
--- want of memory as a fault
+-- `OutOfMemory` becomes the fault `Memory`
 abbrev pub with_memory_fault : Result (Result Dynamic EvalAltResult) OutOfMemory →
     Result Dynamic EvalAltResult
 with_memory_fault (Ok done) = done

@@ -1,4 +1,4 @@
--- A machine, without where its parts lie in memory.
+-- What contracts see of a `Vm`.
 use Rattle.std.specs.Prelude.{List}
 use Rattle.grain_fault.specs.declared.traces.Fault.{Fault}
 use Rattle.grain_global.specs.declared.engines.Engine.{Engine}

@@ -27,18 +27,18 @@ pub enum Attempt {
 /// An instruction that is still to be done.
 #[derive(Clone, Copy, Debug, PartialEq, Eq)]
 pub enum Pending {
-    /// A call of the function with the name of this index and this number of arguments, after which
+    /// A call of the function whose name has this index, with this number of arguments; afterwards
     /// the frame goes on at the address `next`.
     Call { name: u16, count: u8, next: usize },
-    /// A call of the pointer under this number of operands, after which the frame goes on at the
-    /// address `next`.
+    /// A call of the pointer under the last `count` operands; afterwards the frame goes on at
+    /// the address `next`.
     Pointer { count: u8, next: usize },
-    /// One that calls nothing.
+    /// Any other: neither `call` nor `call_fn_ptr`.
     Other,
 }
 
 impl Attempt {
-    // Whether an instruction was done.
+    // `Done` if the instruction was done, else pending.
     #[inline(always)]
     fn of(done: bool) -> Attempt
         ensures { result ≡ attempt_of done }
@@ -46,7 +46,7 @@ impl Attempt {
         Attempt::or(done, Attempt::Pending(Pending::Other))
     }
 
-    // That an instruction was done, or what else came of it.
+    // `Done` if the instruction was done, else `other`.
     #[inline(always)]
     fn or(done: bool, other: Attempt) -> Attempt
         ensures { result ≡ attempt_or done other }
@@ -56,7 +56,7 @@ impl Attempt {
 }
 
 // Does the instruction at which the frame stands, and perhaps those after it, if it is a common one
-// that takes no memory. Else all is as it was, and it says what is pending.
+// that takes no memory. Else nothing changes, and it says what is pending.
 #[inline(always)]
 pub(crate) fn quick<H: Host, L: Ledger>(
     run: &mut Run<H>,

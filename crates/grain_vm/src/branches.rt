@@ -1,5 +1,5 @@
-//! The branch after a comparison, done in the turn of the comparison. Its truth value is not
-//! pushed.
+//! The branch after a comparison, done in the same turn of the loop. The truth value of the
+//! comparison is not pushed.
 
 ghost use Rattle.std.specs.Prelude.{◌≡◌, ◌<◌, ◌≤◌, ◌∷◌, [], length, Ok, cond, nat_lt};
 ghost use Rattle.grain_means.specs.Rules.{jump_if};
@@ -13,8 +13,8 @@ use grain_host::Host;
 use grain_program::Op;
 use std::sync::ledger::Ledger;
 
-// The branch at which the frame stands, if it stands at one, on the truth value that an
-// operator gives for the last two operands. Where it says false, nothing was done.
+// Does the branch at which the frame stands, if it stands at one, on the truth value that an
+// operator gives for the last two operands. If it says false, nothing was done.
 #[inline(always)]
 pub(crate) fn quick_branch<H: Host, L: Ledger>(
     run: &mut Run<H>,
@@ -47,8 +47,8 @@ pub(crate) fn quick_branch<H: Host, L: Ledger>(
     }
 }
 
-// A branch: on to the target, if the truth value is the wanted one, and else to `next`. It says
-// false where that costs an operation.
+// Does a branch: to the target, if the truth value is the wanted one, and else to `next`. It
+// says false, and does nothing, if that costs an operation.
 #[inline(always)]
 fn branch_to<H: Host, L: Ledger>(
     run: &mut Run<H>,
@@ -88,7 +88,7 @@ fn branch_to<H: Host, L: Ledger>(
     true
 }
 
-// The branch begins, and the operands of its comparison go.
+// Counts the branch as begun, and drops the operands of its comparison.
 #[inline(always)]
 fn branch_begins<H: Host, L: Ledger>(run: &mut Run<H>, steps: &mut Steps<L>)
     requires two { 2 ≤ length run.old.stacks.operands }

@@ -2,14 +2,15 @@
 
 ghost use Rattle.std.specs.Prelude.{ℕ, ◌≡◌, ◌<◌, ◌≤◌, ◌+◌, ◌++◌, ◌∷◌, [], length, OnOk, OnErr, IfOk, List, MatchOption, nat_le, true, false};
 ghost use Rattle.grain_program.specs.Indices.{IsNamed};
-ghost use Rattle.grain_program.specs.View.{source_text};
-ghost use Rattle.grain_fault.specs.Problems.{problem_of};
+ghost use Rattle.grain_program.specs.View.{name_of, source_text};
+ghost use Rattle.grain_fault.specs.Problems.{InFunctionCall, problem_of};
 ghost use Rattle.grain_value.specs.Operands.{arguments, under};
 ghost use Rattle.grain_stack.specs.Views.{StackFrame, with_frame};
 ghost use Rattle.grain_means.specs.Rules.{bound, enter_function, function_entered, resume_caller, propagate};
 ghost use Rattle.grain_means.specs.Simulation.{SimulatesExactly, StopPersists};
-ghost use Rattle.grain_frame.specs.Abstraction.{abstraction, frame_in, is_out, continuation, setup_of};
-ghost use Rattle.grain_vm.specs.Calls.{frame_answer, call_continuation, caller_of, EnterResult, FrameEntered, CallReturned};
+ghost use Rattle.grain_frame.specs.Abstraction.{abstraction, frame_in, is_out, continuation, setup_of, this_of};
+ghost use Rattle.grain_vm.specs.Driving.{beside};
+ghost use Rattle.grain_vm.specs.Calls.{frame_answer, call_continuation, caller_of, EnterResult, FrameEntered, CallReturned, WrapsSo};
 
 use grain_fault::{EvalAltResult, Position};
 use grain_frame::{Activation, Context, Progress, Run};
@@ -25,13 +26,13 @@ use std::sync::ledger::Ledger;
 pub enum FrameEnd {
     /// With a value, which is its last operand, or unit if it has none.
     Value,
-    /// With a fault, which lies in the run.
+    /// With a fault, which the run holds.
     Fault,
 }
 
-// Begins a call: an operation is taken, the level and the variables are tested, the arguments
-// become the entries of a new scope, and the function's frame is entered. It says whether the
-// frame is entered; if not, a fault is raised in the caller's.
+// Begins a call: charges an operation, tests the level and the number of variables, makes the arguments
+// the entries of a new scope, and enters the function's frame. It says whether the frame is entered; if
+// not, a fault is raised in the caller's frame.
 #[inline(always)]
 pub(crate) fn enter_function<H: Host, L: Ledger>(
     run: &mut Run<H>,
@@ -48,7 +49,7 @@ pub(crate) fn enter_function<H: Host, L: Ledger>(
         (abstraction run.old steps.old host.old)
         (λ m place w. enter_function m function.now (length function.now.params)
         (frame_in frame.now run.old place) next w)
-        (is_out result) (abstraction run.new steps.new host.new)
+        (is_out result) (beside run.new.scope (this_of run.old) run.new steps.new host.new)
         (call_continuation result run.old run.new function.now (frame_in frame.now run.old)
         next) }
     ensures enters { EnterResult context.entry.engine.now function.now run.old run.new
@@ -68,7 +69,7 @@ pub(crate) fn enter_function<H: Host, L: Ledger>(
     }
 }
 
-// The same once the operation is taken.
+// The rest of `enter_function`, after the operation is charged.
 #[inline(always)]
 fn function_entered<H: Host, L: Ledger>(
     run: &mut Run<H>,
@@ -84,7 +85,7 @@ fn function_entered<H: Host, L: Ledger>(
         (abstraction run.old steps.old host)
         (λ m place w. function_entered m function.now (length function.now.params)
         (frame_in frame.now run.old place) next w)
-        (is_out result) (abstraction run.new steps.new host)
+        (is_out result) (beside run.new.scope (this_of run.old) run.new steps.new host)
         (call_continuation result run.old run.new function.now (frame_in frame.now run.old)
         next) }
     ensures enters { FrameEntered function.now run.old run.new result }
@@ -106,8 +107,8 @@ fn function_entered<H: Host, L: Ledger>(
     Ok(true)
 }
 
-// The scope is put aside, the last operands become the entries of a new one, and the
-// function's frame is entered. After want of memory all is as it was.
+// Puts the scope aside, makes the last operands the entries of a new one, and enters the function's
+// frame. If memory runs out, nothing changes.
 #[inline(always)]
 fn enter_frame<H: Host>(
     run: &mut Run<H>,
@@ -136,8 +137,8 @@ fn enter_frame<H: Host>(
     }
 }
 
-// The last operands become the entries of the scope, which is empty, and the function's frame
-// is entered. After want of memory all is as it was.
+// Makes the last operands the entries of the scope, which is empty, and enters the function's frame. If
+// memory runs out, nothing changes.
 #[inline(always)]
 fn bind<H: Host>(
     run: &mut Run<H>,
@@ -164,8 +165,9 @@ fn bind<H: Host>(
     )
 }
 
-// A fault that left the body of a function is raised in its caller's frame: a system exception at the
-// position of the call, and any other with the function that it left.
+// Raises in the caller's frame the fault that left the body of a function. One that cannot be
+// caught gets the position of the call; any other is wrapped in `ErrorInFunctionCall`, which
+// names the function.
 #[cold]
 #[inline(never)]
 fn propagate<H: Host, L: Ledger>(
@@ -200,8 +202,57 @@ fn propagate<H: Host, L: Ledger>(
     Ok(run.raise(steps, fault))
 }
 
-// A called function is over: its frame is left, its caller's scope and level are back, and its
-// caller goes on with its answer.
+// The fault of a call at this position, after a fault left the body of the function. One that cannot be
+// caught gets this position; any other is wrapped in `ErrorInFunctionCall`, at a mark. It is `Memory` if
+// memory runs out.
+pub(crate) fn wrapped<H: Host, L: Ledger>(
+    run: &Run<H>,
+    context: Context<'_>,
+    steps: &mut Steps<L>,
+    pos: Position,
+    function: &Function,
+    fault: EvalAltResult,
+) -> EvalAltResult
+    requires named { IsNamed context.program.now function.now }
+    ensures wraps { WrapsSo context.entry.program.now function.now pos (problem_of fault)
+        (problem_of result) steps.old steps.new }
+    ensures before { steps.new.before ≡ steps.old.before }
+{
+    if !fault.is_catchable() {
+        let mut fault = fault;
+        fault.set_position(pos);
+        return fault;
+    }
+    match in_function(run, context, pos, function, fault) {
+        Ok(fault) => {
+            steps.mark();
+            fault
+        }
+        Err(OutOfMemory) => EvalAltResult::Memory,
+    }
+}
+
+// Wraps a fault in `ErrorInFunctionCall`, with the function's name and the name of its script.
+fn in_function<H: Host>(
+    run: &Run<H>,
+    context: Context<'_>,
+    pos: Position,
+    function: &Function,
+    fault: EvalAltResult,
+) -> Result<EvalAltResult, OutOfMemory>
+    requires named { IsNamed context.program.now function.now }
+    ensures { IfOk result (λ x. problem_of x ≡ InFunctionCall
+        (name_of context.entry.program.now function.now.name)
+        (source_text context.entry.program.now) (problem_of fault) pos) }
+{
+    let name = context.program.name(function.name).copy(run.alloc)?;
+    let source = source_of(run.alloc, context.program)?;
+    let inner = Box::new(run.alloc, fault)?;
+    Ok(EvalAltResult::ErrorInFunctionCall(name, source, inner, pos))
+}
+
+// Ends the call of a function: leaves its frame, puts the caller's scope and level back, and goes on in
+// the caller with the answer.
 #[inline(always)]
 pub(crate) fn resume_caller<H: Host, L: Ledger>(
     run: &mut Run<H>,
@@ -264,9 +315,9 @@ fn source_of(alloc: Global, program: &Program) -> Result<Text, OutOfMemory>
     }
 }
 
-// One level more, if the limit allows it.
+// The level of a further call, if the limit allows one.
 #[inline(always)]
-fn deeper(level: usize, levels: usize) -> Option<usize>
+pub(crate) fn deeper(level: usize, levels: usize) -> Option<usize>
     ensures { MatchOption result (nat_le levels level ≡ true)
         (λ more. (more ≡ level + 1) × (nat_le levels level ≡ false)) }
 {

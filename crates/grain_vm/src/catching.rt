@@ -30,10 +30,9 @@ fn throws_unit(fault: &EvalAltResult) -> bool
     }
 }
 
-// A fault of a frame, which lies in the run, is offered to the frame's handlers. It says at
-// which address the frame goes on, or that the fault has left it. Of the frame it is given the
-// address, the floor and the slot of the step that is blamed alone, so that the loop can hold it in
-// registers.
+// Offers a fault of a frame, which the run holds, to the frame's handlers. It says at which address the
+// frame goes on, or None if the fault has left the frame. Of the frame it is given only the address,
+// the floor and the slot of the step that is blamed, so that the loop can hold the frame in registers.
 #[cold]
 #[inline(never)]
 pub(crate) fn catch<H: Host, L: Ledger>(
@@ -79,8 +78,8 @@ pub(crate) fn catch<H: Host, L: Ledger>(
     }
 }
 
-// The armed handler that catches the fault, if there is one. Those inside of it, which have
-// caught, are left: where unit is thrown, what they caught is thrown anew.
+// Takes the armed handler that catches the fault, if there is one. Before that it takes away the
+// handlers inside it, which have caught. If unit was thrown, what they caught is raised in its place.
 fn catching_handler<H: Host>(run: &mut Run<H>) -> Option<Handler>
     ensures same { (m : Setup H) (f : Frame) (w : World H) →
         offered_to m (handlers_in run.old.stacks.handlers) f (problem_of run.old.fault) w
@@ -99,8 +98,8 @@ fn catching_handler<H: Host>(run: &mut Run<H>) -> Option<Handler>
     Some(run.stacks.pop_handler())
 }
 
-// Handlers that have caught are left, the innermost first, and where unit is thrown, what they
-// caught is thrown anew.
+// Takes away the handlers that have caught, the innermost first. If unit was thrown, what they
+// caught is raised in its place.
 fn leave_caught<H: Host>(run: &mut Run<H>)
     ensures same { (m : Setup H) (f : Frame) (w : World H) →
         offered_to m (handlers_in run.old.stacks.handlers) f (problem_of run.old.fault) w
@@ -123,7 +122,8 @@ fn leave_caught<H: Host>(run: &mut Run<H>)
     }
 }
 
-// What was caught takes the place of a throw of unit, at the position of the throw.
+// If the fault of the run is a throw of unit, replaces it by what was caught, at the
+// position of the throw.
 fn rethrow<H: Host>(run: &mut Run<H>, caught: EvalAltResult)
     ensures same { problem_of run.new.fault
         ≡ thrown_anew (problem_of caught) (problem_of run.old.fault) }
@@ -136,10 +136,11 @@ fn rethrow<H: Host>(run: &mut Run<H>, caught: EvalAltResult)
     }
 }
 
-// A handler catches the fault, which was raised at the address. Where the scope is shorter than at
-// the handler's push, the trace is cut, and that is a fault. Else the operands and the scope are cut
-// too, its variable is bound, it has caught, and an operation is taken at its target.
-// It says whether the frame goes on there; if not, a fault is raised, which leaves the frame.
+// Catches the fault, which was raised at the address, by a handler. First the trace is emptied. If
+// the scope is shorter than when the handler was pushed, that is a fault. Else the operands and the
+// scope are cut back to their lengths at the push, the handler's variable is bound, the handler is
+// pushed again with what it caught, and an operation is charged at its target. It says whether the
+// frame goes on there; if not, a fault is raised, which leaves the frame.
 fn catch_by<H: Host, L: Ledger>(
     run: &mut Run<H>,
     context: Context<'_>,
@@ -193,8 +194,8 @@ fn catch_by<H: Host, L: Ledger>(
     run.charge(context, host, steps, target as usize)
 }
 
-// The variable of a catch, if the handler has one, with what was caught. It says whether it is
-// bound; if not, a fault is raised at the target.
+// Binds the variable of the handler, if it has one, to what was caught. It says whether that is
+// done; if not, a fault is raised at the target.
 fn bind_caught<H: Host, L: Ledger>(
     run: &mut Run<H>,
     context: Context<'_>,

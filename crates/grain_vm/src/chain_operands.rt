@@ -1,4 +1,5 @@
-//! The operands of a chain: what its steps use, what it assigns, and its root, if that is one.
+//! The operands of a chain: what its steps use, what it assigns, and its root, if the
+//! root is an operand.
 
 ghost use Rattle.std.specs.Prelude.{◌≡◌, ◌<◌, ◌≤◌, length, IfOk, Option, true};
 ghost use Rattle.grain_value.specs.Operands.{top};
@@ -16,15 +17,15 @@ use grain_program::{Chain, Root, Tail};
 use grain_value::{Array, Dynamic, Held, OutOfMemory};
 use std::alloc::Global;
 
-/// What a chain uses of the operands, but for its root: copies of what its steps use, and of what the
-/// cell holds that it assigns, if it assigns one.
+/// Copies of a chain's operands without the root: `operands` of those of its steps, and `kept` of the
+/// content of the cell that it assigns, if it assigns a cell.
 #[derive(Drop)]
 pub struct Taken {
     pub operands: Array,
     pub kept: Option<Dynamic>,
 }
 
-// Copies of what is held.
+// Copies of the values that these hold.
 fn copies_of(alloc: Global, held: &[Held]) -> Result<Array, OutOfMemory>
     ensures { IfOk result (λ all. all ≡ trees_in held.now) }
 {
@@ -35,7 +36,8 @@ fn copies_of(alloc: Global, held: &[Held]) -> Result<Array, OutOfMemory>
     Ok(all)
 }
 
-// The value that a chain assigns: what was kept of its cell, or the operand itself.
+// The value that a chain assigns: the copy that was kept, if the operand is a cell, or else
+// the operand itself.
 fn value_of(kept: Option<Dynamic>, operand: Held) -> Dynamic
     ensures { result ≡ kept_value kept operand.value }
 {
@@ -45,7 +47,7 @@ fn value_of(kept: Option<Dynamic>, operand: Held) -> Dynamic
     }
 }
 
-// Copies of what a chain uses of the operands, but for its root.
+// Copies of a chain's operands without the root.
 pub(crate) fn copy_operands<H: Host>(run: &Run<H>, chain: &Chain) -> Result<Taken, OutOfMemory>
     requires operands { HasChainOperands chain.now run.now.stacks.operands }
     requires readable { can_read run.now.cells chain.now.tail
@@ -57,7 +59,7 @@ pub(crate) fn copy_operands<H: Host>(run: &Run<H>, chain: &Chain) -> Result<Take
     Ok(Taken { operands, kept })
 }
 
-// Copies of what the steps of a chain use.
+// Copies of the operands of a chain's steps.
 fn copy_used<H: Host>(run: &Run<H>, chain: &Chain) -> Result<Array, OutOfMemory>
     requires operands { HasChainOperands chain.now run.now.stacks.operands }
     ensures { IfOk result (λ all.
@@ -69,7 +71,7 @@ fn copy_used<H: Host>(run: &Run<H>, chain: &Chain) -> Result<Array, OutOfMemory>
     copies_of(run.alloc, used)
 }
 
-// A copy of what the cell holds that a chain assigns, if it assigns one.
+// A copy of the content of the cell that a chain assigns, if it assigns a cell.
 fn keep_assigned<H: Host>(run: &Run<H>, chain: &Chain) -> Result<Option<Dynamic>, OutOfMemory>
     requires operands { HasChainOperands chain.now run.now.stacks.operands }
     requires readable { can_read run.now.cells chain.now.tail
@@ -86,7 +88,7 @@ fn keep_assigned<H: Host>(run: &Run<H>, chain: &Chain) -> Result<Option<Dynamic>
     }
 }
 
-// Takes the root from the operands, if it is one.
+// Takes the root from the operands, if the root is an operand.
 fn take_root_operand<H: Host>(run: &mut Run<H>, root: Root) -> Held
     requires { root_operands root ≤ length run.old.stacks.operands }
     ensures value { result ≡ root_operand root run.old.stacks.operands }
@@ -97,7 +99,7 @@ fn take_root_operand<H: Host>(run: &mut Run<H>, root: Root) -> Held
     } }
 {
     match root {
-        Root::Local { .. } => Held::read_write(Dynamic::Unit),
+        Root::Local { .. } | Root::This { .. } => Held::read_write(Dynamic::Unit),
         Root::Temporary => run.stacks.pop(),
     }
 }
@@ -118,8 +120,8 @@ fn take_value<H: Host>(run: &mut Run<H>, tail: Tail, kept: Option<Dynamic>) -> D
     }
 }
 
-// Takes a chain's operands: the root, if it is one, and what the chain assigns, if it assigns
-// something.
+// Takes a chain's operands, and gives the root, if the root is an operand, and what the chain
+// assigns, if it assigns something.
 pub(crate) fn take_operands<H: Host>(
     run: &mut Run<H>,
     chain: &Chain,

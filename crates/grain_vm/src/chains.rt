@@ -1,101 +1,212 @@
-//! Chains: a walk along a place such as `a.b[i].c`, from a root and back to where it was held.
+//! Chains such as `a.b[i].c`: how the walk of one begins at its root, and how it ends with the root put
+//! back where it was held.
 
-ghost use Rattle.std.specs.Prelude.{◌≡◌, ◌<◌, ◌≤◌, ◌∷◌, [], ℕ, List, length, Option};
-ghost use Rattle.grain_value.specs.Looking.{cell_of};
-ghost use Rattle.grain_value.specs.Operands.{under};
-ghost use Rattle.grain_value.specs.declared.scopes.Entry.{Entry};
+ghost use Rattle.std.specs.Prelude.{◌≡◌, ◌<◌, ◌≤◌, ◌∷◌, [], ℕ, length, Option};
 ghost use Rattle.grain_value.specs.declared.values.Held.{Held};
-ghost use Rattle.grain_program.specs.Chains.{chain_takes};
-ghost use Rattle.grain_program.specs.Effects.{takes_of};
 ghost use Rattle.grain_program.specs.Indices.{HasChain, InPools, IsRootIndexed};
 ghost use Rattle.grain_program.specs.View.{chain_of, position_of};
 ghost use Rattle.grain_program.specs.declared.code.instruction_set.Op.TheVariants as op;
-ghost use Rattle.grain_chain.specs.Walking.{HasOperator, new_course, no_memory, steps_of};
-ghost use Rattle.grain_means.specs.Worlds.{Frame, Place, World};
+ghost use Rattle.grain_chain.specs.Walking.{Falls, no_memory};
 ghost use Rattle.grain_fault.specs.Problems.{Plain, DataRace, problem_of};
-ghost use Rattle.grain_means.specs.Walks.{whole_walk};
-ghost use Rattle.grain_means.specs.Rules.{race_text, trees_in};
-ghost use Rattle.grain_means.specs.Rules.Chains.{assigned_operand, chain_in, chain_over, root_name, steps_operands, walk_from, walk_root};
-ghost use Rattle.grain_means.specs.Simulation.{SimulatesExactly, StopPersists};
-ghost use Rattle.grain_frame.specs.Abstraction.{abstraction, frame_in, is_out, Implements, Performs, Raises, ReadyIn, setup_of, moment};
-ghost use Rattle.grain_vm.specs.Driving.{beside, end_of, end_is_out};
-ghost use Rattle.grain_vm.specs.Chains.{HasChainOperands, RootFound, TakesCopies, CanTake, value_taken, walked_frame};
+ghost use Rattle.grain_means.specs.Rules.{instr, race_text};
+ghost use Rattle.grain_means.specs.Rules.Chains.{chain_in, chain_over, root_name};
+ghost use Rattle.grain_means.specs.Simulation.{StopPersists};
+ghost use Rattle.grain_frame.specs.Abstraction.{frame_in, is_out, Implements, Raises, ReadyIn, setup_of, moment};
+ghost use Rattle.grain_vm.specs.Driving.{end_of, end_is_out};
+ghost use Rattle.grain_vm.specs.Chains.{CanPutBack, CanTake, HasChainOperands, RootFound, TakesCopies, walked_frame};
+ghost use Rattle.grain_vm.specs.Underway.{Begins, BeginsWaiting, Finishes, Starts};
 
 use crate::chain_operands::{Taken, copy_operands, take_operands};
-use crate::driving::{WalkEnd, drive};
-use crate::roots::{FoundRoot, find_root, is_free, put_root_back, refuse_chain, take_root};
-use grain_chain::Walk;
+use crate::driving::WalkEnd;
+use crate::roots::{FoundRoot, Home, find_root, is_free, put_root_back, refuse_chain, take_root};
+use grain_chain::{Walk, WalkAnswer};
 use grain_fault::EvalAltResult;
 use grain_frame::{Activation, Context, Progress, Run};
 use grain_global::Steps;
 use grain_host::Host;
 use grain_program::Root;
-use grain_value::{Array, Dynamic, Held, OutOfMemory};
+use grain_value::{Held, OutOfMemory};
 use std::sync::ledger::Ledger;
 
-// `chain`: a walk along a place. Until it is over its first step is blamed, and then the one at
-// which it failed.
-#[inline(never)]
-pub(crate) fn chain<H: Host, L: Ledger>(
+/// A chain whose walk is under way: the walk; where its root is held, and whether it was read-only
+/// there; the index of the chain; the slot of the step that the frame blamed before, if any; and the
+/// address at which the frame goes on afterwards.
+#[derive(Drop)]
+pub struct Walking {
+    pub walk: Walk,
+    home: Home,
+    was_read_only: bool,
+    index: u32,
+    blamed: Option<u32>,
+    next: usize,
+}
+
+/// How a chain began.
+#[derive(Drop)]
+pub enum Begun {
+    /// A fault is raised, and no walk begins.
+    Refused,
+    /// A walk began, and has come to this answer.
+    Walks(Walking, WalkAnswer),
+}
+
+// `chain`: begins the walk of a chain. From here on the frame blames the chain's first step. Once the
+// walk is over, the frame blames the step at which it failed, or, if it gave a value, the step that
+// it blamed before.
+pub(crate) fn begin_chain<H: Host, L: Ledger>(
     run: &mut Run<H>,
     context: Context<'_>,
-    host: &mut H,
     steps: &mut Steps<L>,
     frame: &mut Activation,
     index: u16,
     next: usize,
-) -> Result<Progress, OutOfMemory>
+) -> Result<Begun, OutOfMemory>
     requires ready { ReadyIn context.program.now frame.old run.old (op.Chain index) next }
     requires pools { InPools context.program.now (op.Chain index) }
-    ensures performs { Performs (setup_of H.law context.entry)
-        (moment frame.old run.old steps.old host.old) (op.Chain index) next result
-        (moment frame.new run.new steps.new host.new) }
+    ensures begins { (host : H) → Begins (setup_of H.law context.entry)
+        (moment frame.old run.old steps.old host)
+        (λ m place w. instr m (op.Chain index) next (frame_in frame.old run.old place) w)
+        index next frame.old.slot result frame.new run.new steps.new }
+    ensures blames { frame.new ≡ record frame.old { slot = frame.new.slot } }
+    ensures waits { BeginsWaiting context.entry.program.now result }
 {
     let index = u32::from(index);
     let blamed = frame.slot;
     frame.slot = Some(context.program.step_slot(index, 0));
-    chain_blamed(run, context, host, steps, frame, index, blamed, next)
+    begin_blamed(run, context, steps, frame, index, blamed, next)
 }
 
 // The same in a frame whose slot is that of the first step. Once the walk has given a value, the frame
 // has the slot again that it had before, `blamed`.
-fn chain_blamed<H: Host, L: Ledger>(
+fn begin_blamed<H: Host, L: Ledger>(
     run: &mut Run<H>,
     context: Context<'_>,
-    host: &mut H,
     steps: &mut Steps<L>,
-    frame: &mut Activation,
+    frame: &Activation,
     index: u32,
     blamed: Option<u32>,
     next: usize,
-) -> Result<Progress, OutOfMemory>
-    requires ready { ReadyIn context.program.now frame.old run.old (op.Chain index) next }
+) -> Result<Begun, OutOfMemory>
+    requires ready { ReadyIn context.program.now frame.now run.old (op.Chain index) next }
     requires pools { HasChain context.program.now index }
-    ensures implements { Implements (setup_of H.law context.entry)
-        (moment frame.old run.old steps.old host.old)
+    ensures begins { (host : H) → Begins (setup_of H.law context.entry)
+        (moment frame.now run.old steps.old host)
         (λ m place w. chain_in m index (chain_of m.program index) next
-        (frame_in frame.old run.old place)
-        (walked_frame frame.old run.old (chain_of context.entry.program.now index) blamed place)
-        w) (next ∷ []) (takes_of context.entry.program.now (op.Chain index)) 1
-        run.old.stacks.handlers result (moment frame.new run.new steps.new host.new) }
+        (frame_in frame.now run.old place)
+        (walked_frame frame.now run.old (chain_of context.entry.program.now index) blamed place) w)
+        index next blamed result frame.now run.new steps.new }
+    ensures waits { BeginsWaiting context.entry.program.now result }
 {
     let chain = context.program.chain(index);
-    let root = match find_root(run, frame, chain) {
+    let root = match find_root(run, context.program, frame, chain) {
         Ok(root) => root,
         Err(refusal) => {
-            return refuse_chain(run, context, steps, frame.address, chain.root, refusal);
+            refuse_chain(run, context, steps, frame.address, chain.root, refusal)?;
+            return Ok(Begun::Refused);
         }
     };
     let taken = copy_operands(run, chain)?;
     steps.mark();
     if !is_free(run, root.home) {
-        return race_at_root(run, context, steps, frame.address, chain.root);
+        race_at_root(run, context, steps, frame.address, chain.root)?;
+        return Ok(Begun::Refused);
     }
-    let end = walk_from(run, context, host, steps, frame, index, root, taken);
+    let (walk, answer, was_read_only) = start_walk(run, context, steps, frame, index, root, taken);
+    let walking = Walking {
+        walk,
+        home: root.home,
+        was_read_only,
+        index,
+        blamed,
+        next,
+    };
+    Ok(Begun::Walks(walking, answer))
+}
+
+// Takes a chain's operands and its root, and starts a walk at the root. It gives the walk, its first
+// answer, and whether the root was read-only where it was held.
+fn start_walk<H: Host, L: Ledger>(
+    run: &mut Run<H>,
+    context: Context<'_>,
+    steps: &mut Steps<L>,
+    frame: &Activation,
+    index: u32,
+    root: FoundRoot,
+    taken: Taken,
+) -> (Walk, WalkAnswer, bool)
+    requires chain { HasChain context.program.now index }
+    requires operands { HasChainOperands (chain_of context.program.now index) run.old.stacks.operands }
+    requires home { CanTake run.old root.home }
+    ensures starts { (h : Held) (blamed : Option ℕ) (next : ℕ) (host : H) →
+        RootFound context.entry.program.now run.old frame.now.base
+        (chain_of context.entry.program.now index) root h →
+        TakesCopies run.old (chain_of context.entry.program.now index) taken →
+        Starts (setup_of H.law context.entry) frame.now run.old steps.old host root h taken index
+        next blamed result.0 result.1 result.2 run.new steps.new }
+    ensures waits { (n : ℕ) × Falls context.entry.program.now result.0 result.1 n }
+    ensures before { steps.new.before ≡ steps.old.before }
+{
+    let chain = context.program.chain(index);
+    let (operand, value) = take_operands(run, chain, taken.kept);
+    let held = take_root(run, root.home, operand);
+    let was_read_only = held.read_only;
+    let lent = Held {
+        value: held.value,
+        read_only: root.read_only,
+    };
+    let (walk, answer) = Walk::start(
+        run.alloc,
+        context.engine,
+        context.program,
+        &run.cells,
+        lent,
+        index,
+        taken.operands,
+        value,
+        context.program.position(frame.address),
+    );
+    steps.mark_all(walk.marks());
+    (walk, answer, was_read_only)
+}
+
+// Ends a chain whose walk is over: puts its root back where it was held, and pushes its value or
+// raises its fault.
+pub(crate) fn finish_chain<H: Host, L: Ledger>(
+    run: &mut Run<H>,
+    context: Context<'_>,
+    steps: &mut Steps<L>,
+    frame: &mut Activation,
+    walking: Walking,
+    end: WalkEnd,
+) -> Result<Progress, OutOfMemory>
+    requires chain { walking.index < length context.program.now.chains }
+    requires back { CanPutBack run.old walking.home }
+    requires inside { frame.old.base ≤ length run.old.scope }
+    requires room { length run.old.stacks.operands < run.old.stacks.room }
+    requires ahead { frame.old.address < walking.next }
+    ensures finishes { (host : H) → Finishes (setup_of H.law context.entry) frame.old run.old
+        steps.old host walking end result frame.new run.new steps.new }
+    ensures carries { StopPersists (end_is_out end) steps.old.passed (is_out result)
+        steps.new.passed }
+{
+    let Walking {
+        walk,
+        home,
+        was_read_only,
+        index,
+        blamed,
+        next,
+    } = walking;
+    let left = walk.finish();
+    let back = Held {
+        value: left.value,
+        read_only: was_read_only,
+    };
+    put_root_back(run, home, back);
     end_chain(run, context, steps, frame, index, end, blamed, next)
 }
 
-// The root of a chain is a cell that is lent.
+// Raises the fault that the chain's root is a lent cell.
 #[cold]
 #[inline(never)]
 fn race_at_root<H: Host, L: Ledger>(
@@ -115,125 +226,11 @@ fn race_at_root<H: Host, L: Ledger>(
             let name = context.program.name(name);
             run.data_race(context, steps, address, name.as_str())
         }
-        Root::Temporary => run.data_race(context, steps, address, ""),
+        Root::This { .. } | Root::Temporary => run.data_race(context, steps, address, ""),
     }
 }
 
-// A walk from a root to its end: how it ended, and the root as it was left.
-fn walk_once<H: Host, L: Ledger>(
-    run: &mut Run<H>,
-    context: Context<'_>,
-    host: &mut H,
-    steps: &mut Steps<L>,
-    address: usize,
-    index: u32,
-    root: Held,
-    operands: Array,
-    value: Dynamic,
-) -> (WalkEnd, Held)
-    requires known { HasOperator context.program.now ((chain_of context.program.now index).tail) }
-    ensures same { (g : Option Place → Frame) (next : ℕ) (scope : List Entry)
-        (back : Held → World H → World H) →
-        SimulatesExactly (setup_of H.law context.entry)
-        (beside scope run.old steps.old host.old)
-        (λ m place w. walk_from m index (whole_walk (new_course context.entry.engine.now
-        context.entry.program.now (position_of context.entry.program.now address) index operands
-        value) (steps_of context.entry.program.now index)) next (g place) root back w)
-        (end_is_out result.0) (beside scope run.new steps.new host.new)
-        (λ m place w. chain_over m index next (g place) (end_of result.0) (back result.1 w)) }
-    ensures run { run.new ≡ run.old }
-    ensures before { steps.new.before ≡ steps.old.before }
-    ensures flag { result.1.read_only ≡ root.read_only }
-{
-    let (mut walk, answer) = Walk::start(
-        run.alloc,
-        context.engine,
-        context.program,
-        &run.cells,
-        root,
-        index,
-        operands,
-        value,
-        context.program.position(address),
-    );
-    steps.mark_all(walk.marks());
-    let end = drive(run, context, host, steps, &mut walk, answer);
-    (end, walk.finish())
-}
-
-// Takes a chain's operands and its root, and walks from it. The root then goes back to where it
-// was held.
-fn walk_from<H: Host, L: Ledger>(
-    run: &mut Run<H>,
-    context: Context<'_>,
-    host: &mut H,
-    steps: &mut Steps<L>,
-    frame: &Activation,
-    index: u32,
-    root: FoundRoot,
-    taken: Taken,
-) -> WalkEnd
-    requires chain { HasChain context.program.now index }
-    requires operands { HasChainOperands (chain_of context.program.now index) run.old.stacks.operands }
-    requires home { CanTake run.old root.home }
-    ensures same { (h : Held) (blamed : Option ℕ) (next : ℕ) →
-        RootFound run.old frame.now.base (chain_of context.entry.program.now index) root h →
-        TakesCopies run.old (chain_of context.entry.program.now index) taken →
-        SimulatesExactly (setup_of H.law context.entry) (abstraction run.old steps.old host.old)
-        (λ m place w. walk_root m (cell_of h.value) h index
-        (chain_of context.entry.program.now index)
-        (whole_walk (new_course context.entry.engine.now
-        context.entry.program.now (position_of context.entry.program.now frame.now.address) index
-        (trees_in (steps_operands (chain_of context.entry.program.now index)
-        run.old.stacks.operands))
-        (value_taken ((chain_of context.entry.program.now index).tail) taken.kept
-        (assigned_operand (chain_of context.entry.program.now index) run.old.stacks.operands)))
-        (steps_of context.entry.program.now index)) next (frame_in frame.now run.old place)
-        (walked_frame frame.now run.old (chain_of context.entry.program.now index) blamed place)
-        w) (end_is_out result) (abstraction run.new steps.new host.new)
-        (λ m place w. chain_over m index next
-        (walked_frame frame.now run.old (chain_of context.entry.program.now index) blamed place)
-        (end_of result) w) }
-    ensures rest { run.new ≡ record run.old {
-      stacks = record run.old.stacks {
-        operands = under (chain_takes (chain_of context.entry.program.now index))
-            run.old.stacks.operands;
-      };
-      scope = run.new.scope;
-      cells = run.new.cells;
-    } }
-    ensures long { length run.new.scope ≡ length run.old.scope }
-    ensures before { steps.new.before ≡ steps.old.before }
-{
-    let chain = context.program.chain(index);
-    let (operand, value) = take_operands(run, chain, taken.kept);
-    let held = take_root(run, root.home, operand);
-    let was_read_only = held.read_only;
-    let lent = Held {
-        value: held.value,
-        read_only: root.read_only,
-    };
-    let (end, left) = walk_once(
-        run,
-        context,
-        host,
-        steps,
-        frame.address,
-        index,
-        lent,
-        taken.operands,
-        value,
-    );
-    let back = Held {
-        value: left.value,
-        read_only: was_read_only,
-    };
-    put_root_back(run, root.home, back);
-    end
-}
-
-// A walk is over: its value is the last operand, or its fault is raised, for which its step is
-// blamed.
+// Ends the instruction: pushes the walk's value, or raises its fault, blaming the step.
 fn end_chain<H: Host, L: Ledger>(
     run: &mut Run<H>,
     context: Context<'_>,
@@ -273,7 +270,7 @@ fn end_chain<H: Host, L: Ledger>(
     }
 }
 
-// Whether a fault says that memory was out.
+// Whether a fault says that memory ran out.
 fn is_want(fault: &EvalAltResult) -> bool
     ensures { result ≡ no_memory (problem_of fault.now) }
 {

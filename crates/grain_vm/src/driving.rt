@@ -1,22 +1,28 @@
-//! Walks of chains, driven: what a walk needs is asked of the host, until the walk is over.
+//! Drives the walks of chains: asks the host for what a walk needs, until the walk is over or calls a
+//! function of the program.
 
-ghost use Rattle.std.specs.Prelude.{◌≡◌, ◌∷◌, [], ℕ, List, Option, Bool, IfOk};
+ghost use Rattle.std.specs.Prelude.{◌≡◌, ◌+◌, ◌∷◌, [], ℕ, List, length, Option, Bool, IfOk};
 ghost use Rattle.grain_value.specs.View.{tree};
 ghost use Rattle.grain_value.specs.declared.values.Held.{Held};
 ghost use Rattle.grain_value.specs.declared.scopes.Entry.{Entry};
 ghost use Rattle.grain_fault.specs.Problems.{Plain, DataRace};
-ghost use Rattle.grain_means.specs.Worlds.{Setup, Frame, Place, World, Act, Answer};
-ghost use Rattle.grain_means.specs.Tasks.{Task, Walked, Need, Done};
-ghost use Rattle.grain_means.specs.Driving.{walk_act, LentAt, lent_back, all_given};
-ghost use Rattle.grain_means.specs.Simulation.{SimulatesExactly, StopPersists};
+ghost use Rattle.grain_means.specs.Worlds.{Setup, Frame, Place};
+ghost use Rattle.grain_means.specs.Tasks.{Need};
+ghost use Rattle.grain_means.specs.Driving.{all_given};
+ghost use Rattle.grain_means.specs.Simulation.{StopPersists};
 ghost use Rattle.grain_means.specs.lemmas.Spreading.{Rooted};
-ghost use Rattle.grain_means.specs.Rules.Natives.{Home};
+ghost use Rattle.grain_means.specs.Rules.Homes.{Home};
 ghost use Rattle.grain_means.specs.Rules.{race_text, trees_in};
-ghost use Rattle.grain_chain.specs.Walking.{call_for, name_asked, outcome_of, is_want, is_out, Falls, left_to_do, roots_at};
+ghost use Rattle.grain_chain.specs.Walking.{call_for, CanCall, is_out, is_want, left_to_do, outcome_of, resumed, roots_at, roots_of, still, with_receiver, Did, Falls, Waits};
 ghost use Rattle.grain_program.specs.View.{View};
+ghost use Rattle.grain_frame.specs.Abstraction.{setup_of};
 ghost use Rattle.grain_frame.specs.Natives.{Seeks};
-ghost use Rattle.grain_vm.specs.Driving.{beside, DescribesAfter, ReadsAll, lent_from, RaisesOne, HearsHost, SameFlag, IgnoresChange, end_of, end_is_out};
+ghost use Rattle.grain_vm.specs.Driving.{beside, left_of, name_in, Answers, DescribesAfter, IsNative, ReadsAll, lent_from, RaisesOne, HearsHost, SameFlag, IgnoresChange};
+ghost use Rattle.grain_vm.specs.Methods.{ServesRequest};
+ghost use Rattle.grain_vm.specs.Seats.{Rests, Seat, Seated, first_held, walk_seated};
+ghost use Rattle.grain_vm.specs.Underway.{DrivesTo, RootedTo, WaitsFor, driven_is_out};
 
+use crate::methods::{MethodCall, Needed, Outcome, resolve_request};
 use grain_chain::{Request, Walk, WalkAnswer, What};
 use grain_fault::{EvalAltResult, Position};
 use grain_frame::{Arguments, Context, NativeEnd, Run, Sought, served};
@@ -31,13 +37,12 @@ use std::sync::ledger::Ledger;
 pub enum WalkEnd {
     /// With this value.
     Value(Dynamic),
-    /// With this fault, for which the step of this number is blamed. `Memory` says that memory was
-    /// out.
+    /// With this fault, for which the step of this number is blamed. `Memory` says that memory ran out.
     Fault { fault: EvalAltResult, step: usize },
 }
 
-// What is known of the arguments of a native before the first: the kind of what is lent, if anything
-// is, and whether that can only be read.
+// The description of a native's arguments that holds the receiver alone, if there is one: its kind,
+// and whether it is read-only.
 fn begin_arguments(alloc: Global, lent: &Option<Held>) -> Result<Arguments, OutOfMemory>
     ensures { IfOk result (λ a. DescribesAfter lent.now a []) }
 {
@@ -49,8 +54,8 @@ fn begin_arguments(alloc: Global, lent: &Option<Held>) -> Result<Arguments, OutO
     Ok(arguments)
 }
 
-// Values as they are read, as arguments after what is lent; or nothing if one of them is a cell whose
-// content is lent.
+// The description of the receiver, if there is one, and of the arguments after it, each as it is read.
+// Returns None if one of these is a lent cell.
 fn read_all(
     alloc: Global,
     cells: &Store,
@@ -72,7 +77,7 @@ fn read_all(
     Ok(Some(arguments))
 }
 
-// A copy of a value, and then others.
+// A copy of a value, followed by others.
 fn with_first(alloc: Global, first: &Dynamic, others: &Array) -> Result<Array, OutOfMemory>
     ensures { IfOk result (λ all. all ≡ tree first.now ∷ others.now) }
 {
@@ -84,7 +89,8 @@ fn with_first(alloc: Global, first: &Dynamic, others: &Array) -> Result<Array, O
     Ok(all)
 }
 
-// Copies of all that a native would be given: of what is lent, if anything is, and of its arguments.
+// Copies of all that a native would be given: of the receiver, if there is one, and of the
+// arguments after it.
 fn all_values(alloc: Global, lent: &Option<Held>, values: Array) -> Result<Array, OutOfMemory>
     ensures { (args : List Held) → values ≡ trees_in args →
         IfOk result (λ all. all ≡ trees_in (all_given lent.now args)) }
@@ -95,8 +101,8 @@ fn all_values(alloc: Global, lent: &Option<Held>, values: Array) -> Result<Array
     }
 }
 
-// What the host has for a name, for what is lent, if anything is, and for arguments, where a fault has
-// this position.
+// Looks for the host's native of a name, for a receiver, if there is one, and arguments. If there is
+// none that may be called, it gives the fault, with this position.
 fn seek_lending<H: Host>(
     alloc: Global,
     host: &H,
@@ -132,14 +138,16 @@ fn seek_lending<H: Host>(
 
 // The name of the native that is asked for.
 fn name_asked(what: &What) -> &Text
-    ensures { result.now ≡ name_asked what.now }
+    requires native { IsNative what.now }
+    ensures { result.now ≡ name_in what.now }
 {
     match what {
         What::Native(name) => name,
+        What::Compiled(_) | What::Pointer(_) => unreachable!(),
     }
 }
 
-// An argument is a cell whose content is lent.
+// Makes the fault that an argument is a lent cell.
 #[cold]
 #[inline(never)]
 fn raise_race<L: Ledger>(alloc: Global, steps: &mut Steps<L>, position: Position) -> EvalAltResult
@@ -156,21 +164,18 @@ fn raise_race<L: Ledger>(alloc: Global, steps: &mut Steps<L>, position: Position
     }
 }
 
-// Does what a walk needs: it gives what came of it, and what was lent as it was left.
+// Calls the native that a walk needs. It gives the value or the fault of the call, and the receiver as
+// the call left it.
 fn perform_request<H: Host, L: Ledger>(
     run: &mut Run<H>,
     host: &mut H,
     steps: &mut Steps<L>,
     request: Request,
 ) -> (Result<Dynamic, EvalAltResult>, Option<Held>)
-    ensures same { (m : Setup H) (k : ℕ) (f : Option Place → Frame) (h : Held)
-        (done : Setup H → Option Place → ℕ → Walked → World H → Act H) (q : Option Place)
-        (go : Answer → Task) (rs : List Held) (scope : List Entry) → m.law ≡ H.law →
-        Rooted h.read_only rs → LentAt rs q request.receiver →
-        lent_back rs q request.receiver ≡ rs → SimulatesExactly m (beside scope run.old steps.old host.old)
-        (walk_act k f h done (Need (call_for request q) go) rs) (is_want result.0)
-        (beside scope run.new steps.new host.new)
-        (walk_act k f h done (go (outcome_of result.0)) (lent_back rs q result.1)) }
+    requires native { IsNative request.what }
+    ensures same { (m : Setup H) → m.law ≡ H.law → Answers m
+        (λ q go. Need (call_for (name_in request.what) request q) go) request.receiver run.old
+        steps.old host.old result.0 result.1 run.new steps.new host.new }
     ensures run { run.new ≡ run.old }
     ensures before { steps.new.before ≡ steps.old.before }
     ensures lent { SameFlag request.receiver result.1 }
@@ -204,7 +209,7 @@ fn perform_request<H: Host, L: Ledger>(
     }
 }
 
-// Calls the native of a key, to which a value is lent, if any.
+// Calls the native with this key, and lends it the receiver, if there is one.
 fn call_lending<H: Host, L: Ledger>(
     run: &mut Run<H>,
     host: &mut H,
@@ -234,7 +239,41 @@ fn call_lending<H: Host, L: Ledger>(
     }
 }
 
-// Drives a walk from its first answer to its end.
+// Does what a request asks for, if it calls a native, or if memory runs out. It gives the value or the
+// fault of the call, and the receiver as the call left it. If the request calls a function, it only
+// says which.
+fn serve_request<H: Host, L: Ledger>(
+    run: &mut Run<H>,
+    context: Context<'_>,
+    host: &mut H,
+    steps: &mut Steps<L>,
+    request: Request,
+) -> Result<Outcome, MethodCall>
+    requires there { CanCall context.program.now request.what (length request.arguments) }
+    ensures serves { ServesRequest (setup_of H.law context.entry) request run.old steps.old host.old
+        result run.new steps.new host.new }
+    ensures run { run.new ≡ run.old }
+    ensures before { steps.new.before ≡ steps.old.before }
+{
+    match resolve_request(run, context, request) {
+        Ok(needed) => match needed {
+            Needed::Function(call) => Err(call),
+            Needed::Native(request) => Ok(perform_request(run, host, steps, request)),
+        },
+        Err(request) => Ok((Err(EvalAltResult::Memory), request.receiver)),
+    }
+}
+
+/// How far a walk was driven.
+#[derive(Drop)]
+pub enum Driven {
+    /// To its end.
+    Over(WalkEnd),
+    /// To the call of a function.
+    Calls(MethodCall),
+}
+
+// Drives a walk on from an answer, to its end or to the next call of a function of the program.
 pub(crate) fn drive<H: Host, L: Ledger>(
     run: &mut Run<H>,
     context: Context<'_>,
@@ -242,41 +281,72 @@ pub(crate) fn drive<H: Host, L: Ledger>(
     steps: &mut Steps<L>,
     walk: &mut Walk,
     answer: WalkAnswer,
-) -> WalkEnd
+) -> Driven
     requires waits { (n : ℕ) × Falls context.program.now walk.old answer n }
-    ensures same { (m : Setup H) (k : ℕ) (f : Option Place → Frame) (h : Held)
-        (done : Setup H → Option Place → ℕ → Walked → World H → Act H) (scope : List Entry) →
-        m.law ≡ H.law → Rooted h.read_only (roots_at walk.old answer) → IgnoresChange done →
-        SimulatesExactly m (beside scope run.old steps.old host.old)
-        (walk_act k f h done
+    ensures same { (k : ℕ) (f : Option Place → Frame) (seat : Seat) (done : Rests H)
+        (scope : List Entry) (this : Option Held) → Seated seat this →
+        Rooted (first_held seat).read_only (roots_at walk.old answer) → IgnoresChange done →
+        DrivesTo (setup_of H.law context.entry) (beside scope this run.old steps.old host.old)
+        (walk_seated k f seat done
         (left_to_do context.entry.engine.now context.entry.program.now walk.old answer)
-        (roots_at walk.old answer)) (end_is_out result)
-        (beside scope run.new steps.new host.new)
-        (walk_act k f h done (Done (end_of result)) (walk.new.trail.here ∷ [])) }
+        (roots_at walk.old answer)) k f seat done walk.new result
+        (beside scope this run.new steps.new host.new) }
     ensures run { run.new ≡ run.old }
     ensures before { steps.new.before ≡ steps.old.before }
     // Want of memory is handed on.
-    ensures carries { StopPersists (is_out answer) steps.old.passed (end_is_out result)
+    ensures carries { StopPersists (is_out answer) steps.old.passed (driven_is_out result)
         steps.new.passed }
-    ensures flag { (b : Bool) → Rooted b (roots_at walk.old answer) →
-        walk.new.trail.here.read_only ≡ b }
+    ensures rooted { (b : Bool) → Rooted b (roots_at walk.old answer) → RootedTo b walk.new result }
+    ensures waits { WaitsFor context.entry.program.now walk.new result
+        (left_of context.entry.program.now walk.old answer) }
 {
     let mut answer = answer;
     'answers: loop {
         match answer {
             WalkAnswer::Need(request) => {
-                let (outcome, receiver) = perform_request(run, host, steps, request);
-                answer = walk.resume(
-                    context.engine,
-                    context.program,
-                    &run.cells,
-                    outcome,
-                    receiver,
-                );
-                steps.mark_all(walk.marks());
+                match serve_request(run, context, host, steps, request) {
+                    Err(call) => return Driven::Calls(call),
+                    Ok((outcome, receiver)) => {
+                        answer = go_on(run, context, steps, walk, outcome, receiver);
+                    }
+                }
             }
-            WalkAnswer::Ended { value, .. } => return WalkEnd::Value(value),
-            WalkAnswer::Faulted { fault, step } => return WalkEnd::Fault { fault, step },
+            WalkAnswer::Ended { value, .. } => return Driven::Over(WalkEnd::Value(value)),
+            WalkAnswer::Faulted { fault, step } => {
+                return Driven::Over(WalkEnd::Fault { fault, step });
+            }
         }
     }
+}
+
+// Goes on with a walk: with the value or the fault that its last request gave, and with the receiver
+// as the call left it.
+pub(crate) fn go_on<H: Host, L: Ledger>(
+    run: &Run<H>,
+    context: Context<'_>,
+    steps: &mut Steps<L>,
+    walk: &mut Walk,
+    outcome: Result<Dynamic, EvalAltResult>,
+    receiver: Option<Held>,
+) -> WalkAnswer
+    requires { Waits context.program.now walk.old receiver }
+    ensures did { Did context.entry.engine.now context.entry.program.now run.now.cells
+        (with_receiver walk.old receiver) 0
+        (resumed context.entry.engine.now context.entry.program.now walk.old walk.old.awaits
+        (outcome_of outcome)) walk.new result }
+    ensures marked { steps.new ≡ record steps.old { passed = steps.old.passed + walk.new.marks } }
+    ensures falls { Falls context.entry.program.now walk.new result
+        (still context.entry.program.now walk.old walk.old.awaits) }
+    ensures carries { StopPersists (is_want outcome) 0 (is_out result) walk.new.marks }
+    ensures rooted { (b : Bool) → Rooted b (roots_of walk.old) → Rooted b (roots_at walk.new result) }
+{
+    let answer = walk.resume(
+        context.engine,
+        context.program,
+        &run.cells,
+        outcome,
+        receiver,
+    );
+    steps.mark_all(walk.marks());
+    answer
 }

@@ -1,29 +1,35 @@
-//! The function that an instruction calls.
+//! What an instruction that is not done at once comes to: it is done, or it calls a function or walks a
+//! chain.
 
 ghost use Rattle.std.specs.Prelude.{◌≡◌};
 ghost use Rattle.grain_program.specs.Indices.{InPools};
-ghost use Rattle.grain_frame.specs.Abstraction.{Ready, setup_of, moment};
-ghost use Rattle.grain_vm.specs.Finding.{Finds, found_of};
+ghost use Rattle.grain_frame.specs.Abstraction.{Ready, Runs, setup_of, moment};
+ghost use Rattle.grain_vm.specs.Attempts.{IsPending};
+ghost use Rattle.grain_vm.specs.Finding.{Finds, FindsHere, found_of};
 ghost use Rattle.grain_program.specs.declared.code.instruction_set.Op.TheVariants as op;
 
+use crate::attempts::Pending;
+use crate::stepping::step;
 use grain_frame::{Activation, Context, Progress, Run, Under};
 use grain_global::Steps;
 use grain_host::Host;
 use grain_value::{FnPtr, OutOfMemory};
 use std::sync::ledger::Ledger;
 
-/// What an instruction comes to before a function is called.
+/// What is found of an instruction before a function is called or a chain is walked.
 #[derive(Clone, Copy, Debug, PartialEq, Eq)]
 pub enum Found {
     /// It is done, without a function.
     Done(Progress),
-    /// It calls the function of this number on the last operands, and the frame then goes on at the
-    /// address `next`.
+    /// It calls the function of this number on the last operands; afterwards the frame goes on at
+    /// the address `next`.
     Function { number: usize, next: usize },
+    /// It walks the chain with this index; afterwards the frame goes on at the address `next`.
+    Chain { index: u16, next: usize },
 }
 
 impl Found {
-    // What was done without a function, unless memory is out.
+    // An instruction that was done without a function, unless memory ran out.
     #[inline(always)]
     pub(crate) fn of(done: Result<Progress, OutOfMemory>) -> Result<Found, OutOfMemory>
         ensures { result ≡ found_of done }
@@ -32,8 +38,8 @@ impl Found {
     }
 }
 
-// `call`: the function of a name with `count` parameters. If there is none, the native of that
-// name is called on the last `count` operands.
+// `call`: finds the function of a name with `count` parameters. If there is none, the native of
+// that name is called on the last `count` operands.
 #[inline(always)]
 pub(crate) fn find_named<H: Host, L: Ledger>(
     run: &mut Run<H>,
@@ -61,9 +67,9 @@ pub(crate) fn find_named<H: Host, L: Ledger>(
     }
 }
 
-// `call_fn_ptr`: the function of the name of the pointer under the last `count` operands, with as
-// many parameters as the pointer has values and there are operands. The pointer's values take its
-// place. If there is no such function, the native of that name is called on all of them.
+// `call_fn_ptr`: finds the function that the pointer under the last `count` operands names, with as many
+// parameters as the pointer has values and there are operands, taken together. The pointer's values take
+// its place. If there is no such function, the native of that name is called on all of them.
 #[cold]
 #[inline(never)]
 pub(crate) fn find_pointed<H: Host, L: Ledger>(
@@ -94,6 +100,47 @@ pub(crate) fn find_pointed<H: Host, L: Ledger>(
                     context, host, steps, frame, &name, total, next,
                 )),
             }
+        }
+    }
+}
+
+// Does the instruction at which the frame stands and that `quick` did not do; if it calls a function
+// or walks a chain, says which. `step` and `find_pointed` get a copy of the frame, so that the loop
+// can keep its own in registers, and only the fields that they can change are copied back.
+#[inline(always)]
+pub(crate) fn do_or_find<H: Host, L: Ledger>(
+    run: &mut Run<H>,
+    context: Context<'_>,
+    host: &mut H,
+    steps: &mut Steps<L>,
+    frame: &mut Activation,
+    pending: Pending,
+) -> Result<Found, OutOfMemory>
+    requires runs { Runs context.program.now frame.old run.old }
+    requires pending { IsPending context.program.now frame.old run.old pending }
+    ensures finds { FindsHere (setup_of H.law context.entry)
+        (moment frame.old run.old steps.old host.old) result
+        (moment frame.new run.new steps.new host.new) }
+{
+    match pending {
+        Pending::Call { name, count, next } => {
+            find_named(run, context, host, steps, frame, name, count, next)
+        }
+        Pending::Pointer { count, next } => {
+            let mut copy = *frame;
+            let found = find_pointed(run, context, host, steps, &mut copy, count, next);
+            frame.address = copy.address;
+            frame.floor = copy.floor;
+            frame.slot = copy.slot;
+            found
+        }
+        Pending::Other => {
+            let mut copy = *frame;
+            let found = step(run, context, host, steps, &mut copy);
+            frame.address = copy.address;
+            frame.floor = copy.floor;
+            frame.slot = copy.slot;
+            found
         }
     }
 }

@@ -1,5 +1,5 @@
-//! The machine that an embedder calls: the loop, how functions are called and faults are caught, how a
-//! place is walked, and how main is run.
+//! The machine that an embedder calls: the loop, how functions are called and faults are caught, how
+//! chains are walked, and how main is run.
 #![tactic(auto)]
 
 mod attempts;
@@ -14,6 +14,7 @@ mod loaded;
 mod loops;
 mod machines;
 mod main_runs;
+mod methods;
 mod quick;
 mod roots;
 mod stepping;

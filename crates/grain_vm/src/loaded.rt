@@ -1,5 +1,5 @@
-//! The instruction after a load of an integer, done in the turn of the load. The integer is not
-//! pushed first.
+//! The instruction after a load of an integer, done in the same turn of the loop. The integer is
+//! not pushed first.
 
 ghost use Rattle.std.specs.Prelude.{◌≡◌, ◌<◌, ◌≤◌, ◌+◌, ◌-◌, ◌∷◌, [], length, Ok, Some, cond, nat_lt};
 ghost use Rattle.grain_program.specs.Indices.{InPools};
@@ -20,8 +20,8 @@ use grain_ops::{Quick, quick_operated_with};
 use grain_program::Op;
 use std::sync::ledger::Ledger;
 
-// The instruction at which the frame would stand once an integer is loaded, if it is one that
-// takes the integer and is soon done. Where it says false, nothing was done.
+// Does the instruction at which the frame would stand after the load of an integer, if it is one
+// that takes the integer and is done at once. If it says false, nothing was done.
 #[inline(always)]
 pub(crate) fn quick_loaded<H: Host, L: Ledger>(
     run: &mut Run<H>,
@@ -57,7 +57,8 @@ pub(crate) fn quick_loaded<H: Host, L: Ledger>(
     }
 }
 
-// `assign_local_op` of an entry that is an integer and the integer that is loaded.
+// `assign_local_op` to an entry that is an integer, with the integer that is loaded. If it says
+// false, nothing was done.
 #[inline(always)]
 fn assign_loaded<H: Host, L: Ledger>(
     run: &mut Run<H>,
@@ -106,8 +107,8 @@ fn assign_loaded<H: Host, L: Ledger>(
     }
 }
 
-// `call_op` of an integer and the integer that is loaded, and, where it gives a truth value,
-// the branch after it.
+// `call_op` of an integer and the integer that is loaded, and, if it gives a truth value, the
+// branch after it. If it says false, nothing was done.
 #[inline(always)]
 fn op_loaded<H: Host, L: Ledger>(
     run: &mut Run<H>,
@@ -160,9 +161,8 @@ fn op_loaded<H: Host, L: Ledger>(
     }
 }
 
-// The branch at which the frame stands, if it stands at one, on the truth value that an operator
-// gives for the last operand and the integer that is loaded. Where it says false, nothing was
-// done.
+// Does the branch at which the frame stands, if it stands at one, on the truth value that an operator
+// gives for the last operand and the integer that is loaded. If it says false, nothing was done.
 #[inline(always)]
 fn branch_loaded<H: Host, L: Ledger>(
     run: &mut Run<H>,
@@ -201,8 +201,8 @@ fn branch_loaded<H: Host, L: Ledger>(
     }
 }
 
-// A branch: on to the target, if the truth value is the wanted one, and else to `next`. It says
-// false where that costs an operation.
+// Does a branch: to the target, if the truth value is the wanted one, and else to `next`. It
+// says false, and does nothing, if that costs an operation.
 #[inline(always)]
 fn branch_loaded_to<H: Host, L: Ledger>(
     run: &mut Run<H>,
@@ -244,7 +244,8 @@ fn branch_loaded_to<H: Host, L: Ledger>(
     true
 }
 
-// The branch begins, and the operands of its comparison go, of which only the first was pushed.
+// Counts the branch as begun, and drops the operands of its comparison, of which only the
+// first was pushed.
 #[inline(always)]
 fn branch_loaded_begins<H: Host, L: Ledger>(run: &mut Run<H>, steps: &mut Steps<L>, integer: i64)
     requires one { 1 ≤ length run.old.stacks.operands }
@@ -258,8 +259,8 @@ fn branch_loaded_begins<H: Host, L: Ledger>(run: &mut Run<H>, steps: &mut Steps<
     steps.mark();
 }
 
-// What an operator makes of the last operands, of which the last is the integer that is loaded,
-// if operators are fast and these are two integers, and if that is soon seen.
+// What an operator gives for the last `count` operands, of which the last is the integer that is
+// loaded: `None` unless operators are fast, these are two integers, and the result can be told at once.
 #[inline(always)]
 fn operation_loaded<H: Host>(
     run: &Run<H>,
@@ -284,7 +285,7 @@ fn operation_loaded<H: Host>(
     quick_operated_with(token, &run.stacks.top().value, integer)
 }
 
-// A load is done, and the instruction after it begins.
+// Counts the load as done, and the instruction after it as begun.
 #[inline(always)]
 fn begin_behind<L: Ledger>(steps: &mut Steps<L>)
     ensures { steps.new ≡ begun_behind steps.old }

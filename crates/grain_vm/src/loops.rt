@@ -1,22 +1,27 @@
 //! The loop: how a frame runs, and how functions are called.
 
-ghost use Rattle.std.specs.Prelude.{◌≡◌, ◌<◌, ◌≤◌, ◌+◌, ◌-◌, ◌++◌, ◌∷◌, [], length, take, None, true, false};
-ghost use Rattle.grain_program.specs.Indices.{IsNamed};
+ghost use Rattle.std.specs.Prelude.{◌≡◌, ◌<◌, ◌≤◌, ◌+◌, ◌-◌, ◌++◌, ◌∷◌, [], length, slice_get, take, None, Some, true, false};
 ghost use Rattle.grain_program.specs.TypedAt.{IsTypedAt};
 ghost use Rattle.grain_means.specs.Worlds.{Go, InFrame};
 ghost use Rattle.grain_means.specs.Rules.{enter_function};
 ghost use Rattle.grain_means.specs.Simulation.{Simulates};
 ghost use Rattle.grain_vm.specs.Catching.{activation_at, stop_continuation, StopsSo};
-ghost use Rattle.grain_vm.specs.Finding.{FindsHere};
-ghost use Rattle.grain_frame.specs.Abstraction.{abstraction, frame_in, is_out, continuation, KeepsFrame, ContinuesAt, Runs, Stepped, setup_of, moment};
-ghost use Rattle.grain_vm.specs.Calls.{frame_over, entry_of};
+ghost use Rattle.grain_frame.specs.Abstraction.{abstraction, frame_in, is_out, continuation, KeepsFrame, ContinuesAt, PerformsBound, ReadyIn, Runs, Stepped, setup_of, moment};
+ghost use Rattle.grain_vm.specs.Calls.{LeavesAround, frame_over, entry_of};
 ghost use Rattle.grain_vm.specs.Attempts.{IsPending, StandsAtJump};
+ghost use Rattle.grain_program.specs.declared.code.functions.Function.{Function};
+ghost use Rattle.grain_vm.specs.Driving.{SameFlag};
+ghost use Rattle.grain_vm.specs.Methods.{CallsMethod, HasFunction, MethodOver, NoneAbove};
+ghost use Rattle.grain_program.specs.Indices.{InPools, IsNamed};
+ghost use Rattle.grain_program.specs.declared.code.instruction_set.Op.TheVariants as op;
 
 use crate::attempts::{Attempt, Pending, quick};
 use crate::calls::{FrameEnd, enter_function, resume_caller};
 use crate::catching::catch;
-use crate::finding::{Found, find_named, find_pointed};
-use crate::stepping::step;
+use crate::chains::{Begun, begin_chain, finish_chain};
+use crate::driving::{Driven, drive, go_on};
+use crate::finding::{Found, do_or_find};
+use crate::methods::{MethodCall, Outcome, enter_method, leave_method};
 use grain_fault::Fault;
 use grain_frame::{Activation, Context, Progress, Run};
 use grain_global::Steps;
@@ -30,8 +35,8 @@ use std::sync::ledger::Ledger;
 pub enum Stop {
     /// To its end, with a value, which is its last operand, or unit if it has none.
     Value,
-    /// A fault was raised, which lies in the run, at this address. The frame then has this floor, and
-    /// blames the step of this slot, if any.
+    /// To a fault, which the run holds and which was raised at this address. The frame then has this
+    /// floor, and blames the step of this slot, if any.
     Fault {
         address: usize,
         floor: usize,
@@ -39,8 +44,8 @@ pub enum Stop {
     },
 }
 
-// Leaves a frame by a fault: the scope is cut, and the trace notes where the frame stopped, and the
-// slot of the step that is blamed.
+// Leaves a frame by a fault: cuts the scope to the floor, and notes in the trace where the frame
+// stopped and the slot of the step that is blamed, if any.
 #[cold]
 #[inline(never)]
 pub(crate) fn leave_by_fault<H: Host>(
@@ -63,7 +68,7 @@ pub(crate) fn leave_by_fault<H: Host>(
     run.stacks.note(Fault { address, slot });
 }
 
-// The jump at which the frame stands.
+// Does the jump at which the frame stands.
 #[inline(always)]
 fn jump<H: Host, L: Ledger>(
     run: &mut Run<H>,
@@ -82,51 +87,8 @@ fn jump<H: Host, L: Ledger>(
     run.jump_to(context, host, steps, frame, target as usize)
 }
 
-// Does the instruction at which the frame stands, which `quick` left, unless it calls a function;
-// then it says which one.
-// The frame is copied for one that was not, so that the loop can hold its own in registers. Of the
-// copy only what an instruction can change is taken back, so that the rest need not be held in
-// them.
-#[inline(always)]
-fn do_or_find<H: Host, L: Ledger>(
-    run: &mut Run<H>,
-    context: Context<'_>,
-    host: &mut H,
-    steps: &mut Steps<L>,
-    frame: &mut Activation,
-    pending: Pending,
-) -> Result<Found, OutOfMemory>
-    requires runs { Runs context.program.now frame.old run.old }
-    requires pending { IsPending context.program.now frame.old run.old pending }
-    ensures finds { FindsHere (setup_of H.law context.entry)
-        (moment frame.old run.old steps.old host.old) result
-        (moment frame.new run.new steps.new host.new) }
-{
-    match pending {
-        Pending::Call { name, count, next } => {
-            find_named(run, context, host, steps, frame, name, count, next)
-        }
-        Pending::Pointer { count, next } => {
-            let mut copy = *frame;
-            let found = find_pointed(run, context, host, steps, &mut copy, count, next);
-            frame.address = copy.address;
-            frame.floor = copy.floor;
-            frame.slot = copy.slot;
-            found
-        }
-        Pending::Other => {
-            let mut copy = *frame;
-            let progress = step(run, context, host, steps, &mut copy);
-            frame.address = copy.address;
-            frame.floor = copy.floor;
-            frame.slot = copy.slot;
-            Found::of(progress)
-        }
-    }
-}
-
-// A function on the last operands, in a frame of its own, after which the frame goes on at an
-// address. It is called in one place, so that the loop around it is compiled once.
+// Calls a function on the last operands, in a frame of its own; afterwards the caller's frame goes on
+// at `next`. This is written in one place only, so that the loop around it is compiled once.
 #[cycle(run)]
 #[inline(always)]
 fn call<H: Host, L: Ledger>(
@@ -145,6 +107,7 @@ fn call<H: Host, L: Ledger>(
     requires enters { IsTypedAt context.program.now function.now.chunk
         function.now.chunk.entry 0 [] }
     requires named { IsNamed context.program.now function.now }
+    requires none { NoneAbove run.old.level run.old.receivers }
     ensures goes { Simulates (setup_of H.law context.entry)
         (abstraction run.old steps.old host.old)
         (λ m place w. enter_function m function.now (length function.now.params)
@@ -169,7 +132,7 @@ fn call<H: Host, L: Ledger>(
     }
 }
 
-// The instruction at which the frame stands, which `quick` left.
+// Does the instruction at which the frame stands and that `quick` did not do.
 #[cycle(run)]
 #[inline(always)]
 fn proceed<H: Host, L: Ledger>(
@@ -181,6 +144,7 @@ fn proceed<H: Host, L: Ledger>(
     pending: Pending,
 ) -> Result<Progress, OutOfMemory>
     requires runs { Runs context.program.now frame.old run.old }
+    requires none { NoneAbove run.old.level run.old.receivers }
     requires pending { IsPending context.program.now frame.old run.old pending }
     ensures stepped { Stepped (setup_of H.law context.entry)
         (moment frame.old run.old steps.old host.old) result
@@ -194,7 +158,87 @@ fn proceed<H: Host, L: Ledger>(
                 let function = context.program.function_at(number);
                 call(run, context, host, steps, frame, function, next)
             }
+            Found::Chain { index, next } => {
+                let mut copy = *frame;
+                let progress = walk_chain(run, context, host, steps, &mut copy, index, next);
+                frame.address = copy.address;
+                frame.floor = copy.floor;
+                frame.slot = copy.slot;
+                progress
+            }
         },
+    }
+}
+
+// `chain`: walks the chain, and calls each function that the walk needs in a frame of its own.
+#[cycle(run)]
+#[cold]
+#[inline(never)]
+fn walk_chain<H: Host, L: Ledger>(
+    run: &mut Run<H>,
+    context: Context<'_>,
+    host: &mut H,
+    steps: &mut Steps<L>,
+    frame: &mut Activation,
+    index: u16,
+    next: usize,
+) -> Result<Progress, OutOfMemory>
+    requires ready { ReadyIn context.program.now frame.old run.old (op.Chain index) next }
+    requires pools { InPools context.program.now (op.Chain index) }
+    requires none { NoneAbove run.old.level run.old.receivers }
+    ensures performs { PerformsBound (setup_of H.law context.entry)
+        (moment frame.old run.old steps.old host.old) (op.Chain index) next result
+        (moment frame.new run.new steps.new host.new) }
+{
+    match begin_chain(run, context, steps, frame, index, next) {
+        Err(e) => Err(e),
+        Ok(Begun::Refused) => Ok(Progress::Failed),
+        Ok(Begun::Walks(walking, answer)) => {
+            let mut walking = walking;
+            let mut answer = answer;
+            'calls: loop {
+                let call = match drive(run, context, host, steps, &mut walking.walk, answer) {
+                    Driven::Over(end) => {
+                        return finish_chain(run, context, steps, frame, walking, end);
+                    }
+                    Driven::Calls(call) => call,
+                };
+                let (outcome, receiver) = call_method(run, context, host, steps, call);
+                answer = go_on(run, context, steps, &mut walking.walk, outcome, receiver);
+            }
+        }
+    }
+}
+
+// Calls a function that a walk needs, in a frame of its own. It gives the value or the fault of the
+// call, and the receiver as the call left it.
+#[cycle(run)]
+#[inline(always)]
+fn call_method<H: Host, L: Ledger>(
+    run: &mut Run<H>,
+    context: Context<'_>,
+    host: &mut H,
+    steps: &mut Steps<L>,
+    call: MethodCall,
+) -> Outcome
+    requires there { HasFunction context.program.now call }
+    requires none { NoneAbove run.old.level run.old.receivers }
+    ensures called { (g : Function) → slice_get context.entry.program.now.functions call.number ≡ Some g →
+        CallsMethod (setup_of H.law context.entry) call g run.old steps.old host.old result.0 result.1
+        run.new steps.new host.new }
+    ensures over { MethodOver run.old run.new }
+    ensures lent { SameFlag call.receiver result.1 }
+    ensures before { steps.new.before ≡ steps.old.before }
+{
+    let pos = call.pos;
+    let function = context.program.function_at(call.number);
+    match enter_method(run, context, host, steps, function, call) {
+        Err(refused) => refused,
+        Ok(back) => {
+            let chunk = &function.chunk;
+            let end = run_frame(run, context, host, steps, chunk, 0);
+            leave_method(run, context, steps, function, pos, end, back)
+        }
     }
 }
 
@@ -211,16 +255,13 @@ pub(crate) fn run_frame<H: Host, L: Ledger>(
     base: usize,
 ) -> Result<FrameEnd, OutOfMemory>
     requires runs { Runs context.program.now (entry_of chunk.now base) run.old }
+    requires none { NoneAbove run.old.level run.old.receivers }
     ensures goes { Simulates (setup_of H.law context.entry)
         (abstraction run.old steps.old host.old)
         (λ m place w. Go (InFrame (frame_in (entry_of chunk.now base) run.old place)) w)
         (is_out result) (abstraction run.new steps.new host.new)
         (frame_over result run.new) }
-    ensures outer { run.new.stacks.outer ≡ run.old.stacks.outer }
-    ensures saved { run.new.saved ≡ run.old.saved }
-    ensures level { run.new.level ≡ run.old.level }
-    ensures later { run.old.count ≤ run.new.count }
-    ensures before { steps.new.before ≡ steps.old.before }
+    ensures around { LeavesAround run.old steps.old run.new steps.new }
 {
     let mut address = chunk.entry as usize;
     let mut floor = base;
@@ -264,6 +305,7 @@ fn run_from<H: Host, L: Ledger>(
 ) -> Result<Stop, OutOfMemory>
     requires runs { Runs context.program.now
         (activation_at chunk.now base address floor None) run.old }
+    requires none { NoneAbove run.old.level run.old.receivers }
     ensures goes { Simulates (setup_of H.law context.entry)
         (abstraction run.old steps.old host.old)
         (λ m place w. Go (InFrame
@@ -271,12 +313,7 @@ fn run_from<H: Host, L: Ledger>(
         (is_out result) (abstraction run.new steps.new host.new)
         (stop_continuation result chunk.now base run.new) }
     ensures catches { StopsSo context.entry.program.now chunk.now base run.new result }
-    ensures outer { run.new.stacks.outer ≡ run.old.stacks.outer }
-    ensures room { run.new.stacks.room ≡ run.old.stacks.room }
-    ensures saved { run.new.saved ≡ run.old.saved }
-    ensures level { run.new.level ≡ run.old.level }
-    ensures later { run.old.count ≤ run.new.count }
-    ensures before { steps.new.before ≡ steps.old.before }
+    ensures around { LeavesAround run.old steps.old run.new steps.new }
 {
     let mut frame = Activation {
         chunk: *chunk,

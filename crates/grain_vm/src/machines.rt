@@ -13,7 +13,7 @@ ghost use Rattle.grain_vm.specs.Machines.{begin, finish, with_memory_fault};
 
 use crate::main_runs::run_main;
 use grain_fault::{EvalAltResult, Fault, RhaiResult};
-use grain_frame::{Context, Run, SavedScopes};
+use grain_frame::{Context, Receivers, Run, SavedScopes};
 use grain_global::{Engine, GlobalRuntimeState, Steps};
 use grain_host::Host;
 use grain_program::Program;
@@ -46,7 +46,7 @@ impl<'e> Model for Machine<'e> {
 }
 
 impl<'e> Machine<'e> {
-    /// A machine. It takes no memory.
+    /// A machine for this engine, with empty stacks. It takes no memory.
     pub fn new(alloc: Global, engine: &'e Engine) -> Machine<'e>
         ensures { result ≡ record { engine = engine.now; stacks = no_frames } }
     {
@@ -73,12 +73,13 @@ impl<'e> Machine<'e> {
     }
 
     /// Runs a program's main on a scope. The operations that are charged count on from the state's,
-    /// and the entries that main declares stay after a value; a fault cuts the scope back to its
-    /// length. After want of memory the run is the one that is stopped at a mark. The scope's
-    /// entries keep their names and order, whatever the end is. Where nothing that is given names a
-    /// cell outside of the store, nothing that is left does, and no cell stays lent. Where the scope,
-    /// the cells and the constants are clean, which means that no cell stands directly inside an
-    /// array or a map, so is all that is left, whatever the host is.
+    /// and the entries that main declares stay after a value; a fault cuts the scope back to the
+    /// length that it had, or that it had at main's last `checkpoint`. If memory runs out, the run is
+    /// the same up to some point, and ends there with the fault `Memory`. The scope's entries keep
+    /// their names and order, whatever the end is. If scope, cells, constants and host name only
+    /// cells of the store, so do the results afterwards, and no cell stays lent. If the scope, the
+    /// cells and the constants are clean, which means that no cell stands directly inside an array or
+    /// a map, so are the results, whatever the host is.
     pub fn run_main<H: Host, L: Ledger>(
         &mut self,
         alloc: Global,
@@ -126,6 +127,7 @@ impl<'e> Machine<'e> {
             count: global.num_operations,
             level: global.level,
             fault: EvalAltResult::Memory,
+            receivers: Receivers::new(alloc),
             host: PhantomData,
         };
         let back = run_main(&mut run, context, host, steps);
@@ -138,6 +140,7 @@ impl<'e> Machine<'e> {
             count,
             level,
             fault: _,
+            receivers: _,
             host: _,
         } = run;
         self.stacks = stacks;
@@ -154,7 +157,7 @@ impl<'e> Machine<'e> {
     }
 }
 
-// Want of memory as a fault.
+// Turns `OutOfMemory` into the fault `Memory`.
 fn with_memory_fault(back: Result<RhaiResult, OutOfMemory>) -> RhaiResult
     ensures { result ≡ with_memory_fault back }
 {

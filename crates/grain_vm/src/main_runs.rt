@@ -19,7 +19,7 @@ use grain_host::Host;
 use grain_value::{Dynamic, OutOfMemory};
 use std::sync::ledger::Ledger;
 
-// Runs a program's main on the scope, from the operations and the level that there are.
+// Runs a program's main on the run's scope, and goes on from its count of operations and its level.
 pub(crate) fn run_main<H: Host, L: Ledger>(
     run: &mut Run<H>,
     context: Context<'_>,
@@ -27,6 +27,7 @@ pub(crate) fn run_main<H: Host, L: Ledger>(
     steps: &mut Steps<L>,
 ) -> Result<RhaiResult, OutOfMemory>
     requires no_trace { run.old.stacks.trace ≡ [] }
+    requires no_this { run.old.receivers ≡ [] }
     ensures goes { Simulates (setup_of H.law context.entry)
         (abstraction run.old steps.old host.old) (λ m place w. called m place w)
         (is_out result) (abstraction run.new steps.new host.new) (finished_with result) }
@@ -71,7 +72,7 @@ fn take_answer<H: Host>(
 }
 
 // Takes the value of the frame's last operand, or gives unit if it has none.
-fn take_value<H: Host>(run: &mut Run<H>) -> Dynamic
+pub(crate) fn take_value<H: Host>(run: &mut Run<H>) -> Dynamic
     ensures value { result ≡ (top run.old.stacks.operands).value }
     ensures others { run.new ≡ record run.old {
       stacks = record run.old.stacks { operands = run.new.stacks.operands };
@@ -83,7 +84,7 @@ fn take_value<H: Host>(run: &mut Run<H>) -> Dynamic
     Dynamic::Unit
 }
 
-// A call of the machine is over. An exit ends it with its value, and leaves no trace.
+// Ends a call of the machine. An `Exit` becomes its value, with an empty trace.
 fn close<H: Host, L: Ledger>(
     run: &mut Run<H>,
     steps: &mut Steps<L>,

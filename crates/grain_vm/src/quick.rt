@@ -147,7 +147,7 @@ pub(crate) fn quick_assign<H: Host, L: Ledger>(
     }
 }
 
-// `call_op` of two integers, and, where it gives a truth value, the branch after it.
+// `call_op` of two integers, and, if it gives a truth value, the branch after it.
 #[inline(always)]
 pub(crate) fn quick_op<H: Host, L: Ledger>(
     run: &mut Run<H>,
@@ -195,8 +195,8 @@ pub(crate) fn quick_op<H: Host, L: Ledger>(
     }
 }
 
-// What an operator makes of the last `count` operands, if operators are fast and these are two
-// integers, and if that is soon seen.
+// What an operator gives for the last `count` operands: `None` unless operators are fast, these are
+// two integers, and the result can be told at once.
 #[inline(always)]
 fn quick_operation<H: Host>(run: &Run<H>, context: Context<'_>, token: u16, count: u8) -> Quick
     requires operands { count ≤ length run.now.stacks.operands }
@@ -215,7 +215,7 @@ fn quick_operation<H: Host>(run: &Run<H>, context: Context<'_>, token: u16, coun
     quick_operated(token, &run.stacks.peek(1).value, &run.stacks.top().value)
 }
 
-// `jump` to what lies ahead, which costs nothing.
+// `jump` to a higher address, which costs no operation.
 #[inline(always)]
 pub(crate) fn quick_jump<H: Host, L: Ledger>(
     run: &mut Run<H>,
@@ -244,7 +244,7 @@ pub(crate) fn quick_jump<H: Host, L: Ledger>(
     }
 }
 
-// `jump_if_false` and `jump_if_true` at a truth value, where a jump costs nothing.
+// `jump_if_false` and `jump_if_true` on a truth value, if that costs no operation.
 #[inline(always)]
 pub(crate) fn quick_jump_if<H: Host, L: Ledger>(
     run: &mut Run<H>,

@@ -1,20 +1,20 @@
-//! Roots of chains: what they hold, where that is held, and how it is lent to a walk.
+//! Roots of chains: what a root holds, where it is held, and how it is lent to a walk.
 
-ghost use Rattle.std.specs.Prelude.{◌≡◌, ◌<◌, ◌≤◌, length, true};
+ghost use Rattle.std.specs.Prelude.{◌≡◌, ◌<◌, ◌≤◌, length, slice_set, true};
 ghost use Rattle.std.specs.Option.{option_copied};
-ghost use Rattle.grain_value.specs.Looking.{cell_of};
+ghost use Rattle.grain_value.specs.Cells.{idle};
 ghost use Rattle.grain_program.specs.Chains.{assigns};
-ghost use Rattle.grain_program.specs.Indices.{IsRootIndexed};
-ghost use Rattle.grain_means.specs.Rules.Chains.{assigned_operand, root_operands};
+ghost use Rattle.grain_program.specs.Indices.{IsIndexed, IsRootIndexed};
+ghost use Rattle.grain_means.specs.Rules.Chains.{asks_root, assigned_operand, root_operands};
 ghost use Rattle.grain_frame.specs.Abstraction.{Raises};
-ghost use Rattle.grain_vm.specs.Chains.{root_index, root_held, home_in, can_read, HasChainOperands, FindsRoot, chain_fault, CanTake, IsTaken, RootTaken, with_root, is_free};
+ghost use Rattle.grain_vm.specs.Chains.{root_index, root_held, home_in, can_read, HasChainOperands, FindsRoot, refusal_in, chain_fault, root_position_at, CanTake, CanPutBack, RootTaken, with_root, is_free};
 
 use grain_fault::{EvalAltResult, Position};
 use grain_frame::{Activation, Context, Progress, Run};
 use grain_global::Steps;
 use grain_host::Host;
-use grain_program::{Chain, Root, Tail};
-use grain_value::{Held, OutOfMemory, Text};
+use grain_program::{Chain, Program, Root, Step, Tail};
+use grain_value::{Held, OutOfMemory, Store, Text};
 use std::mem;
 use std::sync::ledger::Ledger;
 
@@ -27,9 +27,11 @@ pub enum Home {
     Cell(usize),
     /// On the stack alone.
     Operand,
+    /// In the frame's `this`.
+    This,
 }
 
-/// The root of a chain: where it is held, and whether it can only be read.
+/// The root of a chain: where it is held, and whether it can only be read during the walk.
 #[derive(Clone, Copy, Debug, PartialEq, Eq)]
 pub struct FoundRoot {
     pub home: Home,
@@ -43,23 +45,25 @@ pub enum ChainRefusal {
     NoEntry(usize),
     /// The root can only be read, and the chain assigns to it.
     Constant,
-    /// What the chain assigns is a cell that is lent.
+    /// What the chain assigns is a lent cell.
     Lent,
+    /// The root is `this`, and the frame has none.
+    Unbound,
 }
 
-// How many operands a root is.
+// How many operands the root takes: one if it is temporary, else none.
 pub(crate) fn operands_of(root: Root) -> usize
     ensures exact { result ≡ root_operands root }
     ensures small { result < 2 }
 {
     match root {
-        Root::Local { .. } => 0,
+        Root::Local { .. } | Root::This { .. } => 0,
         Root::Temporary => 1,
     }
 }
 
-// Where a root is held, which is this cell, if it is one, and else the entry at this index or an
-// operand.
+// Where a root is held: in this cell, if there is one, else in the entry at this index, in the
+// frame's `this` or on the stack.
 fn home_of(index: usize, root: Root, cell: Option<usize>) -> Home
     ensures { result ≡ home_in index root cell }
 {
@@ -67,29 +71,32 @@ fn home_of(index: usize, root: Root, cell: Option<usize>) -> Home
         Some(number) => Home::Cell(number),
         None => match root {
             Root::Local { .. } => Home::Entry(index),
+            Root::This { .. } => Home::This,
             Root::Temporary => Home::Operand,
         },
     }
 }
 
-// The index of the entry that is the root, if it is one.
+// The index of the entry that is the root, if the root is an entry. Else it is the frame's
+// base, and has no use.
 fn root_index<H: Host>(run: &Run<H>, frame: &Activation, root: Root) -> usize
     requires inside { frame.now.base ≤ length run.now.scope }
     ensures { result ≡ root_index frame.now.base root }
 {
     match root {
         Root::Local { slot, .. } => run.slot_index(frame, slot),
-        Root::Temporary => frame.base,
+        Root::This { .. } | Root::Temporary => frame.base,
     }
 }
 
-// What a root holds, whose entry has this index: nothing if its slot is past the scope.
+// The value that a root holds, or none if its slot is past the scope or the frame has no `this`.
 fn root_held<H: Host>(run: &Run<H>, index: usize, root: Root) -> Option<&Held>
     requires operand { root_operands root ≤ length run.now.stacks.operands }
     ensures { option_copied result ≡ root_held run.now index root }
 {
     match root {
         Root::Local { .. } => run.scope.get(index),
+        Root::This { .. } => run.this(),
         Root::Temporary => Some(run.stacks.top()),
     }
 }
@@ -104,7 +111,7 @@ pub(crate) fn assigned<'a, H: Host>(run: &'a Run<H>, chain: &Chain) -> &'a Held
         .peek(chain.operands as usize + operands_of(chain.root))
 }
 
-// Whether what a chain assigns can be read, if it assigns something.
+// Whether the value that the chain assigns, if any, is not a lent cell.
 fn can_read_assigned<H: Host>(run: &Run<H>, chain: &Chain) -> bool
     requires operands { HasChainOperands chain.now run.now.stacks.operands }
     ensures { result ≡ can_read run.now.cells chain.now.tail
@@ -116,19 +123,21 @@ fn can_read_assigned<H: Host>(run: &Run<H>, chain: &Chain) -> bool
     }
 }
 
-// The root of a chain, or why no walk begins there.
+// Finds the root of a chain, or says why no walk begins.
 pub(crate) fn find_root<H: Host>(
     run: &Run<H>,
+    program: &Program,
     frame: &Activation,
     chain: &Chain,
 ) -> Result<FoundRoot, ChainRefusal>
     requires inside { frame.now.base ≤ length run.now.scope }
     requires operands { HasChainOperands chain.now run.now.stacks.operands }
-    ensures { FindsRoot run.now frame.now.base chain.now result }
+    requires indexed { IsIndexed program.now chain.now }
+    ensures { FindsRoot program.now run.now frame.now.base chain.now result }
 {
     let index = root_index(run, frame, chain.root);
     let Some(held) = root_held(run, index, chain.root) else {
-        return Err(ChainRefusal::NoEntry(index));
+        return Err(refusal_of(chain.root, index));
     };
     let cell = held.value.as_cell();
     let read_only = held.read_only | run.is_constant(cell);
@@ -138,13 +147,42 @@ pub(crate) fn find_root<H: Host>(
     if !can_read_assigned(run, chain) {
         return Err(ChainRefusal::Lent);
     }
+    let lent = if asks_root(program, chain) {
+        None
+    } else {
+        cell
+    };
     Ok(FoundRoot {
-        home: home_of(index, chain.root, cell),
-        read_only,
+        home: home_of(index, chain.root, lent),
+        read_only: held.read_only | run.is_constant(lent),
     })
 }
 
-// Raises the fault that no walk begins at a root.
+// Why there is no root: the frame has no `this`, or the scope has no entry at this index.
+fn refusal_of(root: Root, index: usize) -> ChainRefusal
+    ensures { result ≡ refusal_in root index }
+{
+    match root {
+        Root::This { .. } => ChainRefusal::Unbound,
+        Root::Local { .. } | Root::Temporary => ChainRefusal::NoEntry(index),
+    }
+}
+
+// Whether a chain begins with the step `is_shared`, which asks whether the root is a shared variable.
+// Such a chain needs the cell itself, not its content.
+fn asks_root(program: &Program, chain: &Chain) -> bool
+    requires indexed { IsIndexed program.now chain.now }
+    ensures { result ≡ asks_root program.now chain.now.steps }
+{
+    match chain.steps.get(0) {
+        Some(Step::Method { name, argc, .. }) => {
+            *argc == 0 && program.name(*name).as_str() == "is_shared"
+        }
+        _ => false,
+    }
+}
+
+// Raises the fault for which no walk begins.
 #[cold]
 #[inline(never)]
 pub(crate) fn refuse_chain<H: Host, L: Ledger>(
@@ -164,10 +202,24 @@ pub(crate) fn refuse_chain<H: Host, L: Ledger>(
         ChainRefusal::NoEntry(index) => { Ok(run.slot_past_scope(context, steps, address, index)) }
         ChainRefusal::Constant => constant_root(run, context, steps, address, root),
         ChainRefusal::Lent => run.data_race(context, steps, address, ""),
+        ChainRefusal::Unbound => {
+            let fault = EvalAltResult::ErrorUnboundThis(root_position(context, address, root));
+            Ok(run.raise(steps, fault))
+        }
     }
 }
 
-// A chain assigns to what can only be read.
+// The position of a fault of a chain's root: the root's own, if it has one, else the instruction's.
+fn root_position(context: Context<'_>, address: usize, root: Root) -> Position
+    ensures { result ≡ root_position_at context.entry.program.now address root }
+{
+    match root {
+        Root::This { pos } => pos,
+        Root::Local { .. } | Root::Temporary => context.program.position(address),
+    }
+}
+
+// Raises the fault that a chain assigns to a constant.
 #[cold]
 #[inline(never)]
 fn constant_root<H: Host, L: Ledger>(
@@ -184,24 +236,27 @@ fn constant_root<H: Host, L: Ledger>(
 {
     let name = match root {
         Root::Local { name, .. } => context.program.name(name).copy(run.alloc)?,
-        Root::Temporary => Text::new(run.alloc),
+        Root::This { .. } | Root::Temporary => Text::new(run.alloc),
     };
-    let fault = EvalAltResult::ErrorAssignmentToConstant(name, Position::NONE);
-    Ok(run.raise_at(context, steps, address, fault))
+    let position = root_position(context, address, root);
+    Ok(run.raise(
+        steps,
+        EvalAltResult::ErrorAssignmentToConstant(name, position),
+    ))
 }
 
-// Whether a root is no cell that is lent.
+// Whether the root can be taken: it is not a lent cell.
 pub(crate) fn is_free<H: Host>(run: &Run<H>, home: Home) -> bool
     ensures { result ≡ is_free run.now home }
 {
     match home {
         Home::Cell(number) => run.cells.find(number).is_some(),
-        Home::Entry(_) | Home::Operand => true,
+        Home::Entry(_) | Home::Operand | Home::This => true,
     }
 }
 
-// Takes a root away from where it is held: the operand if it is held on the stack alone. A cell
-// is lent from then on, and an entry has the operand.
+// Takes a root away from where it is held. A root on the stack is `operand` itself. A cell is lent
+// from then on; an entry or a `this` holds `operand` in the meantime.
 #[tactic(auto, using(grain_means::specs::lemmas::Scopes::length_set_held))]
 pub(crate) fn take_root<H: Host>(run: &mut Run<H>, home: Home, operand: Held) -> Held
     requires { CanTake run.old home }
@@ -217,17 +272,35 @@ pub(crate) fn take_root<H: Host>(run: &mut Run<H>, home: Home, operand: Held) ->
             Err(_) => unreachable!(),
         },
         Home::Operand => operand,
+        Home::This => run.receivers.replace(operand),
     }
 }
 
-// The root goes back to where it was held.
+// Puts the root back where it was held. A root on the stack is dropped.
 pub(crate) fn put_root_back<H: Host>(run: &mut Run<H>, home: Home, root: Held)
-    requires { IsTaken run.old home }
+    requires { CanPutBack run.old home }
     ensures { run.new ≡ with_root run.old home root }
 {
     match home {
         Home::Entry(index) => run.scope.set(index, root),
-        Home::Cell(number) => run.cells.give_back(number, root),
+        Home::Cell(number) => put_in_cell(&mut run.cells, number, root),
         Home::Operand => {}
+        Home::This => {
+            let _meanwhile = run.receivers.replace(root);
+        }
+    }
+}
+
+// Puts this into a cell, whose content is not lent from then on. A cell that is not there stays away.
+fn put_in_cell(cells: &mut Store, number: usize, held: Held)
+    ensures { cells.new ≡ slice_set cells.old number (idle held) }
+{
+    if number >= cells.len() {
+        return;
+    }
+    if cells.is_busy(number) {
+        cells.give_back(number, held);
+    } else {
+        cells.set(number, held);
     }
 }

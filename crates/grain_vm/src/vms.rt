@@ -49,7 +49,7 @@ impl<'e> Model for Vm<'e> {
 }
 
 impl<'e> Vm<'e> {
-    /// A machine over a state in which nothing was run.
+    /// A machine with a new state: no operation was charged, and the level is 0.
     pub fn new(alloc: Global, engine: &'e Engine) -> Result<Vm<'e>, OutOfMemory>
         ensures { IfOk result
             (λ v. v ≡
@@ -64,7 +64,7 @@ impl<'e> Vm<'e> {
         Ok(Vm::with_global_state(alloc, engine, global))
     }
 
-    /// A machine over this state. It takes no memory.
+    /// A machine that goes on from this state. It takes no memory.
     pub fn with_global_state(
         alloc: Global,
         engine: &'e Engine,
@@ -78,7 +78,8 @@ impl<'e> Vm<'e> {
         }
     }
 
-    /// The state.
+    /// Ends the machine and gives back the state that outlives its runs: the operations
+    /// taken and the level.
     pub fn into_global_state(self) -> GlobalRuntimeState
         ensures { result ≡ self.entry.global }
     {
@@ -93,7 +94,7 @@ impl<'e> Vm<'e> {
         self.machine.trace()
     }
 
-    /// Where the innermost of these frames stopped.
+    /// The address at which the innermost frame of the last fault stopped, if there is one.
     pub fn fault_pc(&self) -> Option<usize>
         ensures { result ≡ option_map (λ f. f.address) (slice_get self.now.trace 0) }
     {
@@ -104,13 +105,14 @@ impl<'e> Vm<'e> {
     }
 
     /// Runs a program's main on a scope, with a host, and with the cells that closures share. The
-    /// operations that are charged count on from the state's, and the host hears of each. The
-    /// entries that main declares stay after a value; a fault cuts the scope back to its length.
-    /// After want of memory the run is the one that is stopped at a mark. The scope's entries keep
-    /// their names and order, whatever the end is. Where nothing that is given names a cell outside
-    /// of the store, nothing that is left does, and no cell stays lent. Where the scope, the cells and
-    /// the constants are clean, which means that no cell stands directly inside an array or a map, so
-    /// is all that is left, whatever the host is.
+    /// operations that are charged count on from the state's, and the host hears of each. The entries
+    /// that main declares stay after a value; a fault cuts the scope back to the length that it had,
+    /// or that it had at main's last `checkpoint`. If memory runs out, the run is the same up to some
+    /// point, and ends there with the fault `Memory`. The scope's entries keep their names and order,
+    /// whatever the end is. If scope, cells, constants and host name only cells of the store, so do
+    /// the results afterwards, and no cell stays lent. If the scope, the cells and the constants are
+    /// clean, which means that no cell stands directly inside an array or a map, so are the results,
+    /// whatever the host is.
     pub fn eval_with_callbacks<H: Host, L: Ledger>(
         &mut self,
         alloc: Global,

@@ -294,6 +294,7 @@ implements_after {H = H} law p engine f f' s s' n n' v ops {first} {rule} {ts} {
         outer = does.kept.outer ∙ ap (λ (q : StacksView). q.outer) rest;
         saved = does.kept.saved;
         level = does.kept.level;
+        this = does.kept.this;
         later = does.kept.later;
       };
       lands = lands_on engine s s' v f f' ts us takes gives more adds v.handlers r
@@ -380,5 +381,6 @@ kept_write f f' s v ops scope i h ec eb rest written inside = record {
   outer = ap (λ (q : StacksView). q.outer) rest;
   saved = refl;
   level = refl;
+  this = (refl, refl);
   later = omega arith;
 }

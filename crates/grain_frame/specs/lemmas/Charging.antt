@@ -49,6 +49,7 @@ module _ {H : Type 0} (law : Law H) (p : View) (engine : Engine) (f : Activation
     outer = refl;
     saved = refl;
     level = refl;
+    this = (refl, refl);
     later = le;
   })
 

@@ -1,5 +1,5 @@
 -- Faults that are raised, and stretches that stop at their first mark because memory is wanted.
-use Rattle.std.proofs.Common.{◌≡◌, ◌+◌, ◌≤◌, ℕ, List, [], ◌∷◌, Option, Some, None, Result, Ok, Err, Bool, true, false, if◌then◌else◌, ◌&&◌, length, refl, ap, arith}
+use Rattle.std.proofs.Common.{◌≡◌, ◌∙◌, ◌+◌, ◌≤◌, ℕ, List, [], ◌∷◌, Option, Some, None, Result, Ok, Err, Bool, true, false, if◌then◌else◌, ◌&&◌, length, refl, ap, arith}
 use Rattle.std.specs.Prelude.{slice_get, slice_set}
 use Rattle.grain_value.specs.Cells.{content, flat, idle}
 use Rattle.grain_value.specs.Looking.{cell_of}
@@ -18,7 +18,7 @@ use Rattle.grain_global.specs.declared.engines.Engine.{Engine}
 use Rattle.grain_stack.specs.declared.handlers.Handler.{Handler}
 use Rattle.grain_ops.specs.Outcomes.{Outcome, NotBuiltIn, Gave, ArithmeticFault, TooLarge}
 use Rattle.grain_means.specs.Worlds.{Act, Frame, Place, Setup, World}
-use Rattle.grain_means.specs.Rules.{InScope, Receiver, cell_written, content_now, data_race, first_is_read_only, flat_or_race, flattened, given, host_called, is_stop, kinds_in, leave_by_fault, marked, native, native_found, onward, op_assign_failed, operator_assigned, position, push_outcome, pushed, raised, stepped, store_outcome, write_entry, written}
+use Rattle.grain_means.specs.Rules.{AtPlace, Home, InCell, InScope, Receiver, assigned_at, cell_written, content_now, data_race, first_is_read_only, flat_or_race, flattened, given, host_called, is_stop, kinds_in, leave_by_fault, marked, native, native_found, onward, op_assign_failed_at, operator_at, outcome_at, position, push_outcome, pushed, raised, stepped, written_at}
 use Rattle.grain_host.specs.Signatures.{says_missing}
 use Rattle.grain_means.specs.Means.{setup}
 use Rattle.grain_means.specs.Simulation.{Computation, Environment, stopped, world}
@@ -60,11 +60,12 @@ native_stops m name r args f w go fails halts stops =
     halts stops
 
 -- a write stops at its mark, whatever is written
-pub written_stops : {S : Type 0} (m : Setup S) (c : Option ℕ) (i : ℕ) (h : Held) (name : List ℕ)
-    (f : Frame) (w : World S) (go : World S → Act S) → is_stop m.stop w.passed ≡ true →
-    written m c i h name f w go ≡ leave_by_fault m f NoMemory w
-written_stops m None i h name f w go halts = rw halts refl
-written_stops {S = S} m (Some n) i h name f w go halts = at (slice_get w.cells n) where
+pub written_stops : {S : Type 0} (m : Setup S) (a : Home) (h : Held) (name : List ℕ) (f : Frame)
+    (w : World S) (go : World S → Act S) → is_stop m.stop w.passed ≡ true →
+    written_at m a h name f w go ≡ leave_by_fault m f NoMemory w
+written_stops m (InScope i) h name f w go halts = rw halts refl
+written_stops m (AtPlace p) h name f w go halts = rw halts refl
+written_stops {S = S} m (InCell n) h name f w go halts = at (slice_get w.cells n) where
   by_flag : (b : Bool) → (if b then data_race m name f w
       else marked m f w (λ w1. go (record w1 { cells = slice_set w1.cells n (idle h) })))
       ≡ leave_by_fault m f NoMemory w
@@ -75,11 +76,12 @@ written_stops {S = S} m (Some n) i h name f w go halts = at (slice_get w.cells n
   at None = rw halts refl
   at (Some d) = by_flag d.busy
 
--- nothing is written into a cell that is lent
-pub lent_raises : {S : Type 0} (m : Setup S) (v : Dynamic) (i : ℕ) (h : Held) (name : List ℕ)
-    (f : Frame) (w : World S) (go : World S → Act S) → flat w.cells v ≡ None →
-    written m (cell_of v) i h name f w go ≡ data_race m name f w
-lent_raises {S = S} m v i h name f w go none = at (cell_of v) refl where
+-- nothing is written into a cell that is lent, wherever what is no cell would be written
+pub lent_raises : {S : Type 0} (m : Setup S) (v : Dynamic) (home : Option ℕ → Home) (h : Held)
+    (name : List ℕ) (f : Frame) (w : World S) (go : World S → Act S) →
+    ((n : ℕ) → home (Some n) ≡ InCell n) → flat w.cells v ≡ None →
+    written_at m (home (cell_of v)) h name f w go ≡ data_race m name f w
+lent_raises {S = S} m v home h name f w go is none = at (cell_of v) refl where
   by_flag : (n : ℕ) (x : Dynamic) (b : Bool) → (if b then None else Some x) ≡ None →
       (if b then data_race m name f w
       else marked m f w (λ w1. go (record w1 { cells = slice_set w1.cells n (idle h) })))
@@ -92,64 +94,64 @@ lent_raises {S = S} m v i h name f w go none = at (cell_of v) refl where
   by_cell n None e = refl
   by_cell n (Some d) e = by_flag n d.held.value d.busy e
 
-  at : (c : Option ℕ) → cell_of v ≡ c → written m c i h name f w go ≡ data_race m name f w
+  at : (c : Option ℕ) → cell_of v ≡ c →
+      written_at m (home c) h name f w go ≡ data_race m name f w
   at None e = let no : Some v ≡ None = rw e at none in absurd cc
-  at (Some n) e = by_cell n (slice_get w.cells n) (rw e at none)
+  at (Some n) e =
+      ap (λ (a : Home). written_at m a h name f w go) (is n)
+      ∙ by_cell n (slice_get w.cells n) (rw e at none)
 
--- so does a native's value on its way into a target
-pub taken_stops : {S : Type 0} (m : Setup S) (o : Option Dynamic) (h : Held) (slot : ℕ)
-    (name : List ℕ) (next : ℕ) (f : Frame) (w : World S) → is_stop m.stop w.passed ≡ true →
-    flat_or_race m o name f w (λ q. write_entry m h slot (record h { value = q }) name next f w)
+-- a native's value stops there on its way into a target
+pub taken_stops : {S : Type 0} (m : Setup S) (a : Home) (o : Option Dynamic) (name : List ℕ)
+    (next : ℕ) (f : Frame) (w : World S) → is_stop m.stop w.passed ≡ true →
+    flat_or_race m o name f w (λ v. assigned_at m a (read_write v) name next f w)
     ≡ leave_by_fault m f NoMemory w
-taken_stops m None h slot name next f w halts = rw halts refl
-taken_stops m (Some q) h slot name next f w halts =
-    written_stops m (cell_of h.value) (f.base + slot) (record h { value = q }) name f w
+taken_stops m a None name next f w halts = rw halts refl
+taken_stops m a (Some v) name next f w halts =
+    written_stops m a (read_write v) name f w
     (onward m f (stepped f next (below f.operands))) halts
 
 -- so does the host's operator
-pub operator_stops : {S : Type 0} (m : Setup S) (name : List ℕ) (h u v : Held)
-    (slot n next : ℕ) (f : Frame) (w : World S) → is_stop m.stop w.passed ≡ true →
-    operator_assigned m name h u v slot n next f w ≡ leave_by_fault m f NoMemory w
-operator_stops m name h u v slot n next f w halts =
-    native_stops m name None (u ∷ v ∷ []) f w
-    (λ r w1. flattened m (read_write r) (name_of m.program n) f w1 (λ q.
-    write_entry m h slot (record h { value = q }) (name_of m.program n) next f w1)) (raised m f)
+pub operator_stops : {S : Type 0} (m : Setup S) (a : Home) (name op : List ℕ) (h u v : Held)
+    (next : ℕ) (f : Frame) (w : World S) → is_stop m.stop w.passed ≡ true →
+    operator_at m a name op h u v next f w ≡ leave_by_fault m f NoMemory w
+operator_stops m a name op h u v next f w halts =
+    native_stops m op None (u ∷ v ∷ []) f w
+    (λ r w1. flattened m (read_write r) name f w1 (λ q.
+    assigned_at m a (record h { value = q }) name next f w1)) (raised m f)
     halts (λ y. rw halts refl)
 
 -- so does the fault of an op-assignment, whether or not the host's operator is asked then
-pub op_assign_stops : {S : Type 0} (m : Setup S) (a : AssignOp) (h v : Held) (slot n next : ℕ)
-    (f : Frame) (w : World S) → is_stop m.stop w.passed ≡ true →
-    StopsAtMark m f w (op_assign_failed m a h v slot n next f)
-op_assign_stops m a h v slot n next f w halts x =
-    at (says_missing (name_of m.program a.op_assign_name) x) where
+pub op_assign_stops : {S : Type 0} (m : Setup S) (a : Home) (name : List ℕ) (o : AssignOp)
+    (h v : Held) (next : ℕ) (f : Frame) (w : World S) → is_stop m.stop w.passed ≡ true →
+    StopsAtMark m f w (op_assign_failed_at m a name o h v next f)
+op_assign_stops m a name o h v next f w halts x =
+    at (says_missing (name_of m.program o.op_assign_name) x) where
       u : Held
-      u = record h { value = content_now (cell_of h.value) (f.base + slot) h w.scope w.cells }
+      u = record h { value = content_now a h w }
 
       at : (b : Bool) →
-          (if b then operator_assigned m (name_of m.program a.op_name) h u v slot n next f w
+          (if b then operator_at m a name (name_of m.program o.op_name) h u v next f w
           else raised m f x w) ≡ leave_by_fault m f NoMemory w
-      at true = operator_stops m (name_of m.program a.op_name) h u v slot n next f w halts
+      at true = operator_stops m a name (name_of m.program o.op_name) h u v next f w halts
       at false = rw halts refl
 
 -- so does what an op-assignment gives, whatever it is
-pub store_stops : {S : Type 0} (m : Setup S) (o : Outcome) (a : AssignOp) (h : Held)
-    (u : Dynamic) (v : Held) (slot n next : ℕ) (f : Frame) (w : World S) →
+pub store_stops : {S : Type 0} (m : Setup S) (a : Home) (name : List ℕ) (r : Outcome) (o : AssignOp)
+    (h : Held) (u : Dynamic) (v : Held) (next : ℕ) (f : Frame) (w : World S) →
     is_stop m.stop w.passed ≡ true →
-    store_outcome m o a h u v slot n next f w ≡ leave_by_fault m f NoMemory w
-store_stops m NotBuiltIn a h u v slot n next f w halts =
-    native_stops m (name_of m.program a.op_assign_name)
-    (Some (record {
-      home = InScope (f.base + slot) (cell_of h.value);
-      held = record h { value = u };
-    })) (v ∷ []) f w
+    outcome_at m a name r o h u v next f w ≡ leave_by_fault m f NoMemory w
+store_stops m a name NotBuiltIn o h u v next f w halts =
+    native_stops m (name_of m.program o.op_assign_name)
+    (Some (record { home = a; held = record h { value = u } })) (v ∷ []) f w
     (λ r w1. onward m f (stepped f next (below f.operands)) w1)
-    (op_assign_failed m a h v slot n next f) halts
-    (op_assign_stops m a h v slot n next f w halts)
-store_stops m (Gave r) a h u v slot n next f w halts =
-    written_stops m (cell_of h.value) (f.base + slot) (record h { value = r })
-    (name_of m.program n) f w (onward m f (stepped f next (below f.operands))) halts
-store_stops m (ArithmeticFault t) a h u v slot n next f w halts = rw halts refl
-store_stops m (TooLarge t) a h u v slot n next f w halts = rw halts refl
+    (op_assign_failed_at m a name o h v next f) halts
+    (op_assign_stops m a name o h v next f w halts)
+store_stops m a name (Gave x) o h u v next f w halts =
+    written_stops m a (record h { value = x }) name f w
+    (onward m f (stepped f next (below f.operands))) halts
+store_stops m a name (ArithmeticFault t) o h u v next f w halts = rw halts refl
+store_stops m a name (TooLarge t) o h u v next f w halts = rw halts refl
 
 -- a rule that stops at its first mark, where memory is out before anything is done
 pub wants_memory : {H : Type 0} (law : Law H) (p : View) (engine : Engine) (f : Activation)
@@ -178,6 +180,7 @@ wants_memory law p engine f s n host (Err y) out inside stops = record {
     outer = refl;
     saved = refl;
     level = refl;
+    this = (refl, refl);
     later = omega arith;
   };
   lands = tt;
@@ -212,6 +215,7 @@ raises_here {H = H} law p engine f s s' n n' host x {rule} {ts} {takes} {gives} 
         outer = refl;
         saved = refl;
         level = refl;
+        this = (refl, refl);
         later = omega arith;
       })
 
@@ -231,6 +235,7 @@ raises_here law p engine f s s' n n' host x {rule} {ts} {takes} {gives} (Err e) 
         outer = refl;
         saved = refl;
         level = refl;
+        this = (refl, refl);
         later = omega arith;
       };
       lands = tt;
@@ -279,10 +284,10 @@ push_raises m (Gave v) name args next operands f w is = absurd is
 push_raises m (ArithmeticFault t) name args next operands f w is = refl
 push_raises m (TooLarge t) name args next operands f w is = refl
 
-pub store_raises : {S : Type 0} (m : Setup S) (o : Outcome) (a : AssignOp) (h : Held)
-    (u : Dynamic) (v : Held) (slot n next : ℕ) (f : Frame) (w : World S) → IsFault o →
-    store_outcome m o a h u v slot n next f w ≡ raised m f (fault_at o (position m f)) w
-store_raises m NotBuiltIn a h u v slot n next f w is = absurd is
-store_raises m (Gave r) a h u v slot n next f w is = absurd is
-store_raises m (ArithmeticFault t) a h u v slot n next f w is = refl
-store_raises m (TooLarge t) a h u v slot n next f w is = refl
+pub store_raises : {S : Type 0} (m : Setup S) (a : Home) (name : List ℕ) (r : Outcome) (o : AssignOp)
+    (h : Held) (u : Dynamic) (v : Held) (next : ℕ) (f : Frame) (w : World S) → IsFault r →
+    outcome_at m a name r o h u v next f w ≡ raised m f (fault_at r (position m f)) w
+store_raises m a name NotBuiltIn o h u v next f w is = absurd is
+store_raises m a name (Gave x) o h u v next f w is = absurd is
+store_raises m a name (ArithmeticFault t) o h u v next f w is = refl
+store_raises m a name (TooLarge t) o h u v next f w is = refl

@@ -1,6 +1,6 @@
 use Rattle.std.proofs.Common.{rules}
 use Rattle.grain_means.specs.Means.{setup}
-use Rattle.grain_vm.proofs.CaughtFrames.{can_catch, kept_at, typed_at, goes_on_at, leaves_at, leaves_out}
+use Rattle.grain_vm.proofs.CaughtFrames.{can_catch, kept_at, none_catches, typed_at, goes_on_at, leaves_at, leaves_out}
 use Rattle.grain_vm.proofs.catching.catch.Goals as goal
 
 pub catch_by-requires-clause-operands : goal.catch_by-requires-clause-operands
@@ -60,3 +60,10 @@ returns-else-goes_on-clause-goes g c = λ f at low slot.
     c.catch_by.new.run c.catch_by.new.steps c.catch_by.new.host c.leave_by_fault-in-Ok.new.run
     (rw (at, low, slot) c.leave_by_fault-in-Ok.ensures) c.in-Ok.goes_on c.if-goes_on.false
     (c.in-Ok.ensures.same f at)
+
+pub returns-in_default-clause-goes : goal.returns-in_default-clause-goes
+returns-in_default-clause-goes g c = λ f at low slot.
+    none_catches (setup g.H.Host.law c.args.context.program.now c.args.context.engine.now) f
+    c.args.run.now c.catching_handler.new.run c.leave_by_fault.new.run c.args.steps.now
+    c.args.host.now c.in_default.ensures.same c.catching_handler.ensures.others
+    (rw (at, low, slot) c.leave_by_fault.ensures)

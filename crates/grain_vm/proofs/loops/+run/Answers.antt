@@ -1,22 +1,28 @@
-use Rattle.std.proofs.Common.{◌∙◌, ℕ, Option, Ok, Err, length, refl, sym, ap, subst, arith}
-use Rattle.grain_global.specs.StepsView.{StepsView}
+use Rattle.std.proofs.Common.{◌∙◌, ℕ, Option, Ok, length, refl, subst, arith}
 use Rattle.grain_means.specs.Means.{setup}
-use Rattle.grain_frame.specs.Abstraction.{abstraction, frame_in, Stepped, StaysTyped, moment}
-use Rattle.grain_frame.specs.declared.activations.Activation.{Activation}
-use Rattle.grain_frame.specs.declared.runs.Progress.{Progress}
-use Rattle.grain_frame.specs.declared.runs.Run.{Run}
+use Rattle.grain_frame.specs.Abstraction.{frame_in, this_of, moment}
 use Rattle.grain_vm.proofs.Found.{found_stepped, is_function}
-use Rattle.grain_vm.proofs.Calling.{call_ran, has_begun, not_begun, entered_with, kept_with, refused_here, there_is, outer_is}
-use Rattle.grain_vm.proofs.Measure.{falls, taken}
-use Rattle.grain_vm.proofs.Turns.{moved_back, turn, flowed, left_out, next_runs}
+use Rattle.grain_vm.proofs.Calling.{call_ran, has_begun, not_begun, entered_with, kept_with, refused_here, refused_this, there_is, outer_is}
+use Rattle.grain_vm.proofs.Measure.{taken}
+use Rattle.grain_vm.proofs.Turns.{none_on}
+use Rattle.grain_vm.proofs.Running.{around_caught, around_on, chain_taken, done_after, done_from, done_so, led, left_around, left_around_by_memory, runs_here, runs_on, stops_by_fault, stops_by_memory, stops_so, turn_falls}
+use Rattle.grain_vm.proofs.BoundFrames.{all_still, unbound_above}
+use Rattle.grain_vm.proofs.MethodOvers.{called_one, method_ran, method_refused}
 use Rattle.grain_vm.specs.Catching.{activation_at, StopsSo, Caught, CaughtAt}
 use Rattle.grain_vm.specs.declared.loops.Stop.{Stop}
-use Rattle.grain_vm.proofs.CaughtFrames.{caught_runs, offered_so, stopped_at, stopped_so}
+use Rattle.grain_vm.proofs.CaughtFrames.{caught_runs, offered_so, stopped_so}
 use Rattle.grain_means.specs.lemmas.Stretches.{compose, same}
+use Rattle.grain_program.specs.View.{chain_of}
+use Rattle.grain_vm.specs.Chains.{walked_frame}
+use Rattle.grain_vm.specs.Seats.{first_held}
+use Rattle.grain_vm.specs.Underway.{after_chain}
+use Rattle.grain_vm.proofs.ChainLoops.{after_blind, walked_first, walked_on, walked_over}
 use Rattle.grain_vm.proofs.loops.+run.Goals as goal
 
 pub call-returns-in-Err-clause-goes : goal.call-returns-in-Err-clause-goes
-call-returns-in-Err-clause-goes g t c = same (c.in-Err.ensures.same c.args.next)
+call-returns-in-Err-clause-goes g t c =
+    rw (refused_this c.args.run.now c.enter_function.new.run c.enter_function.new.steps
+    c.enter_function.new.host c.in-Err.ensures.enters) at (same (c.in-Err.ensures.same c.args.next))
 
 pub call-returns-else-begun-clause-goes : goal.call-returns-else-begun-clause-goes
 call-returns-else-begun-clause-goes g t c =
@@ -24,9 +30,10 @@ call-returns-else-begun-clause-goes g t c =
     let f = frame_in c.args.frame.now c.args.run.now in
     let kept = kept_with c.args.context.engine.now function c.args.run.now c.enter_function.new.run
     c.in-Ok.begun c.if-begun.false c.in-Ok.ensures.enters in
-    same (refused_here c.args.frame.now c.args.run.now c.enter_function.new.run kept
-    (not_begun c.in-Ok.begun c.args.run.now c.enter_function.new.run function f c.args.next
-    c.if-begun.false (c.in-Ok.ensures.same c.args.next)))
+    rw (refused_this c.args.run.now c.enter_function.new.run c.enter_function.new.steps
+    c.enter_function.new.host kept) at (same (refused_here c.args.frame.now c.args.run.now
+    c.enter_function.new.run kept (not_begun c.in-Ok.begun c.args.run.now
+    c.enter_function.new.run function f c.args.next c.if-begun.false (c.in-Ok.ensures.same c.args.next))))
 
 pub call-returns-then-begun-clause-goes : goal.call-returns-then-begun-clause-goes
 call-returns-then-begun-clause-goes g t c =
@@ -36,17 +43,23 @@ call-returns-then-begun-clause-goes g t c =
     c.enter_function.new.run
     c.in-Ok.begun c.if-begun.true c.in-Ok.ensures.enters in
     let ran = c.run_frame-end in
-    call_ran f c.args.next function c.args.run.now.scope c.args.run.now.level
+    let left = ran.ensures.around in
+    let s = c.args.run.now in
+    let still = all_still s.level s.receivers ran.new.run.receivers c.requires.none
+    (rw (entered.level, entered.receivers) at left.this) in
+    call_ran f c.args.next function c.args.run.now.scope c.args.run.now.level (this_of s)
     (has_begun c.in-Ok.begun c.args.run.now c.enter_function.new.run function f c.args.next
     c.if-begun.true (c.in-Ok.ensures.same c.args.next))
-    (λ place. rw (entered.operands, entered.handlers) refl) refl ran.ensures.goes
+    (λ place. rw (entered.operands, entered.handlers) refl)
+    (rw (entered.level, entered.receivers) (unbound_above s.level s.receivers c.requires.none))
+    ran.ensures.goes
     (there_is c.args.context.engine.now c.args.frame.now c.resume_caller.new.frame c.args.run.now
     c.enter_function.new.run ran.new.run c.resume_caller.new.run function (length function.params)
-    c.args.next entered ran.ensures.outer ran.ensures.saved ran.ensures.level ran.new.steps
+    c.args.next entered left.outer left.saved left.level still ran.new.steps
     ran.new.host)
     (outer_is c.args.context.engine.now c.args.frame.now c.resume_caller.new.frame c.args.run.now
     c.enter_function.new.run ran.new.run c.resume_caller.new.run function (length function.params)
-    c.args.next entered ran.ensures.outer ran.ensures.saved ran.ensures.level refl)
+    c.args.next entered left.outer left.saved left.level refl)
     (c.resume_caller.ensures.same ran.new.host) c.resume_caller.ensures.persists
 
 pub proceed-returns-in-Function : goal.proceed-returns-in-Function
@@ -68,337 +81,116 @@ proceed-returns-in-Function g t c =
 
 pub run_from-turn-smaller-in-Done : goal.run_from-turn-smaller-in-Done
 run_from-turn-smaller-in-Done g t c =
-    let did = c.in-Done.ensures c.turn.host in
-    falls c.args.context.engine.now c.turn.run.count c.quick.new.run.count c.turn.frame.address
-    c.quick.new.frame.address did.stays.1 did.stays.2
+    turn_falls c.turn.invariant (done_from c.turn.steps c.begin_instruction.ensures c.mark.ensures
+    (c.in-Done.ensures c.turn.host))
 
 pub run_from-turn-preserved-in-Done : goal.run_from-turn-preserved-in-Done
 run_from-turn-preserved-in-Done g t c =
-    let did = c.in-Done.ensures c.turn.host in
-    let now = c.turn.invariant in
-    let fewer = falls c.args.context.engine.now c.turn.run.count c.quick.new.run.count
-    c.turn.frame.address c.quick.new.frame.address did.stays.1 did.stays.2 in
+    runs_on c.turn.invariant (done_from c.turn.steps c.begin_instruction.ensures c.mark.ensures
+    (c.in-Done.ensures c.turn.host))
+
+pub run_from-returns-in-Returned : goal.run_from-returns-in-Returned
+run_from-returns-in-Returned g t c =
+    let did = done_from c.turn.steps c.begin_instruction.ensures c.mark.ensures
+    (c.in-Returned.ensures c.turn.host) in
     record {
-      goes = turn (abstraction c.turn.run c.turn.steps c.turn.host)
-          (rw (c.mark.ensures, c.begin_instruction.ensures) refl) now.goes did.goes;
-      runs = next_runs c.args.context.program.now c.turn.frame c.quick.new.frame c.turn.run
-          c.quick.new.run now.runs did.kept did.stays.0
-          did.stays.3;
-      outer = did.kept.outer ∙ now.outer;
-      saved = did.kept.saved ∙ now.saved;
-      level = did.kept.level ∙ now.level;
-      later = omega (arith, did.kept.later, now.later);
-      fewer = omega (arith, fewer, now.fewer);
-      chunk = did.kept.chunk ∙ now.chunk;
-      base = did.kept.base ∙ now.base;
-      room = did.kept.room ∙ now.room;
-      before = did.before ∙
-          (ap (λ (k : StepsView). k.before) c.mark.ensures ∙
-          (ap (λ (k : StepsView). k.before) c.begin_instruction.ensures ∙ now.before));
+      goes = led c.turn.invariant did;
+      catches = tt;
+      around = left_around c.turn.invariant did;
     }
-
-pub run_from-returns-in-Returned-clause-goes : goal.run_from-returns-in-Returned-clause-goes
-run_from-returns-in-Returned-clause-goes g t c =
-    let did = c.in-Returned.ensures c.turn.host in
-    turn (abstraction c.turn.run c.turn.steps c.turn.host)
-    (rw (c.mark.ensures, c.begin_instruction.ensures) refl) c.turn.invariant.goes did.goes
-
-pub run_from-returns-in-Returned-clause-outer : goal.run_from-returns-in-Returned-clause-outer
-run_from-returns-in-Returned-clause-outer g t c =
-    let did = c.in-Returned.ensures c.turn.host in did.kept.outer ∙ c.turn.invariant.outer
-
-pub run_from-returns-in-Returned-clause-room : goal.run_from-returns-in-Returned-clause-room
-run_from-returns-in-Returned-clause-room g t c =
-    let did = c.in-Returned.ensures c.turn.host in did.kept.room ∙ c.turn.invariant.room
-
-pub run_from-returns-in-Returned-clause-saved : goal.run_from-returns-in-Returned-clause-saved
-run_from-returns-in-Returned-clause-saved g t c =
-    let did = c.in-Returned.ensures c.turn.host in did.kept.saved ∙ c.turn.invariant.saved
-
-pub run_from-returns-in-Returned-clause-level : goal.run_from-returns-in-Returned-clause-level
-run_from-returns-in-Returned-clause-level g t c =
-    let did = c.in-Returned.ensures c.turn.host in did.kept.level ∙ c.turn.invariant.level
-
-pub run_from-returns-in-Returned-clause-later : goal.run_from-returns-in-Returned-clause-later
-run_from-returns-in-Returned-clause-later g t c =
-    let did =
-    c.in-Returned.ensures c.turn.host in omega (arith, did.kept.later, c.turn.invariant.later)
-
-pub run_from-returns-in-Returned-clause-before : goal.run_from-returns-in-Returned-clause-before
-run_from-returns-in-Returned-clause-before g t c =
-    let did = c.in-Returned.ensures c.turn.host in
-    did.before ∙
-    (ap (λ (k : StepsView). k.before) c.mark.ensures ∙
-    (ap (λ (k : StepsView). k.before) c.begin_instruction.ensures ∙ c.turn.invariant.before))
 
 pub run_from-returns-in-Err : goal.run_from-returns-in-Err
 run_from-returns-in-Err g t c =
-    let at = frame_in c.jump.new.frame c.jump.new.run in
-    let did =
-    moved_back
-    (λ (s : Run g.row.H.Denot) (f : Activation) (n : StepsView).
-    Stepped (setup g.H.Host.law c.args.context.program.now c.args.context.engine.now) (moment f s n
-    c.turn.host) (Err c.in-Err.e) (moment c.jump.new.frame c.jump.new.run c.jump.new.steps
-    c.jump.new.host)) c.in-Jump.ensures.0 c.in-Err.ensures.stepped in
-    let now = c.turn.invariant in
-    let left = c.leave_by_fault.ensures in
+    let did = done_after c.turn.steps c.begin_instruction.ensures c.mark.ensures c.in-Jump.ensures.0
+    c.in-Err.ensures.stepped in
+    let left = c.leave_by_fault in
     record {
-      goes = left_out (abstraction c.jump.new.run c.jump.new.steps c.jump.new.host)
-          (abstraction c.leave_by_fault.new.run c.jump.new.steps
-          c.jump.new.host) at
-          c.jump.new.frame.floor c.jump.new.frame.address c.jump.new.frame.slot (λ place. refl)
-          (λ place. refl) (λ place. refl)
-          (rw left refl)
-          (turn (abstraction c.turn.run c.turn.steps c.turn.host)
-          (rw (c.mark.ensures, c.begin_instruction.ensures) refl) now.goes did.goes);
+      goes = stops_by_memory c.turn.invariant c.in-Err.e did left.new.run left.ensures;
       catches = tt;
-      outer = rw left (did.kept.outer ∙ now.outer);
-      room = rw left (did.kept.room ∙ now.room);
-      saved = rw left (did.kept.saved ∙ now.saved);
-      level = rw left (did.kept.level ∙ now.level);
-      later = rw left (omega (arith, did.kept.later, now.later));
-      before = did.before ∙
-          (ap (λ (k : StepsView). k.before) c.mark.ensures ∙
-          (ap (λ (k : StepsView). k.before) c.begin_instruction.ensures ∙ now.before));
+      around = left_around_by_memory c.turn.invariant c.in-Err.e did left.new.run left.ensures;
     }
 
 pub run_from-turn-preserved-in-Continues : goal.run_from-turn-preserved-in-Continues
 run_from-turn-preserved-in-Continues g t c =
-    let at = frame_in c.jump.new.frame c.jump.new.run in
-    let did =
-    moved_back
-    (λ (s : Run g.row.H.Denot) (f : Activation) (n : StepsView).
-    Stepped (setup g.H.Host.law c.args.context.program.now c.args.context.engine.now) (moment f s n
-    c.turn.host) (Ok c.in-Ok.progress) (moment c.jump.new.frame c.jump.new.run c.jump.new.steps
-    c.jump.new.host)) c.in-Jump.ensures.0 c.in-Ok.ensures.stepped in
-    let stays =
-    subst (λ (q : Progress). StaysTyped c.args.context.program.now c.args.context.engine.now
-    c.turn.run c.turn.frame c.jump.new.run c.jump.new.frame (Ok q)) c.in-Continues.is
-    did.stays in
-    let now = c.turn.invariant in
-    let fewer = falls c.args.context.engine.now c.turn.run.count c.jump.new.run.count
-    c.turn.frame.address c.jump.new.frame.address stays.1 stays.2 in
-    record {
-      goes = flowed at c.jump.new.run.fault c.in-Continues.is
-          (turn (abstraction c.turn.run c.turn.steps c.turn.host)
-          (rw (c.mark.ensures, c.begin_instruction.ensures) refl) now.goes did.goes);
-      runs = next_runs c.args.context.program.now c.turn.frame c.jump.new.frame c.turn.run
-          c.jump.new.run now.runs did.kept stays.0
-          stays.3;
-      outer = did.kept.outer ∙ now.outer;
-      saved = did.kept.saved ∙ now.saved;
-      level = did.kept.level ∙ now.level;
-      later = omega (arith, did.kept.later, now.later);
-      fewer = omega (arith, fewer, now.fewer);
-      chunk = did.kept.chunk ∙ now.chunk;
-      base = did.kept.base ∙ now.base;
-      room = did.kept.room ∙ now.room;
-      before = did.before ∙
-          (ap (λ (k : StepsView). k.before) c.mark.ensures ∙
-          (ap (λ (k : StepsView). k.before) c.begin_instruction.ensures ∙ now.before));
-    }
+    runs_on c.turn.invariant (done_so c.in-Continues.is
+    (done_after c.turn.steps c.begin_instruction.ensures c.mark.ensures c.in-Jump.ensures.0
+    c.in-Ok.ensures.stepped))
 
 pub run_from-returns-in-Returned-progress : goal.run_from-returns-in-Returned-progress
 run_from-returns-in-Returned-progress g t c =
-    let at = frame_in c.jump.new.frame c.jump.new.run in
-    let did =
-    moved_back
-    (λ (s : Run g.row.H.Denot) (f : Activation) (n : StepsView).
-    Stepped (setup g.H.Host.law c.args.context.program.now c.args.context.engine.now) (moment f s n
-    c.turn.host) (Ok c.in-Ok.progress) (moment c.jump.new.frame c.jump.new.run c.jump.new.steps
-    c.jump.new.host)) c.in-Jump.ensures.0 c.in-Ok.ensures.stepped in
-    let now = c.turn.invariant in
+    let did = done_so c.in-Returned-progress.is
+    (done_after c.turn.steps c.begin_instruction.ensures c.mark.ensures c.in-Jump.ensures.0
+    c.in-Ok.ensures.stepped) in
     record {
-      goes = flowed at c.jump.new.run.fault c.in-Returned-progress.is
-          (turn (abstraction c.turn.run c.turn.steps c.turn.host)
-          (rw (c.mark.ensures, c.begin_instruction.ensures) refl) now.goes did.goes);
+      goes = led c.turn.invariant did;
       catches = tt;
-      outer = did.kept.outer ∙ now.outer;
-      room = did.kept.room ∙ now.room;
-      saved = did.kept.saved ∙ now.saved;
-      level = did.kept.level ∙ now.level;
-      later = omega (arith, did.kept.later, now.later);
-      before = did.before ∙
-          (ap (λ (k : StepsView). k.before) c.mark.ensures ∙
-          (ap (λ (k : StepsView). k.before) c.begin_instruction.ensures ∙ now.before));
-    }
-
-pub run_from-returns-in-Err-proceed : goal.run_from-returns-in-Err-proceed
-run_from-returns-in-Err-proceed g t c =
-    let at = frame_in c.proceed.new.frame c.proceed.new.run in
-    let did =
-    moved_back
-    (λ (s : Run g.row.H.Denot) (f : Activation) (n : StepsView).
-    Stepped (setup g.H.Host.law c.args.context.program.now c.args.context.engine.now) (moment f s n
-    c.turn.host) (Err c.in-Err-proceed.e) (moment c.proceed.new.frame c.proceed.new.run
-    c.proceed.new.steps c.proceed.new.host)) c.in-Pending.ensures.0 c.in-Err-proceed.ensures.stepped
-    in
-    let now = c.turn.invariant in
-    let left = c.leave_by_fault-in-Err-proceed.ensures in
-    record {
-      goes = left_out (abstraction c.proceed.new.run c.proceed.new.steps c.proceed.new.host)
-          (abstraction c.leave_by_fault-in-Err-proceed.new.run c.proceed.new.steps
-          c.proceed.new.host) at
-          c.proceed.new.frame.floor c.proceed.new.frame.address c.proceed.new.frame.slot (λ place. refl)
-          (λ place. refl) (λ place. refl)
-          (rw left refl)
-          (turn (abstraction c.turn.run c.turn.steps c.turn.host)
-          (rw (c.mark.ensures, c.begin_instruction.ensures) refl) now.goes did.goes);
-      catches = tt;
-      outer = rw left (did.kept.outer ∙ now.outer);
-      room = rw left (did.kept.room ∙ now.room);
-      saved = rw left (did.kept.saved ∙ now.saved);
-      level = rw left (did.kept.level ∙ now.level);
-      later = rw left (omega (arith, did.kept.later, now.later));
-      before = did.before ∙
-          (ap (λ (k : StepsView). k.before) c.mark.ensures ∙
-          (ap (λ (k : StepsView). k.before) c.begin_instruction.ensures ∙ now.before));
-    }
-
-pub run_from-turn-preserved : goal.run_from-turn-preserved
-run_from-turn-preserved g t c =
-    let at = frame_in c.proceed.new.frame c.proceed.new.run in
-    let did =
-    moved_back
-    (λ (s : Run g.row.H.Denot) (f : Activation) (n : StepsView).
-    Stepped (setup g.H.Host.law c.args.context.program.now c.args.context.engine.now) (moment f s n
-    c.turn.host) (Ok c.in-Ok-proceed.progress) (moment c.proceed.new.frame c.proceed.new.run
-    c.proceed.new.steps c.proceed.new.host)) c.in-Pending.ensures.0 c.in-Ok-proceed.ensures.stepped
-    in
-    let stays =
-    subst (λ (q : Progress). StaysTyped c.args.context.program.now c.args.context.engine.now
-    c.turn.run c.turn.frame c.proceed.new.run c.proceed.new.frame (Ok q))
-    c.in-Continues-progress.is
-    did.stays in
-    let now = c.turn.invariant in
-    let fewer = falls c.args.context.engine.now c.turn.run.count c.proceed.new.run.count
-    c.turn.frame.address c.proceed.new.frame.address stays.1 stays.2 in
-    record {
-      goes = flowed at c.proceed.new.run.fault c.in-Continues-progress.is
-          (turn (abstraction c.turn.run c.turn.steps c.turn.host)
-          (rw (c.mark.ensures, c.begin_instruction.ensures) refl) now.goes did.goes);
-      runs = next_runs c.args.context.program.now c.turn.frame c.proceed.new.frame c.turn.run
-          c.proceed.new.run now.runs did.kept stays.0
-          stays.3;
-      outer = did.kept.outer ∙ now.outer;
-      saved = did.kept.saved ∙ now.saved;
-      level = did.kept.level ∙ now.level;
-      later = omega (arith, did.kept.later, now.later);
-      fewer = omega (arith, fewer, now.fewer);
-      chunk = did.kept.chunk ∙ now.chunk;
-      base = did.kept.base ∙ now.base;
-      room = did.kept.room ∙ now.room;
-      before = did.before ∙
-          (ap (λ (k : StepsView). k.before) c.mark.ensures ∙
-          (ap (λ (k : StepsView). k.before) c.begin_instruction.ensures ∙ now.before));
-    }
-
-pub run_from-returns-in-Returned-progress-2 : goal.run_from-returns-in-Returned-progress-2
-run_from-returns-in-Returned-progress-2 g t c =
-    let at = frame_in c.proceed.new.frame c.proceed.new.run in
-    let did =
-    moved_back
-    (λ (s : Run g.row.H.Denot) (f : Activation) (n : StepsView).
-    Stepped (setup g.H.Host.law c.args.context.program.now c.args.context.engine.now) (moment f s n
-    c.turn.host) (Ok c.in-Ok-proceed.progress) (moment c.proceed.new.frame c.proceed.new.run
-    c.proceed.new.steps c.proceed.new.host)) c.in-Pending.ensures.0 c.in-Ok-proceed.ensures.stepped
-    in
-    let now = c.turn.invariant in
-    record {
-      goes = flowed at c.proceed.new.run.fault c.in-Returned-progress-2.is
-          (turn (abstraction c.turn.run c.turn.steps c.turn.host)
-          (rw (c.mark.ensures, c.begin_instruction.ensures) refl) now.goes did.goes);
-      catches = tt;
-      outer = did.kept.outer ∙ now.outer;
-      room = did.kept.room ∙ now.room;
-      saved = did.kept.saved ∙ now.saved;
-      level = did.kept.level ∙ now.level;
-      later = omega (arith, did.kept.later, now.later);
-      before = did.before ∙
-          (ap (λ (k : StepsView). k.before) c.mark.ensures ∙
-          (ap (λ (k : StepsView). k.before) c.begin_instruction.ensures ∙ now.before));
+      around = left_around c.turn.invariant did;
     }
 
 pub run_from-returns-in-Failed : goal.run_from-returns-in-Failed
 run_from-returns-in-Failed g t c =
-    let at = frame_in c.jump.new.frame c.jump.new.run in
-    let did =
-    moved_back
-    (λ (s : Run g.row.H.Denot) (f : Activation) (n : StepsView).
-    Stepped (setup g.H.Host.law c.args.context.program.now c.args.context.engine.now) (moment f s n
-    c.turn.host) (Ok c.in-Ok.progress) (moment c.jump.new.frame c.jump.new.run c.jump.new.steps
-    c.jump.new.host)) c.in-Jump.ensures.0 c.in-Ok.ensures.stepped in
-    let now = c.turn.invariant in
-    let can =
-    subst (λ (q : Progress). StaysTyped c.args.context.program.now c.args.context.engine.now
-    c.turn.run c.turn.frame c.jump.new.run c.jump.new.frame (Ok q)) c.in-Failed.is
-    did.stays in
-    let chunk = did.kept.chunk ∙ now.chunk in
-    let base = did.kept.base ∙ now.base in
+    let did = done_so c.in-Failed.is
+    (done_after c.turn.steps c.begin_instruction.ensures c.mark.ensures c.in-Jump.ensures.0
+    c.in-Ok.ensures.stepped) in
     record {
-      goes = stopped_at c.args.chunk.now c.args.base c.jump.new.frame c.jump.new.run
-          chunk base (flowed at c.jump.new.run.fault c.in-Failed.is (turn (abstraction c.turn.run
-          c.turn.steps c.turn.host)
-          (rw (c.mark.ensures, c.begin_instruction.ensures) refl) now.goes did.goes));
-      catches = (
-        did.kept.noted ∙ now.runs.unnoted,
-        (can.0, can.1, rw (sym chunk) can.2, rw (sym base) can.3),
-      );
-      outer = did.kept.outer ∙ now.outer;
-      room = did.kept.room ∙ now.room;
-      saved = did.kept.saved ∙ now.saved;
-      level = did.kept.level ∙ now.level;
-      later = omega (arith, did.kept.later, now.later);
-      before = did.before ∙
-          (ap (λ (k : StepsView). k.before) c.mark.ensures ∙
-          (ap (λ (k : StepsView). k.before) c.begin_instruction.ensures ∙ now.before));
+      goes = stops_by_fault c.turn.invariant did;
+      catches = stops_so c.turn.invariant did;
+      around = left_around c.turn.invariant did;
+    }
+
+pub run_from-returns-in-Err-proceed : goal.run_from-returns-in-Err-proceed
+run_from-returns-in-Err-proceed g t c =
+    let did = done_after c.turn.steps c.begin_instruction.ensures c.mark.ensures c.in-Pending.ensures.0
+    c.in-Err-proceed.ensures.stepped in
+    let left = c.leave_by_fault-in-Err-proceed in
+    record {
+      goes = stops_by_memory c.turn.invariant c.in-Err-proceed.e did left.new.run left.ensures;
+      catches = tt;
+      around = left_around_by_memory c.turn.invariant c.in-Err-proceed.e did left.new.run
+          left.ensures;
+    }
+
+pub run_from-turn-preserved : goal.run_from-turn-preserved
+run_from-turn-preserved g t c =
+    runs_on c.turn.invariant (done_so c.in-Continues-progress.is
+    (done_after c.turn.steps c.begin_instruction.ensures c.mark.ensures c.in-Pending.ensures.0
+    c.in-Ok-proceed.ensures.stepped))
+
+pub run_from-returns-in-Returned-progress-2 : goal.run_from-returns-in-Returned-progress-2
+run_from-returns-in-Returned-progress-2 g t c =
+    let did = done_so c.in-Returned-progress-2.is
+    (done_after c.turn.steps c.begin_instruction.ensures c.mark.ensures c.in-Pending.ensures.0
+    c.in-Ok-proceed.ensures.stepped) in
+    record {
+      goes = led c.turn.invariant did;
+      catches = tt;
+      around = left_around c.turn.invariant did;
     }
 
 pub run_from-returns-in-Failed-progress : goal.run_from-returns-in-Failed-progress
 run_from-returns-in-Failed-progress g t c =
-    let at = frame_in c.proceed.new.frame c.proceed.new.run in
-    let did =
-    moved_back
-    (λ (s : Run g.row.H.Denot) (f : Activation) (n : StepsView).
-    Stepped (setup g.H.Host.law c.args.context.program.now c.args.context.engine.now) (moment f s n
-    c.turn.host) (Ok c.in-Ok-proceed.progress) (moment c.proceed.new.frame c.proceed.new.run
-    c.proceed.new.steps c.proceed.new.host)) c.in-Pending.ensures.0 c.in-Ok-proceed.ensures.stepped
-    in
-    let now = c.turn.invariant in
-    let can =
-    subst (λ (q : Progress). StaysTyped c.args.context.program.now c.args.context.engine.now
-    c.turn.run c.turn.frame c.proceed.new.run c.proceed.new.frame (Ok q)) c.in-Failed-progress.is
-    did.stays in
-    let chunk = did.kept.chunk ∙ now.chunk in
-    let base = did.kept.base ∙ now.base in
+    let did = done_so c.in-Failed-progress.is
+    (done_after c.turn.steps c.begin_instruction.ensures c.mark.ensures c.in-Pending.ensures.0
+    c.in-Ok-proceed.ensures.stepped) in
     record {
-      goes = stopped_at c.args.chunk.now c.args.base c.proceed.new.frame c.proceed.new.run
-          chunk base (flowed at c.proceed.new.run.fault c.in-Failed-progress.is (turn (abstraction
-          c.turn.run c.turn.steps c.turn.host)
-          (rw (c.mark.ensures, c.begin_instruction.ensures) refl) now.goes did.goes));
-      catches = (
-        did.kept.noted ∙ now.runs.unnoted,
-        (can.0, can.1, rw (sym chunk) can.2, rw (sym base) can.3),
-      );
-      outer = did.kept.outer ∙ now.outer;
-      room = did.kept.room ∙ now.room;
-      saved = did.kept.saved ∙ now.saved;
-      level = did.kept.level ∙ now.level;
-      later = omega (arith, did.kept.later, now.later);
-      before = did.before ∙
-          (ap (λ (k : StepsView). k.before) c.mark.ensures ∙
-          (ap (λ (k : StepsView). k.before) c.begin_instruction.ensures ∙ now.before));
+      goes = stops_by_fault c.turn.invariant did;
+      catches = stops_so c.turn.invariant did;
+      around = left_around c.turn.invariant did;
     }
 
-pub run_frame-returns-in-Err-clause-goes : goal.run_frame-returns-in-Err-clause-goes
-run_frame-returns-in-Err-clause-goes g t c =
-    compose c.frame.invariant.goes c.in-Err.ensures.goes tt
+pub run_frame-returns-in-Err : goal.run_frame-returns-in-Err
+run_frame-returns-in-Err g t c = record {
+  goes = compose c.frame.invariant.goes c.in-Err.ensures.goes tt;
+  around = around_on c.frame.invariant c.in-Err.ensures.around;
+}
 
-pub run_frame-returns-in-Value-clause-goes : goal.run_frame-returns-in-Value-clause-goes
-run_frame-returns-in-Value-clause-goes g t c =
-    compose c.frame.invariant.goes
-    (stopped_so c.args.chunk.now c.args.base c.run_from.new.run c.in-Value.is c.in-Ok.ensures.goes)
-    tt
+pub run_frame-returns-in-Value : goal.run_frame-returns-in-Value
+run_frame-returns-in-Value g t c = record {
+  goes = compose c.frame.invariant.goes
+      (stopped_so c.args.chunk.now c.args.base c.run_from.new.run c.in-Value.is c.in-Ok.ensures.goes)
+      tt;
+  around = around_on c.frame.invariant c.in-Ok.ensures.around;
+}
 
 pub run_frame-catch-requires-clause-catches : goal.run_frame-catch-requires-clause-catches
 run_frame-catch-requires-clause-catches g t c = (
@@ -407,21 +199,31 @@ run_frame-catch-requires-clause-catches g t c = (
       c.run_from.new.run (Ok q)) c.in-Fault.is c.in-Ok.ensures.catches).1,
 )
 
-pub run_frame-returns-in-Err-catch-clause-goes : goal.run_frame-returns-in-Err-catch-clause-goes
-run_frame-returns-in-Err-catch-clause-goes g t c =
+pub run_frame-returns-in-Err-catch : goal.run_frame-returns-in-Err-catch
+run_frame-returns-in-Err-catch g t c =
     let at = activation_at c.args.chunk.now c.args.base c.in-Fault.at c.in-Fault.low c.in-Fault.slot in
-    compose (compose c.frame.invariant.goes
-    (stopped_so c.args.chunk.now c.args.base c.run_from.new.run c.in-Fault.is
-    c.in-Ok.ensures.goes) tt) (c.in-Err-catch.ensures.goes at refl refl refl) tt
+    record {
+      goes = compose (compose c.frame.invariant.goes
+          (stopped_so c.args.chunk.now c.args.base c.run_from.new.run c.in-Fault.is
+          c.in-Ok.ensures.goes) tt) (c.in-Err-catch.ensures.goes at refl refl refl) tt;
+      around = around_caught c.frame.invariant c.in-Ok.ensures.around c.in-Err-catch.ensures.kept
+          c.catch.ensures.before;
+    }
 
-pub run_frame-returns-in-None-clause-goes : goal.run_frame-returns-in-None-clause-goes
-run_frame-returns-in-None-clause-goes g t c =
+pub run_frame-returns-in-None : goal.run_frame-returns-in-None
+run_frame-returns-in-None g t c =
     let at = activation_at c.args.chunk.now c.args.base c.in-Fault.at c.in-Fault.low c.in-Fault.slot in
-    compose (compose c.frame.invariant.goes
-    (stopped_so c.args.chunk.now c.args.base c.run_from.new.run c.in-Fault.is
-    c.in-Ok.ensures.goes) tt)
-    (offered_so (frame_in at c.catch.new.run) c.catch.new.run.fault c.in-None.is
-    (c.in-Ok-catch.ensures.goes at refl refl refl)) tt
+    let kept =
+    subst (λ (o : Option ℕ). Caught c.args.context.engine.now c.run_from.new.run c.catch.new.run
+    (Ok o)) c.in-None.is c.in-Ok-catch.ensures.kept in
+    record {
+      goes = compose (compose c.frame.invariant.goes
+          (stopped_so c.args.chunk.now c.args.base c.run_from.new.run c.in-Fault.is
+          c.in-Ok.ensures.goes) tt)
+          (offered_so (frame_in at c.catch.new.run) c.catch.new.run.fault c.in-None.is
+          (c.in-Ok-catch.ensures.goes at refl refl refl)) tt;
+      around = around_caught c.frame.invariant c.in-Ok.ensures.around kept c.catch.ensures.before;
+    }
 
 pub run_frame-frame-preserved : goal.run_frame-frame-preserved
 run_frame-frame-preserved g t c =
@@ -439,8 +241,10 @@ run_frame-frame-preserved g t c =
     subst (λ (o : Option ℕ). CaughtAt p at c.catch.new.run (Ok o)) c.in-Some.is
     (c.in-Ok-catch.ensures.typed at stops.1) in
     let now = c.frame.invariant in
+    let around = around_on now did.around in
     let fewer = taken engine c.frame.run.count c.catch.new.run.count c.frame.address
-    c.in-Some.target (omega (arith, did.later, kept.2)) (omega (arith, did.later, kept.3)) in
+    c.in-Some.target (omega (arith, did.around.later, kept.2))
+    (omega (arith, did.around.later, kept.3)) in
     record {
       goes = compose (compose now.goes
           (stopped_so c.args.chunk.now c.args.base c.run_from.new.run c.in-Fault.is did.goes) tt)
@@ -448,76 +252,146 @@ run_frame-frame-preserved g t c =
           (c.in-Ok-catch.ensures.goes at refl refl refl)) tt;
       runs = caught_runs p engine c.args.chunk.now c.args.base c.frame.address c.frame.floor
           c.in-Fault.at c.in-Fault.low c.in-Some.target c.in-Fault.slot c.frame.run c.run_from.new.run
-          c.catch.new.run now.runs did.room did.outer stops.0 kept typed;
-      outer = kept.0.outer ∙ (did.outer ∙ now.outer);
-      saved = kept.0.saved ∙ (did.saved ∙ now.saved);
-      level = kept.0.level ∙ (did.level ∙ now.level);
-      later = omega (arith, did.later, now.later, kept.2);
+          c.catch.new.run now.runs did.around.room did.around.outer stops.0 kept typed;
+      outer = kept.0.outer ∙ around.outer;
+      saved = kept.0.saved ∙ around.saved;
+      level = kept.0.level ∙ around.level;
+      this = rw kept.0.receivers around.this;
+      none = rw (kept.0.level, kept.0.receivers) (none_on c.frame.run.receivers
+          c.run_from.new.run.receivers did.around.level did.around.this now.none);
+      later = omega (arith, around.later, kept.2);
       fewer = omega (arith, fewer, now.fewer);
-      before = c.catch.ensures.before ∙ (c.run_from.ensures.before ∙ now.before);
+      chunk = refl;
+      base = refl;
+      room = kept.0.room ∙ around.room;
+      before = c.catch.ensures.before ∙ around.before;
     }
 
-pub run_from-returns-in-Returned-clause-catches : goal.run_from-returns-in-Returned-clause-catches
-run_from-returns-in-Returned-clause-catches g t c = tt
+-- ---- chains
 
-pub run_frame-returns-in-Err-clause-outer : goal.run_frame-returns-in-Err-clause-outer
-run_frame-returns-in-Err-clause-outer g t c =
-    c.in-Err.ensures.outer ∙ c.frame.invariant.outer
+pub proceed-returns-in-Chain : goal.proceed-returns-in-Chain
+proceed-returns-in-Chain g t c =
+    let found = c.do_or_find.new in
+    let walked = c.walk_chain-progress in
+    record {
+      stepped = chain_taken g.H.Host.law c.args.context.program.now c.args.context.engine.now
+          c.args.frame.now found.frame walked.new.frame c.args.run.now found.run walked.new.run
+          c.args.steps.now found.steps walked.new.steps c.in-Ok.found c.in-Chain.index c.in-Chain.next
+          c.args.host.now found.host walked.new.host c.requires.runs c.in-Chain.is c.in-Ok.ensures.finds
+          walked.ensures.performs;
+    }
 
-pub run_frame-returns-in-Err-clause-saved : goal.run_frame-returns-in-Err-clause-saved
-run_frame-returns-in-Err-clause-saved g t c =
-    c.in-Err.ensures.saved ∙ c.frame.invariant.saved
+pub run_frame-frame-init : goal.run_frame-frame-init
+run_frame-frame-init g t c = runs_here c.requires.runs c.requires.none
 
-pub run_frame-returns-in-Err-clause-level : goal.run_frame-returns-in-Err-clause-level
-run_frame-returns-in-Err-clause-level g t c =
-    c.in-Err.ensures.level ∙ c.frame.invariant.level
+pub run_from-turn-init : goal.run_from-turn-init
+run_from-turn-init g t c = runs_here c.requires.runs c.requires.none
 
-pub run_frame-returns-in-Err-clause-later : goal.run_frame-returns-in-Err-clause-later
-run_frame-returns-in-Err-clause-later g t c =
-    omega (arith, c.in-Err.ensures.later, c.frame.invariant.later)
+-- ---- functions that a walk calls
 
-pub run_frame-returns-in-Err-clause-before : goal.run_frame-returns-in-Err-clause-before
-run_frame-returns-in-Err-clause-before g t c = c.in-Err.ensures.before ∙ c.frame.invariant.before
+pub call_method-returns-in-Err : goal.call_method-returns-in-Err
+call_method-returns-in-Err g t c =
+    let m = setup g.H.Host.law c.args.context.program.now c.args.context.engine.now in
+    let found = c.function_at-function in
+    let o = c.in-Err.refused in
+    let entered = c.enter_method.new in
+    let called = method_refused m c.args.call found.result.now c.args.run.now c.args.steps.now
+    c.args.host.now o entered.run entered.steps entered.host c.in-Err.ensures.enters in
+    record {
+      called = λ h there. (called_one m c.args.call found.result.now c.args.run.now c.args.steps.now
+          c.args.host.now h o.0 o.1 entered.run entered.steps entered.host found.ensures.value there
+          called).0;
+      over = called.1;
+      lent = called.2;
+      before = c.enter_method.ensures.before;
+    }
 
-pub run_frame-returns-in-Value-clause-outer : goal.run_frame-returns-in-Value-clause-outer
-run_frame-returns-in-Value-clause-outer g t c =
-    c.in-Ok.ensures.outer ∙ c.frame.invariant.outer
+pub call_method-returns-in-Ok : goal.call_method-returns-in-Ok
+call_method-returns-in-Ok g t c =
+    let m = setup g.H.Host.law c.args.context.program.now c.args.context.engine.now in
+    let found = c.function_at-function in
+    let entered = c.enter_method.new in
+    let ran = c.run_frame-end in
+    let left = c.leave_method in
+    let called = method_ran m c.args.call found.result.now c.args.run.now c.args.steps.now
+    c.args.host.now entered.run ran.new.run left.new.run entered.steps ran.new.steps left.new.steps
+    entered.host ran.new.host c.in-Ok.back left.result.1 ran.result left.result.0
+    c.in-Ok.ensures.enters c.requires.none ran.ensures.goes ran.ensures.around left.ensures.same
+    left.ensures.persists left.ensures.left left.ensures.receiver in
+    record {
+      called = λ h there. (called_one m c.args.call found.result.now c.args.run.now c.args.steps.now
+          c.args.host.now h left.result.0 left.result.1 left.new.run left.new.steps ran.new.host
+          found.ensures.value there called).0;
+      over = called.1;
+      lent = called.2;
+      before = left.ensures.before ∙ (ran.ensures.around.before ∙ c.enter_method.ensures.before);
+    }
 
-pub run_frame-returns-in-Value-clause-saved : goal.run_frame-returns-in-Value-clause-saved
-run_frame-returns-in-Value-clause-saved g t c =
-    c.in-Ok.ensures.saved ∙ c.frame.invariant.saved
+-- ---- the walk of a chain
 
-pub run_frame-returns-in-Value-clause-level : goal.run_frame-returns-in-Value-clause-level
-run_frame-returns-in-Value-clause-level g t c =
-    c.in-Ok.ensures.level ∙ c.frame.invariant.level
+pub walk_chain-returns-in-Err : goal.walk_chain-returns-in-Err
+walk_chain-returns-in-Err g t c =
+    record { performs = c.in-Err.ensures.begins c.args.host.now }
 
-pub run_frame-returns-in-Value-clause-later : goal.run_frame-returns-in-Value-clause-later
-run_frame-returns-in-Value-clause-later g t c =
-    omega (arith, c.in-Ok.ensures.later, c.frame.invariant.later)
+pub walk_chain-returns-in-Ok-Refused : goal.walk_chain-returns-in-Ok-Refused
+walk_chain-returns-in-Ok-Refused g t c = record {
+  performs = rw c.in-Ok-Refused.field-0-is at (c.in-Ok-Refused.ensures.begins c.args.host.now);
+}
 
-pub run_frame-returns-in-Value-clause-before : goal.run_frame-returns-in-Value-clause-before
-run_frame-returns-in-Value-clause-before g t c = c.in-Ok.ensures.before ∙ c.frame.invariant.before
+pub walk_chain-calls-init : goal.walk_chain-calls-init
+walk_chain-calls-init g t c =
+    walked_first (setup g.H.Host.law c.args.context.program.now c.args.context.engine.now)
+    (moment c.args.frame.now c.args.run.now c.args.steps.now c.args.host.now) c.args.index c.args.next
+    c.in-Ok-Walks.walking c.in-Ok-Walks.answer c.begin_chain.new.frame c.begin_chain.new.run
+    c.begin_chain.new.steps
+    (rw c.in-Ok-Walks.field-0-is at (c.in-Ok-Walks.ensures.begins c.args.host.now))
+    (rw c.in-Ok-Walks.field-0-is at c.in-Ok-Walks.ensures.waits) c.begin_chain.ensures.blames
+    c.requires.none
 
-pub run_frame-returns-in-Err-catch-clause-outer : goal.run_frame-returns-in-Err-catch-clause-outer
-run_frame-returns-in-Err-catch-clause-outer g t c =
-    c.in-Err-catch.ensures.kept.outer ∙ (c.in-Ok.ensures.outer ∙ c.frame.invariant.outer)
+pub walk_chain-calls-preserved : goal.walk_chain-calls-preserved
+walk_chain-calls-preserved g t c =
+    let p = c.args.context.program.now in
+    let f = c.args.frame.now in
+    let k = c.args.index in
+    let w = c.calls.walking in
+    let was = c.calls.invariant in
+    let frame = walked_frame f c.args.run.now (chain_of p k) f.slot in
+    let drove = c.in-Calls.ensures in
+    let called = c.call_method-outcome in
+    let went = c.go_on-answer in
+    walked_on (setup g.H.Host.law p c.args.context.engine.now)
+    (moment f c.args.run.now c.args.steps.now c.args.host.now) k c.args.next w c.calls.answer
+    c.calls.frame c.calls.run called.new.run c.calls.steps c.drive.new.steps called.new.steps
+    went.new.steps c.calls.host c.drive.new.host called.new.host c.drive.new.walk went.new.walk
+    c.in-Calls.call drove.waits.0.function called.result.0 called.result.1 went.result was
+    c.drive.new.run drove.run
+    (drove.same k frame was.way.seat (after_chain k c.args.next w.home w.was_read_only frame)
+    was.way.scope was.way.this was.way.seated was.rooted
+    (after_blind k c.args.next w.home w.was_read_only frame)) drove.waits.0.is
+    (drove.rooted (first_held was.way.seat).read_only was.rooted) drove.waits.1
+    (called.ensures.called drove.waits.0.function drove.waits.0.is) called.ensures.lent
+    called.ensures.over went.ensures.did went.ensures.carries went.ensures.rooted went.ensures.marked
+    drove.carries went.ensures.falls drove.before called.ensures.before
 
-pub run_frame-returns-in-Err-catch-clause-saved : goal.run_frame-returns-in-Err-catch-clause-saved
-run_frame-returns-in-Err-catch-clause-saved g t c =
-    c.in-Err-catch.ensures.kept.saved ∙ (c.in-Ok.ensures.saved ∙ c.frame.invariant.saved)
-
-pub run_frame-returns-in-Err-catch-clause-level : goal.run_frame-returns-in-Err-catch-clause-level
-run_frame-returns-in-Err-catch-clause-level g t c =
-    c.in-Err-catch.ensures.kept.level ∙ (c.in-Ok.ensures.level ∙ c.frame.invariant.level)
-
-pub run_frame-returns-in-Err-catch-clause-later : goal.run_frame-returns-in-Err-catch-clause-later
-run_frame-returns-in-Err-catch-clause-later g t c =
-    omega (arith, c.in-Ok.ensures.later, c.frame.invariant.later, c.in-Err-catch.ensures.kept.later)
-
-pub run_frame-returns-in-Err-catch-clause-before : goal.run_frame-returns-in-Err-catch-clause-before
-run_frame-returns-in-Err-catch-clause-before g t c =
-    c.catch.ensures.before ∙ (c.run_from.ensures.before ∙ c.frame.invariant.before)
-
-pub run_frame-returns-in-None-clause-before : goal.run_frame-returns-in-None-clause-before
-run_frame-returns-in-None-clause-before g t c =
-    c.catch.ensures.before ∙ (c.run_from.ensures.before ∙ c.frame.invariant.before)
+pub walk_chain-returns-in-Over : goal.walk_chain-returns-in-Over
+walk_chain-returns-in-Over g t c =
+    let p = c.args.context.program.now in
+    let f = c.args.frame.now in
+    let k = c.args.index in
+    let w = c.calls.walking in
+    let was = c.calls.invariant in
+    let frame = walked_frame f c.args.run.now (chain_of p k) f.slot in
+    let drove = c.in-Over.ensures in
+    let ended = c.finish_chain in
+    record {
+      performs = walked_over (setup g.H.Host.law p c.args.context.engine.now)
+          (moment f c.args.run.now c.args.steps.now c.args.host.now) k c.args.next w c.calls.answer
+          c.calls.frame ended.new.frame c.calls.run ended.new.run c.calls.steps c.drive.new.steps
+          ended.new.steps c.calls.host c.drive.new.host c.drive.new.walk c.in-Over.end ended.result was
+          c.drive.new.run drove.run
+          (drove.same k frame was.way.seat (after_chain k c.args.next w.home w.was_read_only frame)
+          was.way.scope was.way.this was.way.seated was.rooted
+          (after_blind k c.args.next w.home w.was_read_only frame)) drove.carries
+          (drove.rooted (first_held was.way.seat).read_only was.rooted)
+          (ended.ensures.finishes c.drive.new.host) ended.ensures.carries drove.before c.requires.ready;
+    }

@@ -13,6 +13,7 @@ run_frame-end-requires g c =
           c.main-chunk.result c.enter.new.self (entry_of c.main-chunk.result c.len-base.result)
           c.len-base.result c.main-chunk.ensures.value c.in-Ok.ensures c.len-base.ensures.value
           refl;
+      none = rw c.requires.no_this tt;
     }
 
 pub returns-in-Ok-clause-goes : goal.returns-in-Ok-clause-goes
@@ -20,7 +21,7 @@ returns-in-Ok-clause-goes g c =
     let ran = c.run_frame-end in
     let back = c.take_answer-back in
     let outer : ran.new.run.stacks.outer ≡ innermost c.args.run.now.stacks ∷
-    c.args.run.now.stacks.outer = ran.ensures.outer ∙ ap (λ (v : StacksView). v.outer)
+    c.args.run.now.stacks.outer = ran.ensures.around.outer ∙ ap (λ (v : StacksView). v.outer)
     c.in-Ok.ensures in
     main_ran (abstraction c.args.run.now c.args.steps.now c.args.host.now)
     {mid = abstraction (record c.args.run.now { stacks = c.enter.new.self })

@@ -1,9 +1,16 @@
--- The value is written into the target.
-use Rattle.std.proofs.Common.{◌≡◌, Some, refl, rules}
+-- The value is written into the target, or the value is a lent cell.
+use Rattle.std.proofs.Common.{◌≡◌, None, Some, true, refl, rules}
 use Rattle.grain_value.specs.Cells.{flat}
 use Rattle.grain_value.specs.Operands.{read_write}
-use Rattle.grain_program.specs.View.{name_of}
-use Rattle.grain_frame.specs.Targets.{put_in}
+use Rattle.grain_fault.specs.Problems.{DataRace, Plain}
+use Rattle.grain_program.specs.View.{position_of}
+use Rattle.grain_means.specs.Means.{setup}
+use Rattle.grain_means.specs.Rules.{race_text}
+use Rattle.grain_means.specs.Simulation.{stopped, world}
+use Rattle.grain_frame.specs.Abstraction.{abstraction, frame_in, is_out}
+use Rattle.grain_frame.specs.Targets.{assigned_name, home_of, put_in}
+use Rattle.grain_frame.specs.lemmas.Bound.{as_bound}
+use Rattle.grain_frame.specs.lemmas.Failing.{raises_here, taken_stops, wants_memory}
 use Rattle.grain_frame.proofs.Lending.{writes}
 use Rattle.grain_frame.proofs.runs.Run.assign_answer.Goals as goal
 
@@ -18,11 +25,43 @@ returns g c =
     let written : c.write.new.self ≡ put_in (record s { stacks = c.pop-operand.new.self }) t
     (read_write c.in-Some.value) = search rules in
     rw (c.mark-2.ensures, c.mark.ensures) (record {
-      implements = λ host h slot to.
-          writes g.H.Host.law p engine f s c.args.steps.now host t h slot c.args.assignment.now.next
-          to
+      implements = λ host.
+          writes g.H.Host.law p engine f s c.args.steps.now host t c.args.assignment.now.next
           c.requires.can.target c.requires.can.inside c.requires.can.operand c.requires.can.ahead
-          (read_write c.in-Some.value) (λ n. name_of n.program c.args.assignment.now.variable)
-          c.pop-operand.new.self c.write.new.self c.pop-operand.ensures.rest written
-          (λ stop u place. rw read refl);
+          (read_write c.in-Some.value)
+          (λ n. assigned_name n.program c.args.assignment.now.variable)
+          c.pop-operand.new.self c.write.new.self refl c.pop-operand.ensures.rest written
+          (λ stop u place bound. rw read refl);
     })
+
+pub returns-in_err-value : goal.returns-in_err-value
+returns-in_err-value g c =
+    let p = c.args.context.program.now in
+    let engine = c.args.context.engine.now in
+    let s = c.args.self.now in
+    let f = c.args.frame.now in
+    let out : is_out c.from_residual.result ≡ true = search rules in
+    record {
+      implements = λ host. as_bound (wants_memory g.H.Host.law p engine f s c.args.steps.now host
+          c.from_residual.result out c.requires.can.inside
+          (λ stop u place halts. taken_stops (stopped (setup g.H.Host.law p engine) stop)
+          (home_of c.args.assignment.now.target place) (flat s.cells c.args.value)
+          (assigned_name p c.args.assignment.now.variable) c.args.assignment.now.next
+          (frame_in f s place) (world (abstraction s c.args.steps.now host) u) halts));
+    }
+
+pub returns-in_default : goal.returns-in_default
+returns-in_default g c =
+    let p = c.args.context.program.now in
+    let engine = c.args.context.engine.now in
+    let s = c.args.self.now in
+    let f = c.args.frame.now in
+    let none : flat s.cells c.args.value ≡ None = search rules in
+    let x = Plain (DataRace (race_text (assigned_name p c.args.assignment.now.variable)))
+    (position_of p f.address) in
+    record {
+      implements = λ host. as_bound (raises_here g.H.Host.law p engine f s
+          c.data_race_in.new.self c.args.steps.now c.data_race_in.new.steps host x
+          c.data_race_in.result c.data_race_in.ensures c.requires.can.inside
+          (λ stop u place. rw none refl));
+    }

@@ -3,14 +3,17 @@ use Rattle.std.proofs.Common.{◌≡◌, ◌∷◌, [], List, None, true, refl, 
 use Rattle.grain_value.specs.Operands.{read_write}
 use Rattle.grain_value.specs.declared.values.Held.{Held}
 use Rattle.grain_program.specs.View.{name_of}
-use Rattle.grain_means.specs.Rules.{flattened, raised, write_entry}
+use Rattle.grain_means.specs.Rules.{assigned_at, flattened, raised}
 use Rattle.grain_means.specs.Means.{setup}
 use Rattle.grain_means.specs.Simulation.{stopped, world}
+use Rattle.grain_means.specs.lemmas.Stretches.{same}
 use Rattle.grain_frame.specs.Abstraction.{abstraction, frame_in, is_out}
 use Rattle.grain_frame.specs.Natives.{Describes, Seeks}
-use Rattle.grain_frame.specs.Targets.{content_at, kept_operand}
-use Rattle.grain_frame.specs.lemmas.Arms.{implements_as}
-use Rattle.grain_frame.proofs.Lending.{native_then, operator_at}
+use Rattle.grain_frame.specs.Targets.{assigned_name, content_at, home_of, kept_operand}
+use Rattle.grain_frame.specs.lemmas.Bound.{as_bound, bound_as}
+use Rattle.grain_frame.specs.lemmas.Failing.{operator_stops, wants_memory}
+use Rattle.grain_frame.proofs.Lending.{operator_is_native}
+use Rattle.grain_frame.proofs.Lent.{lent_then}
 use Rattle.grain_frame.proofs.Serving.{native_raised, native_wants}
 use Rattle.grain_frame.proofs.runs.Run.operator_assigned.Goals as goal
 
@@ -21,6 +24,8 @@ returns-in_err-value g c =
     let s = c.args.self.now in
     let f = c.args.frame.now in
     let t = c.args.assignment.now.target in
+    let next = c.args.assignment.now.next in
+    let op = name_of p c.args.assignment.now.operator.op_name in
     let u = read_write (content_at s t) in
     let v = kept_operand c.args.assignment.now.kept s.stacks.operands in
     let args : List Held = u ∷ v ∷ [] in
@@ -28,40 +33,34 @@ returns-in_err-value g c =
     rw c.content.ensures at (c.in_ok-push.ensures [] c.new-arguments.ensures) in
     let two : Describes c.push-2.new.self args =
     rw (c.operand-value.ensures, c.top.ensures) at (c.in_ok-push-2.ensures (u ∷ []) one) in
-    let seeks : Seeks g.H.Host.law c.args.host.now (name_of p
-    c.args.assignment.now.operator.op_name) None args
+    let seeks : Seeks g.H.Host.law c.args.host.now op None args
     c.position-position.result c.in_ok-sought.sought =
     rw c.name-name.ensures at (c.in_ok-sought.ensures args two) in
     let m = setup g.H.Host.law p engine in
     let out : is_out c.from_residual-in_err-value.result ≡ true = search rules in
     record {
-      implements = λ h slot to.
-          let did = c.in_err-value.ensures.same m (name_of p c.args.assignment.now.operator.op_name)
-          args (frame_in f s)
-          (λ n place r w. flattened n (read_write r) (name_of n.program
-          c.args.assignment.now.variable)
-          (frame_in f s place) w (λ q. write_entry n h slot (read_write q)
-          (name_of n.program c.args.assignment.now.variable) c.args.assignment.now.next (frame_in f
-          s place) w))
+      implements = λ h plain.
+          let did = c.in_err-value.ensures.same m op args (frame_in f s)
+          (λ n place r w. flattened n (read_write r)
+          (assigned_name n.program c.args.assignment.now.variable) (frame_in f s place) w
+          (λ q. assigned_at n (home_of t place) (read_write q)
+          (assigned_name n.program c.args.assignment.now.variable) next (frame_in f s place) w))
           (λ n place x w. raised n (frame_in f s place) x w) refl
           (λ place. sym c.position-position.ensures) seeks in
-          implements_as g.H.Host.law p engine f f s s c.call_native.new.self c.args.steps.now
-          c.call_native.new.steps c.args.host.now c.call_native.new.host refl
-          (native_wants g.H.Host.law p engine f s c.call_native.new.self c.args.steps.now
+          bound_as
+          (as_bound (native_wants g.H.Host.law p engine f s c.call_native.new.self c.args.steps.now
           c.call_native.new.steps c.args.host.now c.call_native.new.host
-          (λ n place r w. flattened n (read_write r) (name_of n.program
-          c.args.assignment.now.variable)
-          (frame_in f s place) w (λ q. write_entry n h slot (read_write q)
-          (name_of n.program c.args.assignment.now.variable) c.args.assignment.now.next (frame_in f
-          s place) w))
+          (λ n place r w. flattened n (read_write r)
+          (assigned_name n.program c.args.assignment.now.variable) (frame_in f s place) w
+          (λ q. assigned_at n (home_of t place) (read_write q)
+          (assigned_name n.program c.args.assignment.now.variable) next (frame_in f s place) w))
           (λ n place x w. raised n (frame_in f s place) x w)
           s.scope s.cells c.call_native.ensures.run refl c.call_native.ensures.before
           c.requires.can.inside c.in_err-value.field-0.0 c.from_residual-in_err-value.result out
-          did)
-          (λ stop w place. operator_at (stopped m stop) (name_of p
-          c.args.assignment.now.operator.op_name) h u v slot
-          c.args.assignment.now.variable c.args.assignment.now.next (frame_in f s place)
-          (world (abstraction s c.args.steps.now c.args.host.now) w) to.plain);
+          did))
+          (λ stop w place bound. operator_is_native (stopped m stop) (home_of t place)
+          (assigned_name p c.args.assignment.now.variable) op h u v next (frame_in f s place)
+          (world (abstraction s c.args.steps.now c.args.host.now) w) plain);
     }
 
 pub returns-in-Fault : goal.returns-in-Fault
@@ -71,6 +70,8 @@ returns-in-Fault g c =
     let s = c.args.self.now in
     let f = c.args.frame.now in
     let t = c.args.assignment.now.target in
+    let next = c.args.assignment.now.next in
+    let op = name_of p c.args.assignment.now.operator.op_name in
     let u = read_write (content_at s t) in
     let v = kept_operand c.args.assignment.now.kept s.stacks.operands in
     let args : List Held = u ∷ v ∷ [] in
@@ -78,40 +79,33 @@ returns-in-Fault g c =
     rw c.content.ensures at (c.in_ok-push.ensures [] c.new-arguments.ensures) in
     let two : Describes c.push-2.new.self args =
     rw (c.operand-value.ensures, c.top.ensures) at (c.in_ok-push-2.ensures (u ∷ []) one) in
-    let seeks : Seeks g.H.Host.law c.args.host.now (name_of p
-    c.args.assignment.now.operator.op_name) None args
+    let seeks : Seeks g.H.Host.law c.args.host.now op None args
     c.position-position.result c.in_ok-sought.sought =
     rw c.name-name.ensures at (c.in_ok-sought.ensures args two) in
     let m = setup g.H.Host.law p engine in
-    rw c.raise.ensures.progress
-    (record {
-      implements = λ h slot to.
-          let did = c.in_ok-value.ensures.same m (name_of p c.args.assignment.now.operator.op_name)
-          args (frame_in f s)
-          (λ n place r w. flattened n (read_write r) (name_of n.program
-          c.args.assignment.now.variable)
-          (frame_in f s place) w (λ q. write_entry n h slot (read_write q)
-          (name_of n.program c.args.assignment.now.variable) c.args.assignment.now.next (frame_in f
-          s place) w))
+    rw c.raise.ensures.progress (record {
+      implements = λ h plain.
+          let did = c.in_ok-value.ensures.same m op args (frame_in f s)
+          (λ n place r w. flattened n (read_write r)
+          (assigned_name n.program c.args.assignment.now.variable) (frame_in f s place) w
+          (λ q. assigned_at n (home_of t place) (read_write q)
+          (assigned_name n.program c.args.assignment.now.variable) next (frame_in f s place) w))
           (λ n place x w. raised n (frame_in f s place) x w) refl
           (λ place. sym c.position-position.ensures) seeks in
-          implements_as g.H.Host.law p engine f f s s c.raise.new.self c.args.steps.now
-          c.raise.new.steps c.args.host.now c.call_native.new.host refl
-          (native_raised g.H.Host.law p engine f s c.call_native.new.self c.args.steps.now
+          bound_as
+          (as_bound (native_raised g.H.Host.law p engine f s c.call_native.new.self c.args.steps.now
           c.call_native.new.steps c.args.host.now c.call_native.new.host
-          (λ n place r w. flattened n (read_write r) (name_of n.program
-          c.args.assignment.now.variable)
-          (frame_in f s place) w (λ q. write_entry n h slot (read_write q)
-          (name_of n.program c.args.assignment.now.variable) c.args.assignment.now.next (frame_in f
-          s place) w))
+          (λ n place r w. flattened n (read_write r)
+          (assigned_name n.program c.args.assignment.now.variable) (frame_in f s place) w
+          (λ q. assigned_at n (home_of t place) (read_write q)
+          (assigned_name n.program c.args.assignment.now.variable) next (frame_in f s place) w))
           (λ n place x w. raised n (frame_in f s place) x w)
           s.scope s.cells c.call_native.ensures.run refl c.call_native.ensures.before
           c.requires.can.inside c.in-Fault.fault c.raise.new.self c.raise.new.steps
-          (rw c.in-Fault.is at did) c.raise.ensures.after c.raise.ensures.marked)
-          (λ stop w place. operator_at (stopped m stop) (name_of p
-          c.args.assignment.now.operator.op_name) h u v slot
-          c.args.assignment.now.variable c.args.assignment.now.next (frame_in f s place)
-          (world (abstraction s c.args.steps.now c.args.host.now) w) to.plain);
+          (rw c.in-Fault.is at did) c.raise.ensures.after c.raise.ensures.marked))
+          (λ stop w place bound. operator_is_native (stopped m stop) (home_of t place)
+          (assigned_name p c.args.assignment.now.variable) op h u v next (frame_in f s place)
+          (world (abstraction s c.args.steps.now c.args.host.now) w) plain);
     })
 
 pub returns-in-Value : goal.returns-in-Value
@@ -121,6 +115,8 @@ returns-in-Value g c =
     let s = c.args.self.now in
     let f = c.args.frame.now in
     let t = c.args.assignment.now.target in
+    let next = c.args.assignment.now.next in
+    let op = name_of p c.args.assignment.now.operator.op_name in
     let u = read_write (content_at s t) in
     let v = kept_operand c.args.assignment.now.kept s.stacks.operands in
     let args : List Held = u ∷ v ∷ [] in
@@ -128,39 +124,91 @@ returns-in-Value g c =
     rw c.content.ensures at (c.in_ok-push.ensures [] c.new-arguments.ensures) in
     let two : Describes c.push-2.new.self args =
     rw (c.operand-value.ensures, c.top.ensures) at (c.in_ok-push-2.ensures (u ∷ []) one) in
-    let seeks : Seeks g.H.Host.law c.args.host.now (name_of p
-    c.args.assignment.now.operator.op_name) None args
+    let seeks : Seeks g.H.Host.law c.args.host.now op None args
     c.position-position.result c.in_ok-sought.sought =
     rw c.name-name.ensures at (c.in_ok-sought.ensures args two) in
     let m = setup g.H.Host.law p engine in
     record {
-      implements = λ h slot to.
-          let did = c.in_ok-value.ensures.same m (name_of p c.args.assignment.now.operator.op_name)
-          args (frame_in f s)
-          (λ n place r w. flattened n (read_write r) (name_of n.program
-          c.args.assignment.now.variable)
-          (frame_in f s place) w (λ q. write_entry n h slot (read_write q)
-          (name_of n.program c.args.assignment.now.variable) c.args.assignment.now.next (frame_in f
-          s place) w))
+      implements = λ h plain.
+          let did = c.in_ok-value.ensures.same m op args (frame_in f s)
+          (λ n place r w. flattened n (read_write r)
+          (assigned_name n.program c.args.assignment.now.variable) (frame_in f s place) w
+          (λ q. assigned_at n (home_of t place) (read_write q)
+          (assigned_name n.program c.args.assignment.now.variable) next (frame_in f s place) w))
           (λ n place x w. raised n (frame_in f s place) x w) refl
           (λ place. sym c.position-position.ensures) seeks in
-          implements_as g.H.Host.law p engine f c.assign_answer.new.frame s s
-          c.assign_answer.new.self c.args.steps.now c.assign_answer.new.steps c.args.host.now
-          c.call_native.new.host refl
-          (native_then g.H.Host.law p engine f s c.call_native.new.self c.args.steps.now
-          c.call_native.new.steps c.args.host.now c.call_native.new.host s.scope s.cells
-          c.call_native.ensures.run refl c.call_native.ensures.before c.requires.can.inside
+          bound_as
+          (lent_then g.H.Host.law p engine f s c.call_native.new.self c.args.steps.now
+          c.call_native.new.steps c.args.host.now c.call_native.new.host
+          s.scope s.cells s.receivers c.call_native.ensures.run refl (refl, refl)
+          c.call_native.ensures.before c.requires.can.inside
           (λ q n place w. flattened n (read_write c.in-Value.value)
-          (name_of n.program c.args.assignment.now.variable) (frame_in f (record s { stacks = q })
-          place) w
-          (λ x. write_entry n h slot (read_write x) (name_of n.program
-          c.args.assignment.now.variable) c.args.assignment.now.next
+          (assigned_name n.program c.args.assignment.now.variable)
+          (frame_in f (record s { stacks = q }) place) w
+          (λ x. assigned_at n (home_of t place) (read_write x)
+          (assigned_name n.program c.args.assignment.now.variable) next
           (frame_in f (record s { stacks = q }) place) w))
           c.assign_answer.new.frame c.assign_answer.new.self c.assign_answer.new.steps
-          c.call_native.new.host (rw c.in-Value.is at did)
-          (c.assign_answer.ensures.implements c.call_native.new.host h slot to))
-          (λ stop w place. operator_at (stopped m stop) (name_of p
-          c.args.assignment.now.operator.op_name) h u v slot
-          c.args.assignment.now.variable c.args.assignment.now.next (frame_in f s place)
-          (world (abstraction s c.args.steps.now c.args.host.now) w) to.plain);
+          c.call_native.new.host (same (rw c.in-Value.is at did))
+          (c.assign_answer.ensures.implements c.call_native.new.host))
+          (λ stop w place bound. operator_is_native (stopped m stop) (home_of t place)
+          (assigned_name p c.args.assignment.now.variable) op h u v next (frame_in f s place)
+          (world (abstraction s c.args.steps.now c.args.host.now) w) plain);
+    }
+
+pub returns-in_err-push : goal.returns-in_err-push
+returns-in_err-push g c =
+    let p = c.args.context.program.now in
+    let engine = c.args.context.engine.now in
+    let s = c.args.self.now in
+    let f = c.args.frame.now in
+    let t = c.args.assignment.now.target in
+    let out : is_out c.from_residual.result ≡ true = search rules in
+    record {
+      implements = λ h plain. as_bound (wants_memory g.H.Host.law p engine f s c.args.steps.now
+          c.args.host.now c.from_residual.result out c.requires.can.inside
+          (λ stop w place halts. operator_stops (stopped (setup g.H.Host.law p engine) stop)
+          (home_of t place) (assigned_name p c.args.assignment.now.variable)
+          (name_of p c.args.assignment.now.operator.op_name) h (read_write (content_at s t))
+          (kept_operand c.args.assignment.now.kept s.stacks.operands)
+          c.args.assignment.now.next (frame_in f s place)
+          (world (abstraction s c.args.steps.now c.args.host.now) w) halts));
+    }
+
+pub returns-in_err-push-2 : goal.returns-in_err-push-2
+returns-in_err-push-2 g c =
+    let p = c.args.context.program.now in
+    let engine = c.args.context.engine.now in
+    let s = c.args.self.now in
+    let f = c.args.frame.now in
+    let t = c.args.assignment.now.target in
+    let out : is_out c.from_residual-in_err-push-2.result ≡ true = search rules in
+    record {
+      implements = λ h plain. as_bound (wants_memory g.H.Host.law p engine f s c.args.steps.now
+          c.args.host.now c.from_residual-in_err-push-2.result out c.requires.can.inside
+          (λ stop w place halts. operator_stops (stopped (setup g.H.Host.law p engine) stop)
+          (home_of t place) (assigned_name p c.args.assignment.now.variable)
+          (name_of p c.args.assignment.now.operator.op_name) h (read_write (content_at s t))
+          (kept_operand c.args.assignment.now.kept s.stacks.operands)
+          c.args.assignment.now.next (frame_in f s place)
+          (world (abstraction s c.args.steps.now c.args.host.now) w) halts));
+    }
+
+pub returns-in_err-sought : goal.returns-in_err-sought
+returns-in_err-sought g c =
+    let p = c.args.context.program.now in
+    let engine = c.args.context.engine.now in
+    let s = c.args.self.now in
+    let f = c.args.frame.now in
+    let t = c.args.assignment.now.target in
+    let out : is_out c.from_residual-in_err-sought.result ≡ true = search rules in
+    record {
+      implements = λ h plain. as_bound (wants_memory g.H.Host.law p engine f s c.args.steps.now
+          c.args.host.now c.from_residual-in_err-sought.result out c.requires.can.inside
+          (λ stop w place halts. operator_stops (stopped (setup g.H.Host.law p engine) stop)
+          (home_of t place) (assigned_name p c.args.assignment.now.variable)
+          (name_of p c.args.assignment.now.operator.op_name) h (read_write (content_at s t))
+          (kept_operand c.args.assignment.now.kept s.stacks.operands)
+          c.args.assignment.now.next (frame_in f s place)
+          (world (abstraction s c.args.steps.now c.args.host.now) w) halts));
     }

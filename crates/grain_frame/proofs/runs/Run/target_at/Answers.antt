@@ -19,9 +19,8 @@ returns g c =
     let free : is_some (flat s.cells held.value) ≡ true = search rules in (
       held,
       record {
-        index = c.slot_index-index.ensures;
         there = there;
-        cell = is_cell;
+        found = rw (is_cell, ← c.slot_index-index.ensures) c.of_entry.ensures;
         readable = readable;
         writable = writable;
         free = free;
@@ -44,7 +43,7 @@ returns-then-read_only g c =
     let readable : is_some (flat s.cells (top s.stacks.operands).value) ≡ true = search rules in
     let constant : (held.read_only || flag_of_cell (cell_of held.value) s.cells) ≡ true =
     search rules in
-    (held, there, readable, constant)
+    (held, there, (readable, constant))
 
 pub returns-then-not-free : goal.returns-then-not-free
 returns-then-not-free g c =

@@ -9,7 +9,7 @@ use Rattle.grain_frame.specs.Abstraction.{abstraction, is_out}
 use Rattle.grain_vm.specs.Calls.{finished_with}
 use Rattle.grain_vm.specs.Machines.{begin}
 use Rattle.grain_vm.proofs.Evaluated.{evaluated, same_level, keeps_to_store, leaves, has_cause}
-use Rattle.grain_vm.proofs.Mains.{first_state}
+use Rattle.grain_vm.proofs.Mains.{first_state, without_this}
 use Rattle.grain_vm.proofs.machines.Machine.run_main.Goals as goal
 
 pub returns-clause-evaluates : goal.returns-clause-evaluates
@@ -22,14 +22,14 @@ returns-clause-evaluates g c =
     begin c.args.scope.now c.args.cells.now c.args.host.now c.args.global.now in
     let trace = ap (λ (v : StacksView). v.trace) (c.replace.ensures.value ∙ c.cut_trace.ensures) in
     let first = first_state c.replace.result.trace c.args.scope.now c.replace-2.result
-    c.args.cells.now c.replace-3.result c.args.host.now c.args.global.now.num_operations
+    c.args.cells.now c.replace-3.result c.new-5.result c.args.host.now c.args.global.now.num_operations
     c.args.global.now.level (instructions c.args.steps.now) c.start.new.self trace
-    c.replace-2.ensures.value c.replace-3.ensures.value c.start.ensures in
-    let goes =
-    subst (λ (q : LocalState g.row.H.Denot).
+    c.replace-2.ensures.value c.replace-3.ensures.value c.start.ensures c.new-5.ensures in
+    let goes = without_this refl
+    (subst (λ (q : LocalState g.row.H.Denot).
     Simulates (setup g.H.Host.law c.args.program.now engine) q (λ m place w. called m place w)
     (is_out back) (abstraction after steps c.run_main-back.new.host) (finished_with back)) first
-    c.run_main-back.ensures.goes in
+    c.run_main-back.ensures.goes) in
     let counted : steps.before + steps.begun ≡ c.args.steps.now.before + c.args.steps.now.begun +
     steps.begun =
     ap (λ n. n + steps.begun)
@@ -54,14 +54,14 @@ returns-clause-causes g c =
     begin c.args.scope.now c.args.cells.now c.args.host.now c.args.global.now in
     let trace = ap (λ (v : StacksView). v.trace) (c.replace.ensures.value ∙ c.cut_trace.ensures) in
     let first = first_state c.replace.result.trace c.args.scope.now c.replace-2.result
-    c.args.cells.now c.replace-3.result c.args.host.now c.args.global.now.num_operations
+    c.args.cells.now c.replace-3.result c.new-5.result c.args.host.now c.args.global.now.num_operations
     c.args.global.now.level (instructions c.args.steps.now) c.start.new.self trace
-    c.replace-2.ensures.value c.replace-3.ensures.value c.start.ensures in
-    let goes =
-    subst (λ (q : LocalState g.row.H.Denot).
+    c.replace-2.ensures.value c.replace-3.ensures.value c.start.ensures c.new-5.ensures in
+    let goes = without_this refl
+    (subst (λ (q : LocalState g.row.H.Denot).
     Simulates (setup g.H.Host.law c.args.program.now engine) q (λ m place w. called m place w)
     (is_out back) (abstraction after steps c.run_main-back.new.host) (finished_with back)) first
-    c.run_main-back.ensures.goes in
+    c.run_main-back.ensures.goes) in
     rw (← c.self.view_is, c.with_memory_fault.ensures)
     (has_cause c.counted.ensures g.H.Host.law c.args.program.now engine b after.stacks.trace
     after.scope after.cells c.run_main-back.new.host after.count after.level steps.begun
@@ -77,14 +77,14 @@ returns-clause-leaves g c =
     begin c.args.scope.now c.args.cells.now c.args.host.now c.args.global.now in
     let trace = ap (λ (v : StacksView). v.trace) (c.replace.ensures.value ∙ c.cut_trace.ensures) in
     let first = first_state c.replace.result.trace c.args.scope.now c.replace-2.result
-    c.args.cells.now c.replace-3.result c.args.host.now c.args.global.now.num_operations
+    c.args.cells.now c.replace-3.result c.new-5.result c.args.host.now c.args.global.now.num_operations
     c.args.global.now.level (instructions c.args.steps.now) c.start.new.self trace
-    c.replace-2.ensures.value c.replace-3.ensures.value c.start.ensures in
-    let goes =
-    subst (λ (q : LocalState g.row.H.Denot).
+    c.replace-2.ensures.value c.replace-3.ensures.value c.start.ensures c.new-5.ensures in
+    let goes = without_this refl
+    (subst (λ (q : LocalState g.row.H.Denot).
     Simulates (setup g.H.Host.law c.args.program.now engine) q (λ m place w. called m place w)
     (is_out back) (abstraction after steps c.run_main-back.new.host) (finished_with back)) first
-    c.run_main-back.ensures.goes in
+    c.run_main-back.ensures.goes) in
     rw (← c.self.view_is, c.with_memory_fault.ensures)
     (leaves c.counted.ensures g.H.Host.law c.args.program.now engine b after.stacks.trace
     after.scope after.cells c.run_main-back.new.host after.count after.level steps.begun
@@ -100,14 +100,14 @@ returns-clause-store g c =
     begin c.args.scope.now c.args.cells.now c.args.host.now c.args.global.now in
     let trace = ap (λ (v : StacksView). v.trace) (c.replace.ensures.value ∙ c.cut_trace.ensures) in
     let first = first_state c.replace.result.trace c.args.scope.now c.replace-2.result
-    c.args.cells.now c.replace-3.result c.args.host.now c.args.global.now.num_operations
+    c.args.cells.now c.replace-3.result c.new-5.result c.args.host.now c.args.global.now.num_operations
     c.args.global.now.level (instructions c.args.steps.now) c.start.new.self trace
-    c.replace-2.ensures.value c.replace-3.ensures.value c.start.ensures in
-    let goes =
-    subst (λ (q : LocalState g.row.H.Denot).
+    c.replace-2.ensures.value c.replace-3.ensures.value c.start.ensures c.new-5.ensures in
+    let goes = without_this refl
+    (subst (λ (q : LocalState g.row.H.Denot).
     Simulates (setup g.H.Host.law c.args.program.now engine) q (λ m place w. called m place w)
     (is_out back) (abstraction after steps c.run_main-back.new.host) (finished_with back)) first
-    c.run_main-back.ensures.goes in
+    c.run_main-back.ensures.goes) in
     rw c.with_memory_fault.ensures
     (keeps_to_store c.counted.ensures g.H.Host.law c.args.program.now engine b after.stacks.trace
     after.scope after.cells c.run_main-back.new.host after.count after.level steps.begun
@@ -123,14 +123,14 @@ returns-clause-level g c =
     begin c.args.scope.now c.args.cells.now c.args.host.now c.args.global.now in
     let trace = ap (λ (v : StacksView). v.trace) (c.replace.ensures.value ∙ c.cut_trace.ensures) in
     let first = first_state c.replace.result.trace c.args.scope.now c.replace-2.result
-    c.args.cells.now c.replace-3.result c.args.host.now c.args.global.now.num_operations
+    c.args.cells.now c.replace-3.result c.new-5.result c.args.host.now c.args.global.now.num_operations
     c.args.global.now.level (instructions c.args.steps.now) c.start.new.self trace
-    c.replace-2.ensures.value c.replace-3.ensures.value c.start.ensures in
-    let goes =
-    subst (λ (q : LocalState g.row.H.Denot).
+    c.replace-2.ensures.value c.replace-3.ensures.value c.start.ensures c.new-5.ensures in
+    let goes = without_this refl
+    (subst (λ (q : LocalState g.row.H.Denot).
     Simulates (setup g.H.Host.law c.args.program.now engine) q (λ m place w. called m place w)
     (is_out back) (abstraction after steps c.run_main-back.new.host) (finished_with back)) first
-    c.run_main-back.ensures.goes in
+    c.run_main-back.ensures.goes) in
     same_level c.counted.ensures g.H.Host.law c.args.program.now engine b after.stacks.trace
     after.scope after.cells c.run_main-back.new.host after.count after.level steps.begun
     steps.passed back goes

@@ -4,12 +4,12 @@ use Rattle.grain_frame.specs.Abstraction.{moment}
 use Rattle.std.proofs.Common.{refl, subst}
 use Rattle.grain_program.specs.declared.code.instruction_set.Op.TheVariants as op
 use Rattle.grain_vm.specs.Attempts.{IsPending}
-use Rattle.grain_vm.specs.Finding.{FindsHere, found_of}
+use Rattle.grain_vm.specs.Finding.{FindsHere}
 use Rattle.grain_frame.specs.declared.activations.Activation.{Activation}
 use Rattle.grain_vm.specs.declared.attempts.Pending.{Pending}
-use Rattle.grain_vm.proofs.Found.{done_here, found_here, found_kept}
+use Rattle.grain_vm.proofs.Found.{found_here, found_kept, here_kept}
 use Rattle.grain_frame.specs.lemmas.Arms.{taken_back}
-use Rattle.grain_vm.proofs.loops.do_or_find.Goals as goal
+use Rattle.grain_vm.proofs.finding.do_or_find.Goals as goal
 
 pub returns-in-Call : goal.returns-in-Call
 returns-in-Call g c =
@@ -53,16 +53,13 @@ returns-in-Pointer g c =
 pub returns-in-Other : goal.returns-in-Other
 returns-in-Other g c =
     let p = c.args.context.program.now in
-    let s = c.args.run.now in
-    let f = c.args.frame.now in
-    let did = c.step-progress.ensures.stepped in
-    let same = taken_back f c.step-progress.new.frame did.kept.chunk did.kept.base in
-    rw c.of.ensures (record {
-      finds =
-          subst (λ (a : Activation). FindsHere (setup g.H.Host.law p c.args.context.engine.now)
-          (moment f s c.args.steps.now c.args.host.now) (found_of c.step-progress.result) (moment a
-          c.step-progress.new.run c.step-progress.new.steps c.step-progress.new.host)) same
-          (done_here g.H.Host.law p c.args.context.engine.now f c.step-progress.new.frame s
-          c.step-progress.new.run c.args.steps.now c.step-progress.new.steps c.args.host.now
-          c.step-progress.new.host c.step-progress.result did);
-    })
+    let m = setup g.H.Host.law p c.args.context.engine.now in
+    let here = moment c.args.frame.now c.args.run.now c.args.steps.now c.args.host.now in
+    let did = c.step-found.ensures.finds in
+    let kept = here_kept m here (moment c.step-found.new.frame c.step-found.new.run
+    c.step-found.new.steps c.step-found.new.host) c.step-found.result did in
+    record {
+      finds = subst (λ (a : Activation). FindsHere m here c.step-found.result
+          (moment a c.step-found.new.run c.step-found.new.steps c.step-found.new.host))
+          (taken_back c.args.frame.now c.step-found.new.frame kept.0 kept.1) did;
+    }

@@ -1,0 +1,244 @@
+-- How far a frame has run since `run_from` began with it, one turn after another.
+use Rattle.std.proofs.Common.{◌≡◌, ◌∙◌, ◌<◌, ◌≤◌, ◌+◌, ℕ, false, Result, Ok, Err, [], ◌∷◌, ◌++◌, take, true, refl, sym, subst, arith}
+use Rattle.grain_value.specs.declared.memory.OutOfMemory.{OutOfMemory}
+use Rattle.grain_fault.specs.Problems.{NoMemory}
+use Rattle.grain_program.specs.View.{View}
+use Rattle.grain_program.specs.declared.code.instruction_set.Op.TheVariants as op
+use Rattle.grain_host.specs.Law.{Law}
+use Rattle.grain_global.specs.StepsView.{StepsView}
+use Rattle.grain_global.specs.declared.engines.Engine.{Engine}
+use Rattle.grain_means.specs.Means.{setup}
+use Rattle.grain_means.specs.Worlds.{Go, End, Failed, InFrame, Setup}
+use Rattle.grain_means.specs.Simulation.{Simulates}
+use Rattle.grain_means.specs.lemmas.Stretches.{stays}
+use Rattle.grain_frame.specs.Abstraction.{Moment, PerformsBound, Runs, Stepped, abstraction, begun_one, continuation, frame_in, is_out, moment}
+use Rattle.grain_frame.specs.Receivers.{KeepsBound}
+use Rattle.grain_frame.specs.declared.activations.Activation.{Activation}
+use Rattle.grain_frame.specs.declared.runs.Progress.{Progress}
+use Rattle.grain_frame.specs.declared.runs.Progress.TheVariants as progress
+use Rattle.grain_frame.specs.declared.runs.Run.{Run}
+use Rattle.grain_frame.specs.lemmas.Arms.{taken_back}
+use Rattle.grain_vm.specs.Attempts.{Unchanged}
+use Rattle.grain_vm.specs.Calls.{LeavesAround}
+use Rattle.grain_vm.specs.Catching.{KeepsRun, StopsSo, stop_continuation}
+use Rattle.grain_vm.specs.Finding.{FindsHere}
+use Rattle.grain_vm.specs.Methods.{NoneAbove}
+use Rattle.grain_vm.specs.declared.finding.Found.{Found}
+use Rattle.grain_vm.specs.declared.finding.Found.TheVariants as found
+use Rattle.grain_vm.specs.declared.loops.Stop.TheVariants as stop
+use Rattle.grain_vm.proofs.CaughtFrames.{stopped_at}
+use Rattle.grain_vm.proofs.Found.{chain_stepped}
+use Rattle.grain_vm.proofs.Measure.{falls, left}
+use Rattle.grain_vm.proofs.Turns.{kept_bound, left_out, moved_back, next_runs, none_on, turn}
+
+-- the frame runs on from the first moment to the second
+pub record RunsTo {H : Type 0} (m : Setup H) (a b : Moment H) : Type 0 where
+  pub goes : Simulates m (abstraction a.run a.counts a.host)
+      (λ m place w. Go (InFrame (frame_in a.frame a.run place)) w) false
+      (abstraction b.run b.counts b.host)
+      (λ m place w. Go (InFrame (frame_in b.frame b.run place)) w)
+  pub runs : Runs m.program b.frame b.run
+  pub outer : b.run.stacks.outer ≡ a.run.stacks.outer
+  pub saved : b.run.saved ≡ a.run.saved
+  pub level : b.run.level ≡ a.run.level
+  pub this : KeepsBound a.run.level a.run.receivers b.run.receivers
+  pub none : NoneAbove b.run.level b.run.receivers
+  pub later : a.run.count ≤ b.run.count
+  pub fewer : left m.engine b.run.count b.frame.address ≤ left m.engine a.run.count a.frame.address
+  pub chunk : b.frame.chunk ≡ a.frame.chunk
+  pub base : b.frame.base ≡ a.frame.base
+  pub room : b.run.stacks.room ≡ a.run.stacks.room
+  pub before : b.counts.before ≡ a.counts.before
+
+-- the moment at which the frame's instruction has begun
+abbrev pub begun : {H : Type 0} → Moment H → Moment H
+begun a = record a { counts = begun_one a.counts }
+
+pub done_from : {H : Type 0} {m : Setup H} {f : Activation} {s : Run H} (n : StepsView)
+    {i k : StepsView} {host : H} {c : Moment H} {r : Result Progress OutOfMemory} →
+    i ≡ record n { begun = n.begun + 1 } → k ≡ record i { passed = i.passed + 1 } →
+    Stepped m (moment f s k host) r c → Stepped m (begun (moment f s n host)) r c
+done_from {m = m} {f} {s} n {i} {k} {host} {c} {r} is then did =
+    let here : k ≡ begun_one n = rw (then, is) refl in
+    subst (λ (j : StepsView). Stepped m (moment f s j host) r c) here did
+
+-- the same where what was tried first changed nothing
+pub done_after : {H : Type 0} {m : Setup H} {f g : Activation} {s t : Run H} (n : StepsView)
+    {i k j : StepsView} {host : H} {c : Moment H} {r : Result Progress OutOfMemory} →
+    i ≡ record n { begun = n.begun + 1 } → k ≡ record i { passed = i.passed + 1 } →
+    Unchanged f s k g t j → Stepped m (moment g t j host) r c →
+    Stepped m (begun (moment f s n host)) r c
+done_after {m = m} n {host = host} {c} {r} is then same did =
+    done_from n is then (moved_back (λ s f n. Stepped m (moment f s n host) r c) same did)
+
+-- it led so
+pub done_so : {H : Type 0} {m : Setup H} {b c : Moment H} {one other : Progress} → one ≡ other →
+    Stepped m b (Ok one) c → Stepped m b (Ok other) c
+done_so {m = m} {b} {c} is did = subst (λ (q : Progress). Stepped m b (Ok q) c) is did
+
+-- nothing was done
+pub runs_here : {H : Type 0} {m : Setup H} {a : Moment H} → Runs m.program a.frame a.run →
+    NoneAbove a.run.level a.run.receivers → RunsTo m a a
+runs_here runs none = record {
+  goes = stays;
+  runs = runs;
+  outer = refl;
+  saved = refl;
+  level = refl;
+  this = (refl, refl);
+  none = none;
+  later = omega arith;
+  fewer = omega arith;
+  chunk = refl;
+  base = refl;
+  room = refl;
+  before = refl;
+}
+
+module _ {H : Type 0} {m : Setup H} {a b : Moment H} (so_far : RunsTo m a b) where
+  -- the rest of the frame ran
+  pub around_on : {s : Run H} {n : StepsView} → LeavesAround b.run b.counts s n →
+      LeavesAround a.run a.counts s n
+  around_on {s} {n} ran = record {
+    outer = ran.outer ∙ so_far.outer;
+    room = ran.room ∙ so_far.room;
+    saved = ran.saved ∙ so_far.saved;
+    level = ran.level ∙ so_far.level;
+    this = kept_bound a.run.receivers b.run.receivers s.receivers so_far.level so_far.this ran.this;
+    later = omega (arith, ran.later, so_far.later);
+    before = ran.before ∙ so_far.before;
+  }
+
+  -- the same where a fault of it was offered to a handler
+  pub around_caught : {s t : Run H} {n k : StepsView} → LeavesAround b.run b.counts s n →
+      KeepsRun s t → k.before ≡ n.before → LeavesAround a.run a.counts t k
+  around_caught {s} {t} {n} {k} ran kept before =
+      let around = around_on ran in
+      record {
+        outer = kept.outer ∙ around.outer;
+        room = kept.room ∙ around.room;
+        saved = kept.saved ∙ around.saved;
+        level = kept.level ∙ around.level;
+        this = rw kept.receivers around.this;
+        later = omega (arith, kept.later, around.later);
+        before = before ∙ around.before;
+      }
+
+module _ {H : Type 0} {m : Setup H} {a b c : Moment H} (so_far : RunsTo m a b) where
+  -- where the instruction led
+  pub led : {r : Result Progress OutOfMemory} → Stepped m (begun b) r c →
+      Simulates m (abstraction a.run a.counts a.host)
+      (λ m place w. Go (InFrame (frame_in a.frame a.run place)) w) (is_out r)
+      (abstraction c.run c.counts c.host) (continuation r c.run.fault (frame_in c.frame c.run))
+  led did =
+      turn (abstraction b.run b.counts b.host) refl so_far.goes did.goes
+
+  pub left_around : {r : Result Progress OutOfMemory} → Stepped m (begun b) r c →
+      LeavesAround a.run a.counts c.run c.counts
+  left_around did = record {
+    outer = did.kept.outer ∙ so_far.outer;
+    room = did.kept.room ∙ so_far.room;
+    saved = did.kept.saved ∙ so_far.saved;
+    level = did.kept.level ∙ so_far.level;
+    this = kept_bound a.run.receivers b.run.receivers c.run.receivers so_far.level so_far.this
+        did.kept.this;
+    later = omega (arith, did.kept.later, so_far.later);
+    before = did.before ∙ so_far.before;
+  }
+
+  module _ (did : Stepped m (begun b) (Ok progress.Continues) c) where
+    pub turn_falls : left m.engine c.run.count c.frame.address
+        < left m.engine b.run.count b.frame.address
+    turn_falls =
+        falls m.engine b.run.count c.run.count b.frame.address c.frame.address did.stays.1 did.stays.2
+
+    -- the frame runs on
+    pub runs_on : RunsTo m a c
+    runs_on = record {
+      goes = led did;
+      runs = next_runs m.program b.frame c.frame b.run c.run so_far.runs did.kept did.stays.0
+          did.stays.3;
+      outer = did.kept.outer ∙ so_far.outer;
+      saved = did.kept.saved ∙ so_far.saved;
+      level = did.kept.level ∙ so_far.level;
+      this = kept_bound a.run.receivers b.run.receivers c.run.receivers so_far.level so_far.this
+          did.kept.this;
+      none = none_on b.run.receivers c.run.receivers did.kept.level did.kept.this so_far.none;
+      later = omega (arith, did.kept.later, so_far.later);
+      fewer = omega (arith, turn_falls, so_far.fewer);
+      chunk = did.kept.chunk ∙ so_far.chunk;
+      base = did.kept.base ∙ so_far.base;
+      room = did.kept.room ∙ so_far.room;
+      before = did.before ∙ so_far.before;
+    }
+
+  -- a fault was raised
+  module _ (did : Stepped m (begun b) (Ok progress.Failed) c) where
+    pub stops_by_fault : Simulates m (abstraction a.run a.counts a.host)
+        (λ m place w. Go (InFrame (frame_in a.frame a.run place)) w) false
+        (abstraction c.run c.counts c.host)
+        (stop_continuation (Ok (stop.Fault c.frame.address c.frame.floor c.frame.slot)) a.frame.chunk
+        a.frame.base c.run)
+    stops_by_fault =
+        stopped_at a.frame.chunk a.frame.base c.frame c.run (did.kept.chunk ∙ so_far.chunk)
+        (did.kept.base ∙ so_far.base) (led did)
+
+    pub stops_so : StopsSo m.program a.frame.chunk a.frame.base c.run
+        (Ok (stop.Fault c.frame.address c.frame.floor c.frame.slot))
+    stops_so = (
+      did.kept.noted ∙ so_far.runs.unnoted,
+      (
+        did.stays.0,
+        did.stays.1,
+        rw (sym (did.kept.chunk ∙ so_far.chunk)) did.stays.2,
+        rw (sym (did.kept.base ∙ so_far.base)) did.stays.3,
+      ),
+    )
+
+  -- memory is out
+  module _ (e : OutOfMemory) (did : Stepped m (begun b) (Err e) c) (t : Run H)
+      (is : t ≡ record c.run {
+        scope = take c.frame.floor c.run.scope;
+        stacks = record c.run.stacks {
+          noted = true;
+          trace = c.run.stacks.trace
+              ++ record { address = c.frame.address; slot = c.frame.slot } ∷ [];
+        };
+      }) where
+    pub stops_by_memory : Simulates m (abstraction a.run a.counts a.host)
+        (λ m place w. Go (InFrame (frame_in a.frame a.run place)) w) true
+        (abstraction t c.counts c.host) (λ m place w. End (Failed NoMemory) w)
+    stops_by_memory =
+        left_out (abstraction c.run c.counts c.host) (abstraction t c.counts c.host)
+        (frame_in c.frame c.run) c.frame.floor c.frame.address c.frame.slot (λ place. refl)
+        (λ place. refl) (λ place. refl) (rw is refl) (led did)
+
+    pub left_around_by_memory : LeavesAround a.run a.counts t c.counts
+    left_around_by_memory =
+        let around = left_around did in
+        record {
+          outer = rw is around.outer;
+          room = rw is around.room;
+          saved = rw is around.saved;
+          level = rw is around.level;
+          this = rw is around.this;
+          later = rw is around.later;
+          before = around.before;
+        }
+
+-- A chain was walked on a copy of the frame, from which the frame takes the address, the floor and the
+-- slot.
+pub chain_taken : {H : Type 0} (law : Law H) (p : View) (engine : Engine) (f f1 f2 : Activation)
+    (s s1 s2 : Run H) (n n1 n2 : StepsView) (x : Found) (index next : ℕ) (host host1 host2 : H)
+    {r : Result Progress OutOfMemory} → Runs p f s → x ≡ found.Chain index next →
+    FindsHere (setup law p engine) (moment f s n host) (Ok x) (moment f1 s1 n1 host1) →
+    PerformsBound (setup law p engine) (moment f1 s1 n1 host1) (op.Chain index) next r
+    (moment f2 s2 n2 host2) →
+    Stepped (setup law p engine) (moment f s n host) r
+    (moment (record f1 { address = f2.address; floor = f2.floor; slot = f2.slot }) s2 n2 host2)
+chain_taken law p engine f f1 f2 s s1 s2 n n1 n2 x index next host host1 host2 {r} runs is finds did =
+    subst (λ (a : Activation). Stepped (setup law p engine) (moment f s n host) r
+    (moment a s2 n2 host2)) (taken_back f1 f2 did.kept.chunk did.kept.base)
+    (chain_stepped law p engine f f1 f2 s s1 s2 n n1 n2 index next host host1 host2 runs
+    (subst (λ (y : Found). FindsHere (setup law p engine) (moment f s n host) (Ok y)
+    (moment f1 s1 n1 host1)) is finds) did)
