@@ -1,5 +1,5 @@
 -- Each byte of a listing's code is given by a line, and no byte past it.
-use Rattle.std.proofs.Common.{◌≡◌, ◌⊎◌, ◌<◌, ◌≤◌, inl, inr, ℕ, ◌+◌, true, nat_lt, is_some, List, [], ◌∷◌, ◌++◌, length, Option, Some, None, IsSome, Result, Ok, Err, chars, refl, sym, ap, ◌∙◌, subst, arith, length-append}
+use Rattle.std.proofs.Common.{◌≡◌, ◌⊎◌, ◌<◌, ◌≤◌, inl, inr, ℕ, ◌+◌, true, nat_lt, List, [], ◌∷◌, ◌++◌, length, Option, Some, None, IsSome, Result, Ok, Err, chars, refl, sym, ap, ◌∙◌, subst, arith, length-append}
 use Rattle.std.proofs.lemmas.Bool.{cases_lt}
 use Rattle.std.proofs.lemmas.Bool.Decides.{nat_tests}
 use Rattle.std.specs.Int.{w32, to_le_bytes}
@@ -10,8 +10,8 @@ use Rattle.grain_program.specs.declared.code.parts.AssignOp.{AssignOp}
 use Rattle.grain_literals.specs.Steps.{and_then, present}
 use Rattle.grain_literals.specs.declared.reasons.Reason.TheVariants.{UnknownLabel}
 use Rattle.grain_listing.specs.Statements
-use Rattle.grain_listing.specs.Statements.{Piece, Byte, Goto, Statement, section, labels, pieces, width, address, assigns, label_address, open_block, code_of}
-use Rattle.grain_listing.specs.LineMeanings.{says, statements}
+use Rattle.grain_listing.specs.Statements.{Piece, Byte, Goto, Statement, section, labels, pieces, width, address, assigns, label_address, code_of}
+use Rattle.grain_listing.specs.LineMeanings.{statements}
 use Rattle.grain_listing.specs.Reading.{ListingView, set_up, set_up_of, complete, assign_ops_of, reads, meaning, most_bytes}
 use Rattle.grain_listing.specs.declared.reasons.BadLine.{BadLine}
 use Rattle.grain_listing.specs.declared.table.Section.{Section}
@@ -24,8 +24,8 @@ use Rattle.grain_addresses.specs.declared.kinds.LineKind.{LineKind}
 use Rattle.grain_addresses.specs.declared.kinds.LineKind.TheVariants as kinds
 use Rattle.grain_addresses.specs.declared.walks.Walk.{Walk}
 use Rattle.grain_addresses.proofs.Cuts.{past}
-use Rattle.grain_addresses.proofs.Gives.{kind_said, gives}
-use Rattle.grain_addresses.proofs.Walked.{walk_after, onward, counted, taken}
+use Rattle.grain_addresses.proofs.ChainsFirst.{HasChain, none_open}
+use Rattle.grain_addresses.proofs.Walked.{walk_after, line_read}
 use Rattle.grain_addresses.proofs.Readings.{tested, said_first, finds}
 
 -- where a walk ends
@@ -63,7 +63,7 @@ one_held (kinds.Code width position) w l rest a low more =
 one_held kinds.Main w l rest a low more = more low
 one_held kinds.Function w l rest a low more = more low
 one_held kinds.End w l rest a low more = more low
-one_held kinds.Chain w l rest a low more = more low
+one_held (kinds.Chain slots) w l rest a low more = more low
 one_held (kinds.Step slots) w l rest a low more = more low
 one_held kinds.Other w l rest a low more = more low
 
@@ -79,7 +79,7 @@ rises (kinds.Code width position) w = omega arith
 rises kinds.Main w = omega arith
 rises kinds.Function w = omega arith
 rises kinds.End w = omega arith
-rises kinds.Chain w = omega arith
+rises (kinds.Chain slots) w = omega arith
 rises (kinds.Step slots) w = omega arith
 rises kinds.Other w = omega arith
 
@@ -98,7 +98,7 @@ one_past (kinds.Code width position) w l rest a h none =
 one_past kinds.Main w l rest a h none = none
 one_past kinds.Function w l rest a h none = none
 one_past kinds.End w l rest a h none = none
-one_past kinds.Chain w l rest a h none = none
+one_past (kinds.Chain slots) w l rest a h none = none
 one_past (kinds.Step slots) w l rest a h none = none
 one_past kinds.Other w l rest a h none = none
 
@@ -112,18 +112,13 @@ none_past w (l ∷ ls) a h =
     (none_past (stepped (line_kind w.in_block l) w) ls a h)
 
 -- a walk ends after all that the lines have said
-ends : (before : List Statement) (ls : List (List ℕ)) (all : List Statement) →
+ends : (before : List Statement) (ls : List (List ℕ)) (all : List Statement) → HasChain before →
     statements (length before) before ls ≡ Ok all → last (walk_after before) ls ≡ walk_after all
-ends before [] all e = let is : before ≡ all = cc in ap walk_after is
-ends before (l ∷ ls) all e =
-    let t = taken (says (length before + 1) l before) (length before + 1)
-    (λ s. statements (length before + 1) (s ∷ before) ls) all e in
-    let kind : kind_said t.0 ≡ line_kind (is_some (open_block before)) l =
-    gives (length before + 1) l before t.0 t.1.0 in
-    let rest : statements (length (t.0 ∷ before)) (t.0 ∷ before) ls ≡ Ok all =
-    subst (λ (k : ℕ). statements k (t.0 ∷ before) ls ≡ Ok all) (counted t.0 before) t.1.1 in
-    ap (λ (k : LineKind). last (stepped k (walk_after before)) ls) (sym kind) ∙
-    ap (λ (w : Walk). last w ls) (onward t.0 before) ∙ ends (t.0 ∷ before) ls all rest
+ends before [] all has e = let is : before ≡ all = cc in ap walk_after is
+ends before (l ∷ ls) all has e =
+    let t = line_read before l ls all has e in
+    ap (λ (k : LineKind). last (stepped k (walk_after before)) ls) (sym t.kind) ∙
+    ap (λ (w : Walk). last w ls) t.onward ∙ ends (t.said ∷ before) ls all t.has t.rest
 
 -- the code has as many bytes as its pieces
 abbrev HasLength : ℕ → Result (List ℕ) BadLine → Type 0
@@ -161,55 +156,59 @@ finished n sections.Pools r s e = absurd cc
 finished n sections.Block r s e = absurd cc
 finished n sections.After r s e = e
 
-coded : (all : List Statement) (ops : List AssignOp) (r : Result (List ℕ) BadLine) (n : ℕ)
-    (s : ListingView) → HasLength n r → and_then r (λ code. Ok (set_up all ops code)) ≡ Ok s →
-    length s.parts.code ≡ n
-coded all ops (Ok code) n s h e =
-    let is : set_up all ops code ≡ s = cc in
-    sym (ap (λ (x : ListingView). length x.parts.code) is) ∙ h
-coded all ops (Err x) n s h e = absurd cc
+-- what the lines have said together is what the listing says
+abbrev AreSaid : List Statement → ListingView → Type 0
+AreSaid all s = (length s.parts.code ≡ address all) × (s.parts.chains ≡ Statements.chains all)
+
+coded : (all : List Statement) (ops : List AssignOp) (r : Result (List ℕ) BadLine)
+    (s : ListingView) → HasLength (address all) r →
+    and_then r (λ code. Ok (set_up all ops code)) ≡ Ok s → AreSaid all s
+coded all ops (Ok code) s h e =
+    let is : set_up all ops code ≡ s = cc in (
+      sym (ap (λ (x : ListingView). length x.parts.code) is) ∙ h,
+      sym (ap (λ (x : ListingView). x.parts.chains) is),
+    )
+coded all ops (Err x) s h e = absurd cc
 
 linked : (n : ℕ) (all : List Statement) (r : Result (List AssignOp) BadLine) (s : ListingView) →
     and_then r (λ ops. complete n (section all)
     (and_then (code_of (labels all) (pieces all)) (λ code. Ok (set_up all ops code)))) ≡ Ok s →
-    length s.parts.code ≡ address all
+    AreSaid all s
 linked n all (Ok ops) s e =
-    coded all ops (code_of (labels all) (pieces all)) (address all) s
+    coded all ops (code_of (labels all) (pieces all)) s
     (sized (labels all) (pieces all))
     (finished n (section all)
     (and_then (code_of (labels all) (pieces all)) (λ code. Ok (set_up all ops code))) s e)
 linked n all (Err x) s e = absurd cc
 
--- what the lines have said together, and how long the code is
-record Read (bytes : List ℕ) (s : ListingView) : Type 0 where
-  all : List Statement
-  said : statements 0 [] (lines_of (chars bytes)) ≡ Ok all
-  long : length s.parts.code ≡ address all
+-- what the lines have said together, how long the code is, and what the chains are
+pub record Read (bytes : List ℕ) (s : ListingView) : Type 0 where
+  pub all : List Statement
+  pub said : statements 0 [] (lines_of (chars bytes)) ≡ Ok all
+  pub long : length s.parts.code ≡ address all
+  pub chains : s.parts.chains ≡ Statements.chains all
 
 onto : (n : ℕ) (r : Result (List Statement) BadLine) (all : List Statement) (s : ListingView) →
     r ≡ Ok all → and_then r (λ a. set_up_of n a) ≡ Ok s → set_up_of n all ≡ Ok s
 onto n r all s is e =
     sym (ap (λ (x : Result (List Statement) BadLine). and_then x (λ a. set_up_of n a)) is) ∙ e
 
-read_of : (bytes : List ℕ) (s : ListingView) → reads bytes ≡ Ok s → Read bytes s
+pub read_of : (bytes : List ℕ) (s : ListingView) → reads bytes ≡ Ok s → Read bytes s
 read_of bytes s e =
     let lines = lines_of (chars bytes) in
     let means : meaning lines ≡ Ok s =
     (tested (nat_lt most_bytes (length bytes)) (is_utf8 bytes) _ _ (meaning lines) s e).2 in
     let said = said_first (statements 0 [] lines) (λ all. set_up_of (length lines) all) s means in
-    record {
-      all = said.0;
-      said = said.1;
-      long =
-          linked (length lines) said.0 (assign_ops_of (Statements.tokens said.0) (assigns said.0)) s
-          (onto (length lines) (statements 0 [] lines) said.0 s said.1 means);
-    }
+    let is =
+    linked (length lines) said.0 (assign_ops_of (Statements.tokens said.0) (assigns said.0)) s
+    (onto (length lines) (statements 0 [] lines) said.0 s said.1 means) in
+    record { all = said.0; said = said.1; long = is.0; chains = is.1 }
 
 ends_at : (bytes : List ℕ) (s : ListingView) → reads bytes ≡ Ok s →
     (last start (lines_of (chars bytes))).address ≡ length s.parts.code
 ends_at bytes s e =
     let r = read_of bytes s e in
-    ap (λ (w : Walk). w.address) (ends [] (lines_of (chars bytes)) r.all r.said) ∙ sym r.long
+    ap (λ (w : Walk). w.address) (ends [] (lines_of (chars bytes)) r.all none_open r.said) ∙ sym r.long
 
 pub inside : (bytes : List ℕ) (s : ListingView) (a : ℕ) → reads bytes ≡ Ok s →
     a < length s.parts.code → IsSome (found a (places_of (lines_of (chars bytes))))

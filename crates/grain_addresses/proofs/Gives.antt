@@ -1,5 +1,5 @@
 -- What a line says, where it is read, gives what its words give, in a block or outside of one.
-use Rattle.std.proofs.Common.{◌≡◌, ℕ, ◌+◌, ◌-◌, ◌^◌, ◌||◌, ◌==◌, Bool, true, false, cond, nat_lt, codes, bytes_eq, is_some, List, [], ◌∷◌, ◌++◌, length, Option, Some, None, Result, Ok, Err, refl, sym, ap, ◌∙◌, subst, arith}
+use Rattle.std.proofs.Common.{◌≡◌, ℕ, ◌+◌, ◌-◌, ◌^◌, Bool, true, false, cond, nat_lt, codes, bytes_eq, is_some, List, [], ◌∷◌, ◌++◌, length, Option, Some, None, Result, Ok, Err, refl, sym, ap, ◌∙◌, subst, arith}
 use Rattle.std.specs.Str.{encode_utf8_all}
 use Rattle.std.specs.Int.{w16, w32, to_le_bytes}
 use Rattle.grain_fault.specs.declared.places.Position.{Position}
@@ -7,20 +7,18 @@ use Rattle.grain_program.specs.declared.code.fields.Field.{Field}
 use Rattle.grain_program.specs.declared.code.instruction_set.Op.{Op}
 use Rattle.grain_program.specs.Fields.{Size, one, two, four, bytes_of, size_of}
 use Rattle.grain_program.specs.InstructionSet.{tag_of, fields_of}
-use Rattle.grain_words.specs.Words.{is_over, trim_start, ends_word, up_to, onward_from, quoted, whole, behind, bare, skipped, next_word, after_word}
+use Rattle.grain_words.specs.Words.{is_over, trim_start, bare, next_word, after_word}
 use Rattle.grain_words.specs.Numerals.{number, begins_letter, is_empty}
 use Rattle.grain_literals.specs.Steps.{and_then, present}
-use Rattle.grain_literals.specs.Operands.{behind_name, after_name, alone, number_operand, index, position_after, byte_of}
+use Rattle.grain_literals.specs.Operands.{behind_name, after_name, alone, number_operand, position_after, byte_of}
 use Rattle.grain_literals.specs.Literals.{constant_of, text_of, token_of, entry_of}
 use Rattle.grain_literals.specs.declared.reasons.Reason.{Reason}
-use Rattle.grain_literals.specs.declared.reasons.Reason.TheVariants.{MissingHeader, UnknownWord, OutOfPlace, TooMany, NotBuilt, BadOperand, LabelTwice}
+use Rattle.grain_literals.specs.declared.reasons.Reason.TheVariants.{MissingHeader, UnknownWord, OutOfPlace, TooMany, BadOperand, LabelTwice}
 use Rattle.grain_listing.specs.Settings.{capability_bits, capabilities}
 use Rattle.grain_listing.specs.Flags.{flag_of}
 use Rattle.grain_listing.specs.HostLines.{fail_of, stop_of}
 use Rattle.grain_listing.specs.Headers.{stack_of, assign_of, header_of, is_crowded}
-use Rattle.grain_program.specs.Chains.{step_slots}
-use Rattle.grain_program.specs.declared.code.chains.Step.TheVariants as steps
-use Rattle.grain_listing.specs.ChainWords.{chain_of, step_of, step_named, index_step, index_ended, property_step, property_ended, flags_of, first_position, last_position}
+use Rattle.grain_listing.specs.ChainWords.{chain_of, step_of}
 use Rattle.grain_listing.specs.Instructions
 use Rattle.grain_listing.specs.Instructions.{kinds_of}
 use Rattle.grain_listing.specs.Table.{line_of, own_line, stands, is_block}
@@ -30,54 +28,10 @@ use Rattle.grain_listing.specs.declared.table.Line.{Line}
 use Rattle.grain_listing.specs.declared.table.Line.TheVariants as lines
 use Rattle.grain_listing.specs.declared.table.Section.{Section}
 use Rattle.grain_listing.specs.declared.table.Section.TheVariants as sections
-use Rattle.grain_addresses.specs.Kinds.{fields_width, after_fields, position_or_none, instruction_kind, slots_begun, step_kind, kind_of, kind_if, kind_begun, line_kind}
-use Rattle.grain_addresses.specs.declared.kinds.LineKind.{LineKind}
+use Rattle.grain_addresses.specs.Kinds.{fields_width, after_fields, position_or_none, instruction_kind, step_kind, chain_kind, kind_of, kind_if, kind_begun, line_kind}
 use Rattle.grain_addresses.specs.declared.kinds.LineKind.TheVariants as kinds
-
--- what a line gives that says this
-abbrev pub kind_said : Statement → LineKind
-kind_said (code_line p ps at) = kinds.Code (width (p ∷ ps)) at
-kind_said (main_line n) = kinds.Main
-kind_said (fn_line h) = kinds.Function
-kind_said end_line = kinds.End
-kind_said (chain_line c) = kinds.Chain
-kind_said (step_line s) = kinds.Step (step_slots s)
-kind_said s = kinds.Other
-
--- what is said, if anything is, gives this
-abbrev Gives : LineKind → Result Statement Reason → Type 0
-Gives k (Ok s) = kind_said s ≡ k
-Gives k (Err e) = Unit {0}
-
-either : (k : LineKind) (b : Bool) (x y : Result Statement Reason) → Gives k x → Gives k y →
-    Gives k (cond b x y)
-either k true x y hx hy = hx
-either k false x y hx hy = hy
-
-step : {A : Type 0} (k : LineKind) (r : Result A Reason) (say : A → Statement) →
-    ((x : A) → kind_said (say x) ≡ k) → Gives k (and_then r (λ x. Ok (say x)))
-step k (Ok x) say h = h x
-step k (Err e) say h = tt
-
-alone_gives : (k : LineKind) (cs : List ℕ) (s : Statement) → kind_said s ≡ k → Gives k (alone cs s)
-alone_gives k cs s h = either k (is_over cs) (Ok s) (Err BadOperand) h tt
-
--- what is left after a word
-second : (x a : List ℕ × List ℕ) → Some x ≡ Some a → x.1 ≡ a.1
-second x a e = let is : x ≡ a = cc in ap (λ (p : List ℕ × List ℕ). p.1) is
-
-bare_left : (x : List ℕ) (a : List ℕ × List ℕ) → bare x ≡ Some a → skipped x ≡ a.1
-bare_left [] a e = absurd cc
-bare_left (c ∷ cs) a e = at (c == 34) (c == 39) e where
-  at : (q r : Bool) →
-      cond (q || r) None (Some (up_to ends_word (c ∷ cs), onward_from ends_word (c ∷ cs))) ≡ Some a →
-      cond q (behind (whole (quoted cs))) (cond r [] (onward_from ends_word (c ∷ cs))) ≡ a.1
-  at true r h = absurd cc
-  at false true h = absurd cc
-  at false false h = second (up_to ends_word (c ∷ cs), onward_from ends_word (c ∷ cs)) a h
-
-word_left : (cs : List ℕ) (a : List ℕ × List ℕ) → next_word cs ≡ Some a → after_word cs ≡ a.1
-word_left cs a e = bare_left (trim_start cs) a e
+use Rattle.grain_addresses.proofs.Said.{kind_said, Gives, either, step, alone_gives, word_left, Leaves, number_leaves}
+use Rattle.grain_addresses.proofs.ChainLines.{step_gives, chain_gives}
 
 no_word : (cs : List ℕ) → is_over cs ≡ true → next_word cs ≡ None
 no_word cs e = at (trim_start cs) e where
@@ -197,24 +151,6 @@ instruction_gives i n cs =
       at (Err m) h = tt
 
 -- after `byte`
-abbrev Leaves : List ℕ → Result (ℕ × List ℕ) Reason → Type 0
-Leaves rest (Ok x) = x.1 ≡ rest
-Leaves rest (Err e) = Unit {0}
-
-number_leaves : (cs : List ℕ) → Leaves (after_word cs) (number_operand 255 cs)
-number_leaves cs = at (next_word cs) (λ a e. word_left cs a e) where
-  within : (rest : List ℕ) (o : Option ℕ) → rest ≡ after_word cs →
-      Leaves (after_word cs) (and_then (present BadOperand o) (λ n. Ok (n, rest)))
-  within rest None same = tt
-  within rest (Some n) same = same
-
-  at : (o : Option (List ℕ × List ℕ)) →
-      ((a : List ℕ × List ℕ) → o ≡ Some a → after_word cs ≡ a.1) →
-      Leaves (after_word cs) (and_then (present BadOperand o)
-      (λ a. and_then (present BadOperand (number 255 a.0)) (λ n. Ok (n, a.1))))
-  at None left = tt
-  at (Some a) left = within a.1 (number 255 a.0) (sym (left a refl))
-
 abbrev byte_with : ℕ → Result (Option Position) Reason → Result (ℕ × Option Position) Reason
 byte_with b r = and_then r (λ p. Ok (b, p))
 
@@ -227,7 +163,7 @@ byte_at b (Err e) = tt
 byte_gives : (cs : List ℕ) →
     Gives (kinds.Code 1 (position_or_none (position_after (after_word cs))))
     (and_then (byte_of cs) (λ x. Ok (code_line (Byte x.0) [] x.1)))
-byte_gives cs = at (number_operand 255 cs) (number_leaves cs) where
+byte_gives cs = at (number_operand 255 cs) (number_leaves 255 cs) where
   at : (r : Result (ℕ × List ℕ) Reason) → Leaves (after_word cs) r →
       Gives (kinds.Code 1 (position_or_none (position_after (after_word cs))))
       (and_then (and_then r (λ a. byte_with a.0 (position_after a.1)))
@@ -237,59 +173,6 @@ byte_gives cs = at (number_operand 255 cs) (number_leaves cs) where
       (and_then (byte_with a.0 (position_after a.1))
       (λ x. Ok (code_line (Byte x.0) [] x.1)))) left (byte_at a.0 (position_after a.1))
   at (Err e) left = tt
-
--- what is read further on
-further : {A B : Type 0} (k : LineKind) (r : Result A Reason) (go : A → Result B Reason)
-    (say : B → Statement) → ((x : A) → Gives k (and_then (go x) (λ y. Ok (say y)))) →
-    Gives k (and_then (and_then r go) (λ y. Ok (say y)))
-further k (Ok x) go say h = h x
-further k (Err e) go say h = tt
-
--- a step has a slot for each of its positions
-index_gives : (cs : List ℕ) →
-    Gives (kinds.Step 2) (and_then (index_step cs) (λ s. Ok (step_line s)))
-index_gives cs =
-    further (kinds.Step 2) (index cs) (λ a. index_ended a.0 (flags_of a.1)) (λ s. step_line s)
-    (λ a. let f = flags_of a.1 in
-    further (kinds.Step 2) (first_position f.1)
-    (λ p. and_then (last_position p.1) (λ q. Ok (steps.Index a.0 f.0 p.0 q))) (λ s. step_line s)
-    (λ p. further (kinds.Step 2) (last_position p.1) (λ q. Ok (steps.Index a.0 f.0 p.0 q))
-    (λ s. step_line s) (λ q. refl)))
-
-property_gives : (cs : List ℕ) →
-    Gives (kinds.Step 1) (and_then (property_step cs) (λ s. Ok (step_line s)))
-property_gives cs =
-    further (kinds.Step 1) (index cs)
-    (λ a. and_then (index a.1) (λ b. and_then (index b.1)
-    (λ c. property_ended a.0 b.0 c.0 (flags_of c.1)))) (λ s. step_line s)
-    (λ a. further (kinds.Step 1) (index a.1)
-    (λ b. and_then (index b.1) (λ c. property_ended a.0 b.0 c.0 (flags_of c.1))) (λ s. step_line s)
-    (λ b. further (kinds.Step 1) (index b.1) (λ c. property_ended a.0 b.0 c.0 (flags_of c.1))
-    (λ s. step_line s)
-    (λ c. let f = flags_of c.1 in
-    further (kinds.Step 1) (last_position f.1)
-    (λ p. Ok (steps.Property a.0 b.0 c.0 f.0 p)) (λ s. step_line s) (λ p. refl))))
-
-step_begun : (a : List ℕ × List ℕ) → Gives (kinds.Step (slots_begun (Some a)))
-    (and_then (step_named a.0 a.1) (λ s. Ok (step_line s)))
-unfolding step_named
-step_begun a = at (bytes_eq a.0 (codes "index")) (bytes_eq a.0 (codes "property"))
-    (bytes_eq a.0 (codes "method")) where
-      at : (i p m : Bool) → Gives (kinds.Step (cond i 2 1))
-          (and_then (cond i (index_step a.1) (cond p (property_step a.1)
-          (cond m (Err NotBuilt) (Err BadOperand)))) (λ s. Ok (step_line s)))
-      at true p m = index_gives a.1
-      at false true m = property_gives a.1
-      at false false true = tt
-      at false false false = tt
-
-step_gives : (cs : List ℕ) → Gives (step_kind cs) (and_then (step_of cs) (λ s. Ok (step_line s)))
-step_gives cs = at (next_word cs) where
-  at : (o : Option (List ℕ × List ℕ)) → Gives (kinds.Step (slots_begun o))
-      (and_then (and_then (present BadOperand o) (λ a. step_named a.0 a.1))
-      (λ s. Ok (step_line s)))
-  at None = tt
-  at (Some a) = step_begun a
 
 line_gives : (l : Line) (n : ℕ) (cs : List ℕ) (before : List Statement) →
     Gives (kind_of l cs) (statement l n cs before)
@@ -321,9 +204,8 @@ line_gives lines.Assign n cs before =
     (and_then (assign_of n cs) (λ a. Ok (assign_line a))) (Err TooMany)
     (step kinds.Other (assign_of n cs) (λ a. assign_line a) (λ x. refl)) tt
 line_gives lines.Chain n cs before =
-    either kinds.Chain (nat_lt (length (chains before)) 65536)
-    (and_then (chain_of cs) (λ c. Ok (chain_line c))) (Err TooMany)
-    (step kinds.Chain (chain_of cs) (λ c. chain_line c) (λ x. refl)) tt
+    either (chain_kind (after_word cs)) (nat_lt (length (chains before)) 65536)
+    (and_then (chain_of cs) (λ c. Ok (chain_line c))) (Err TooMany) (chain_gives cs) tt
 line_gives lines.Step n cs before =
     let read : Result Statement Reason = and_then (step_of cs) (λ s. Ok (step_line s)) in
     let room : Bool = nat_lt (length (last_steps (chains before))) 65536 in

@@ -1,8 +1,13 @@
+pub mod Said
+pub mod ChainLines
 pub mod Gives
+pub mod ChainsFirst
+pub mod StepSlots
 pub mod Walked
 pub mod Tiles
 pub mod Cuts
 pub mod Readings
 pub mod Due
 pub mod Covered
+pub mod StepsFound
 pub mod Joined

@@ -13,6 +13,7 @@ use Rattle.grain_addresses.specs.StepLines.{StepLine, steps_of}
 use Rattle.grain_addresses.specs.Replies.{Stock, stock_of, stock_in, are_begun, status_of, listed_text, explained_status, explained_text, status_due, text_due}
 use Rattle.grain_addresses.specs.declared.queries.Query.{Query}
 use Rattle.grain_addresses.specs.Walks.{start, walked, walked_steps}
+use Rattle.grain_addresses.proofs.ChainsFirst.{none_open}
 use Rattle.grain_addresses.proofs.Walked.{found_in_order, steps_in_order}
 
 pub tested : (b c : Bool) (x y : BadLine) (m : Result ListingView BadLine) (s : ListingView) →
@@ -49,7 +50,7 @@ finds bytes s e =
     let means : meaning lines ≡ Ok s =
     (tested (nat_lt most_bytes (length bytes)) (is_utf8 bytes) _ _ (meaning lines) s e).2 in
     let said = said_first (statements 0 [] lines) (λ all. set_up_of (length lines) all) s means in
-    found_in_order [] lines said.0 said.1
+    found_in_order [] lines said.0 none_open said.1
 
 same_places : (bytes text : List ℕ) (s : ListingView) (places : List Place) → reads bytes ≡ Ok s →
     text ≡ chars bytes → places ≡ walked start (lines_of text) →
@@ -64,7 +65,7 @@ finds_steps bytes s e =
     let means : meaning lines ≡ Ok s =
     (tested (nat_lt most_bytes (length bytes)) (is_utf8 bytes) _ _ (meaning lines) s e).2 in
     let said = said_first (statements 0 [] lines) (λ all. set_up_of (length lines) all) s means in
-    steps_in_order [] lines said.0 said.1
+    steps_in_order [] lines said.0 none_open said.1
 
 same_steps : (bytes text : List ℕ) (s : ListingView) (steps : List StepLine) → reads bytes ≡ Ok s →
     text ≡ chars bytes → steps ≡ walked_steps start (lines_of text) →

@@ -4,13 +4,13 @@ use Rattle.std.proofs.Common.{ℕ, ◌+◌, ◌≤◌, Bool, true, false, List, 
 use Rattle.grain_program.specs.declared.code.instruction_set.Op.{Op}
 use Rattle.grain_program.specs.declared.code.instruction_set.Op.TheVariants as op
 use Rattle.grain_program.specs.InstructionSet.{fields_of}
-use Rattle.grain_words.specs.Words.{next_word}
+use Rattle.grain_words.specs.Words.{next_word, after_word}
 use Rattle.grain_listing.specs.Table.{line_of}
 use Rattle.grain_listing.specs.declared.table.Line.{Line}
 use Rattle.grain_listing.specs.declared.table.Line.TheVariants as lines
 use Rattle.grain_addresses.specs.Places.{Place}
 use Rattle.grain_addresses.specs.Finding.{IsTiled}
-use Rattle.grain_addresses.specs.Kinds.{fields_width, kind_of, kind_if, kind_begun, line_kind, slots_begun, IsNarrow}
+use Rattle.grain_addresses.specs.Kinds.{fields_width, kind_of, kind_if, kind_begun, line_kind, slots_begun, root_slots_begun, IsNarrow}
 use Rattle.grain_addresses.specs.Walks.{functions_after, stepped, place_in, walked, IsBounded}
 use Rattle.grain_addresses.specs.declared.blocks.Block.{Block}
 use Rattle.grain_addresses.specs.declared.blocks.Block.TheVariants as block
@@ -30,8 +30,16 @@ few_slots (Some a) = at (bytes_eq a.0 (codes "index")) where
   at true = omega arith
   at false = omega arith
 
+few_root_slots : (o : Option (List ℕ × List ℕ)) → root_slots_begun o ≤ 1
+few_root_slots None = omega arith
+few_root_slots (Some a) = at (bytes_eq a.0 (codes "this")) where
+  at : (b : Bool) → (if b then 1 else 0) ≤ 1
+  at true = omega arith
+  at false = omega arith
+
 line_narrow : (l : Line) (cs : List ℕ) → IsNarrow (kind_of l cs)
 line_narrow lines.Byte cs = (omega arith, omega arith)
+line_narrow lines.Chain cs = few_root_slots (next_word (after_word cs))
 line_narrow lines.Step cs = few_slots (next_word cs)
 line_narrow (lines.Instruction o) cs = let h = few o in (omega arith, omega (arith, h))
 line_narrow _ cs = tt
@@ -53,7 +61,7 @@ one_tile (kinds.Code width position) w l rest n t = (refl, n.0, t)
 one_tile kinds.Main w l rest n t = t
 one_tile kinds.Function w l rest n t = t
 one_tile kinds.End w l rest n t = t
-one_tile kinds.Chain w l rest n t = t
+one_tile (kinds.Chain slots) w l rest n t = t
 one_tile (kinds.Step slots) w l rest n t = t
 one_tile kinds.Other w l rest n t = t
 
@@ -95,11 +103,11 @@ bounded kinds.End w n h =
       chains = omega (arith, h.chains);
       slots = omega (arith, h.slots);
     }
-bounded kinds.Chain w n h = record {
+bounded (kinds.Chain slots) w n h = record {
   addresses = omega (arith, h.addresses);
   functions = omega (arith, h.functions);
   chains = omega (arith, h.chains);
-  slots = omega (arith, h.slots);
+  slots = omega (arith, n, h.slots);
 }
 bounded (kinds.Step slots) w n h = record {
   addresses = omega (arith, h.addresses);

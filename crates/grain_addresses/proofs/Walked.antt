@@ -1,25 +1,25 @@
 -- A walk by words alone finds the lines that give code where a listing is read.
 use Rattle.std.proofs.Common.{◌≡◌, ℕ, ◌+◌, Bool, is_some, List, [], ◌∷◌, ◌++◌, length, Option, Some, None, Result, Ok, Err, refl, sym, ap, ◌∙◌, subst, arith, append_assoc, length-append}
+use Rattle.grain_program.specs.Chains.{all_slots}
 use Rattle.grain_literals.specs.Steps.{and_then}
 use Rattle.grain_literals.specs.declared.reasons.Reason.{Reason}
-use Rattle.grain_program.specs.Chains.{root_slots}
-use Rattle.grain_program.specs.declared.code.chains.Chain.{Chain}
-use Rattle.grain_program.specs.declared.code.chains.Root.{Root}
-use Rattle.grain_program.specs.declared.code.chains.Root.TheVariants as root
 use Rattle.grain_program.specs.declared.code.functions.Function.{Function}
-use Rattle.grain_listing.specs.Statements.{Statement, chain_line, code_line, end_line, step_line, address, pieces, open_block, functions, functions_ended, function_of}
+use Rattle.grain_listing.specs.Statements.{Statement, chain_line, code_line, end_line, step_line, address, chains, pieces, open_block, functions, functions_ended, function_of}
 use Rattle.grain_listing.specs.LineMeanings.{says, at_line, statements}
 use Rattle.grain_listing.specs.declared.reasons.BadLine.{BadLine}
 use Rattle.grain_listing.specs.declared.blocks.OpenBlock.{OpenBlock}
 use Rattle.grain_listing.specs.declared.blocks.OpenBlock.TheVariants as blocks
 use Rattle.grain_addresses.specs.Places.{Place, block_of, block_after, place_said, on_said, places_after}
 use Rattle.grain_addresses.specs.Kinds.{line_kind}
-use Rattle.grain_addresses.specs.StepLines.{StepLine, chain_count, slot_count, step_said, steps_after}
+use Rattle.grain_addresses.specs.StepLines.{StepLine, step_said, steps_after}
 use Rattle.grain_addresses.specs.Walks.{functions_after, stepped, place_in, step_in, walked, walked_steps}
 use Rattle.grain_addresses.specs.declared.blocks.Block.{Block}
 use Rattle.grain_addresses.specs.declared.kinds.LineKind.{LineKind}
 use Rattle.grain_addresses.specs.declared.walks.Walk.{Walk}
-use Rattle.grain_addresses.proofs.Gives.{kind_said, gives, width-append}
+use Rattle.grain_addresses.proofs.Said.{kind_said}
+use Rattle.grain_addresses.proofs.Gives.{gives, width-append}
+use Rattle.grain_addresses.proofs.ChainsFirst.{Follows, follows, HasChain, has_chain, length-with_step}
+use Rattle.grain_addresses.proofs.StepSlots.{slots-chain, slots-step}
 
 abbrev pub walk_at : ℕ → ℕ → Block → Bool → ℕ → ℕ → ℕ → Walk
 walk_at l a b o f k t = record {
@@ -36,28 +36,16 @@ walk_at l a b o f k t = record {
 abbrev pub walk_after : List Statement → Walk
 walk_after before =
     walk_at (length before) (address before) (block_after before) (is_some (open_block before))
-    (length (functions before)) (chain_count before) (slot_count before)
+    (length (functions before)) (length (chains before)) (all_slots (chains before))
 
-same : (l m a b f g : ℕ) (block : Block) (o : Bool) (k t : ℕ) → l ≡ m → a ≡ b → f ≡ g →
-    walk_at l a block o f k t ≡ walk_at m b block o g k t
-same l m a b f g block o k t el ea ef =
-    ap (λ (x : ℕ). walk_at x a block o f k t) el ∙ ap (λ (x : ℕ). walk_at m x block o f k t) ea ∙
-    ap (λ (x : ℕ). walk_at m b block o x k t) ef
+same : {l m a b f g j k t u : ℕ} (block : Block) (o : Bool) → l ≡ m → a ≡ b → f ≡ g → j ≡ k → t ≡ u →
+    walk_at l a block o f j t ≡ walk_at m b block o g k u
+same {l} {m} {a} {b} {f} {g} {j} {k} {t} {u} block o el ea ef ek et =
+    ap (λ (x : ℕ). walk_at x a block o f j t) el ∙ ap (λ (x : ℕ). walk_at m x block o f j t) ea ∙
+    ap (λ (x : ℕ). walk_at m b block o x j t) ef ∙ ap (λ (x : ℕ). walk_at m b block o g x t) ek ∙
+    ap (λ (x : ℕ). walk_at m b block o g k x) et
 
--- no root has a slot
-pub rootless : (r : Root) → root_slots r ≡ 0
-rootless (root.Local name slot) = refl
-rootless root.Temporary = refl
-
--- one chain more
-chained : (c : Chain) (before : List Statement) (l a f k : ℕ) (b : Block) (o : Bool) →
-    walk_at l a b o f k (slot_count before)
-    ≡ walk_at l a b o f k (slot_count before + root_slots c.root)
-chained c before l a f k b o =
-    let none = rootless c.root in
-    ap (λ (x : ℕ). walk_at l a b o f k x) (omega (arith, none))
-
-pub counted : (s : Statement) (before : List Statement) → length before + 1 ≡ length (s ∷ before)
+counted : (s : Statement) (before : List Statement) → length before + 1 ≡ length (s ∷ before)
 counted s before = omega arith
 
 ended : (o : Option OpenBlock) (a : ℕ) (fs : List Function) →
@@ -69,18 +57,22 @@ ended (Some (blocks.Function entry h)) a fs =
     omega (arith, more)
 
 -- one more line
-pub onward : (s : Statement) (before : List Statement) →
+onward : (s : Statement) (before : List Statement) → HasChain before → Follows before s →
     stepped (kind_said s) (walk_after before) ≡ walk_after (s ∷ before)
-onward (code_line p ps at) before =
-    same _ _ _ _ _ _ (block_after before) (is_some (open_block before)) _ _
-    (counted (code_line p ps at) before) (sym (width-append (pieces before) (p ∷ ps))) refl
-onward end_line before =
-    same _ _ _ _ _ _ _ _ _ _ (counted end_line before) refl
-    (ended (open_block before) (address before) (functions before))
-onward (chain_line c) before =
-    same _ _ _ _ _ _ _ _ _ _ (counted (chain_line c) before) refl refl
-    ∙ chained c before _ _ _ _ _ _
-onward s before = same _ _ _ _ _ _ _ _ _ _ (counted s before) refl refl
+onward (code_line p ps at) before has follows =
+    same (block_after before) (is_some (open_block before)) (counted (code_line p ps at) before)
+    (sym (width-append (pieces before) (p ∷ ps))) refl refl refl
+onward end_line before has follows =
+    same _ _ (counted end_line before) refl
+    (ended (open_block before) (address before) (functions before)) refl refl
+onward (chain_line c) before has follows =
+    let more = length-append (chains before) (c ∷ []) in
+    same _ _ (counted (chain_line c) before) refl refl (omega (arith, more))
+    (sym (slots-chain (chains before) c follows))
+onward (step_line s) before has follows =
+    same _ _ (counted (step_line s) before) refl refl (sym (length-with_step s (chains before)))
+    (sym (slots-step s (chains before) (has follows)))
+onward s before has follows = same _ _ (counted s before) refl refl refl refl
 
 placed : (l : List ℕ) (s : Statement) (before : List Statement) →
     place_in l (walk_after before) (kind_said s) ≡ place_said l before s
@@ -94,26 +86,49 @@ pub taken : (r : Result Statement Reason) (n : ℕ)
 taken (Ok s) n go all e = (s, (refl, e))
 taken (Err x) n go all e = absurd cc
 
-pub found_in_order : (before : List Statement) (ls : List (List ℕ)) (all : List Statement) →
-    statements (length before) before ls ≡ Ok all →
-    walked (walk_after before) ls ≡ places_after before ls
-found_in_order before [] all e = refl
-found_in_order before (l ∷ ls) all e =
+-- a line that was read, with what it says, and the lines after it
+pub record IsRead (before : List Statement) (l : List ℕ) (ls : List (List ℕ)) (all : List Statement) :
+    Type 0 where
+  pub said : Statement
+  pub is : says (length before + 1) l before ≡ Ok said
+  pub follows : Follows before said
+  pub kind : kind_said said ≡ line_kind (is_some (open_block before)) l
+  pub onward : stepped (kind_said said) (walk_after before) ≡ walk_after (said ∷ before)
+  pub has : HasChain (said ∷ before)
+  pub rest : statements (length (said ∷ before)) (said ∷ before) ls ≡ Ok all
+
+pub line_read : (before : List Statement) (l : List ℕ) (ls : List (List ℕ)) (all : List Statement) →
+    HasChain before → statements (length before) before (l ∷ ls) ≡ Ok all → IsRead before l ls all
+line_read before l ls all has e =
     let t = taken (says (length before + 1) l before) (length before + 1)
     (λ s. statements (length before + 1) (s ∷ before) ls) all e in
-    let kind : kind_said t.0 ≡ line_kind (is_some (open_block before)) l =
-    gives (length before + 1) l before t.0 t.1.0 in
-    let rest : statements (length (t.0 ∷ before)) (t.0 ∷ before) ls ≡ Ok all =
-    subst (λ (k : ℕ). statements k (t.0 ∷ before) ls ≡ Ok all) (counted t.0 before) t.1.1 in
+    let stands = follows (length before + 1) l before t.0 t.1.0 in
+    record {
+      said = t.0;
+      is = t.1.0;
+      follows = stands;
+      kind = gives (length before + 1) l before t.0 t.1.0;
+      onward = onward t.0 before has stands;
+      has = has_chain t.0 before has stands;
+      rest =
+          subst (λ (k : ℕ). statements k (t.0 ∷ before) ls ≡ Ok all) (counted t.0 before) t.1.1;
+    }
+
+pub found_in_order : (before : List Statement) (ls : List (List ℕ)) (all : List Statement) →
+    HasChain before → statements (length before) before ls ≡ Ok all →
+    walked (walk_after before) ls ≡ places_after before ls
+found_in_order before [] all has e = refl
+found_in_order before (l ∷ ls) all has e =
+    let t = line_read before l ls all has e in
     ap (λ (k : LineKind). place_in l (walk_after before) k ++
-    walked (stepped k (walk_after before)) ls) (sym kind) ∙
-    ap (λ (w : Walk). place_in l (walk_after before) (kind_said t.0) ++ walked w ls)
-    (onward t.0 before) ∙
-    ap (λ (ps : List Place). ps ++ walked (walk_after (t.0 ∷ before)) ls) (placed l t.0 before) ∙
-    ap (λ (ps : List Place). place_said l before t.0 ++ ps)
-    (found_in_order (t.0 ∷ before) ls all rest) ∙
+    walked (stepped k (walk_after before)) ls) (sym t.kind) ∙
+    ap (λ (w : Walk). place_in l (walk_after before) (kind_said t.said) ++ walked w ls) t.onward ∙
+    ap (λ (ps : List Place). ps ++ walked (walk_after (t.said ∷ before)) ls)
+    (placed l t.said before) ∙
+    ap (λ (ps : List Place). place_said l before t.said ++ ps)
+    (found_in_order (t.said ∷ before) ls all t.has t.rest) ∙
     sym (ap (λ (r : Result Statement Reason). on_said r
-    (λ s. place_said l before s ++ places_after (s ∷ before) ls)) t.1.0)
+    (λ s. place_said l before s ++ places_after (s ∷ before) ls)) t.is)
 
 step_placed : (l : List ℕ) (s : Statement) (before : List Statement) →
     step_in l (walk_after before) (kind_said s) ≡ step_said l before s
@@ -122,26 +137,21 @@ step_placed l s before = refl
 
 -- a walk by words alone finds the lines that are steps where a listing is read
 pub steps_in_order : (before : List Statement) (ls : List (List ℕ)) (all : List Statement) →
-    statements (length before) before ls ≡ Ok all →
+    HasChain before → statements (length before) before ls ≡ Ok all →
     walked_steps (walk_after before) ls ≡ steps_after before ls
-steps_in_order before [] all e = refl
-steps_in_order before (l ∷ ls) all e =
-    let t = taken (says (length before + 1) l before) (length before + 1)
-    (λ s. statements (length before + 1) (s ∷ before) ls) all e in
-    let kind : kind_said t.0 ≡ line_kind (is_some (open_block before)) l =
-    gives (length before + 1) l before t.0 t.1.0 in
-    let rest : statements (length (t.0 ∷ before)) (t.0 ∷ before) ls ≡ Ok all =
-    subst (λ (k : ℕ). statements k (t.0 ∷ before) ls ≡ Ok all) (counted t.0 before) t.1.1 in
+steps_in_order before [] all has e = refl
+steps_in_order before (l ∷ ls) all has e =
+    let t = line_read before l ls all has e in
     ap (λ (k : LineKind). step_in l (walk_after before) k ++
-    walked_steps (stepped k (walk_after before)) ls) (sym kind) ∙
-    ap (λ (w : Walk). step_in l (walk_after before) (kind_said t.0) ++ walked_steps w ls)
-    (onward t.0 before) ∙
-    ap (λ (ss : List StepLine). ss ++ walked_steps (walk_after (t.0 ∷ before)) ls)
-    (step_placed l t.0 before) ∙
-    ap (λ (ss : List StepLine). step_said l before t.0 ++ ss)
-    (steps_in_order (t.0 ∷ before) ls all rest) ∙
+    walked_steps (stepped k (walk_after before)) ls) (sym t.kind) ∙
+    ap (λ (w : Walk). step_in l (walk_after before) (kind_said t.said) ++ walked_steps w ls)
+    t.onward ∙
+    ap (λ (ss : List StepLine). ss ++ walked_steps (walk_after (t.said ∷ before)) ls)
+    (step_placed l t.said before) ∙
+    ap (λ (ss : List StepLine). step_said l before t.said ++ ss)
+    (steps_in_order (t.said ∷ before) ls all t.has t.rest) ∙
     sym (ap (λ (r : Result Statement Reason). on_said r
-    (λ s. step_said l before s ++ steps_after (s ∷ before) ls)) t.1.0)
+    (λ s. step_said l before s ++ steps_after (s ∷ before) ls)) t.is)
 
 -- one more line of a walk over steps
 pub one_step_more : (found : List StepLine) (w : Walk) (k : LineKind) (line : List ℕ)

@@ -39,6 +39,15 @@ slots_begun (Some a) = if bytes_eq a.0 (codes "index") then 2 else 1
 abbrev pub step_kind : List ℕ → LineKind
 step_kind cs = kinds.Step (slots_begun (next_word cs))
 
+-- how many slots the root of a chain has, by its first word
+abbrev pub root_slots_begun : Option (List ℕ × List ℕ) → ℕ
+root_slots_begun None = 0
+root_slots_begun (Some a) = if bytes_eq a.0 (codes "this") then 1 else 0
+
+-- a chain, by what is left after the number of its operands
+abbrev pub chain_kind : List ℕ → LineKind
+chain_kind cs = kinds.Chain (root_slots_begun (next_word cs))
+
 -- a line that begins with a word of the table, by what is left after the word
 abbrev pub kind_of : Line → List ℕ → LineKind
 kind_of lines.Main cs = kinds.Main
@@ -46,7 +55,7 @@ kind_of lines.Function cs = kinds.Function
 kind_of lines.Byte cs = kinds.Code 1 (position_or_none (position_after (after_word cs)))
 kind_of lines.End cs = kinds.End
 kind_of (lines.Instruction o) cs = instruction_kind (fields_of o) cs
-kind_of lines.Chain cs = kinds.Chain
+kind_of lines.Chain cs = chain_kind (after_word cs)
 kind_of lines.Step cs = step_kind cs
 kind_of l cs = kinds.Other
 
@@ -62,8 +71,10 @@ kind_begun in_block (Some a) = kind_if (line_of in_block a.0) a.1
 abbrev pub line_kind : Bool → List ℕ → LineKind
 line_kind in_block cs = kind_begun in_block (next_word cs)
 
--- a line gives at most 13 bytes, and one of code at least one; and at most 2 slots
+-- a line gives at most 13 bytes, and one of code at least one; a chain's root has at most one slot, and
+-- a step at most two
 abbrev pub IsNarrow : LineKind → Type 0
 IsNarrow (kinds.Code width position) = (1 ≤ width) × (width ≤ 13)
+IsNarrow (kinds.Chain slots) = slots ≤ 1
 IsNarrow (kinds.Step slots) = slots ≤ 2
 IsNarrow kind = Unit {0}

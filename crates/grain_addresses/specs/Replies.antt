@@ -69,12 +69,13 @@ abbrev pub answers_text : Stock → List Query → List ℕ
 answers_text stock [] = []
 answers_text stock (q ∷ qs) = answer_text stock q ++ answers_text stock qs
 
--- no slot is asked for, or a step has it
+-- no slot is asked for, or a step begins at it
 abbrev pub has_slot : Stock → ℕ → Option ℕ → Bool
 has_slot stock a None = true
 has_slot stock a (Some slot) = is_some (step_asked stock a slot)
 
--- the code of a line begins at the address, and the slot that is asked for, if one is, is a step's there
+-- the code of a line begins at the address, and a step of the chain there begins at the slot, if one is
+-- asked for
 abbrev pub is_begun : Stock → Query → Option Place → Bool
 is_begun stock q None = false
 is_begun stock q (Some p) = (p.address == q.address) && has_slot stock p.address q.slot

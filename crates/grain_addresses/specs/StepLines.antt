@@ -1,13 +1,16 @@
 -- The lines of a listing that are steps of chains, with the slots by which a trace names the steps. The
 -- slots of a chain begin after those of all chains before it.
-use Rattle.std.specs.Prelude.{ℕ, suc, ◌+◌, Bool, ◌&&◌, ◌==◌, List, [], ◌∷◌, ◌++◌, length, Option, Some, None, if◌then◌else◌}
-use Rattle.grain_program.specs.Chains.{root_slots, step_slots}
+use Rattle.std.specs.Prelude.{ℕ, suc, ◌+◌, ◌≡◌, ◌<◌, Bool, ◌&&◌, ◌==◌, List, [], ◌∷◌, ◌++◌, length, take, slice_get, Option, Some, None, Ok, if◌then◌else◌}
+use Rattle.grain_program.specs.Chains.{all_slots, slot_of}
 use Rattle.grain_program.specs.Decoding.{op_at}
 use Rattle.grain_program.specs.View.{View}
+use Rattle.grain_program.specs.declared.code.chains.Chain.{Chain}
+use Rattle.grain_program.specs.declared.code.chains.Step.{Step}
 use Rattle.grain_program.specs.declared.code.instruction_set.Op.{Op}
 use Rattle.grain_program.specs.declared.code.instruction_set.Op.TheVariants as op
-use Rattle.grain_listing.specs.Statements.{Statement, chain_line, step_line}
-use Rattle.grain_listing.specs.LineMeanings.{says}
+use Rattle.grain_listing.specs.Statements
+use Rattle.grain_listing.specs.Statements.{Statement, step_line, last_steps}
+use Rattle.grain_listing.specs.LineMeanings.{says, statements}
 use Rattle.grain_addresses.specs.Places.{on_said}
 
 -- a line that is a step: its number, from 1 on, how many chains there are up to it, of which the last one
@@ -18,27 +21,19 @@ pub record StepLine : Type 0 where
   pub slot : ℕ
   pub text : List ℕ
 
--- how many chains there are in lines that said this, and how many slots they have together
-abbrev pub chain_count : List Statement → ℕ
-chain_count [] = 0
-chain_count (chain_line c ∷ before) = chain_count before + 1
-chain_count (s ∷ before) = chain_count before
-
-abbrev pub slot_count : List Statement → ℕ
-slot_count [] = 0
-slot_count (chain_line c ∷ before) = slot_count before + root_slots c.root
-slot_count (step_line s ∷ before) = slot_count before + step_slots s
-slot_count (s ∷ before) = slot_count before
+-- The line with these characters, as that of a step after what the lines before it said. These have said
+-- its chain, and its slots come after all slots that there are so far.
+abbrev pub line_of_step : List ℕ → List Statement → StepLine
+line_of_step l before = record {
+  line = length before + 1;
+  chains = length (Statements.chains before);
+  slot = all_slots (Statements.chains before);
+  text = l;
+}
 
 -- the line with these characters, if it says a step after what the lines before it said
 abbrev pub step_said : List ℕ → List Statement → Statement → List StepLine
-step_said l before (step_line s) =
-    record {
-      line = length before + 1;
-      chains = chain_count before;
-      slot = slot_count before;
-      text = l;
-    } ∷ []
+step_said l before (step_line s) = line_of_step l before ∷ []
 step_said l before s = []
 
 -- the lines that are steps among these, which come after lines that said this
@@ -68,7 +63,26 @@ abbrev pub found_step : ℕ → ℕ → List StepLine → Option StepLine
 found_step k slot [] = None
 found_step k slot (s ∷ ss) = if is_step k slot s then Some s else found_step k slot ss
 
--- the line of the step that the slot names in the chain that is done, if one is
+-- the line of the step that begins at the slot, in the chain that is done, if one is. As each step has a
+-- slot, at most one step begins at a slot.
 abbrev pub step_named : Option ℕ → ℕ → List StepLine → Option StepLine
 step_named None slot ss = None
 step_named (Some k) slot ss = found_step k slot ss
+
+-- The line is the one among these that says the step x of number n of the chain of index k: the lines
+-- before it have said k + 1 chains, with n steps of the last, and it says the step x after them.
+pub record SaysStep (lines : List (List ℕ)) (k n : ℕ) (x : Step) (t : StepLine) : Type 0 where
+  pub index : ℕ
+  pub before : List Statement
+  pub line : t.line ≡ index + 1
+  pub text : slice_get lines index ≡ Some t.text
+  pub earlier : statements 0 [] (take index lines) ≡ Ok before
+  pub chain : length (Statements.chains before) ≡ k + 1
+  pub number : length (last_steps (Statements.chains before)) ≡ n
+  pub step : says t.line t.text before ≡ Ok (step_line x)
+
+-- no step of the chain of this index has this slot first, or there is no such chain
+abbrev pub BeginsNoStep : View → ℕ → ℕ → Type 0
+BeginsNoStep p k slot =
+    (c : Chain) (n : ℕ) → slice_get p.chains k ≡ Some c → n < length c.steps →
+    slot_of p k n ≡ slot → ⊥

@@ -77,10 +77,10 @@ abbrev pub step_text : Query → StepLine → List ℕ
 step_text q s =
     query_text q ++ codes "\tline " ++ decimal s.line ++ codes "\t" ++ source_text s.text
 
--- no step of the instruction that begins at the address has the slot
+-- no step of the chain that the instruction at the address does begins at the slot
 abbrev pub no_step_text : Query → Place → List ℕ
 no_step_text q p =
-    query_text q ++ codes "\tno step has this slot in the instruction" ++ of_line_text p.line
+    query_text q ++ codes "\tno step begins at this slot in the instruction" ++ of_line_text p.line
 
 -- no instruction begins at the address, which is inside one
 abbrev pub inside_text : Query → Place → List ℕ

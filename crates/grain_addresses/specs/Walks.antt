@@ -39,7 +39,8 @@ stepped kinds.End w =
       in_block = false;
       functions = functions_after w.block w.functions;
     }
-stepped kinds.Chain w = record w { lines = w.lines + 1; chains = w.chains + 1 }
+stepped (kinds.Chain slots) w =
+    record w { lines = w.lines + 1; chains = w.chains + 1; slots = w.slots + slots }
 stepped (kinds.Step slots) w = record w { lines = w.lines + 1; slots = w.slots + slots }
 stepped kinds.Other w = record w { lines = w.lines + 1 }
 

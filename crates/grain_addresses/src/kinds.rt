@@ -4,7 +4,7 @@ ghost use Rattle.std.specs.Prelude.{◌≡◌, ◌≤◌};
 ghost use Rattle.grain_program.specs.Fields.{present, size_of, bytes_of};
 ghost use Rattle.grain_program.specs.InstructionSet.{fields_of};
 ghost use Rattle.grain_literals.specs.Operands.{position_after};
-ghost use Rattle.grain_addresses.specs.Kinds.{fields_width, after_fields, position_or_none, instruction_kind, step_kind, kind_of, line_kind, IsNarrow};
+ghost use Rattle.grain_addresses.specs.Kinds.{fields_width, after_fields, position_or_none, instruction_kind, step_kind, chain_kind, kind_of, line_kind, IsNarrow};
 
 use grain_fault::Position;
 use grain_listing::{Line, line_of};
@@ -13,7 +13,7 @@ use grain_program::{Field, Op};
 use grain_words::{after_word, is_word, next_word};
 
 /// What a line gives: code, of n bytes with a position if it has one; the beginning of the main
-/// block or of a function; the end of a block; a chain, whose root has no slot; a step, of n slots;
+/// block or of a function; the end of a block; a chain, whose root has n slots; a step, of n slots;
 /// or something that changes no address and no slot.
 #[derive(Clone, Copy, Debug, PartialEq, Eq)]
 pub enum LineKind {
@@ -21,7 +21,7 @@ pub enum LineKind {
     Main,
     Function,
     End,
-    Chain,
+    Chain(usize),
     Step(usize),
     Other,
 }
@@ -96,6 +96,23 @@ fn step_kind(line: &[char]) -> LineKind
     }
 }
 
+/// What a chain's line gives, by what stands after the number of its operands: a root `this` has a
+/// slot, and no other has one.
+fn chain_kind(line: &[char]) -> LineKind
+    ensures { result ≡ chain_kind line.now }
+{
+    match next_word(line) {
+        None => LineKind::Chain(0),
+        Some((word, _)) => {
+            if is_word(word, "this") {
+                LineKind::Chain(1)
+            } else {
+                LineKind::Chain(0)
+            }
+        }
+    }
+}
+
 /// What a line gives that begins with a word of the table, by what stands after the word.
 fn kind_of(line: Line, rest: &[char]) -> LineKind
     ensures { result ≡ kind_of line rest.now }
@@ -106,7 +123,7 @@ fn kind_of(line: Line, rest: &[char]) -> LineKind
         Line::Byte => LineKind::Code(1, position_here(after_word(rest))),
         Line::End => LineKind::End,
         Line::Instruction(op) => instruction_kind(op, rest),
-        Line::Chain => LineKind::Chain,
+        Line::Chain => chain_kind(after_word(rest)),
         Line::Step => step_kind(rest),
         Line::Header
         | Line::Capabilities

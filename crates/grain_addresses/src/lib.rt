@@ -17,7 +17,7 @@ mod walks;
 
 pub use answers::explain;
 pub use calls::where_words;
-pub use laws::addresses_have_lines;
+pub use laws::{addresses_have_lines, steps_have_lines};
 pub use program::{Exit, where_args, where_standard};
 pub use queries::{Query, queries_of};
 pub use replies::Reply;

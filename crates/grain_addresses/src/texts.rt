@@ -153,7 +153,7 @@ pub fn push_no_step(out: &mut Text, query: Query, place: &Place) -> Result<(), O
     ensures { IfOk result (λ _. out.new ≡ out.old ++ no_step_text query place.now) }
 {
     push_query(out, query)?;
-    out.push_str("\tno step has this slot in the instruction")?;
+    out.push_str("\tno step begins at this slot in the instruction")?;
     push_of_line(out, place.line())
 }
 

@@ -87,9 +87,10 @@ impl Walk {
                 functions: functions_after(self.block, self.functions),
                 ..self
             },
-            LineKind::Chain => Walk {
+            LineKind::Chain(slots) => Walk {
                 lines,
                 chains: self.chains + 1,
+                slots: self.slots + slots,
                 ..self
             },
             LineKind::Step(slots) => Walk {

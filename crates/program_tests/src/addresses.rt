@@ -84,11 +84,89 @@ fn lines_are_found_or_not(rt: HostRuntime) -> Result<(), OutOfMemory> {
         (
             Some("0:7"),
             1,
-            "0:7\tno step has this slot in the instruction of line 3\n",
+            "0:7\tno step begins at this slot in the instruction of line 3\n",
         ),
     ];
     for (word, status, text) in rows {
         check(&rt, rt.alloc(), Call { word, ..TABLE }, status, text, "")?;
+    }
+    Ok(())
+}
+
+/// A listing of two chains. The second one has the slots from 2 on: one for its property, and two for
+/// its index.
+const CHAINS: &str = "\
+    grain 1\nchain 1 temporary read\nstep index 0 ; first\nchain 1 temporary read\n\n\
+    step property 0 0 0\nstep index 0 ; last\nmain 1\nunit\nunit\nchain 1\nreturn\nend\n";
+
+#[test]
+fn steps_are_found_or_not(rt: HostRuntime) -> Result<(), OutOfMemory> {
+    let rows = [
+        (
+            "2:2",
+            0,
+            "2\tline 11\tmain\t-\tchain 1\n2:2\tline 6\tstep property 0 0 0\n",
+        ),
+        (
+            "2:3",
+            0,
+            "2\tline 11\tmain\t-\tchain 1\n2:3\tline 7\tstep index 0 ; last\n",
+        ),
+        (
+            "2:4",
+            1,
+            "2:4\tno step begins at this slot in the instruction of line 11\n",
+        ),
+        (
+            "2:0",
+            1,
+            "2:0\tno step begins at this slot in the instruction of line 11\n",
+        ),
+        ("3:2", 1, "3:2\tinside the instruction at 2 of line 11\n"),
+    ];
+    for (word, status, text) in rows {
+        let call = Call {
+            word: Some(word),
+            listing: CHAINS,
+            ..TABLE
+        };
+        check(&rt, rt.alloc(), call, status, text, "")?;
+    }
+    Ok(())
+}
+
+/// A listing of two chains, of which the first begins at `this`. Its root has the slot 0, so its property
+/// has the slot 1, and the index of the second chain has the slots from 2 on.
+const THIS_CHAIN: &str = "\
+    grain 1\nchain 0 this @7:1 read\nstep property 0 0 0 ; own\nchain 1 temporary read\n\
+    step index 0\nmain 1\nchain 0\nunit\nchain 1\nreturn\nend\n";
+
+#[test]
+fn a_root_this_has_a_slot(rt: HostRuntime) -> Result<(), OutOfMemory> {
+    let rows = [
+        (
+            "4:2",
+            0,
+            "4\tline 9\tmain\t-\tchain 1\n4:2\tline 5\tstep index 0\n",
+        ),
+        (
+            "0:1",
+            0,
+            "0\tline 7\tmain\t-\tchain 0\n0:1\tline 3\tstep property 0 0 0 ; own\n",
+        ),
+        (
+            "0:0",
+            1,
+            "0:0\tno step begins at this slot in the instruction of line 7\n",
+        ),
+    ];
+    for (word, status, text) in rows {
+        let call = Call {
+            word: Some(word),
+            listing: THIS_CHAIN,
+            ..TABLE
+        };
+        check(&rt, rt.alloc(), call, status, text, "")?;
     }
     Ok(())
 }

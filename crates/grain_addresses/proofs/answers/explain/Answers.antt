@@ -32,7 +32,8 @@ returns-in_ok-steps-in-Ok-clause-status c =
     c.as_slice-slots.ensures.value ∙ c.in_ok-steps-in-Ok.ensures in
     subst (λ (n : ℕ). IfOk c.told.result (λ r. r.status ≡ n))
     (told_status c.args.bytes.now c.as_slice-all.result.now (set_up_of c.in-Ok.listing)
-    c.as_slice-lines.result.now c.as_slice-slots.result.now c.args.queries.now is text places steps) c.told.ensures.status
+    c.as_slice-lines.result.now c.as_slice-slots.result.now c.args.queries.now is text places steps)
+    c.told.ensures.status
 
 pub returns-in_ok-steps-in-Ok-clause-text : goal.returns-in_ok-steps-in-Ok-clause-text
 returns-in_ok-steps-in-Ok-clause-text c =
@@ -45,4 +46,5 @@ returns-in_ok-steps-in-Ok-clause-text c =
     c.as_slice-slots.ensures.value ∙ c.in_ok-steps-in-Ok.ensures in
     subst (λ (t : List ℕ). IfOk c.told.result (λ r. r.text ≡ t))
     (told_text c.args.bytes.now c.as_slice-all.result.now (set_up_of c.in-Ok.listing)
-    c.as_slice-lines.result.now c.as_slice-slots.result.now c.args.queries.now is text places steps) c.told.ensures.text
+    c.as_slice-lines.result.now c.as_slice-slots.result.now c.args.queries.now is text places steps)
+    c.told.ensures.text

@@ -1,4 +1,3 @@
-use Rattle.std.proofs.Common.{◌≡◌, rules}
 use Rattle.grain_addresses.proofs.Due.{due}
 use Rattle.grain_addresses.proofs.calls.answer.Goals as goal
 

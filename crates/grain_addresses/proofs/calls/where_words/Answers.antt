@@ -1,4 +1,4 @@
-use Rattle.std.proofs.Common.{◌≡◌, refl, rules, map, string_bytes, Option, Some, None}
+use Rattle.std.proofs.Common.{◌≡◌, refl, rules, map, string_bytes, Some, None}
 use Rattle.grain_streams.specs.lemmas.Unread.{no_read}
 use Rattle.grain_addresses.specs.Calls.{asked, not_asked, words_unread, answer_handed, usage_handed, none_handed}
 use Rattle.grain_addresses.specs.Queries.{queries_of}

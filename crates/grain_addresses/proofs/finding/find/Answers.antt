@@ -1,7 +1,7 @@
-use Rattle.std.proofs.Common.{◌≡◌, ◌-◌, suc, true, false, cond, length, get_or, Option, Some, None, Bool, rules, of_calls, arith, sym, ap, ◌∙◌}
+use Rattle.std.proofs.Common.{◌≡◌, ◌-◌, suc, true, false, cond, Some, None, Bool, rules, of_calls, arith, sym, ap, ◌∙◌}
 use Rattle.std.proofs.lemmas.Fn.{always_returns_same}
 use Rattle.grain_addresses.specs.Places.{Place}
-use Rattle.grain_addresses.specs.Finding.{holds, found}
+use Rattle.grain_addresses.specs.Finding.{holds}
 use Rattle.grain_addresses.proofs.Cuts.{begins_by, IsCut, partitioned, none_begun, last_begun}
 use Rattle.grain_addresses.proofs.finding.find.Goals as goal
 

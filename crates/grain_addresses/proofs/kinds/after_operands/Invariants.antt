@@ -1,4 +1,4 @@
-use Rattle.std.proofs.Common.{◌≡◌, ◌+◌, ◌≤◌, drop}
+use Rattle.std.proofs.Common.{◌≡◌, ◌+◌, drop}
 use Rattle.grain_program.specs.Fields.{present}
 use Rattle.grain_addresses.specs.Kinds.{fields_width, after_fields}
 use Rattle.grain_addresses.proofs.kinds.after_operands.Given as goal
