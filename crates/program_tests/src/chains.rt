@@ -1,11 +1,9 @@
 //! Chains: their lines, and the rules of the instruction that walks along one.
 
-ghost use Rattle.grain_listing.specs.ListingViews.{IsReady};
-
 use bitflags::Flags;
 use grain_fault::Position;
 use grain_listing::{Listing, read};
-use grain_program::{Refusal, Root, Step, StepFlags, Tail, verify};
+use grain_program::{Root, Step, StepFlags, Tail};
 use grain_value::OutOfMemory;
 use std::alloc::Global;
 use std::process::Abort;
@@ -40,14 +38,16 @@ const BAD_OPERANDS: &str = "\
     chain\nchain x temporary read\nchain 0\nchain 4294967296 temporary read\nchain 0 local\n\
     chain 0 local 0 65536 read\nchain 0 local x 0 read\nchain 0 nowhere read\nchain 0 temporary\n\
     chain 0 temporary write\nchain 0 temporary read 0\nchain 0 temporary assign x\n\
-    chain 0 local 0 0 assign 0 0\nchain x named 0 read\nflag strict off\n";
+    chain 0 local 0 0 assign 0 0\nchain x named 0 read\nchain 0 this\nchain 0 this 0 read\n\
+    chain 0 this write\nchain 0 this @0:1 read\nchain 0 this @1:1 @1:2 read\nflag strict off\n";
 
-const NOT_BUILT: &str = "chain 0 named\nchain 0 this write\nchain 7 named x y z\n";
+const NOT_BUILT: &str = "chain 0 named\nchain 7 named x y z\n";
 
 const BAD_STEPS: &str = "\
     step\nstep slice 0\nstep index\nstep index x\nstep index 0 ? ?\nstep index 0 @0:1\n\
     step index 0 @1:1 @2:2 @3:3\nstep index 0 @1:1 ?\nstep property 0 0\nstep property 0 0 0 0\n\
-    step property 0 0 0 @1:1 @1:2\nstep property 0 0 0 ? 1\n";
+    step property 0 0 0 @1:1 @1:2\nstep property 0 0 0 ? 1\nstep method\nstep method x\n\
+    step method 0 0\nstep method 0 256 0\nstep method 0 0 0 0\nstep method 0 0 0 @1:1 @1:2\n";
 
 /// Compares the reason for which each of these lines is refused that stand after others.
 fn check_lines(
@@ -71,15 +71,7 @@ fn lines_that_are_refused(rt: HostRuntime) -> Result<(), OutOfMemory> {
     let open = "chain 1 temporary read\n";
     check_lines(&rt, rt.alloc(), "", BAD_OPERANDS, 2, "bad operand")?;
     check_lines(&rt, rt.alloc(), "", NOT_BUILT, 2, "not built")?;
-    check_lines(&rt, rt.alloc(), open, BAD_STEPS, 3, "bad operand")?;
-    check_lines(
-        &rt,
-        rt.alloc(),
-        open,
-        "step method\nstep method x\n",
-        3,
-        "not built",
-    )
+    check_lines(&rt, rt.alloc(), open, BAD_STEPS, 3, "bad operand")
 }
 
 #[test]
@@ -158,124 +150,27 @@ fn chains_of_a_listing(rt: HostRuntime) -> Result<(), OutOfMemory> {
     Ok(())
 }
 
-/// Why what a listing says is no program, if it is none.
-fn refused(alloc: Global, setup: Listing) -> Option<Refusal>
-    requires { IsReady setup }
-{
-    let Listing { parts, .. } = setup;
-    verify(alloc, parts).err()
-}
-
-/// Why a listing with these lines and this code is no program, if it is none.
-fn refusal_of(alloc: Global, lines: &str, code: &str) -> Result<Option<Refusal>, OutOfMemory> {
-    let text = format!(in alloc; "grain 1\n{lines}main 9\n{code}end\n")?;
-    match read(alloc, text.as_str().as_bytes())? {
-        Ok(setup) => Ok(refused(alloc, setup)),
-        Err(_) => Ok(Some(Refusal::Memory)),
-    }
-}
-
 #[test]
-fn operands_and_indices_of_chains(rt: HostRuntime) -> Result<(), OutOfMemory> {
-    let names = "name \"a\"\nname \"b\"\nop \"+=\"\nop \"+\"\nassign 0 0 1 1\nassign 0 0 1 2\n";
-    let rows = [
-        // a step, and what its chain takes
-        (
-            "chain 1 local 0 0 read\nstep index 0\n",
-            "unit\nchain 0\nreturn\n",
-            None,
-        ),
-        (
-            "chain 1 local 0 0 read\nstep index 0\n",
-            "chain 0\nreturn\n",
-            Some(Refusal::Underflow(0)),
-        ),
-        (
-            "chain 1 local 0 0 assign\nstep index 0\n",
-            "unit\nunit\nchain 0\nreturn\n",
-            None,
-        ),
-        (
-            "chain 1 local 0 0 assign\nstep index 0\n",
-            "unit\nchain 0\nreturn\n",
-            Some(Refusal::Underflow(1)),
-        ),
-        (
-            "chain 2 temporary read\nstep index 0\n",
-            "unit\nunit\nunit\nchain 0\npop\nreturn\n",
-            None,
-        ),
-        (
-            "chain 2 temporary read\nstep index 0\n",
-            "unit\nunit\nchain 0\nreturn\n",
-            Some(Refusal::Underflow(2)),
-        ),
-        (
-            "chain 4294967295 local 0 0 assign\nstep index 0\n",
-            "unit\nchain 0\nreturn\n",
-            Some(Refusal::Underflow(1)),
-        ),
-        // the names of the root and of a step, and the op-assignment
-        (
-            "chain 0 local 1 0 read\nstep property 1 1 1\n",
-            "chain 0\nreturn\n",
-            None,
-        ),
-        (
-            "chain 0 local 2 0 read\nstep property 1 1 1\n",
-            "chain 0\nreturn\n",
-            Some(Refusal::PoolIndex(0)),
-        ),
-        (
-            "chain 0 local 0 0 read\nstep property 2 1 1\n",
-            "chain 0\nreturn\n",
-            Some(Refusal::PoolIndex(0)),
-        ),
-        (
-            "chain 0 local 0 0 read\nstep property 0 2 1\n",
-            "chain 0\nreturn\n",
-            Some(Refusal::PoolIndex(0)),
-        ),
-        (
-            "chain 0 local 0 0 read\nstep property 0 0 2\n",
-            "chain 0\nreturn\n",
-            Some(Refusal::PoolIndex(0)),
-        ),
-        (
-            "chain 0 local 0 0 assign 0\nstep property 0 0 0\n",
-            "unit\nchain 0\nreturn\n",
-            None,
-        ),
-        (
-            "chain 0 local 0 0 assign 1\nstep property 0 0 0\n",
-            "unit\nchain 0\nreturn\n",
-            Some(Refusal::PoolIndex(1)),
-        ),
-        (
-            "chain 0 local 0 0 assign 2\nstep property 0 0 0\n",
-            "unit\nchain 0\nreturn\n",
-            Some(Refusal::PoolIndex(1)),
-        ),
-        ("", "chain 0\nreturn\n", Some(Refusal::PoolIndex(0))),
-        // a chain that is not used has no indices to be tested, but the rules of chains
-        (
-            "chain 0 local 9 0 assign 9\nstep property 9 9 9\n",
-            "return\n",
-            None,
-        ),
-        (
-            "chain 0 local 9 0 assign 9\n",
-            "return\n",
-            Some(Refusal::BadChain(0)),
-        ),
-    ];
-    for (lines, code, refusal) in &rows {
-        let all = format!(in rt.alloc(); "{names}{lines}")?;
-        assert!(rt;
-            refusal_of(rt.alloc(), all.as_str(), code)? == *refusal,
-            "{lines}"
-        );
-    }
+fn methods_of_a_listing(rt: HostRuntime) -> Result<(), OutOfMemory> {
+    let lines = "chain 3 this @7:0 read\nstep method 4294967295 255 1 ? @1:2\nstep method 0 0 0\n";
+    let Some(setup) = listing_with(rt.alloc(), lines, "")? else {
+        assert!(rt; false);
+        return Ok(());
+    };
+    let Some(chain) = setup.parts.chains.get(0) else {
+        assert!(rt; false);
+        return Ok(());
+    };
+    let pos = Position::new(7, 0);
+    assert!(rt; chain.root == Root::This { pos } && chain.steps.len() == 2);
+    let method = Step::Method {
+        name: u32::MAX,
+        argc: 255,
+        operand: 1,
+        flags: StepFlags::SKIP_IF_UNIT,
+        pos: Position::new(1, 2),
+    };
+    assert!(rt; chain.steps.get(0) == Some(&method));
     Ok(())
 }
 

@@ -8,7 +8,8 @@ use std::test::Fail;
 const LINES: &str = "grain 1\nmain 1\n\
     load_const 513\nunit\nfalse\ntrue\nload_local 513\nstore_local 513\nstore_const 513\n\
     store_shared 513\ndeclare_local 513\ndeclare_const 513\nassign_local 513 1027\n\
-    assign_local_op 513 1027 1541\nload_shared 513\nshare 513\nis_shared\npop\nrotate 1\n\
+    assign_local_op 513 1027 1541\nload_this\nload_this_shared\nrequire_this\nassign_this\n\
+    assign_this_op 513\nload_shared 513\nshare 513\nis_shared\npop\nrotate 1\n\
     jump 67305985\njump_if_false 67305985\njump_if_true 67305985\nskip_if_not_unit 67305985\n\
     call 513 3\ncall_op 513 3 1284\nmake_closure 513\ncurry 1\ncall_fn_ptr 1\nchain 513\n\
     unwind_to 513\n\
@@ -18,7 +19,8 @@ const LINES: &str = "grain 1\nmain 1\n\
 /// The bytes of these lines.
 const BYTES: &[u8] = b"\x01\x01\x02\x02\x03\x04\x05\x01\x02\x06\x01\x02\x07\x01\x02\
     \x08\x01\x02\x0d\x01\x02\x0e\x01\x02\x10\x01\x02\x03\x04\
-    \x11\x01\x02\x03\x04\x05\x06\x17\x01\x02\x18\x01\x02\x1a\x1b\x1c\x01\
+    \x11\x01\x02\x03\x04\x05\x06\x12\x13\x14\x15\x16\x01\x02\
+    \x17\x01\x02\x18\x01\x02\x1a\x1b\x1c\x01\
     \x1d\x01\x02\x03\x04\x1e\x01\x02\x03\x04\x1f\x01\x02\x03\x04\x20\x01\x02\x03\x04\
     \x22\x01\x02\x03\x23\x01\x02\x03\x04\x05\x27\x01\x02\x29\x01\x2a\x01\x37\x01\x02\
     \x38\x01\x02\
@@ -29,7 +31,8 @@ const BYTES: &[u8] = b"\x01\x01\x02\x02\x03\x04\x05\x01\x02\x06\x01\x02\x07\x01\
 const OPS: &str = "\
     LoadConst(513)\nUnit\nFalse\nTrue\nLoadLocal(513)\nStoreLocal(513)\nStoreConst(513)\n\
     StoreShared(513)\nDeclareLocal(513)\nDeclareConst(513)\nAssignLocal(513, 1027)\n\
-    AssignLocalOp(513, 1027, 1541)\nLoadShared(513)\nShare(513)\nIsShared\nPop\nRotate(1)\n\
+    AssignLocalOp(513, 1027, 1541)\nLoadThis\nLoadThisShared\nRequireThis\nAssignThis\n\
+    AssignThisOp(513)\nLoadShared(513)\nShare(513)\nIsShared\nPop\nRotate(1)\n\
     Jump(67305985)\nJumpIfFalse(67305985)\nJumpIfTrue(67305985)\nSkipIfNotUnit(67305985)\n\
     Call(513, 3)\nCallOp(513, 3, 1284)\nMakeClosure(513)\nCurry(1)\nCallFnPtr(1)\n\
     Chain(513)\nUnwindTo(513)\nTick\nCheckpoint\nStatement(513)\nPushHandler(67305985)\n\
@@ -46,7 +49,7 @@ fn lines_and_bytes_of_instructions(rt: HostRuntime) -> Result<(), Fail> {
     let mut ops = Vec::new(alloc);
     let mut written = String::new(alloc);
     let mut address = 0usize;
-    for _ in 0..36u32 {
+    for _ in 0..41u32 {
         let Some((op, width)) = decode(code, address) else {
             return Err("no instruction".into());
         };

@@ -184,7 +184,7 @@ const LONG_LINES: [Row; 10] = [
         65_536,
         " on 0",
         4,
-        "not built",
+        "unfinished chunk",
     ),
     (
         "grain 1\nmain 1\nend\nfn 0 1",
@@ -239,7 +239,7 @@ const LATER_LINES: &str = "\
     switch\ncase\nrange\nrange=\nsite\ninput\nfragment\nmodule\nitem\nvar\n\
     answer\nforbid\nchunk 1\nlimit modules 1\nlimit array x\nlimit map 1\nflag shadowing off\n\
     load_named\nload_shared_named\nassign_named\nassign_named_op\ndeclare_global_const\n\
-    load_this\nload_this_shared\nrequire_this\nassign_this\nassign_this_op\nshare_named\n\
+    share_named\n\
     call_local_ref\ncall_named_ref\ncall_this_ref\nmake_fn_ptr\ncall_fn_ptr_capture\n\
     call_fn_ptr_method\ncall_fn_ptr_on_local\ncall_fn_ptr_on_named\ncall_fn_ptr_on_this\n\
     make_array\nmake_map\ncheck_array_size\ncheck_map_size\ninterpolate_start\n\
@@ -255,7 +255,6 @@ fn lines_of_later_versions(rt: HostRuntime) -> Result<(), OutOfMemory> {
     let rows = [
         ("grain 1\nmain 1\nchunk 1\n", 3),
         ("grain 1\nmain 1\nreturn\nend\ncall_named_ref\n", 5),
-        ("grain 1\nmain 1\nend\nfn 0 1 2 on x\n", 4),
     ];
     for (listing, line) in &rows {
         check_refused(&rt, rt.alloc(), listing.as_bytes(), *line, "not built")?;

@@ -129,3 +129,29 @@ fn lookups(rt: HostRuntime) -> Result<(), Fail> {
     }
     Ok(())
 }
+
+#[test]
+fn methods(rt: HostRuntime) -> Result<(), Fail> {
+    let listing =
+        "grain 1\nname \"f\"\nname \"map\"\nname \"array\"\nname \"map\"\nmain 0\nreturn\n\
+        end\nfn 0 0 on 2\nreturn\nend\nfn 0 0\nreturn\nend\nfn 0 0 on 1\nreturn\nend\n\
+        fn 0 0 on 3\nreturn\nend\nfn 0 0 1 on 3\nreturn\nend\nfn 3 0 on 2\nreturn\nend\n";
+    let program = program_of(rt.alloc(), listing)?.ok_or("refused")?;
+    assert_eq!(rt; program.functions().len(), 6);
+    let rows = [
+        (0, 0, "array", Some(0)),
+        (0, 0, "map", Some(2)),
+        (0, 0, "i64", Some(1)),
+        (0, 1, "map", Some(4)),
+        (0, 1, "array", None),
+        (3, 0, "array", Some(5)),
+        (3, 0, "map", None),
+    ];
+    for (name, count, kind, found) in &rows {
+        assert_eq!(rt; program.method(*name, *count, kind), *found);
+    }
+    assert_eq!(rt; program.function(0, 0), Some(1));
+    assert_eq!(rt; program.function(0, 1), None);
+    assert_eq!(rt; program.function_named("map", 0), None);
+    Ok(())
+}

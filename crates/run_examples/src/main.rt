@@ -41,13 +41,14 @@ enum ExampleHost {
 
 /// The examples, with their hosts. NAME.grain is the listing, and NAME.out the report that is
 /// expected.
-const EXAMPLES: [(&str, ExampleHost); 10] = [
+const EXAMPLES: [(&str, ExampleHost); 11] = [
     ("sum", ExampleHost::Table),
     ("fibonacci", ExampleHost::Table),
     ("limit", ExampleHost::Table),
     ("fault", ExampleHost::Table),
     ("caught", ExampleHost::Table),
     ("closure", ExampleHost::Table),
+    ("account", ExampleHost::Table),
     ("prices", ExampleHost::Prices),
     ("properties", ExampleHost::Prices),
     ("budget", ExampleHost::Budget),
