@@ -1,33 +1,23 @@
 -- How far a frame has run since `run_from` began with it, one turn after another.
-use Rattle.std.proofs.Common.{◌≡◌, ◌∙◌, ◌<◌, ◌≤◌, ◌+◌, ℕ, false, Result, Ok, Err, [], ◌∷◌, ◌++◌, take, true, refl, sym, subst, arith}
+use Rattle.std.proofs.Common.{◌≡◌, ◌∙◌, ◌<◌, ◌≤◌, ◌+◌, false, Result, Ok, Err, [], ◌∷◌, ◌++◌, take, true, refl, sym, subst, arith}
 use Rattle.grain_value.specs.declared.memory.OutOfMemory.{OutOfMemory}
 use Rattle.grain_fault.specs.Problems.{NoMemory}
-use Rattle.grain_program.specs.View.{View}
-use Rattle.grain_program.specs.declared.code.instruction_set.Op.TheVariants as op
-use Rattle.grain_host.specs.Law.{Law}
 use Rattle.grain_global.specs.StepsView.{StepsView}
-use Rattle.grain_global.specs.declared.engines.Engine.{Engine}
-use Rattle.grain_means.specs.Means.{setup}
 use Rattle.grain_means.specs.Worlds.{Go, End, Failed, InFrame, Setup}
 use Rattle.grain_means.specs.Simulation.{Simulates}
 use Rattle.grain_means.specs.lemmas.Stretches.{stays}
-use Rattle.grain_frame.specs.Abstraction.{Moment, PerformsBound, Runs, Stepped, abstraction, begun_one, continuation, frame_in, is_out, moment}
+use Rattle.grain_frame.specs.Abstraction.{Moment, Runs, Stepped, abstraction, begun_one, continuation, frame_in, is_out, moment}
 use Rattle.grain_frame.specs.Receivers.{KeepsBound}
 use Rattle.grain_frame.specs.declared.activations.Activation.{Activation}
 use Rattle.grain_frame.specs.declared.runs.Progress.{Progress}
 use Rattle.grain_frame.specs.declared.runs.Progress.TheVariants as progress
 use Rattle.grain_frame.specs.declared.runs.Run.{Run}
-use Rattle.grain_frame.specs.lemmas.Arms.{taken_back}
 use Rattle.grain_vm.specs.Attempts.{Unchanged}
 use Rattle.grain_vm.specs.Calls.{LeavesAround}
 use Rattle.grain_vm.specs.Catching.{KeepsRun, StopsSo, stop_continuation}
-use Rattle.grain_vm.specs.Finding.{FindsHere}
 use Rattle.grain_vm.specs.Methods.{NoneAbove}
-use Rattle.grain_vm.specs.declared.finding.Found.{Found}
-use Rattle.grain_vm.specs.declared.finding.Found.TheVariants as found
 use Rattle.grain_vm.specs.declared.loops.Stop.TheVariants as stop
 use Rattle.grain_vm.proofs.CaughtFrames.{stopped_at}
-use Rattle.grain_vm.proofs.Found.{chain_stepped}
 use Rattle.grain_vm.proofs.Measure.{falls, left}
 use Rattle.grain_vm.proofs.Turns.{kept_bound, left_out, moved_back, next_runs, none_on, turn}
 
@@ -225,20 +215,3 @@ module _ {H : Type 0} {m : Setup H} {a b c : Moment H} (so_far : RunsTo m a b) w
           later = rw is around.later;
           before = around.before;
         }
-
--- A chain was walked on a copy of the frame, from which the frame takes the address, the floor and the
--- slot.
-pub chain_taken : {H : Type 0} (law : Law H) (p : View) (engine : Engine) (f f1 f2 : Activation)
-    (s s1 s2 : Run H) (n n1 n2 : StepsView) (x : Found) (index next : ℕ) (host host1 host2 : H)
-    {r : Result Progress OutOfMemory} → Runs p f s → x ≡ found.Chain index next →
-    FindsHere (setup law p engine) (moment f s n host) (Ok x) (moment f1 s1 n1 host1) →
-    PerformsBound (setup law p engine) (moment f1 s1 n1 host1) (op.Chain index) next r
-    (moment f2 s2 n2 host2) →
-    Stepped (setup law p engine) (moment f s n host) r
-    (moment (record f1 { address = f2.address; floor = f2.floor; slot = f2.slot }) s2 n2 host2)
-chain_taken law p engine f f1 f2 s s1 s2 n n1 n2 x index next host host1 host2 {r} runs is finds did =
-    subst (λ (a : Activation). Stepped (setup law p engine) (moment f s n host) r
-    (moment a s2 n2 host2)) (taken_back f1 f2 did.kept.chunk did.kept.base)
-    (chain_stepped law p engine f f1 f2 s s1 s2 n n1 n2 index next host host1 host2 runs
-    (subst (λ (y : Found). FindsHere (setup law p engine) (moment f s n host) (Ok y)
-    (moment f1 s1 n1 host1)) is finds) did)

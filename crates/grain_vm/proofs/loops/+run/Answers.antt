@@ -1,11 +1,12 @@
 use Rattle.std.proofs.Common.{◌∙◌, ℕ, Option, Ok, length, refl, subst, arith}
 use Rattle.grain_means.specs.Means.{setup}
 use Rattle.grain_frame.specs.Abstraction.{frame_in, this_of, moment}
-use Rattle.grain_vm.proofs.Found.{found_stepped, is_function}
+use Rattle.grain_vm.proofs.Found.{call_found, found_stepped, is_function, other_found, pointer_found}
 use Rattle.grain_vm.proofs.Calling.{call_ran, has_begun, not_begun, entered_with, kept_with, refused_here, refused_this, there_is, outer_is}
+use Rattle.grain_vm.proofs.ChainAhead.{chain_stepped}
 use Rattle.grain_vm.proofs.Measure.{taken}
 use Rattle.grain_vm.proofs.Turns.{none_on}
-use Rattle.grain_vm.proofs.Running.{around_caught, around_on, chain_taken, done_after, done_from, done_so, led, left_around, left_around_by_memory, runs_here, runs_on, stops_by_fault, stops_by_memory, stops_so, turn_falls}
+use Rattle.grain_vm.proofs.Running.{around_caught, around_on, done_after, done_from, done_so, led, left_around, left_around_by_memory, runs_here, runs_on, stops_by_fault, stops_by_memory, stops_so, turn_falls}
 use Rattle.grain_vm.proofs.BoundFrames.{all_still, unbound_above}
 use Rattle.grain_vm.proofs.MethodOvers.{called_one, method_ran, method_refused}
 use Rattle.grain_vm.specs.Catching.{activation_at, StopsSo, Caught, CaughtAt}
@@ -267,17 +268,47 @@ run_frame-frame-preserved g t c =
       before = c.catch.ensures.before ∙ around.before;
     }
 
--- ---- chains
-
-pub proceed-returns-in-Chain : goal.proceed-returns-in-Chain
-proceed-returns-in-Chain g t c =
-    let found = c.do_or_find.new in
-    let walked = c.walk_chain-progress in
+pub do_or_find-returns-in-Call : goal.do_or_find-returns-in-Call
+do_or_find-returns-in-Call g t c =
+    let found = c.find_named in
     record {
-      stepped = chain_taken g.H.Host.law c.args.context.program.now c.args.context.engine.now
-          c.args.frame.now found.frame walked.new.frame c.args.run.now found.run walked.new.run
-          c.args.steps.now found.steps walked.new.steps c.in-Ok.found c.in-Chain.index c.in-Chain.next
-          c.args.host.now found.host walked.new.host c.requires.runs c.in-Chain.is c.in-Ok.ensures.finds
+      finds = call_found g.H.Host.law c.args.context.program.now c.args.context.engine.now
+          c.args.frame.now found.new.frame c.args.run.now found.new.run c.args.steps.now
+          found.new.steps c.in-Call.name c.in-Call.count c.in-Call.next c.args.host.now
+          found.new.host c.args.pending found.result c.requires.runs c.in-Call.is c.requires.pending
+          found.ensures.finds;
+    }
+
+pub do_or_find-returns-in-Pointer : goal.do_or_find-returns-in-Pointer
+do_or_find-returns-in-Pointer g t c =
+    let found = c.find_pointed-found in
+    record {
+      finds = pointer_found g.H.Host.law c.args.context.program.now c.args.context.engine.now
+          c.args.frame.now found.new.frame c.args.run.now found.new.run c.args.steps.now
+          found.new.steps c.in-Pointer.count c.in-Pointer.next c.args.host.now found.new.host
+          c.args.pending found.result c.requires.runs c.in-Pointer.is c.requires.pending
+          found.ensures.finds;
+    }
+
+pub do_or_find-returns-in-Other : goal.do_or_find-returns-in-Other
+do_or_find-returns-in-Other g t c =
+    let did = c.step_or_walk-progress in
+    rw c.of.ensures (record {
+      finds = other_found g.H.Host.law c.args.context.program.now c.args.context.engine.now
+          c.args.frame.now did.new.frame c.args.run.now did.new.run c.args.steps.now did.new.steps
+          c.args.host.now did.new.host did.result did.ensures.stepped;
+    })
+
+pub step_or_walk-returns-in-Chain : goal.step_or_walk-returns-in-Chain
+step_or_walk-returns-in-Chain g t c =
+    let did = c.step.new in
+    let walked = c.walk_chain in
+    record {
+      stepped = chain_stepped g.H.Host.law c.args.context.program.now c.args.context.engine.now
+          (moment c.args.frame.now c.args.run.now c.args.steps.now c.args.host.now)
+          (moment did.frame did.run did.steps did.host)
+          (moment walked.new.frame walked.new.run walked.new.steps walked.new.host) c.in-Ok.step
+          c.in-Chain.index c.in-Chain.next c.requires.runs c.in-Chain.is c.in-Ok.ensures.steps
           walked.ensures.performs;
     }
 
