@@ -1,17 +1,15 @@
-use Rattle.std.proofs.Common.{◌∙◌, ℕ, Option, Ok, length, refl, subst, arith}
+use Rattle.std.proofs.Common.{◌∙◌, ℕ, Option, Ok, length, refl, subst}
 use Rattle.grain_means.specs.Means.{setup}
 use Rattle.grain_frame.specs.Abstraction.{frame_in, this_of, moment}
 use Rattle.grain_vm.proofs.Found.{call_found, found_stepped, is_function, other_found, pointer_found}
 use Rattle.grain_vm.proofs.Calling.{call_ran, has_begun, not_begun, entered_with, kept_with, refused_here, refused_this, there_is, outer_is}
 use Rattle.grain_vm.proofs.ChainAhead.{chain_stepped}
-use Rattle.grain_vm.proofs.Measure.{taken}
-use Rattle.grain_vm.proofs.Turns.{none_on}
-use Rattle.grain_vm.proofs.Running.{around_caught, around_on, done_after, done_from, done_so, led, left_around, left_around_by_memory, runs_here, runs_on, stops_by_fault, stops_by_memory, stops_so, turn_falls}
+use Rattle.grain_vm.proofs.Running.{around_caught, around_on, caught_on, done_after, done_from, done_so, led, left_around, left_around_by_memory, runs_here, runs_on, stops_by_fault, stops_by_memory, stops_so, turn_falls}
 use Rattle.grain_vm.proofs.BoundFrames.{all_still, unbound_above}
 use Rattle.grain_vm.proofs.MethodOvers.{called_one, method_ran, method_refused}
-use Rattle.grain_vm.specs.Catching.{activation_at, StopsSo, Caught, CaughtAt}
+use Rattle.grain_vm.specs.Catching.{activation_at, StopsSo, Caught}
 use Rattle.grain_vm.specs.declared.loops.Stop.{Stop}
-use Rattle.grain_vm.proofs.CaughtFrames.{caught_runs, offered_so, stopped_so}
+use Rattle.grain_vm.proofs.CaughtFrames.{offered_so, stopped_so}
 use Rattle.grain_means.specs.lemmas.Stretches.{compose, same}
 use Rattle.grain_program.specs.View.{chain_of}
 use Rattle.grain_vm.specs.Chains.{walked_frame}
@@ -228,45 +226,15 @@ run_frame-returns-in-None g t c =
 
 pub run_frame-frame-preserved : goal.run_frame-frame-preserved
 run_frame-frame-preserved g t c =
-    let p = c.args.context.program.now in
-    let engine = c.args.context.engine.now in
+    let ran = c.run_from.new in
+    let caught = c.catch.new in
+    let offers = c.in-Ok-catch.ensures in
     let at = activation_at c.args.chunk.now c.args.base c.in-Fault.at c.in-Fault.low c.in-Fault.slot in
-    let did = c.in-Ok.ensures in
-    let stops =
-    subst (λ (q : Stop). StopsSo p c.args.chunk.now c.args.base c.run_from.new.run (Ok q))
-    c.in-Fault.is did.catches in
-    let kept =
-    subst (λ (o : Option ℕ). Caught engine c.run_from.new.run c.catch.new.run (Ok o))
-    c.in-Some.is c.in-Ok-catch.ensures.kept in
-    let typed =
-    subst (λ (o : Option ℕ). CaughtAt p at c.catch.new.run (Ok o)) c.in-Some.is
-    (c.in-Ok-catch.ensures.typed at stops.1) in
-    let now = c.frame.invariant in
-    let around = around_on now did.around in
-    let fewer = taken engine c.frame.run.count c.catch.new.run.count c.frame.address
-    c.in-Some.target (omega (arith, did.around.later, kept.2))
-    (omega (arith, did.around.later, kept.3)) in
-    record {
-      goes = compose (compose now.goes
-          (stopped_so c.args.chunk.now c.args.base c.run_from.new.run c.in-Fault.is did.goes) tt)
-          (offered_so (frame_in at c.catch.new.run) c.catch.new.run.fault c.in-Some.is
-          (c.in-Ok-catch.ensures.goes at refl refl refl)) tt;
-      runs = caught_runs p engine c.args.chunk.now c.args.base c.frame.address c.frame.floor
-          c.in-Fault.at c.in-Fault.low c.in-Some.target c.in-Fault.slot c.frame.run c.run_from.new.run
-          c.catch.new.run now.runs did.around.room did.around.outer stops.0 kept typed;
-      outer = kept.0.outer ∙ around.outer;
-      saved = kept.0.saved ∙ around.saved;
-      level = kept.0.level ∙ around.level;
-      this = rw kept.0.receivers around.this;
-      none = rw (kept.0.level, kept.0.receivers) (none_on c.frame.run.receivers
-          c.run_from.new.run.receivers did.around.level did.around.this now.none);
-      later = omega (arith, around.later, kept.2);
-      fewer = omega (arith, fewer, now.fewer);
-      chunk = refl;
-      base = refl;
-      room = kept.0.room ∙ around.room;
-      before = c.catch.ensures.before ∙ around.before;
-    }
+    caught_on c.args.chunk.now c.args.base c.frame.address c.frame.floor c.in-Fault.at c.in-Fault.low
+    c.in-Some.target c.in-Fault.slot c.frame.run ran.run caught.run c.frame.steps ran.steps caught.steps
+    c.frame.host ran.host caught.host c.frame.invariant c.in-Fault.is c.in-Ok.ensures.goes
+    c.in-Ok.ensures.catches c.in-Ok.ensures.around c.in-Some.is (offers.goes at refl refl refl)
+    offers.kept (offers.typed at) c.catch.ensures.before
 
 pub do_or_find-returns-in-Call : goal.do_or_find-returns-in-Call
 do_or_find-returns-in-Call g t c =
