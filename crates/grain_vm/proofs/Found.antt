@@ -14,7 +14,6 @@ use Rattle.grain_value.specs.declared.values.Held.{Held}
 use Rattle.grain_program.specs.View.{View}
 use Rattle.grain_program.specs.Effects.{takes_of, gives_of, leads_of}
 use Rattle.grain_program.specs.Lookups.{Called, function_by_text, function_of, CalledByText}
-use Rattle.grain_program.specs.Indices.{InPools}
 use Rattle.grain_program.specs.Typing.{In}
 use Rattle.grain_program.specs.declared.code.functions.Function.{Function}
 use Rattle.grain_program.specs.declared.code.instruction_set.Op.{Op}
@@ -28,16 +27,17 @@ use Rattle.grain_means.specs.Simulation.{Simulates, SimulatesExactly}
 use Rattle.grain_means.specs.Means.{setup}
 use Rattle.grain_means.specs.lemmas.Stretches.{same, compose}
 use Rattle.grain_global.specs.StepsView.{StepsView}
-use Rattle.grain_frame.specs.Abstraction.{abstraction, frame_in, is_out, continuation, KeepsFrame, ContinuesAt, Implements, Moment, Performs, PerformsBound, ReadyIn, Runs, StandsAt, Stepped, moment, this_of}
-use Rattle.grain_vm.specs.Methods.{NoneAbove}
+use Rattle.grain_frame.specs.Abstraction.{abstraction, frame_in, is_out, continuation, KeepsFrame, ContinuesAt, Implements, Performs, Runs, StandsAt, Stepped, moment, this_of}
+use Rattle.grain_vm.specs.Attempts.{IsPending}
 use Rattle.grain_vm.specs.Finding.{Finds, FindsFunction, FindsHere, IsCall, found_of}
 use Rattle.grain_frame.specs.declared.activations.Activation.{Activation}
+use Rattle.grain_vm.specs.declared.attempts.Pending.{Pending}
+use Rattle.grain_vm.specs.declared.attempts.Pending.TheVariants as pending
 use Rattle.grain_vm.specs.declared.finding.Found.{Found}
 use Rattle.grain_vm.specs.declared.finding.Found.TheVariants as found
 use Rattle.grain_frame.specs.declared.runs.Progress.{Progress}
 use Rattle.grain_frame.specs.declared.runs.Run.{Run}
-use Rattle.grain_frame.specs.lemmas.Arms.{arm, done, lands_on}
-use Rattle.grain_frame.specs.lemmas.Bound.{arm_bound}
+use Rattle.grain_frame.specs.lemmas.Arms.{arm, done, lands_on, taken_back}
 use Rattle.grain_frame.specs.Receivers.{KeepsBound}
 
 -- a function that is there has a number among them
@@ -64,6 +64,10 @@ none_numbered p o e = ap (function_numbered p) (sym e)
 curried_is : (ds : List Dynamic) → map read_write ds ≡ map (λ t. read_write (value_of t)) (trees ds)
 curried_is [] = refl
 curried_is (d ∷ ds) = rw (value_of-tree d, curried_is ds) refl
+
+-- a frame that takes from another the address, the floor and the slot
+abbrev taking : Activation → Activation → Activation
+taking f g = record f { address = g.address; floor = g.floor; slot = g.slot }
 
 -- what is kept from a run on that differs in its operands alone
 kept_before : {H : Type 0} (f f2 : Activation) (s s1 s2 : Run H) →
@@ -241,7 +245,7 @@ finds_of law p engine f f' s s' n n' o next host host' (Ok q) did = did
 finds_of law p engine f f' s s' n n' o next host host' (Err e) did = did
 
 -- the same of the instruction at which a frame stands
-pub done_here : {H : Type 0} (law : Law H) (p : View) (engine : Engine) (f f' : Activation)
+done_here : {H : Type 0} (law : Law H) (p : View) (engine : Engine) (f f' : Activation)
     (s s' : Run H) (n n' : StepsView) (host host' : H) (r : Result Progress OutOfMemory) →
     Stepped (setup law p engine) (moment f s n host) r (moment f' s' n' host') →
     FindsHere (setup law p engine) (moment f s n host) (found_of r) (moment f' s' n' host')
@@ -249,7 +253,7 @@ done_here law p engine f f' s s' n n' host host' (Ok q) did = did
 done_here law p engine f f' s s' n n' host host' (Err e) did = did
 
 -- what the instruction at which a frame stands comes to
-pub found_here : {H : Type 0} (law : Law H) (p : View) (engine : Engine) (f f' : Activation)
+found_here : {H : Type 0} (law : Law H) (p : View) (engine : Engine) (f f' : Activation)
     (s s' : Run H) (n n' : StepsView) (o : Op) (next : ℕ) (host host' : H)
     (r : Result Found OutOfMemory) → Runs p f s → StandsAt p f s o next → IsCall o next →
     Finds (setup law p engine) (moment f s n host) o next r (moment f' s' n' host') →
@@ -260,13 +264,11 @@ found_here law p engine f f' s s' n n' o next host host' (Ok (found.Function num
     call did =
     subst (λ (k : ℕ). FindsHere (setup law p engine) (moment f s n host) (Ok
     (found.Function number k)) (moment f' s' n' host')) (sym did.0) (o, at, call, did.1)
-found_here law p engine f f' s s' n n' o next host host' (Ok (found.Chain index to)) runs at call
-    did = absurd did
 found_here law p engine f f' s s' n n' o next host host' (Err e) runs at call did =
     arm refl call.keeps at runs did
 
 -- the frame has its chunk and its base, whatever its instruction came to
-pub found_kept : {H : Type 0} (law : Law H) (p : View) (engine : Engine) (f f' : Activation)
+found_kept : {H : Type 0} (law : Law H) (p : View) (engine : Engine) (f f' : Activation)
     (s s' : Run H) (n n' : StepsView) (o : Op) (next : ℕ) (host host' : H)
     (r : Result Found OutOfMemory) → Finds (setup law p engine) (moment f s n host) o next r
     (moment f' s' n' host') →
@@ -275,10 +277,56 @@ found_kept law p engine f f' s s' n n' o next host host' (Ok (found.Done q)) did
     (did.kept.chunk, did.kept.base)
 found_kept law p engine f f' s s' n n' o next host host' (Ok (found.Function number to)) did =
     (ap (λ (a : Activation). a.chunk) did.1.frame, ap (λ (a : Activation). a.base) did.1.frame)
-found_kept law p engine f f' s s' n n' o next host host' (Ok (found.Chain index to)) did =
-    absurd did
 found_kept law p engine f f' s s' n n' o next host host' (Err e) did =
     (did.kept.chunk, did.kept.base)
+
+-- The same where the instruction was given a copy of the frame, from which the frame takes the address,
+-- the floor and the slot.
+found_back : {H : Type 0} (law : Law H) (p : View) (engine : Engine) (f f' : Activation)
+    (s s' : Run H) (n n' : StepsView) (o : Op) (next : ℕ) (host host' : H)
+    (r : Result Found OutOfMemory) → Runs p f s → StandsAt p f s o next → IsCall o next →
+    Finds (setup law p engine) (moment f s n host) o next r (moment f' s' n' host') →
+    FindsHere (setup law p engine) (moment f s n host) r (moment (taking f f') s' n' host')
+found_back law p engine f f' s s' n n' o next host host' r runs at call did =
+    let kept = found_kept law p engine f f' s s' n n' o next host host' r did in
+    subst (λ (a : Activation). FindsHere (setup law p engine) (moment f s n host) r
+    (moment a s' n' host')) (taken_back f f' kept.0 kept.1)
+    (found_here law p engine f f' s s' n n' o next host host' r runs at call did)
+
+-- what `call` comes to
+pub call_found : {H : Type 0} (law : Law H) (p : View) (engine : Engine) (f f' : Activation)
+    (s s' : Run H) (n n' : StepsView) (name count next : ℕ) (host host' : H) (q : Pending)
+    (r : Result Found OutOfMemory) → Runs p f s → q ≡ pending.Call name count next →
+    IsPending p f s q → Finds (setup law p engine) (moment f s n host) (op.Call name count) next r
+    (moment f' s' n' host') →
+    FindsHere (setup law p engine) (moment f s n host) r (moment f' s' n' host')
+call_found law p engine f f' s s' n n' name count next host host' q r runs is waits did =
+    found_here law p engine f f' s s' n n' (op.Call name count) next host host' r runs
+    (subst (λ (k : Pending). IsPending p f s k) is waits)
+    (record { leads = refl; gives = refl; keeps = refl }) did
+
+-- what `call_fn_ptr` comes to, on a copy of the frame
+pub pointer_found : {H : Type 0} (law : Law H) (p : View) (engine : Engine) (f f' : Activation)
+    (s s' : Run H) (n n' : StepsView) (count next : ℕ) (host host' : H) (q : Pending)
+    (r : Result Found OutOfMemory) → Runs p f s → q ≡ pending.Pointer count next →
+    IsPending p f s q → Finds (setup law p engine) (moment f s n host) (op.CallFnPtr count) next r
+    (moment f' s' n' host') →
+    FindsHere (setup law p engine) (moment f s n host) r (moment (taking f f') s' n' host')
+pointer_found law p engine f f' s s' n n' count next host host' q r runs is waits did =
+    found_back law p engine f f' s s' n n' (op.CallFnPtr count) next host host' r runs
+    (subst (λ (k : Pending). IsPending p f s k) is waits)
+    (record { leads = refl; gives = refl; keeps = refl }) did
+
+-- what any other comes to, on a copy of the frame
+pub other_found : {H : Type 0} (law : Law H) (p : View) (engine : Engine) (f f' : Activation)
+    (s s' : Run H) (n n' : StepsView) (host host' : H) (r : Result Progress OutOfMemory) →
+    Stepped (setup law p engine) (moment f s n host) r (moment f' s' n' host') →
+    FindsHere (setup law p engine) (moment f s n host) (found_of r)
+    (moment (taking f f') s' n' host')
+other_found law p engine f f' s s' n n' host host' r did =
+    subst (λ (a : Activation). FindsHere (setup law p engine) (moment f s n host) (found_of r)
+    (moment a s' n' host')) (taken_back f f' did.kept.chunk did.kept.base)
+    (done_here law p engine f f' s s' n n' host host' r did)
 
 -- the function that was found
 pub is_function : {H : Type 0} (law : Law H) (p : View) (engine : Engine) (f f' : Activation)
@@ -345,55 +393,3 @@ found_stepped {H = H} law p engine f f1 f2 s s1 s2 n n1 n2 number next host host
           (takes_of p o) (gives_of o) stacks.handlers r
           (omega (arith, finds.operands g is, call.gives))
           (omega (arith, finds.operands g is)) refl here from
-
--- a chain at which the frame stands was walked, and the instruction is done
-pub chain_stepped : {H : Type 0} (law : Law H) (p : View) (engine : Engine) (f f1 f2 : Activation)
-    (s s1 s2 : Run H) (n n1 n2 : StepsView) (index next : ℕ) (host host1 host2 : H)
-    {r : Result Progress OutOfMemory} → Runs p f s →
-    FindsHere (setup law p engine) (moment f s n host) (Ok (found.Chain index next))
-    (moment f1 s1 n1 host1) →
-    PerformsBound (setup law p engine) (moment f1 s1 n1 host1) (op.Chain index) next r
-    (moment f2 s2 n2 host2) →
-    Stepped (setup law p engine) (moment f s n host) r (moment f2 s2 n2 host2)
-chain_stepped {H = H} law p engine f f1 f2 s s1 s2 n n1 n2 index next host host1 host2 {r} runs finds
-    did =
-    arm_bound refl refl finds.0 runs
-    (subst (λ (a : Moment H). PerformsBound (setup law p engine) a (op.Chain index) next r
-    (moment f2 s2 n2 host2)) finds.1 did)
-
--- and before, it can be walked: nothing is done yet
-pub chain_ready : {H : Type 0} (m : Setup H) (a b : Moment H) (index next : ℕ) →
-    Runs m.program a.frame a.run → FindsHere m a (Ok (found.Chain index next)) b →
-    ReadyIn m.program b.frame b.run (op.Chain index) next × InPools m.program (op.Chain index)
-chain_ready {H = H} m a b index next runs finds =
-    let at = finds.0 in
-    let provides = at.seen.provides in
-    let here : ReadyIn m.program a.frame a.run (op.Chain index) next = record {
-      inside = runs.inside;
-      operands = provides.enough;
-      room = omega (arith, provides.room, runs.room);
-      ahead = omega (arith, provides.wide, at.next_is);
-    } in (
-      subst (λ (x : Moment H). ReadyIn m.program x.frame x.run (op.Chain index) next) (sym finds.1) here,
-      provides.pools,
-    )
-
-pub chain_unbound : {H : Type 0} (m : Setup H) (a b : Moment H) (index next : ℕ) →
-    FindsHere m a (Ok (found.Chain index next)) b → NoneAbove a.run.level a.run.receivers →
-    NoneAbove b.run.level b.run.receivers
-chain_unbound {H = H} m a b index next finds none =
-    subst (λ (x : Moment H). NoneAbove x.run.level x.run.receivers) (sym finds.1) none
-
--- the frame has its chunk and its base, whatever was found of the instruction at which it stands
-pub here_kept : {H : Type 0} (m : Setup H) (a b : Moment H) (r : Result Found OutOfMemory) →
-    FindsHere m a r b → (b.frame.chunk ≡ a.frame.chunk) × (b.frame.base ≡ a.frame.base)
-here_kept m a b (Ok (found.Done q)) did = (did.kept.chunk, did.kept.base)
-here_kept m a b (Ok (found.Function number next)) did = (
-  ap (λ (f : Activation). f.chunk) did.3.frame,
-  ap (λ (f : Activation). f.base) did.3.frame,
-)
-here_kept {H = H} m a b (Ok (found.Chain index next)) did = (
-  ap (λ (x : Moment H). x.frame.chunk) did.1,
-  ap (λ (x : Moment H). x.frame.base) did.1,
-)
-here_kept m a b (Err e) did = (did.kept.chunk, did.kept.base)

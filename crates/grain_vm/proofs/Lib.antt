@@ -37,3 +37,4 @@ mod Refused
 mod Begins
 mod ChainEnds
 mod ChainLoops
+mod ChainAhead

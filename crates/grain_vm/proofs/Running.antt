@@ -1,35 +1,28 @@
 -- How far a frame has run since `run_from` began with it, one turn after another.
-use Rattle.std.proofs.Common.{◌≡◌, ◌∙◌, ◌<◌, ◌≤◌, ◌+◌, ℕ, false, Result, Ok, Err, [], ◌∷◌, ◌++◌, take, true, refl, sym, subst, arith}
+use Rattle.std.proofs.Common.{◌≡◌, ◌∙◌, ◌<◌, ◌≤◌, ◌+◌, false, Result, Ok, Err, [], ◌∷◌, ◌++◌, take, true, refl, sym, subst, arith, ℕ, Option, Some, None}
 use Rattle.grain_value.specs.declared.memory.OutOfMemory.{OutOfMemory}
-use Rattle.grain_fault.specs.Problems.{NoMemory}
-use Rattle.grain_program.specs.View.{View}
-use Rattle.grain_program.specs.declared.code.instruction_set.Op.TheVariants as op
-use Rattle.grain_host.specs.Law.{Law}
+use Rattle.grain_fault.specs.Problems.{NoMemory, problem_of}
 use Rattle.grain_global.specs.StepsView.{StepsView}
-use Rattle.grain_global.specs.declared.engines.Engine.{Engine}
-use Rattle.grain_means.specs.Means.{setup}
 use Rattle.grain_means.specs.Worlds.{Go, End, Failed, InFrame, Setup}
 use Rattle.grain_means.specs.Simulation.{Simulates}
-use Rattle.grain_means.specs.lemmas.Stretches.{stays}
-use Rattle.grain_frame.specs.Abstraction.{Moment, PerformsBound, Runs, Stepped, abstraction, begun_one, continuation, frame_in, is_out, moment}
+use Rattle.grain_means.specs.lemmas.Stretches.{stays, compose}
+use Rattle.grain_frame.specs.Abstraction.{Moment, Runs, Stepped, abstraction, begun_one, continuation, frame_in, is_out, moment, CanCatch}
 use Rattle.grain_frame.specs.Receivers.{KeepsBound}
 use Rattle.grain_frame.specs.declared.activations.Activation.{Activation}
 use Rattle.grain_frame.specs.declared.runs.Progress.{Progress}
 use Rattle.grain_frame.specs.declared.runs.Progress.TheVariants as progress
 use Rattle.grain_frame.specs.declared.runs.Run.{Run}
-use Rattle.grain_frame.specs.lemmas.Arms.{taken_back}
 use Rattle.grain_vm.specs.Attempts.{Unchanged}
 use Rattle.grain_vm.specs.Calls.{LeavesAround}
-use Rattle.grain_vm.specs.Catching.{KeepsRun, StopsSo, stop_continuation}
-use Rattle.grain_vm.specs.Finding.{FindsHere}
+use Rattle.grain_vm.specs.Catching.{KeepsRun, StopsSo, stop_continuation, Caught, CaughtAt, activation_at, caught_or_left}
 use Rattle.grain_vm.specs.Methods.{NoneAbove}
-use Rattle.grain_vm.specs.declared.finding.Found.{Found}
-use Rattle.grain_vm.specs.declared.finding.Found.TheVariants as found
 use Rattle.grain_vm.specs.declared.loops.Stop.TheVariants as stop
-use Rattle.grain_vm.proofs.CaughtFrames.{stopped_at}
-use Rattle.grain_vm.proofs.Found.{chain_stepped}
-use Rattle.grain_vm.proofs.Measure.{falls, left}
+use Rattle.grain_vm.proofs.CaughtFrames.{stopped_at, caught_runs, offered_so, stopped_so}
+use Rattle.grain_vm.proofs.Measure.{falls, left, taken}
 use Rattle.grain_vm.proofs.Turns.{kept_bound, left_out, moved_back, next_runs, none_on, turn}
+use Rattle.grain_program.specs.declared.code.parts.Chunk.{Chunk}
+use Rattle.grain_means.specs.Rules.{offered}
+use Rattle.grain_vm.specs.declared.loops.Stop.{Stop}
 
 -- the frame runs on from the first moment to the second
 pub record RunsTo {H : Type 0} (m : Setup H) (a b : Moment H) : Type 0 where
@@ -226,19 +219,49 @@ module _ {H : Type 0} {m : Setup H} {a b c : Moment H} (so_far : RunsTo m a b) w
           before = around.before;
         }
 
--- A chain was walked on a copy of the frame, from which the frame takes the address, the floor and the
--- slot.
-pub chain_taken : {H : Type 0} (law : Law H) (p : View) (engine : Engine) (f f1 f2 : Activation)
-    (s s1 s2 : Run H) (n n1 n2 : StepsView) (x : Found) (index next : ℕ) (host host1 host2 : H)
-    {r : Result Progress OutOfMemory} → Runs p f s → x ≡ found.Chain index next →
-    FindsHere (setup law p engine) (moment f s n host) (Ok x) (moment f1 s1 n1 host1) →
-    PerformsBound (setup law p engine) (moment f1 s1 n1 host1) (op.Chain index) next r
-    (moment f2 s2 n2 host2) →
-    Stepped (setup law p engine) (moment f s n host) r
-    (moment (record f1 { address = f2.address; floor = f2.floor; slot = f2.slot }) s2 n2 host2)
-chain_taken law p engine f f1 f2 s s1 s2 n n1 n2 x index next host host1 host2 {r} runs is finds did =
-    subst (λ (a : Activation). Stepped (setup law p engine) (moment f s n host) r
-    (moment a s2 n2 host2)) (taken_back f1 f2 did.kept.chunk did.kept.base)
-    (chain_stepped law p engine f f1 f2 s s1 s2 n n1 n2 index next host host1 host2 runs
-    (subst (λ (y : Found). FindsHere (setup law p engine) (moment f s n host) (Ok y)
-    (moment f1 s1 n1 host1)) is finds) did)
+-- a fault of the frame was caught, and the frame runs on at the handler's address
+pub caught_on : {H : Type 0} {m : Setup H} {a : Moment H} (c : Chunk)
+    (base address floor at low target : ℕ) (slot : Option ℕ) (s t u : Run H) (n k j : StepsView)
+    (host host1 host2 : H) {one : Stop} {said : Option ℕ} →
+    RunsTo m a (moment (activation_at c base address floor None) s n host) →
+    one ≡ stop.Fault at low slot →
+    Simulates m (abstraction s n host)
+    (λ m place w. Go (InFrame (frame_in (activation_at c base address floor None) s place)) w) false
+    (abstraction t k host1) (stop_continuation (Ok one) c base t) →
+    StopsSo m.program c base t (Ok one) → LeavesAround s n t k → said ≡ Some target →
+    Simulates m (abstraction t k host1)
+    (λ m place w. offered m (frame_in (activation_at c base at low slot) t place)
+    (problem_of t.fault) w) false (abstraction u j host2)
+    (caught_or_left (Ok said) u.fault (frame_in (activation_at c base at low slot) u)) →
+    Caught m.engine t u (Ok said) →
+    (CanCatch m.program (activation_at c base at low slot) t →
+    CaughtAt m.program (activation_at c base at low slot) u (Ok said)) →
+    j.before ≡ k.before → RunsTo m a (moment (activation_at c base target low None) u j host2)
+caught_on {m = m} {a} c base address floor at low target slot s t u n k j host host1 host2 {one} {said}
+    now is ran stops left found offers kept typed before =
+    let stops = subst (λ (q : Stop). StopsSo m.program c base t (Ok q)) is stops in
+    let kept = subst (λ (o : Option ℕ). Caught m.engine t u (Ok o)) found kept in
+    let typed =
+    subst (λ (o : Option ℕ). CaughtAt m.program (activation_at c base at low slot) u (Ok o)) found
+    (typed stops.1) in
+    let around = around_on now left in
+    let fewer = taken m.engine s.count u.count address target (omega (arith, left.later, kept.2))
+    (omega (arith, left.later, kept.3)) in
+    record {
+      goes = compose (compose now.goes (stopped_so c base t is ran) tt)
+          (offered_so (frame_in (activation_at c base at low slot) u) u.fault found offers) tt;
+      runs = caught_runs m.program m.engine c base address floor at low target slot s t u now.runs
+          left.room left.outer stops.0 kept typed;
+      outer = kept.0.outer ∙ around.outer;
+      saved = kept.0.saved ∙ around.saved;
+      level = kept.0.level ∙ around.level;
+      this = rw kept.0.receivers around.this;
+      none = rw (kept.0.level, kept.0.receivers)
+          (none_on s.receivers t.receivers left.level left.this now.none);
+      later = omega (arith, around.later, kept.2);
+      fewer = omega (arith, fewer, now.fewer);
+      chunk = now.chunk;
+      base = now.base;
+      room = kept.0.room ∙ around.room;
+      before = before ∙ around.before;
+    }

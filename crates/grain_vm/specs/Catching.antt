@@ -50,7 +50,8 @@ catch_continuation (Ok false) x target f m place w =
     leave_by_fault m (f place) (problem_of x) w
 catch_continuation (Err e) x target f m place w = leave_by_fault m (f place) NoMemory w
 
--- the frames around the innermost one are as they were, with their scopes, and the level is the same
+-- the frames around the innermost one are as they were, with their scopes and each `this`, and the
+-- level is the same
 pub record KeepsRun {H : Type 0} (s s' : Run H) : Type 0 where
   pub room : s'.stacks.room ≡ s.stacks.room
   pub outer : s'.stacks.outer ≡ s.stacks.outer

@@ -12,6 +12,8 @@ use Rattle.grain_means.specs.Worlds.{Setup}
 use Rattle.grain_frame.specs.Abstraction.{Moment, Performs, StandsAt, Stepped, abstraction, frame_in}
 use Rattle.grain_vm.specs.declared.finding.Found.{Found}
 use Rattle.grain_vm.specs.declared.finding.Found.TheVariants as found
+use Rattle.grain_vm.specs.declared.stepping.DoneOrChain.{DoneOrChain}
+use Rattle.grain_vm.specs.declared.stepping.DoneOrChain.TheVariants as step
 use Rattle.grain_frame.specs.declared.runs.Progress.{Progress}
 
 -- The instruction calls the function of this number, which exists, on the last operands. The call
@@ -45,7 +47,6 @@ abbrev pub Finds : {H : Type 0} → Setup H → Moment H → Op → ℕ → Resu
 Finds m a o next (Ok (found.Done p)) b = Performs m a o next (Ok p) b
 Finds m a o next (Ok (found.Function number to)) b =
     (to ≡ next) × FindsFunction m a o next number b
-Finds m a o next (Ok (found.Chain index to)) b = ⊥
 Finds m a o next (Err e) b = Performs m a o next (Err e) b
 
 -- an instruction that may call a function: it leads to the next one, gives one value and keeps the
@@ -55,13 +56,20 @@ pub record IsCall (o : Op) (next : ℕ) : Type 0 where
   pub gives : gives_of o ≡ 1
   pub keeps : handling_of o ≡ handling.Keep
 
--- the same of the instruction at which the frame stands; if it is a chain, nothing is done yet
+-- the same of the instruction at which the frame stands
 abbrev pub FindsHere : {H : Type 0} → Setup H → Moment H → Result Found OutOfMemory → Moment H →
     Type 0
 FindsHere m a (Ok (found.Done p)) b = Stepped m a (Ok p) b
 FindsHere m a (Ok (found.Function number next)) b =
     (o : Op) × StandsAt m.program a.frame a.run o next × IsCall o next
     × FindsFunction m a o next number b
-FindsHere m a (Ok (found.Chain index next)) b =
-    StandsAt m.program a.frame a.run (op.Chain index) next × (b ≡ a)
 FindsHere m a (Err e) b = Stepped m a (Err e) b
+
+-- what came of the instruction at which the frame stands, where it calls no function of itself: it is
+-- done, or it is a chain, and then nothing is done yet
+abbrev pub StepsHere : {H : Type 0} → Setup H → Moment H → Result DoneOrChain OutOfMemory →
+    Moment H → Type 0
+StepsHere m a (Ok (step.Done p)) b = Stepped m a (Ok p) b
+StepsHere m a (Ok (step.Chain index next)) b =
+    StandsAt m.program a.frame a.run (op.Chain index) next × (b ≡ a)
+StepsHere m a (Err e) b = Stepped m a (Err e) b

@@ -94,7 +94,7 @@ ServesRequest m r s n host (Err c) s' n' host' =
 
 -- ---- the `this` of the function
 
--- no frame of a level above this one has a `this`
+-- the newest `this` is of no level above this one
 abbrev pub NoneAbove : ℕ → List Bound → Type 0
 NoneAbove level [] = Unit {0}
 NoneAbove level (b ∷ bs) = b.level ≤ level
@@ -138,7 +138,8 @@ pub record MethodEntered {H : Type 0} (engine : Engine) (g : Function) (x : Opti
   pub count : s'.count ≡ s.count + 1
   pub allowed : s.count < engine.limits.operations
 
--- The call is over: but for the cells, the count, the trace and the fault all is as it was before.
+-- The call is over: but for the cells, the count, how often a frame was entered, the trace and the
+-- fault all is as it was before.
 pub record MethodOver {H : Type 0} (s s' : Run H) : Type 0 where
   pub scope : s'.scope ≡ s.scope
   pub saved : s'.saved ≡ s.saved

@@ -1,6 +1,6 @@
 //! How a call begins and ends.
 
-ghost use Rattle.std.specs.Prelude.{ℕ, ◌≡◌, ◌<◌, ◌≤◌, ◌+◌, ◌++◌, ◌∷◌, [], length, OnOk, OnErr, IfOk, List, MatchOption, nat_le, true, false};
+ghost use Rattle.std.specs.Prelude.{ℕ, ◌≡◌, ◌<◌, ◌≤◌, ◌+◌, ◌++◌, ◌∷◌, [], length, take, OnOk, OnErr, IfOk, List, MatchOption, nat_le, true, false};
 ghost use Rattle.grain_program.specs.Indices.{IsNamed};
 ghost use Rattle.grain_program.specs.View.{name_of, source_text};
 ghost use Rattle.grain_fault.specs.Problems.{InFunctionCall, problem_of};
@@ -12,7 +12,7 @@ ghost use Rattle.grain_frame.specs.Abstraction.{abstraction, frame_in, is_out, c
 ghost use Rattle.grain_vm.specs.Driving.{beside};
 ghost use Rattle.grain_vm.specs.Calls.{frame_answer, call_continuation, caller_of, EnterResult, FrameEntered, CallReturned, WrapsSo};
 
-use grain_fault::{EvalAltResult, Position};
+use grain_fault::{EvalAltResult, Fault, Position};
 use grain_frame::{Activation, Context, Progress, Run};
 use grain_global::Steps;
 use grain_host::Host;
@@ -326,4 +326,28 @@ pub(crate) fn deeper(level: usize, levels: usize) -> Option<usize>
     } else {
         Some(level + 1)
     }
+}
+
+// Leaves a frame by a fault: cuts the scope to the floor, and notes in the trace where the frame
+// stopped and the slot of the step that is blamed, if any.
+#[cold]
+#[inline(never)]
+pub(crate) fn leave_by_fault<H: Host>(
+    run: &mut Run<H>,
+    address: usize,
+    floor: usize,
+    slot: Option<u32>,
+)
+    requires entered { 0 < length run.old.stacks.outer }
+    requires unnoted { run.old.stacks.noted ≡ false }
+    ensures { run.new ≡ record run.old {
+      scope = take floor run.old.scope;
+      stacks = record run.old.stacks {
+        noted = true;
+        trace = run.old.stacks.trace ++ record { address = address; slot = slot } ∷ [];
+      };
+    } }
+{
+    run.scope.rewind(floor);
+    run.stacks.note(Fault { address, slot });
 }

@@ -11,7 +11,7 @@ ghost use Rattle.grain_frame.specs.Abstraction.{abstraction, frame_in, handler_i
 ghost use Rattle.grain_frame.specs.declared.activations.Activation.{Activation};
 ghost use Rattle.grain_vm.specs.Catching.{IsArmed, found, with_found, StandsFor, catch_continuation, caught_or_left, Caught, CaughtAt, CaughtBy};
 
-use crate::loops::leave_by_fault;
+use crate::calls::leave_by_fault;
 use grain_fault::{EvalAltResult, MalformedKind, Position, caught_value};
 use grain_frame::{Context, Run};
 use grain_global::Steps;

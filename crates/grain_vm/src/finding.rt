@@ -1,22 +1,18 @@
-//! What an instruction that is not done at once comes to: it is done, or it calls a function or walks a
-//! chain.
+//! What an instruction that is not done at once comes to: it is done, or it calls a function.
 
 ghost use Rattle.std.specs.Prelude.{◌≡◌};
 ghost use Rattle.grain_program.specs.Indices.{InPools};
-ghost use Rattle.grain_frame.specs.Abstraction.{Ready, Runs, setup_of, moment};
-ghost use Rattle.grain_vm.specs.Attempts.{IsPending};
-ghost use Rattle.grain_vm.specs.Finding.{Finds, FindsHere, found_of};
+ghost use Rattle.grain_frame.specs.Abstraction.{Ready, setup_of, moment};
+ghost use Rattle.grain_vm.specs.Finding.{Finds, found_of};
 ghost use Rattle.grain_program.specs.declared.code.instruction_set.Op.TheVariants as op;
 
-use crate::attempts::Pending;
-use crate::stepping::step;
 use grain_frame::{Activation, Context, Progress, Run, Under};
 use grain_global::Steps;
 use grain_host::Host;
 use grain_value::{FnPtr, OutOfMemory};
 use std::sync::ledger::Ledger;
 
-/// What is found of an instruction before a function is called or a chain is walked.
+/// What is found of an instruction before a function is called.
 #[derive(Clone, Copy, Debug, PartialEq, Eq)]
 pub enum Found {
     /// It is done, without a function.
@@ -24,8 +20,6 @@ pub enum Found {
     /// It calls the function of this number on the last operands; afterwards the frame goes on at
     /// the address `next`.
     Function { number: usize, next: usize },
-    /// It walks the chain with this index; afterwards the frame goes on at the address `next`.
-    Chain { index: u16, next: usize },
 }
 
 impl Found {
@@ -100,47 +94,6 @@ pub(crate) fn find_pointed<H: Host, L: Ledger>(
                     context, host, steps, frame, &name, total, next,
                 )),
             }
-        }
-    }
-}
-
-// Does the instruction at which the frame stands and that `quick` did not do; if it calls a function
-// or walks a chain, says which. `step` and `find_pointed` get a copy of the frame, so that the loop
-// can keep its own in registers, and only the fields that they can change are copied back.
-#[inline(always)]
-pub(crate) fn do_or_find<H: Host, L: Ledger>(
-    run: &mut Run<H>,
-    context: Context<'_>,
-    host: &mut H,
-    steps: &mut Steps<L>,
-    frame: &mut Activation,
-    pending: Pending,
-) -> Result<Found, OutOfMemory>
-    requires runs { Runs context.program.now frame.old run.old }
-    requires pending { IsPending context.program.now frame.old run.old pending }
-    ensures finds { FindsHere (setup_of H.law context.entry)
-        (moment frame.old run.old steps.old host.old) result
-        (moment frame.new run.new steps.new host.new) }
-{
-    match pending {
-        Pending::Call { name, count, next } => {
-            find_named(run, context, host, steps, frame, name, count, next)
-        }
-        Pending::Pointer { count, next } => {
-            let mut copy = *frame;
-            let found = find_pointed(run, context, host, steps, &mut copy, count, next);
-            frame.address = copy.address;
-            frame.floor = copy.floor;
-            frame.slot = copy.slot;
-            found
-        }
-        Pending::Other => {
-            let mut copy = *frame;
-            let found = step(run, context, host, steps, &mut copy);
-            frame.address = copy.address;
-            frame.floor = copy.floor;
-            frame.slot = copy.slot;
-            found
         }
     }
 }

@@ -1,6 +1,6 @@
 //! The loop: how a frame runs, and how functions are called.
 
-ghost use Rattle.std.specs.Prelude.{◌≡◌, ◌<◌, ◌≤◌, ◌+◌, ◌-◌, ◌++◌, ◌∷◌, [], length, slice_get, take, None, Some, true, false};
+ghost use Rattle.std.specs.Prelude.{◌≡◌, ◌≤◌, ◌+◌, ◌-◌, ◌∷◌, [], length, slice_get, None, Some};
 ghost use Rattle.grain_program.specs.TypedAt.{IsTypedAt};
 ghost use Rattle.grain_means.specs.Worlds.{Go, InFrame};
 ghost use Rattle.grain_means.specs.Rules.{enter_function};
@@ -8,21 +8,22 @@ ghost use Rattle.grain_means.specs.Simulation.{Simulates};
 ghost use Rattle.grain_vm.specs.Catching.{activation_at, stop_continuation, StopsSo};
 ghost use Rattle.grain_frame.specs.Abstraction.{abstraction, frame_in, is_out, continuation, KeepsFrame, ContinuesAt, PerformsBound, ReadyIn, Runs, Stepped, setup_of, moment};
 ghost use Rattle.grain_vm.specs.Calls.{LeavesAround, frame_over, entry_of};
-ghost use Rattle.grain_vm.specs.Attempts.{IsPending, StandsAtJump};
+ghost use Rattle.grain_vm.specs.Attempts.{CallsNothing, IsPending};
 ghost use Rattle.grain_program.specs.declared.code.functions.Function.{Function};
 ghost use Rattle.grain_vm.specs.Driving.{SameFlag};
+ghost use Rattle.grain_vm.specs.Finding.{FindsHere};
 ghost use Rattle.grain_vm.specs.Methods.{CallsMethod, HasFunction, MethodOver, NoneAbove};
 ghost use Rattle.grain_program.specs.Indices.{InPools, IsNamed};
 ghost use Rattle.grain_program.specs.declared.code.instruction_set.Op.TheVariants as op;
 
 use crate::attempts::{Attempt, Pending, quick};
-use crate::calls::{FrameEnd, enter_function, resume_caller};
+use crate::calls::{FrameEnd, enter_function, leave_by_fault, resume_caller};
 use crate::catching::catch;
 use crate::chains::{Begun, begin_chain, finish_chain};
 use crate::driving::{Driven, drive, go_on};
-use crate::finding::{Found, do_or_find};
+use crate::finding::{Found, find_named, find_pointed};
 use crate::methods::{MethodCall, Outcome, enter_method, leave_method};
-use grain_fault::Fault;
+use crate::stepping::{DoneOrChain, jump, step};
 use grain_frame::{Activation, Context, Progress, Run};
 use grain_global::Steps;
 use grain_host::Host;
@@ -42,49 +43,6 @@ pub enum Stop {
         floor: usize,
         slot: Option<u32>,
     },
-}
-
-// Leaves a frame by a fault: cuts the scope to the floor, and notes in the trace where the frame
-// stopped and the slot of the step that is blamed, if any.
-#[cold]
-#[inline(never)]
-pub(crate) fn leave_by_fault<H: Host>(
-    run: &mut Run<H>,
-    address: usize,
-    floor: usize,
-    slot: Option<u32>,
-)
-    requires entered { 0 < length run.old.stacks.outer }
-    requires unnoted { run.old.stacks.noted ≡ false }
-    ensures { run.new ≡ record run.old {
-      scope = take floor run.old.scope;
-      stacks = record run.old.stacks {
-        noted = true;
-        trace = run.old.stacks.trace ++ record { address = address; slot = slot } ∷ [];
-      };
-    } }
-{
-    run.scope.rewind(floor);
-    run.stacks.note(Fault { address, slot });
-}
-
-// Does the jump at which the frame stands.
-#[inline(always)]
-fn jump<H: Host, L: Ledger>(
-    run: &mut Run<H>,
-    context: Context<'_>,
-    host: &mut H,
-    steps: &mut Steps<L>,
-    frame: &mut Activation,
-    target: u32,
-) -> Result<Progress, OutOfMemory>
-    requires runs { Runs context.program.now frame.old run.old }
-    requires here { StandsAtJump context.program.now frame.old run.old target }
-    ensures stepped { Stepped (setup_of H.law context.entry)
-        (moment frame.old run.old steps.old host.old) result
-        (moment frame.new run.new steps.new host.new) }
-{
-    run.jump_to(context, host, steps, frame, target as usize)
 }
 
 // Calls a function on the last operands, in a frame of its own; afterwards the caller's frame goes on
@@ -132,6 +90,79 @@ fn call<H: Host, L: Ledger>(
     }
 }
 
+// Does the instruction at which the frame stands and that `quick` did not do; if it calls a function,
+// says which. `step_or_walk` and `find_pointed` get a copy of the frame, so that the loop can keep its
+// own in registers, and only the fields that they can change are copied back.
+#[cycle(run)]
+#[inline(always)]
+fn do_or_find<H: Host, L: Ledger>(
+    run: &mut Run<H>,
+    context: Context<'_>,
+    host: &mut H,
+    steps: &mut Steps<L>,
+    frame: &mut Activation,
+    pending: Pending,
+) -> Result<Found, OutOfMemory>
+    requires runs { Runs context.program.now frame.old run.old }
+    requires none { NoneAbove run.old.level run.old.receivers }
+    requires pending { IsPending context.program.now frame.old run.old pending }
+    ensures finds { FindsHere (setup_of H.law context.entry)
+        (moment frame.old run.old steps.old host.old) result
+        (moment frame.new run.new steps.new host.new) }
+{
+    match pending {
+        Pending::Call { name, count, next } => {
+            find_named(run, context, host, steps, frame, name, count, next)
+        }
+        Pending::Pointer { count, next } => {
+            let mut copy = *frame;
+            let found = find_pointed(run, context, host, steps, &mut copy, count, next);
+            frame.address = copy.address;
+            frame.floor = copy.floor;
+            frame.slot = copy.slot;
+            found
+        }
+        Pending::Other => {
+            let mut copy = *frame;
+            let progress = step_or_walk(run, context, host, steps, &mut copy);
+            frame.address = copy.address;
+            frame.floor = copy.floor;
+            frame.slot = copy.slot;
+            Found::of(progress)
+        }
+    }
+}
+
+// Does the instruction at which the frame stands, which is neither `call` nor `call_fn_ptr`. It is not
+// part of the loop, so that what a chain needs costs the loop no register.
+#[cycle(run)]
+#[cold]
+#[inline(never)]
+fn step_or_walk<H: Host, L: Ledger>(
+    run: &mut Run<H>,
+    context: Context<'_>,
+    host: &mut H,
+    steps: &mut Steps<L>,
+    frame: &mut Activation,
+) -> Result<Progress, OutOfMemory>
+    requires runs { Runs context.program.now frame.old run.old }
+    requires none { NoneAbove run.old.level run.old.receivers }
+    requires calls_nothing { CallsNothing context.program.now frame.old }
+    ensures stepped { Stepped (setup_of H.law context.entry)
+        (moment frame.old run.old steps.old host.old) result
+        (moment frame.new run.new steps.new host.new) }
+{
+    match step(run, context, host, steps, frame) {
+        Err(e) => Err(e),
+        Ok(step) => match step {
+            DoneOrChain::Done(progress) => Ok(progress),
+            DoneOrChain::Chain { index, next } => {
+                walk_chain(run, context, host, steps, frame, index, next)
+            }
+        },
+    }
+}
+
 // Does the instruction at which the frame stands and that `quick` did not do.
 #[cycle(run)]
 #[inline(always)]
@@ -157,14 +188,6 @@ fn proceed<H: Host, L: Ledger>(
             Found::Function { number, next } => {
                 let function = context.program.function_at(number);
                 call(run, context, host, steps, frame, function, next)
-            }
-            Found::Chain { index, next } => {
-                let mut copy = *frame;
-                let progress = walk_chain(run, context, host, steps, &mut copy, index, next);
-                frame.address = copy.address;
-                frame.floor = copy.floor;
-                frame.slot = copy.slot;
-                progress
             }
         },
     }

@@ -1,41 +1,70 @@
-//! One instruction of a frame that is neither `call` nor `call_fn_ptr`.
+//! One instruction of a frame that calls no function of itself.
 
-ghost use Rattle.grain_frame.specs.Abstraction.{Runs, setup_of, moment};
-ghost use Rattle.grain_vm.specs.Attempts.{CallsNothing};
-ghost use Rattle.grain_vm.specs.Finding.{FindsHere};
+ghost use Rattle.grain_frame.specs.Abstraction.{Runs, Stepped, setup_of, moment};
+ghost use Rattle.grain_vm.specs.Attempts.{CallsNothing, StandsAtJump};
+ghost use Rattle.grain_vm.specs.Finding.{StepsHere};
 
-use crate::finding::Found;
-use grain_frame::{Activation, Context, Run};
+use grain_frame::{Activation, Context, Progress, Run};
 use grain_global::Steps;
 use grain_host::Host;
 use grain_program::Op;
 use grain_value::OutOfMemory;
 use std::sync::ledger::Ledger;
 
+/// What came of an instruction that is neither `call` nor `call_fn_ptr`, before a chain is walked.
+#[derive(Clone, Copy, Debug, PartialEq, Eq)]
+pub enum DoneOrChain {
+    /// It is done.
+    Done(Progress),
+    /// It walks the chain with this index; afterwards the frame goes on at the address `next`.
+    Chain { index: u16, next: usize },
+}
+
+// Does the jump at which the frame stands.
+#[inline(always)]
+pub(crate) fn jump<H: Host, L: Ledger>(
+    run: &mut Run<H>,
+    context: Context<'_>,
+    host: &mut H,
+    steps: &mut Steps<L>,
+    frame: &mut Activation,
+    target: u32,
+) -> Result<Progress, OutOfMemory>
+    requires runs { Runs context.program.now frame.old run.old }
+    requires here { StandsAtJump context.program.now frame.old run.old target }
+    ensures stepped { Stepped (setup_of H.law context.entry)
+        (moment frame.old run.old steps.old host.old) result
+        (moment frame.new run.new steps.new host.new) }
+{
+    run.jump_to(context, host, steps, frame, target as usize)
+}
+
 // Does the instruction at which the frame stands, which is neither `call` nor `call_fn_ptr`. If
 // it is a chain, it only says which.
-#[cold]
-#[inline(never)]
+#[inline(always)]
 pub(crate) fn step<H: Host, L: Ledger>(
     run: &mut Run<H>,
     context: Context<'_>,
     host: &mut H,
     steps: &mut Steps<L>,
     frame: &mut Activation,
-) -> Result<Found, OutOfMemory>
+) -> Result<DoneOrChain, OutOfMemory>
     requires runs { Runs context.program.now frame.old run.old }
     requires calls_nothing { CallsNothing context.program.now frame.old }
-    ensures finds { FindsHere (setup_of H.law context.entry)
+    ensures steps { StepsHere (setup_of H.law context.entry)
         (moment frame.old run.old steps.old host.old) result
         (moment frame.new run.new steps.new host.new) }
 {
     let address = frame.address;
     let depth = run.stacks.height();
     match context.program.fetch(frame.chunk, address, depth) {
-        (Op::Chain(index), width) => Ok(Found::Chain {
+        (Op::Chain(index), width) => Ok(DoneOrChain::Chain {
             index,
             next: address + width,
         }),
-        (op, width) => Found::of(run.perform(context, host, steps, frame, op, address + width)),
+        (op, width) => match run.perform(context, host, steps, frame, op, address + width) {
+            Err(e) => Err(e),
+            Ok(progress) => Ok(DoneOrChain::Done(progress)),
+        },
     }
 }

@@ -1,16 +1,15 @@
-use Rattle.std.proofs.Common.{◌∙◌, ℕ, Option, Ok, length, refl, subst, arith}
+use Rattle.std.proofs.Common.{◌∙◌, ℕ, Option, Ok, length, refl, subst}
 use Rattle.grain_means.specs.Means.{setup}
 use Rattle.grain_frame.specs.Abstraction.{frame_in, this_of, moment}
-use Rattle.grain_vm.proofs.Found.{found_stepped, is_function}
+use Rattle.grain_vm.proofs.Found.{call_found, found_stepped, is_function, other_found, pointer_found}
 use Rattle.grain_vm.proofs.Calling.{call_ran, has_begun, not_begun, entered_with, kept_with, refused_here, refused_this, there_is, outer_is}
-use Rattle.grain_vm.proofs.Measure.{taken}
-use Rattle.grain_vm.proofs.Turns.{none_on}
-use Rattle.grain_vm.proofs.Running.{around_caught, around_on, chain_taken, done_after, done_from, done_so, led, left_around, left_around_by_memory, runs_here, runs_on, stops_by_fault, stops_by_memory, stops_so, turn_falls}
+use Rattle.grain_vm.proofs.ChainAhead.{chain_stepped}
+use Rattle.grain_vm.proofs.Running.{around_caught, around_on, caught_on, done_after, done_from, done_so, led, left_around, left_around_by_memory, runs_here, runs_on, stops_by_fault, stops_by_memory, stops_so, turn_falls}
 use Rattle.grain_vm.proofs.BoundFrames.{all_still, unbound_above}
 use Rattle.grain_vm.proofs.MethodOvers.{called_one, method_ran, method_refused}
-use Rattle.grain_vm.specs.Catching.{activation_at, StopsSo, Caught, CaughtAt}
+use Rattle.grain_vm.specs.Catching.{activation_at, StopsSo, Caught}
 use Rattle.grain_vm.specs.declared.loops.Stop.{Stop}
-use Rattle.grain_vm.proofs.CaughtFrames.{caught_runs, offered_so, stopped_so}
+use Rattle.grain_vm.proofs.CaughtFrames.{offered_so, stopped_so}
 use Rattle.grain_means.specs.lemmas.Stretches.{compose, same}
 use Rattle.grain_program.specs.View.{chain_of}
 use Rattle.grain_vm.specs.Chains.{walked_frame}
@@ -227,57 +226,57 @@ run_frame-returns-in-None g t c =
 
 pub run_frame-frame-preserved : goal.run_frame-frame-preserved
 run_frame-frame-preserved g t c =
-    let p = c.args.context.program.now in
-    let engine = c.args.context.engine.now in
+    let ran = c.run_from.new in
+    let caught = c.catch.new in
+    let offers = c.in-Ok-catch.ensures in
     let at = activation_at c.args.chunk.now c.args.base c.in-Fault.at c.in-Fault.low c.in-Fault.slot in
-    let did = c.in-Ok.ensures in
-    let stops =
-    subst (λ (q : Stop). StopsSo p c.args.chunk.now c.args.base c.run_from.new.run (Ok q))
-    c.in-Fault.is did.catches in
-    let kept =
-    subst (λ (o : Option ℕ). Caught engine c.run_from.new.run c.catch.new.run (Ok o))
-    c.in-Some.is c.in-Ok-catch.ensures.kept in
-    let typed =
-    subst (λ (o : Option ℕ). CaughtAt p at c.catch.new.run (Ok o)) c.in-Some.is
-    (c.in-Ok-catch.ensures.typed at stops.1) in
-    let now = c.frame.invariant in
-    let around = around_on now did.around in
-    let fewer = taken engine c.frame.run.count c.catch.new.run.count c.frame.address
-    c.in-Some.target (omega (arith, did.around.later, kept.2))
-    (omega (arith, did.around.later, kept.3)) in
+    caught_on c.args.chunk.now c.args.base c.frame.address c.frame.floor c.in-Fault.at c.in-Fault.low
+    c.in-Some.target c.in-Fault.slot c.frame.run ran.run caught.run c.frame.steps ran.steps caught.steps
+    c.frame.host ran.host caught.host c.frame.invariant c.in-Fault.is c.in-Ok.ensures.goes
+    c.in-Ok.ensures.catches c.in-Ok.ensures.around c.in-Some.is (offers.goes at refl refl refl)
+    offers.kept (offers.typed at) c.catch.ensures.before
+
+pub do_or_find-returns-in-Call : goal.do_or_find-returns-in-Call
+do_or_find-returns-in-Call g t c =
+    let found = c.find_named in
     record {
-      goes = compose (compose now.goes
-          (stopped_so c.args.chunk.now c.args.base c.run_from.new.run c.in-Fault.is did.goes) tt)
-          (offered_so (frame_in at c.catch.new.run) c.catch.new.run.fault c.in-Some.is
-          (c.in-Ok-catch.ensures.goes at refl refl refl)) tt;
-      runs = caught_runs p engine c.args.chunk.now c.args.base c.frame.address c.frame.floor
-          c.in-Fault.at c.in-Fault.low c.in-Some.target c.in-Fault.slot c.frame.run c.run_from.new.run
-          c.catch.new.run now.runs did.around.room did.around.outer stops.0 kept typed;
-      outer = kept.0.outer ∙ around.outer;
-      saved = kept.0.saved ∙ around.saved;
-      level = kept.0.level ∙ around.level;
-      this = rw kept.0.receivers around.this;
-      none = rw (kept.0.level, kept.0.receivers) (none_on c.frame.run.receivers
-          c.run_from.new.run.receivers did.around.level did.around.this now.none);
-      later = omega (arith, around.later, kept.2);
-      fewer = omega (arith, fewer, now.fewer);
-      chunk = refl;
-      base = refl;
-      room = kept.0.room ∙ around.room;
-      before = c.catch.ensures.before ∙ around.before;
+      finds = call_found g.H.Host.law c.args.context.program.now c.args.context.engine.now
+          c.args.frame.now found.new.frame c.args.run.now found.new.run c.args.steps.now
+          found.new.steps c.in-Call.name c.in-Call.count c.in-Call.next c.args.host.now
+          found.new.host c.args.pending found.result c.requires.runs c.in-Call.is c.requires.pending
+          found.ensures.finds;
     }
 
--- ---- chains
-
-pub proceed-returns-in-Chain : goal.proceed-returns-in-Chain
-proceed-returns-in-Chain g t c =
-    let found = c.do_or_find.new in
-    let walked = c.walk_chain-progress in
+pub do_or_find-returns-in-Pointer : goal.do_or_find-returns-in-Pointer
+do_or_find-returns-in-Pointer g t c =
+    let found = c.find_pointed-found in
     record {
-      stepped = chain_taken g.H.Host.law c.args.context.program.now c.args.context.engine.now
-          c.args.frame.now found.frame walked.new.frame c.args.run.now found.run walked.new.run
-          c.args.steps.now found.steps walked.new.steps c.in-Ok.found c.in-Chain.index c.in-Chain.next
-          c.args.host.now found.host walked.new.host c.requires.runs c.in-Chain.is c.in-Ok.ensures.finds
+      finds = pointer_found g.H.Host.law c.args.context.program.now c.args.context.engine.now
+          c.args.frame.now found.new.frame c.args.run.now found.new.run c.args.steps.now
+          found.new.steps c.in-Pointer.count c.in-Pointer.next c.args.host.now found.new.host
+          c.args.pending found.result c.requires.runs c.in-Pointer.is c.requires.pending
+          found.ensures.finds;
+    }
+
+pub do_or_find-returns-in-Other : goal.do_or_find-returns-in-Other
+do_or_find-returns-in-Other g t c =
+    let did = c.step_or_walk-progress in
+    rw c.of.ensures (record {
+      finds = other_found g.H.Host.law c.args.context.program.now c.args.context.engine.now
+          c.args.frame.now did.new.frame c.args.run.now did.new.run c.args.steps.now did.new.steps
+          c.args.host.now did.new.host did.result did.ensures.stepped;
+    })
+
+pub step_or_walk-returns-in-Chain : goal.step_or_walk-returns-in-Chain
+step_or_walk-returns-in-Chain g t c =
+    let did = c.step.new in
+    let walked = c.walk_chain in
+    record {
+      stepped = chain_stepped g.H.Host.law c.args.context.program.now c.args.context.engine.now
+          (moment c.args.frame.now c.args.run.now c.args.steps.now c.args.host.now)
+          (moment did.frame did.run did.steps did.host)
+          (moment walked.new.frame walked.new.run walked.new.steps walked.new.host) c.in-Ok.step
+          c.in-Chain.index c.in-Chain.next c.requires.runs c.in-Chain.is c.in-Ok.ensures.steps
           walked.ensures.performs;
     }
 

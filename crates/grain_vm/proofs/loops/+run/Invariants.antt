@@ -12,22 +12,28 @@ use Rattle.grain_vm.proofs.loops.+run.Given as goal
 -- the operations that are left, then the code that is left, and then the function; a call by a walk
 -- stands after all of the code
 abbrev pub decreases-call : goal.decreases-call
-decreases-call g l = 5 * left l.context.engine.now l.run.now.count l.frame.now.address
+decreases-call g l = 7 * left l.context.engine.now l.run.now.count l.frame.now.address
 
 abbrev pub decreases-call_method : goal.decreases-call_method
-decreases-call_method g l = 5 * left l.context.engine.now l.run.now.count 16777216
+decreases-call_method g l = 7 * left l.context.engine.now l.run.now.count 16777216
 
 abbrev pub decreases-walk_chain : goal.decreases-walk_chain
-decreases-walk_chain g l = 5 * left l.context.engine.now l.run.now.count l.frame.now.address + 1
+decreases-walk_chain g l = 7 * left l.context.engine.now l.run.now.count l.frame.now.address + 1
+
+abbrev pub decreases-step_or_walk : goal.decreases-step_or_walk
+decreases-step_or_walk g l = 7 * left l.context.engine.now l.run.now.count l.frame.now.address + 2
+
+abbrev pub decreases-do_or_find : goal.decreases-do_or_find
+decreases-do_or_find g l = 7 * left l.context.engine.now l.run.now.count l.frame.now.address + 3
 
 abbrev pub decreases-proceed : goal.decreases-proceed
-decreases-proceed g l = 5 * left l.context.engine.now l.run.now.count l.frame.now.address + 2
+decreases-proceed g l = 7 * left l.context.engine.now l.run.now.count l.frame.now.address + 4
 
 abbrev pub decreases-run_from : goal.decreases-run_from
-decreases-run_from g l = 5 * left l.context.engine.now l.run.now.count l.address + 3
+decreases-run_from g l = 7 * left l.context.engine.now l.run.now.count l.address + 5
 
 abbrev pub decreases-run_frame : goal.decreases-run_frame
-decreases-run_frame g l = 5 * left l.context.engine.now l.run.now.count l.chunk.now.entry + 4
+decreases-run_frame g l = 7 * left l.context.engine.now l.run.now.count l.chunk.now.entry + 6
 
 -- the walk so far, against where the chain began
 abbrev pub invariant-walk_chain-calls : goal.invariant-walk_chain-calls

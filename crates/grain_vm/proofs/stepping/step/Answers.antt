@@ -1,7 +1,6 @@
 -- The instruction that was fetched is the one at which the frame stands.
 use Rattle.std.proofs.Common.{refl}
 use Rattle.grain_frame.specs.lemmas.Arms.{ready, stands, typed_with}
-use Rattle.grain_vm.proofs.Found.{done_here}
 use Rattle.grain_vm.proofs.stepping.step.Goals as goal
 
 pub fetch-requires : goal.fetch-requires
@@ -29,13 +28,4 @@ returns-in-Chain-default g c =
     c.args.run.now c.fetch.result.0 c.fetch.result.0 c.fetch.result.1
     c.height-depth.result refl c.height-depth.ensures c.requires.runs c.fetch.ensures.verified
     c.fetch.ensures.read in
-    record { finds = (rw c.in-Chain-default.is-0 at at, refl) }
-
-pub returns-in_default : goal.returns-in_default
-returns-in_default g c =
-    rw c.of.ensures (record {
-      finds = done_here g.H.Host.law c.args.context.program.now c.args.context.engine.now
-          c.args.frame.now c.perform.new.frame c.args.run.now c.perform.new.self c.args.steps.now
-          c.perform.new.steps c.args.host.now c.perform.new.host c.perform.result
-          c.perform.ensures.stepped;
-    })
+    record { steps = (rw c.in-Chain-default.is-0 at at, refl) }

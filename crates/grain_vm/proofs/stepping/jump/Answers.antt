@@ -1,7 +1,7 @@
 use Rattle.std.proofs.Common.{refl}
 use Rattle.grain_program.specs.declared.code.instruction_set.Op.TheVariants as op
 use Rattle.grain_frame.specs.lemmas.Arms.{arm}
-use Rattle.grain_vm.proofs.loops.jump.Goals as goal
+use Rattle.grain_vm.proofs.stepping.jump.Goals as goal
 
 pub returns : goal.returns
 returns g c = record {
