@@ -3,11 +3,11 @@
 ghost use Rattle.std.specs.Prelude.{◌≡◌, ◌<◌};
 ghost use Rattle.grain_listing.specs.ListingViews.{IsReady};
 
-use grain_fault::{Fault, Position, RhaiResult};
+use grain_fault::{Fault, RhaiResult};
 use grain_global::{Engine, GlobalRuntimeState, Steps};
 use grain_listing::{Listing, read};
 use grain_program::verify;
-use grain_value::{Dynamic, Held, OutOfMemory, Scope, Store};
+use grain_value::{Dynamic, OutOfMemory, Scope, Store};
 use grain_vm::Vm;
 use std::alloc::Global;
 use std::marker::Brand;
@@ -106,76 +106,6 @@ fn an_exit_two_calls_deep_cuts_the_scope(rt: HostRuntime) -> Result<(), Fail> {
     assert!(rt; ended.scope.contains("a"));
     assert_eq!(rt; ended.global.num_operations(), 2);
     assert_eq!(rt; ended.global.level, 0);
-    Ok(())
-}
-
-/// The fault and the trace of a run in which a chain begins at a cell that is lent: the listing's next
-/// constant is that cell.
-fn at_a_lent_cell<L: Ledger>(
-    alloc: Global,
-    blank: Blank,
-    setup: Listing,
-) -> Result<Option<(RhaiResult, Vec<Fault>)>, OutOfMemory>
-    requires ready { IsReady setup }
-    requires name { blank.name ≡ L.name }
-    requires parts { blank.parts ≡ L.parts }
-    requires enough { 5 < blank.parts }
-{
-    let Listing {
-        mut parts,
-        limits,
-        mut host,
-        mut scope,
-        ..
-    } = setup;
-    let mut cells = Store::new(alloc);
-    let Ok(cell) = cells.add(Held::read_write(Dynamic::Unit)) else {
-        return Err(OutOfMemory);
-    };
-    let _lent = cells.lend(cell);
-    parts.consts.push(Dynamic::Cell(cell))?;
-    let Ok(program) = verify(alloc, parts) else {
-        return Ok(None);
-    };
-    let engine = Engine::new(alloc, limits);
-    let mut vm = Vm::new(alloc, &engine)?;
-    let mut steps = Steps::<L>::new(blank);
-    let answer = vm.eval_with_callbacks(
-        alloc, &mut host, &mut cells, &mut scope, &program, &mut steps,
-    );
-    let trace = Vec::from_slice(alloc, vm.fault_trace())?;
-    Ok(Some((answer, trace)))
-}
-
-/// The same of a listing.
-fn at_a_lent_cell_of(
-    alloc: Global,
-    listing: &str,
-) -> Result<Option<(RhaiResult, Vec<Fault>)>, OutOfMemory> {
-    match read(alloc, listing.as_bytes())? {
-        Ok(setup) => at_a_lent_cell::<Brand>(alloc, Blank::new(6), setup),
-        Err(_) => Ok(None),
-    }
-}
-
-#[test]
-fn no_chain_begins_at_a_lent_cell(rt: HostRuntime) -> Result<(), Fail> {
-    let listing =
-        "grain 1\nconst 0\nchain 0 temporary read\nstep property 0 0 0\nchain 1 temporary read\n\
-        step index 0\nname \"p\"\nmain 2\nload_const 0\nload_const 1\nchain 1 @7:1\nreturn\nend\n";
-    let Some((answer, trace)) = at_a_lent_cell_of(rt.alloc(), listing)? else {
-        return Err("refused".into());
-    };
-    let Err(fault) = answer else {
-        return Err("no fault".into());
-    };
-    assert_eq!(rt; fault.name(), "ErrorDataRace");
-    assert_eq!(rt; fault.position(), Position::new(7, 1));
-    let stopped = Fault {
-        address: 6,
-        slot: Some(1),
-    };
-    assert!(rt; trace.len() == 1 && trace.as_slice()[0] == stopped);
     Ok(())
 }
 
