@@ -22,7 +22,7 @@ const fn chunk(entry: u32, end: u32) -> Chunk {
     }
 }
 
-/// Parts of so many returns, of which main has those before its end, and one function others.
+/// Parts of `returns` return instructions: main has those before `main_end`, and one function the others.
 fn parts_of(
     alloc: Global,
     returns: usize,
