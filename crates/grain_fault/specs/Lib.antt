@@ -10,7 +10,7 @@ pub mod Exits
 pub mod Absences
 pub mod Positions
 pub mod Texts
-pub mod Chains
+pub mod Wrappers
 pub mod Fields
 pub mod CatchValues
 pub mod FieldsView

@@ -6,7 +6,6 @@ ghost use Rattle.grain_fault.specs.Problems.{problem_of};
 ghost use Rattle.grain_fault.specs.Table.{kind_text};
 ghost use Rattle.grain_fault.specs.Texts.{fault_name, fault_text, message, own_message, wrapper_text, line_and_column_text, location_text, call_text, origin_text, module_text};
 
-use crate::chains::{Unwrapped, unwrap_all};
 use crate::fault_parts::{
     write_array_bounds, write_bit_field_bounds, write_custom_syntax, write_data_race,
     write_index_not_found, write_labelled, write_malformed, write_mismatch, write_non_pure_call,
@@ -14,6 +13,7 @@ use crate::fault_parts::{
 };
 use crate::faults::{EvalAltResult, MalformedKind};
 use crate::places::Position;
+use crate::wrappers::{Unwrapped, unwrap_all};
 use grain_value::{OutOfMemory, Text};
 use std::fmt;
 

@@ -3,7 +3,6 @@
 
 mod absences;
 mod catch_values;
-mod chains;
 mod classes;
 mod fault_parts;
 mod fault_texts;
@@ -12,6 +11,7 @@ mod fields;
 mod places;
 mod positions;
 mod traces;
+mod wrappers;
 
 pub use catch_values::caught_value;
 pub use faults::{EvalAltResult, MalformedKind, RhaiResult, RhaiResultOf};

@@ -54,4 +54,5 @@ bound_more scope scope' names ps xs ys i f h name lp lx is es ey =
       drop_held (f + i) xs lx,
       named names (get_or ps i 0) name is,
     )
-    (append_assoc scope (new_entry name (read_write (operand_at (f + i) xs).value) ∷ []) (bound_entries names (drop (suc i) ps) (drop (suc (f + i)) xs)))
+    (append_assoc scope (new_entry name (read_write (operand_at (f + i) xs).value) ∷ [])
+    (bound_entries names (drop (suc i) ps) (drop (suc (f + i)) xs)))

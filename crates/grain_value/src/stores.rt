@@ -131,7 +131,8 @@ impl Store {
     pub fn get(&self, cell: usize) -> Result<&Held, ValueFault>
         requires { cell < length self.now }
         ensures content { IfOk result (λ h. slice_get self.now cell ≡ Some (idle h.now)) }
-        ensures busy { IfErr result (λ e. (e ≡ fault.Busy) × (option_map is_busy (slice_get self.now cell) ≡ Some true)) }
+        ensures busy { IfErr result (λ e.
+            (e ≡ fault.Busy) × (option_map is_busy (slice_get self.now cell) ≡ Some true)) }
     {
         let place = &self.cells[cell];
         if place.busy {
@@ -144,8 +145,12 @@ impl Store {
     /// already.
     pub fn lend(&mut self, cell: usize) -> Result<Held, ValueFault>
         requires { cell < length self.old }
-        ensures content { IfOk result (λ h. (slice_get self.old cell ≡ Some (idle h)) × (self.new ≡ slice_set self.old cell (lent h))) }
-        ensures busy { IfErr result (λ e. (e ≡ fault.Busy) × (option_map is_busy (slice_get self.old cell) ≡ Some true) × (self.new ≡ self.old)) }
+        ensures content { IfOk result (λ h.
+            (slice_get self.old cell ≡ Some (idle h))
+            × (self.new ≡ slice_set self.old cell (lent h))) }
+        ensures busy { IfErr result (λ e.
+            (e ≡ fault.Busy) × (option_map is_busy (slice_get self.old cell) ≡ Some true)
+            × (self.new ≡ self.old)) }
     {
         let place = &self.cells[cell];
         if place.busy {

@@ -72,7 +72,7 @@ fn located_among(length: usize, index: &Dynamic) -> Result<usize, ValueFault>
     }
 }
 
-// Which of so many entries an integer names: a negative one counts from the end.
+// Which of `length` entries an integer names: a negative one counts from the end.
 fn entry_index(length: usize, index: i64) -> Option<usize>
     ensures { result ≡ entry_index length index }
 {

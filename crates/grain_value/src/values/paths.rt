@@ -158,7 +158,7 @@ impl Map {
     }
 }
 
-// How many levels an array or map of so many has, at most, once the value stands below it, at the
+// How many levels an array or map of `levels` levels has, at most, once the value stands below it, at the
 // end of the rest of a path.
 fn levels_above(levels: usize, rest: &[PathStep], value: &Dynamic) -> usize {
     value

@@ -5,4 +5,5 @@ use Rattle.grain_module.proofs.modules.Module.get_fn.Given as goal
 
 abbrev pub invariant-loop-function : goal.invariant-loop-function
 invariant-loop-function l =
-    function_of l.name l.kinds (drop l.function-index l.function-items) ≡ function_of l.name l.kinds l.self.functions
+    function_of l.name l.kinds (drop l.function-index l.function-items)
+    ≡ function_of l.name l.kinds l.self.functions

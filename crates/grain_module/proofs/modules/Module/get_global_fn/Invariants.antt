@@ -5,4 +5,5 @@ use Rattle.grain_module.proofs.modules.Module.get_global_fn.Given as goal
 
 abbrev pub invariant-loop-function : goal.invariant-loop-function
 invariant-loop-function l =
-    global_function_of l.name l.kinds (drop l.function-index l.function-items) ≡ global_function_of l.name l.kinds l.self.functions
+    global_function_of l.name l.kinds (drop l.function-index l.function-items)
+    ≡ global_function_of l.name l.kinds l.self.functions

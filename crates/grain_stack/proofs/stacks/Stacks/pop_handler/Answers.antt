@@ -23,5 +23,6 @@ returns c =
     newest_here (length (floors c.self.inside)) c.in-Some.newest (reverse c.pop.new.self.items)
     (rw on at c.self.invariant.handlers) (rw on at some) in
     sym c.self.view_is
-    ∙ with_handler (record c.self.inside { handlers = c.pop.new.self }) c.self.inside c.in-Some.newest refl refl refl refl refl
+    ∙ with_handler (record c.self.inside { handlers = c.pop.new.self }) c.self.inside c.in-Some.newest
+    refl refl refl refl refl
     refl refl c.in-Some.ensures.items here

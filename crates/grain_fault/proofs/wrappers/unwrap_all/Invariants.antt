@@ -1,9 +1,9 @@
 -- The wrappers so far, and the fault inside them.
 use Rattle.std.proofs.Common.{◌≡◌, ◌++◌}
-use Rattle.grain_fault.specs.Chains.{added}
+use Rattle.grain_fault.specs.Wrappers.{added}
 use Rattle.grain_fault.specs.Problems.{problem_of}
 use Rattle.grain_fault.specs.Texts.{message}
-use Rattle.grain_fault.proofs.chains.unwrap_all.Given as goal
+use Rattle.grain_fault.proofs.wrappers.unwrap_all.Given as goal
 
 abbrev pub invariant-loop-innermost : goal.invariant-loop-innermost
 invariant-loop-innermost l =

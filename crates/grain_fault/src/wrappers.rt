@@ -1,7 +1,7 @@
 //! Faults from the inside out.
 
 ghost use Rattle.std.specs.Prelude.{◌≡◌, ◌++◌, [], Some, IfOk};
-ghost use Rattle.grain_fault.specs.Chains.{added};
+ghost use Rattle.grain_fault.specs.Wrappers.{added};
 ghost use Rattle.grain_fault.specs.Problems.{problem_of};
 ghost use Rattle.grain_fault.specs.Texts.{message, location_text};
 

@@ -4,10 +4,10 @@ use Rattle.std.proofs.Output.{has_written_append, has_written_of_eq}
 use Rattle.std.proofs.lemmas.Iterator.Adapters.{YieldsList-from_rev_slice}
 use Rattle.std.proofs.lemmas.Iterator.Consumers.{YieldsList-end}
 use Rattle.std.proofs.lemmas.List.{flat_map_more, map-append}
-use Rattle.grain_fault.specs.Chains.{added_by}
+use Rattle.grain_fault.specs.Wrappers.{added_by}
 use Rattle.grain_fault.specs.Problems.{problem_of}
 use Rattle.grain_fault.specs.Texts.{message, location_text}
-use Rattle.grain_fault.proofs.chains.UnwrappedDisplay.fmt.Goals as goal
+use Rattle.grain_fault.proofs.wrappers.UnwrappedDisplay.fmt.Goals as goal
 
 pub returns-clause-writes : goal.returns-clause-writes
 returns-clause-writes g c = λ plain ok.

@@ -1,8 +1,8 @@
 -- The innermost wrappers are written.
 use Rattle.std.proofs.Common.{flat_map, map}
 use Rattle.std.specs.Fmt.{HasWritten, IsPlainFormatter}
-use Rattle.grain_fault.specs.Chains.{added_by}
-use Rattle.grain_fault.proofs.chains.UnwrappedDisplay.fmt.Given as goal
+use Rattle.grain_fault.specs.Wrappers.{added_by}
+use Rattle.grain_fault.proofs.wrappers.UnwrappedDisplay.fmt.Given as goal
 
 abbrev pub invariant-loop-wrapper : goal.invariant-loop-wrapper
 invariant-loop-wrapper g l =
