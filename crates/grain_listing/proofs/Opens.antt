@@ -1,4 +1,4 @@
--- Whether steps may follow a line is told by its first word.
+-- The first word of a line decides whether steps may follow it.
 use Rattle.std.proofs.Common.{◌≡◌, ℕ, Bool, true, false, cond, nat_lt, is_some, List, [], ◌∷◌, length, Option, Some, None, Result, Ok, Err, refl}
 use Rattle.std.specs.Str.{encode_utf8_all}
 use Rattle.grain_program.specs.InstructionSet.{tag_of, fields_of}

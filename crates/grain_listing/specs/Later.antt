@@ -24,9 +24,8 @@ later_variables =
 abbrev pub later_calls : List (List ℕ)
 later_calls =
     codes "call_local_ref" ∷ codes "call_named_ref" ∷ codes "call_this_ref" ∷
-    codes "make_fn_ptr" ∷ codes "call_fn_ptr_capture" ∷ codes "call_fn_ptr_method" ∷
-    codes "call_fn_ptr_on_local" ∷ codes "call_fn_ptr_on_named" ∷
-    codes "call_fn_ptr_on_this" ∷ []
+    codes "make_fn_ptr" ∷ codes "call_fn_ptr_capture" ∷
+    codes "call_fn_ptr_on_named" ∷ []
 
 -- the other instructions
 abbrev pub later_others : List (List ℕ)

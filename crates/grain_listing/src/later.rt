@@ -22,16 +22,13 @@ const VARIABLES: [&str; 6] = [
 ];
 
 /// Instructions that call and make what is called.
-const CALLS: [&str; 9] = [
+const CALLS: [&str; 6] = [
     "call_local_ref",
     "call_named_ref",
     "call_this_ref",
     "make_fn_ptr",
     "call_fn_ptr_capture",
-    "call_fn_ptr_method",
-    "call_fn_ptr_on_local",
     "call_fn_ptr_on_named",
-    "call_fn_ptr_on_this",
 ];
 
 /// The other instructions.

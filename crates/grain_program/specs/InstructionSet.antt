@@ -118,6 +118,15 @@ row (op.Curry k) =
     entry (codes "curry") 0x29 (field.Count k ∷ []) (k + 1) 1 falls_through function_calls
 row (op.CallFnPtr k) =
     entry (codes "call_fn_ptr") 0x2a (field.Count k ∷ []) (k + 1) 1 falls_through function_calls
+row (op.CallFnPtrMethod k) =
+    let word = codes "call_fn_ptr_method" in
+    entry word 0x2c (field.Count k ∷ []) (k + 1) 1 falls_through function_calls
+row (op.CallFnPtrOnLocal k s) =
+    let fields : List Field = field.Count k ∷ field.Slot s ∷ [] in
+    entry (codes "call_fn_ptr_on_local") 0x2d fields (k + 1) 1 falls_through function_calls
+row (op.CallFnPtrOnThis k) =
+    let word = codes "call_fn_ptr_on_this" in
+    entry word 0x2f (field.Count k ∷ []) (k + 1) 1 falls_through function_calls
 row (op.Chain k) = plain (codes "chain") 0x37 (field.Chain k ∷ []) 0 1 falls_through
 row (op.UnwindTo d) = plain (codes "unwind_to") 0x38 (field.Number d ∷ []) 0 0 falls_through
 row op.Tick = plain (codes "tick") 0x39 [] 0 0 falls_through
@@ -176,6 +185,9 @@ instructions =
     (λ n. op.MakeClosure (first n)) ∷
     (λ n. op.Curry (first n)) ∷
     (λ n. op.CallFnPtr (first n)) ∷
+    (λ n. op.CallFnPtrMethod (first n)) ∷
+    (λ n. op.CallFnPtrOnLocal (first n) (second n)) ∷
+    (λ n. op.CallFnPtrOnThis (first n)) ∷
     (λ n. op.Chain (first n)) ∷
     (λ n. op.UnwindTo (first n)) ∷
     (λ n. op.Tick) ∷

@@ -241,7 +241,7 @@ const LATER_LINES: &str = "\
     load_named\nload_shared_named\nassign_named\nassign_named_op\ndeclare_global_const\n\
     share_named\n\
     call_local_ref\ncall_named_ref\ncall_this_ref\nmake_fn_ptr\ncall_fn_ptr_capture\n\
-    call_fn_ptr_method\ncall_fn_ptr_on_local\ncall_fn_ptr_on_named\ncall_fn_ptr_on_this\n\
+    call_fn_ptr_on_named\n\
     make_array\nmake_map\ncheck_array_size\ncheck_map_size\ninterpolate_start\n\
     interpolate_append\ninterpolate_end\niter_init\niter_drop\niter_next 0\niter_next_indexed\n\
     export_local\nexport_named\nimport\ncustom_syntax\neval_ast\neval_ast_keep\n";

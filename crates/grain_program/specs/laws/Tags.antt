@@ -9,7 +9,7 @@ abbrev pub with_op : Option Op → List Op → List Op
 with_op None os = os
 with_op (Some o) os = o ∷ os
 
--- the instructions of so many tags, from this one on
+-- the instructions of n tags, from this one on
 abbrev pub ops_from : ℕ → ℕ → List Op
 ops_from zero tag = []
 ops_from (suc n) tag = with_op (op_of_tag tag) (ops_from n (tag + 1))

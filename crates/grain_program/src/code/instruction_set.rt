@@ -82,6 +82,16 @@ pub enum Op {
     /// `call_fn_ptr n`: the function of the pointer below the n last operands, on its values and
     /// on these.
     CallFnPtr(u8),
+    /// `call_fn_ptr_method n`: as `call_fn_ptr n`. But if the operand below the n last is no
+    /// pointer, it is the receiver, which the function has as its `this`, and the first of the n is
+    /// the pointer. Afterwards the receiver is dropped.
+    CallFnPtrMethod(u8),
+    /// `call_fn_ptr_on_local n S`: as `call_fn_ptr_method n`. But afterwards the receiver goes to
+    /// the entry of the slot.
+    CallFnPtrOnLocal(u8, u16),
+    /// `call_fn_ptr_on_this n`: as `call_fn_ptr_method n`. But afterwards the receiver goes to
+    /// `this`.
+    CallFnPtrOnThis(u8),
     /// `chain K`: walks along the chain, and does there what its end says.
     Chain(u16),
     /// `unwind_to d`: cuts the scope to d entries above the base.
@@ -246,6 +256,19 @@ pub(crate) fn tagged(tag: u8, rest: &[u8], op: &mut Op) -> usize
             *op = Op::CallFnPtr(one_there(rest));
             2
         }
+        0x2c => {
+            *op = Op::CallFnPtrMethod(one_there(rest));
+            2
+        }
+        0x2d => {
+            let slot = &rest[1..];
+            *op = Op::CallFnPtrOnLocal(one_there(rest), two_there(slot));
+            4
+        }
+        0x2f => {
+            *op = Op::CallFnPtrOnThis(one_there(rest));
+            2
+        }
         0x37 => {
             *op = Op::Chain(two_there(rest));
             3
@@ -329,6 +352,9 @@ impl Op {
             Op::MakeClosure(_) => "make_closure",
             Op::Curry(_) => "curry",
             Op::CallFnPtr(_) => "call_fn_ptr",
+            Op::CallFnPtrMethod(_) => "call_fn_ptr_method",
+            Op::CallFnPtrOnLocal(_, _) => "call_fn_ptr_on_local",
+            Op::CallFnPtrOnThis(_) => "call_fn_ptr_on_this",
             Op::Chain(_) => "chain",
             Op::UnwindTo(_) => "unwind_to",
             Op::Tick => "tick",
@@ -462,6 +488,24 @@ impl Op {
                 let fields = Fields::one(Field::Count(count));
                 let taken = u32::from(count) + 1;
                 let pointer = plain(0x2a, fields, taken, 1, Flow::Next);
+                needing(Caps::FUNCTION, pointer)
+            }
+            Op::CallFnPtrMethod(count) => {
+                let fields = Fields::one(Field::Count(count));
+                let taken = u32::from(count) + 1;
+                let pointer = plain(0x2c, fields, taken, 1, Flow::Next);
+                needing(Caps::FUNCTION, pointer)
+            }
+            Op::CallFnPtrOnLocal(count, slot) => {
+                let fields = Fields::two(Field::Count(count), Field::Slot(slot));
+                let taken = u32::from(count) + 1;
+                let pointer = plain(0x2d, fields, taken, 1, Flow::Next);
+                needing(Caps::FUNCTION, pointer)
+            }
+            Op::CallFnPtrOnThis(count) => {
+                let fields = Fields::one(Field::Count(count));
+                let taken = u32::from(count) + 1;
+                let pointer = plain(0x2f, fields, taken, 1, Flow::Next);
                 needing(Caps::FUNCTION, pointer)
             }
             Op::Chain(chain) => {
