@@ -6,28 +6,32 @@ use Rattle.grain_fault.specs.Positions.{at_position_if_none}
 use Rattle.grain_fault.specs.declared.places.Position.{Position}
 use Rattle.grain_program.specs.declared.code.instruction_set.Op.{Op}
 use Rattle.grain_program.specs.declared.code.instruction_set.Op.TheVariants as op
+use Rattle.grain_program.specs.declared.code.functions.Function.{Function}
+use Rattle.grain_value.specs.declared.values.Held.{Held}
 use Rattle.grain_means.specs.Worlds.{Frame, Setup, World}
 use Rattle.grain_means.specs.Rules.{position}
 use Rattle.grain_means.specs.Comes.{ProgramPoint}
-use Rattle.grain_means.specs.Causes.{AnswersLent, AsksLast, AsksNative, AsksOnCopies, HasPosition, HostAnswers, IsNoChain, Mistypes, Question, Raises, ReadsLent, Row}
+use Rattle.grain_means.specs.Causes.{CallsFunction, AnswersLent, AsksLast, AsksNative, AsksOnce, HasPosition, HostAnswers, IsNoChain, Mistypes, Question, Raises, ReadsLent, Row}
 
 -- at a chain
 module _ {S : Type 0} (m : Setup S) (k : ℕ) (f : Frame) (w : World S) where
   abbrev at : ProgramPoint S
   at = record { instruction = op.Chain k; frame = f; world = w }
 
-  on_copies : (q : Question S) → AsksOnCopies m q at → ⊥
-  on_copies q h = neither h.3 where
-    neither : ⊥ ⊎ ⊥ → ⊥
-    neither (inl a) = a
-    neither (inr b) = b
+  neither : ⊥ ⊎ ⊥ → ⊥
+  neither (inl a) = a
+  neither (inr b) = b
+
+  asks_once : (q : Question S) → AsksOnce m q at → ⊥
+  asks_once q (inl a) = neither a.3
+  asks_once q (inr b) = b.is
 
   asks_last : (x : Problem) (q : Question S) → AsksLast m x q at → ⊥
-  asks_last x q (inl a) = on_copies q a
+  asks_last x q (inl a) = asks_once q a
   asks_last x q (inr b) = b.5.to
 
   asks_native : (q : Question S) → AsksNative m q at → ⊥
-  asks_native q (inl a) = on_copies q a
+  asks_native q (inl a) = asks_once q a
   asks_native q (inr b) = b.5.to
 
   races : (name : List ℕ) → ReadsLent m.program name (op.Chain k) f w ⊎ AnswersLent m name at → ⊥
@@ -37,6 +41,10 @@ module _ {S : Type 0} (m : Setup S) (k : ℕ) (f : Frame) (w : World S) where
   mistypes : (r a : List ℕ) → Mistypes r a (op.Chain k) f w → ⊥
   mistypes r a (inl h) = h.5
   mistypes r a (inr h) = h.6
+
+  calls : (g : Function) (args : List Held) → CallsFunction m.program g args (op.Chain k) f w → ⊥
+  calls g args (inl a) = a
+  calls g args (inr b) = b.1.1
 
   no_kind : (x : FaultKind) → Raises m x at → ⊥
   no_kind (FunctionNotFound s) row =
@@ -53,7 +61,7 @@ module _ {S : Type 0} (m : Setup S) (k : ℕ) (f : Frame) (w : World S) where
   no_kind (Runtime v) row = row.1
   no_kind TooManyOperations row = row.1
   no_kind TooManyVariables row = row
-  no_kind StackOverflow row = row.2.2
+  no_kind StackOverflow row = calls row.2.0 row.2.1 row.2.2
   no_kind UnboundThis row = row.1
   no_kind (DataTooLarge t) row = row.2
   no_kind (Malformed (kind.SlotPastScope i n)) row = row.2

@@ -19,6 +19,7 @@ pub mod MethodTasks
 pub mod StepTasks
 pub mod Walks
 pub mod Chains
+pub mod Receivers
 use Rattle.std.proofs.Common.{◌≡◌, ◌≤◌, ◌+◌, ℕ, List, [], ◌∷◌, Option, Some, None, Bool, true, false, length, refl, arith}
 use Rattle.std.specs.List.{AllByRecursion}
 use Rattle.std.specs.Prelude.{is_some}
@@ -37,7 +38,7 @@ use Rattle.grain_host.specs.Law.{IsLawful}
 use Rattle.grain_means.specs.Contained.{AnswerNames, ConstantsName, Contained, Names, RootsName}
 use Rattle.grain_means.specs.Ends.{Ends, ended, went, joined}
 use Rattle.grain_means.specs.Rules as rules
-use Rattle.grain_means.specs.Rules.{exit_of, function_found, given, is_stop, operated, or_return, outer_handlers, stepped, without}
+use Rattle.grain_means.specs.Rules.{Nowhere, ToSlot, ToThis, exit_of, function_found, given, is_stop, operated, or_return, outer_handlers, stepped, without}
 use Rattle.grain_means.specs.Worlds.{Act, Go, End, Then, Answer, Came, Failed, Frame, Handler, InCatch, InFrame, Place, Setup, Todo, World}
 use Rattle.grain_means.proofs.Caught.{sole_names}
 use Rattle.grain_means.proofs.Footing.{by_test}
@@ -53,6 +54,7 @@ use Rattle.grain_means.proofs.Containing.Transfers.{jumping, tests_top, skips, u
 use Rattle.grain_means.proofs.Containing.Chains.{chains}
 use Rattle.grain_means.proofs.Containing.ThisSteps.{assigns_this, loads_this, loads_this_shared, op_assigns_this, requires_this}
 use Rattle.grain_means.proofs.Containing.Calls.{calls_function, curries, calls_pointer}
+use Rattle.grain_means.proofs.Containing.Receivers.{calls_method}
 use Rattle.grain_means.proofs.Containing.Catching.{catches}
 
 module _ {S : Type 0} {m : Setup S} (on : Grounds m) where
@@ -140,6 +142,10 @@ module _ {S : Type 0} {m : Setup S} (on : Grounds m) where
         (omega arith, λ s. refl)
     does (op.Curry k) next w at = curries on n low f names k next w at
     does (op.CallFnPtr k) next w at = calls_pointer on n low f names k next w at
+    does (op.CallFnPtrMethod k) next w at = calls_method on n low f names Nowhere k next w at
+    does (op.CallFnPtrOnLocal k slot) next w at =
+        calls_method on n low f names (ToSlot slot) k next w at
+    does (op.CallFnPtrOnThis k) next w at = calls_method on n low f names ToThis k next w at
     does (op.UnwindTo depth) next w at = unwinds on n low f names (f.base + depth) next w at
     does op.Tick next w at =
         charged on n low f names

@@ -18,7 +18,7 @@ use Rattle.grain_program.specs.declared.code.chains.Step.TheVariants as step
 use Rattle.grain_program.specs.declared.code.chains.StepFlags.{StepFlags}
 use Rattle.grain_means.specs.Worlds.{Answer, Came, Failed, Place}
 use Rattle.grain_means.specs.Places.{put}
-use Rattle.grain_means.specs.Tasks.{Walked, Well, Ill, Invocation, Method, Numbered, Pointed, Play, Over, Asks, Calls, play}
+use Rattle.grain_means.specs.Tasks.{Walked, WalkEnded, WalkFailed, Invocation, Method, Numbered, Pointed, Play, Over, Asks, Calls, play}
 use Rattle.grain_means.specs.Walks.{Course, whole_walk}
 
 abbrev here : Position
@@ -49,8 +49,8 @@ module _ (engine : Engine) (program : View) where
 
   abbrev end_of : Play → Walked
   end_of (Over o s) = o
-  end_of (Asks c f s) = Ill 99 NoMemory
-  end_of (Calls i f s) = Ill 99 NoMemory
+  end_of (Asks c f s) = WalkFailed 99 NoMemory
+  end_of (Calls i f s) = WalkFailed 99 NoMemory
 
   abbrev root_of : Play → Dynamic
   root_of (Over o s) = (slice_index_or s.roots 0 (read_write dynamic.Unit)).value
@@ -94,16 +94,16 @@ module _ (engine : Engine) (program : View) where
 
   -- an index past the end, and one that counts from the end
   pub past_the_end : end_of (begin (course (integer (pos 5) ∷ []) None None) (index ∷ []) one)
-      ≡ Ill 0 (Plain (ArrayBounds 1 (pos 5)) here)
+      ≡ WalkFailed 0 (Plain (ArrayBounds 1 (pos 5)) here)
   past_the_end = refl
 
   pub from_the_end : end_of (begin (course (integer (negsuc 0) ∷ []) None None) (index ∷ []) one)
-      ≡ Well (dynamic.Int (pos 1)) false
+      ≡ WalkEnded (dynamic.Int (pos 1)) false
   from_the_end = refl
 
   -- a key that is missing, read as a property
   pub missing_property : end_of (begin (course [] None None) (property ∷ []) (dynamic.Map []))
-      ≡ Well dynamic.Unit false
+      ≡ WalkEnded dynamic.Unit false
   missing_property = refl
 
   -- a key that is missing is added, and stays where the op-assignment then fails
@@ -144,14 +144,14 @@ module _ (engine : Engine) (program : View) where
   getter_asked = refl
 
   pub getter_answered : end_of (resumed (Came (dynamic.Int (pos 3))) getting)
-      ≡ Well (dynamic.Int (pos 3)) false
+      ≡ WalkEnded (dynamic.Int (pos 3)) false
   getter_answered = refl
 
   pub indexer_asked : asked_name (resumed no_property getting) ≡ codes "index$get$"
   indexer_asked = refl
 
   pub getter_missing : end_of (resumed no_index (resumed no_property getting))
-      ≡ Ill 0 (Plain (DotExpr []) here)
+      ≡ WalkFailed 0 (Plain (DotExpr []) here)
   getter_missing = refl
 
   -- a property of a host's value is changed below: it is set back
@@ -169,7 +169,7 @@ module _ (engine : Engine) (program : View) where
 
   pub set_back_ignored :
       end_of (resumed no_index (resumed no_property (resumed (Came one) changing)))
-      ≡ Well dynamic.Unit true
+      ≡ WalkEnded dynamic.Unit true
   set_back_ignored = refl
 
   -- a property that the chain assigns, and that has no setter
@@ -177,12 +177,12 @@ module _ (engine : Engine) (program : View) where
   setting = begin (course [] (Some (dynamic.Int (pos 9))) None) (property ∷ []) (dynamic.Foreign 16 1)
 
   pub setter_missing : end_of (resumed no_index (resumed no_property setting))
-      ≡ Ill 0 (Plain (DotExpr []) here)
+      ≡ WalkFailed 0 (Plain (DotExpr []) here)
   setter_missing = refl
 
   -- a step that skips at unit
   pub skipped : end_of (begin (course [] None None)
-      (step.Property 0 1 2 skip_unit here ∷ []) dynamic.Unit) ≡ Well dynamic.Unit false
+      (step.Property 0 1 2 skip_unit here ∷ []) dynamic.Unit) ≡ WalkEnded dynamic.Unit false
   skipped = refl
 
   -- an index of a value that has none is for the host's indexers; where the read fails, the value is set as
@@ -199,7 +199,7 @@ module _ (engine : Engine) (program : View) where
       ≡ dynamic.Int (pos 0) ∷ dynamic.Int (pos 9) ∷ []
   index_written = refl
 
-  pub index_ignored : end_of (resumed no_index (resumed no_index indexing)) ≡ Well dynamic.Unit true
+  pub index_ignored : end_of (resumed no_index (resumed no_index indexing)) ≡ WalkEnded dynamic.Unit true
   index_ignored = refl
 
   -- an index that is a lent cell: a map reads it, at the index's position, and the host's indexers are
@@ -211,7 +211,7 @@ module _ (engine : Engine) (program : View) where
   lent_index = step.Index 0 no_flags there here
 
   pub index_lent : end_of (begin (course (cell 7 ∷ []) None None) (lent_index ∷ []) (dynamic.Map []))
-      ≡ Ill 0 (Plain (DataRace (codes "variable ''")) there)
+      ≡ WalkFailed 0 (Plain (DataRace (codes "variable ''")) there)
   index_lent = refl
 
   pub index_handed_on : asked_values (begin (course (cell 7 ∷ []) None None) (lent_index ∷ [])
@@ -236,7 +236,7 @@ module _ (engine : Engine) (program : View) where
 
   -- it is not of the type of a bit
   pub bit_mistyped : end_of (resumed (Came dynamic.Unit) (written dynamic.Unit lending))
-      ≡ Ill 0 (Plain (MismatchDataType (codes "bool") (codes "()")) here)
+      ≡ WalkFailed 0 (Plain (MismatchDataType (codes "bool") (codes "()")) here)
   bit_mistyped = refl
 
   -- a missing key of an index, in which something changes further down, is set by the host's indexer
@@ -253,7 +253,7 @@ module _ (engine : Engine) (program : View) where
   missing_set_back = refl
 
   pub missing_ends : end_of (resumed no_index (resumed (Came dynamic.Unit) missing))
-      ≡ Well dynamic.Unit true
+      ≡ WalkEnded dynamic.Unit true
   missing_ends = refl
 
   -- A method step, of the name `word`. `curry` puts its arguments after the values of a pointer.
@@ -276,21 +276,21 @@ module _ (engine : Engine) (program : View) where
 
   pub curried : end_of (calling (codes "curry") (integer (pos 2) ∷ [])
       (dynamic.Pointer (pointer (integer (pos 1) ∷ []))))
-      ≡ Well (dynamic.Pointer (pointer (integer (pos 1) ∷ integer (pos 2) ∷ []))) true
+      ≡ WalkEnded (dynamic.Pointer (pointer (integer (pos 1) ∷ integer (pos 2) ∷ []))) true
   curried = refl
 
   -- `is_shared` asks the root itself, which may be a cell
   pub shared : end_of (calling (codes "is_shared") [] (dynamic.Cell 0))
-      ≡ Well (dynamic.Bool true) true
+      ≡ WalkEnded (dynamic.Bool true) true
   shared = refl
 
   pub not_shared : end_of (calling (codes "is_shared") [] (dynamic.Int (pos 1)))
-      ≡ Well (dynamic.Bool false) true
+      ≡ WalkEnded (dynamic.Bool false) true
   not_shared = refl
 
   -- `call` of a value that is no pointer, without an argument
   pub no_pointer : end_of (calling (codes "call") [] (dynamic.Int (pos 1)))
-      ≡ Ill 0 (Plain (MismatchDataType (codes "Fn") (codes "i64")) there)
+      ≡ WalkFailed 0 (Plain (MismatchDataType (codes "Fn") (codes "i64")) there)
   no_pointer = refl
 
   -- the function that is called, and what it has as its `this`
@@ -333,10 +333,10 @@ module _ (engine : Engine) (program : View) where
 
   -- what is called gives the chain's value, and its fault blames the step
   pub method_answered : end_of (resumed (Came (dynamic.Int (pos 7))) of_argument)
-      ≡ Well (dynamic.Int (pos 7)) true
+      ≡ WalkEnded (dynamic.Int (pos 7)) true
   method_answered = refl
 
-  pub method_failed : end_of (resumed no_index of_argument) ≡ Ill 0 (Plain (IndexingType []) here)
+  pub method_failed : end_of (resumed no_index of_argument) ≡ WalkFailed 0 (Plain (IndexingType []) here)
   method_failed = refl
 
   -- how many these are

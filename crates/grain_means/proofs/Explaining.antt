@@ -28,7 +28,7 @@ use Rattle.grain_program.specs.declared.code.chains.StepFlags.{StepFlags}
 use Rattle.grain_means.specs.Worlds.{Place, Setup, World}
 use Rattle.grain_value.specs.declared.values.paths.PathStep.TheVariants as path_step
 use Rattle.grain_means.specs.Places.{deeper, look, put}
-use Rattle.grain_means.specs.Tasks.{Task, Done, Look, Write, Well}
+use Rattle.grain_means.specs.Tasks.{Task, Done, Look, Write, WalkEnded}
 use Rattle.grain_means.specs.Walks as walks
 use Rattle.grain_means.specs.Walks.{Rest, Next, Role, Passes, Reads, Writes, Operates, Origin, OfIndex, OfProperty, OfNothing, at_mark, assigning, failing, flattening, is_indexed, key_of, origin_of_part, role_at_end, role_before, skips, with_key}
 use Rattle.grain_means.specs.Causes.Spots.{ChainWalk, here, looked, wrote, Indexes, WalkRow, world_of}
@@ -298,15 +298,15 @@ module _ {S : Type 0} (m : Setup S) (c : ChainWalk S) where
         (join m c come (looked here)) where
           by_unit : (d : Dynamic) → From m c (walks.if_not_unit done go d)
           by_unit d u at = by_test (is_unit d) at where
-            by_test : (b : Bool) → On m c (if b then done (Well dynamic.Unit false) else go) u →
-                Why m c (if b then done (Well dynamic.Unit false) else go) u
+            by_test : (b : Bool) → On m c (if b then done (WalkEnded dynamic.Unit false) else go) u →
+                Why m c (if b then done (WalkEnded dynamic.Unit false) else go) u
             by_test true at = f.well dynamic.Unit false u at
             by_test false at = from u at
 
     ends : (u : Option Dynamic) (op : Option AssignOp) →
         Goes m c (walks.ended c.course.setting (role_at_end u op) n)
     ends None op p done f =
-        marks m c n done (Look p (λ h. done (Well h.value false))) f (λ v come.
+        marks m c n done (Look p (λ h. done (WalkEnded h.value false))) f (λ v come.
         f.well (look v.roots (world_of m c p)).value false v (join m c come (looked here)))
     ends (Some u) None p done f = writes m c n p u done f
     ends (Some u) (Some a) p done f = operates m c n c.course.setting.position a u p done f

@@ -26,7 +26,7 @@ use Rattle.grain_program.specs.declared.code.chains.Step.TheVariants as step
 use Rattle.grain_means.specs.Worlds.{Place}
 use Rattle.grain_means.specs.Places.{look}
 use Rattle.grain_means.specs.Readings.{ReadsAlong, index_along, key_along, property_along, read_along, step_along}
-use Rattle.grain_means.specs.Tasks.{Done, Own, Over, Play, Task, Well, play}
+use Rattle.grain_means.specs.Tasks.{Done, Own, Over, Play, Task, WalkEnded, play}
 use Rattle.grain_means.specs.Walks as walks
 use Rattle.grain_means.specs.Walks.{Course, Rest, Role, is_indexed, operand, role_before, skips}
 use Rattle.grain_means.specs.lemmas.PlaceLaws.{at-further, ok-along}
@@ -196,20 +196,20 @@ module _ (cells : List Cell) (c : Course) (h : Held) where
 
   ends_there : (role : Role) → role ≡ walks.Reads → (n : ℕ) (path : List PathStep) (d : Dynamic)
       (done : Rest) (k : ℕ) → At path d →
-      Plays (walks.ended c.setting role n (here path) done) k ≡ Plays (done (Well d false)) (k + 1)
+      Plays (walks.ended c.setting role n (here path) done) k ≡ Plays (done (WalkEnded d false)) (k + 1)
   ends_there role is n path d done k stands =
       ap (λ (r : Role). Plays (walks.ended c.setting r n (here path) done) k) is
-      ∙ ap (λ (g : Held). Plays (done (Well g.value false)) (k + 1)) stands
+      ∙ ap (λ (g : Held). Plays (done (WalkEnded g.value false)) (k + 1)) stands
 
   reads_on : walks.last_role c ≡ walks.Reads → (steps : List Step) (n : ℕ) (path : List PathStep)
       (d : Dynamic) (rest : List PathStep) (u : Dynamic) (done : Rest) (k : ℕ) →
       at path (tree h.value) ≡ Ok (tree d) → ReadsAlong cells c steps d rest u →
-      (j : ℕ) × (Plays (walks.walked c steps n (here path) done) k ≡ Plays (done (Well u false)) j)
+      (j : ℕ) × (Plays (walks.walked c steps n (here path) done) k ≡ Plays (done (WalkEnded u false)) j)
       × (at (path ++ rest) (tree h.value) ≡ Ok (tree u))
   reads_on last [] n path d rest u done k stands along = (
     k + 1,
     ends_there (walks.last_role c) last (n - 1) path d done k (at_path path d stands)
-        ∙ ap (λ (x : Dynamic). Plays (done (Well x false)) (k + 1)) (sym along.1),
+        ∙ ap (λ (x : Dynamic). Plays (done (WalkEnded x false)) (k + 1)) (sym along.1),
     end_at rest along.0,
   ) where
     empty : (p : List PathStep) → p ++ [] ≡ p
@@ -243,7 +243,7 @@ module _ (cells : List Cell) (c : Course) (h : Held) where
 
   pub reads_along : c.assigns ≡ None → (steps : List Step) (path : List PathStep) (u : Dynamic) →
       ReadsAlong cells c steps h.value path u →
-      (j : ℕ) × (play None cells (walks.whole_walk c steps) (own 0) ≡ Over (Well u false) (own j))
+      (j : ℕ) × (play None cells (walks.whole_walk c steps) (own 0) ≡ Over (WalkEnded u false) (own j))
       × (at path (tree h.value) ≡ Ok (tree u))
   reads_along reads steps path u along =
       reads_on (last_reads c.assigns reads) steps 0 [] h.value path u Done 0 refl along

@@ -1,5 +1,11 @@
--- What a function that a walk called wrote at the walk's places stays, also where it failed.
-use Rattle.std.proofs.Common.{◌≡◌, ◌<◌, ◌+◌, ◌∙◌, ℕ, zero, suc, List, [], ◌∷◌, ◌++◌, Option, Some, Bool, true, false, if◌then◌else◌, nat_lt, nat_le, length, take, refl, sym, ap, subst, inl, inr, arith}
+-- What a function that a walk called wrote at the walk's places stays, also where it failed; so does what
+-- one wrote that was called on a receiver.
+use Rattle.std.proofs.Common.{◌≡◌, ◌<◌, ◌+◌, ◌∙◌, ◌||◌, ℕ, zero, suc, List, [], ◌∷◌, ◌++◌, Option, Some, None, Bool, true, false, if◌then◌else◌, is_some, nat_lt, nat_le, length, map, take, refl, sym, ap, subst, inl, inr, arith}
+use Rattle.grain_value.specs.Looking.{cell_of}
+use Rattle.grain_value.specs.Operands.{read_write}
+use Rattle.grain_value.specs.Scopes.{set_held}
+use Rattle.grain_value.specs.declared.values.Dynamic.{Dynamic}
+use Rattle.grain_value.specs.declared.values.FnPtr.{FnPtr}
 use Rattle.grain_value.specs.declared.values.Held.{Held}
 use Rattle.grain_fault.specs.Classes.{catchable}
 use Rattle.grain_fault.specs.Positions.{at_position}
@@ -10,12 +16,13 @@ use Rattle.grain_program.specs.View.{name_of, source_text}
 use Rattle.grain_program.specs.declared.code.functions.Function.{Function}
 use Rattle.grain_means.specs.Causes.Spots.{ChainWalk, ComesTo, Falls, WalksTo, here, marked, looked, read, wrote, added, dropped, heard, returned}
 use Rattle.grain_means.specs.Ends.{Ends, joined}
-use Rattle.grain_means.specs.Places.{along, look, or_unit}
+use Rattle.grain_means.specs.Places.{along, look, or_unit, put}
 use Rattle.grain_means.specs.Rules as rules
-use Rattle.grain_means.specs.Rules.{bound, chain_over, frame_at, is_stop, new_root, walks}
-use Rattle.grain_means.specs.Staying.{IsHeard, IsOver, left, not_entered}
-use Rattle.grain_means.specs.Tasks.{Invocation, Task, Done, Mark, Look, Flatten, Write, Root, Drop, Need, Invoke, Ill, Walked}
+use Rattle.grain_means.specs.Rules.{Destination, ToSlot, ToThis, bound, chain_over, curried_in, frame_at, function_by_name, held_at, is_read_only, is_stop, new_root, position, walks}
+use Rattle.grain_means.specs.Staying.{IsHeard, IsOver, ReceiverStays, left, not_entered, with_receiver}
+use Rattle.grain_means.specs.Tasks.{Invocation, Task, Done, Mark, Look, Flatten, Write, Root, Drop, Need, Invoke, WalkFailed, Walked}
 use Rattle.grain_means.specs.Worlds.{Act, Go, Then, Answer, Came, Failed, Frame, InFrame, Place, Setup, World}
+use Rattle.grain_means.specs.lemmas.LentPlaces.{found-new}
 use Rattle.grain_means.proofs.Explaining.{explained}
 use Rattle.grain_means.proofs.Explaining.Ways.{Why}
 use Rattle.grain_means.proofs.Footing.{by_test}
@@ -163,6 +170,21 @@ pub under_writable : {S : Type 0} (m : Setup S) (q : Position) (g : Function) (a
     GoesOn m q g args said (Some p) w v a
 under_writable m q g args said p w v a writable = rw writable (goes_on m q g args said (Some p) w v a)
 
+-- the roots before the last one, which is the `this` of a function, are as they were once it is over
+before_again : {S : Type 0} (m : Setup S) (q : Position) (g : Function) (args : List Held)
+    (rs : List Held) (h : Held) (w : World S) → w.roots ≡ rs ++ h ∷ [] → (b : Answer) (u : World S) →
+    IsOver m q g args (Some (new_root rs)) w b u → take (length rs) u.roots ≡ rs
+before_again m q g args rs h w is b u (not_entered x e roots cells) =
+    before_this rs h u.roots
+    (subst (Stands (Some (new_root rs)) (rs ++ h ∷ [])) (sym (roots ∙ is))
+    (stands_same (Some (new_root rs)) (rs ++ h ∷ [])))
+before_again m q g args rs h w is b u
+    (left inside last c roots cells scope level body answers same_roots same_cells) =
+    before_this rs h u.roots
+    (subst (Stands (Some (new_root rs)) (rs ++ h ∷ [])) (sym same_roots)
+    (subst (λ (xs : List Held). Stands (Some (new_root rs)) xs last.roots) (roots ∙ is)
+    (frame_touched m (frame_at g.chunk 0 (Some (new_root rs))) inside last c body)))
+
 -- under a copy of what can only be read, which goes afterwards
 module _ {S : Type 0} (m : Setup S) (q : Position) (g : Function) (args : List Held)
     (said : Answer → World S → Act S) (p : Place) (w v : World S) (a : Answer) where
@@ -172,17 +194,6 @@ module _ {S : Type 0} (m : Setup S) (q : Position) (g : Function) (args : List H
   abbrev grown : World S
   grown = record w { roots = w.roots ++ look w.roots p ∷ [] }
 
-  back_again : (b : Answer) (u : World S) → IsOver m q g args (Some copy) grown b u →
-      take (length w.roots) u.roots ≡ w.roots
-  back_again b u (not_entered x e roots cells) =
-      before_this w.roots (look w.roots p) u.roots
-      (subst (Stands (Some copy) grown.roots) (sym roots) (stands_same (Some copy) grown.roots))
-  back_again b u (left inside last c roots cells scope level body is same_roots same_cells) =
-      before_this w.roots (look w.roots p) u.roots
-      (subst (Stands (Some copy) grown.roots) (sym same_roots)
-      (subst (λ (rs : List Held). Stands (Some copy) rs last.roots) roots
-      (frame_touched m (frame_at g.chunk 0 (Some copy)) inside last c body)))
-
   pub under_constant : (look w.roots p).read_only ≡ true →
       Ends m (rules.function_called m q g args said (Some p) w) a v →
       (b : Answer) × (u : World S) × (u.roots ≡ w.roots) × Ends m (said b u) a v
@@ -190,8 +201,71 @@ module _ {S : Type 0} (m : Setup S) (q : Position) (g : Function) (args : List H
       (goes_on m q g args (rules.copy_dropped m (length w.roots) said) (Some copy) grown v a d)) where
         dropped : GoesOn m q g args (rules.copy_dropped m (length w.roots) said) (Some copy) grown v a →
             (b : Answer) × (u : World S) × (u.roots ≡ w.roots) × Ends m (said b u) a v
-        dropped (b, u, over, scope, level, d) =
-            (b, record u { roots = take (length w.roots) u.roots }, back_again b u over, d)
+        dropped (b, u, over, scope, level, d) = (
+          b,
+          record u { roots = take (length w.roots) u.roots },
+          before_again m q g args w.roots (look w.roots p) grown refl b u over,
+          d,
+        )
+
+-- what is found at a root that is added
+look_new : (rs : List Held) (h : Held) → look (rs ++ h ∷ []) (new_root rs) ≡ h
+look_new rs h = ap or_unit (found-new rs h)
+
+-- a function is called on a receiver
+module _ {S : Type 0} (m : Setup S) (d : Destination) (r : FnPtr) (values : List Dynamic) (h : Held)
+    (next : ℕ) (f : Frame) (g : Function) (w v : World S) (a : Answer)
+    (found : function_by_name m.program r.name (length r.curry + length values) ≡ Some g)
+    (clear : is_stop m.stop w.passed ≡ false) (writable : is_read_only w h ≡ false) where
+  abbrev args : List Held
+  args = curried_in r ++ map read_write values
+
+  abbrev receiver : Held
+  receiver = record h { read_only = is_read_only w h }
+
+  abbrev resumes : Answer → World S → Act S
+  resumes = rules.root_over m d next f (length w.roots)
+
+  abbrev Stays : Type 0
+  Stays = ReceiverStays m d g args h next f w v a
+
+  stays_so : GoesOn m (position m f) g args resumes (Some (new_root w.roots)) (with_receiver h w) v a →
+      Stays
+  stays_so (b, u, done, scope, level, run) = record {
+    answer = b;
+    world = u;
+    over = done;
+    roots = before_again m (position m f) g args w.roots receiver (with_receiver h w) refl b u done;
+    scope = scope;
+    level = level;
+    goes_on = run;
+  }
+
+  called_so : Ends m (rules.function_called m (position m f) g args resumes (Some (new_root w.roots))
+      (with_receiver h w)) a v → Stays
+  called_so run =
+      stays_so (under_writable m (position m f) g args resumes (new_root w.roots) (with_receiver h w) v a
+      (ap (λ (x : Held). x.read_only) (look_new w.roots receiver) ∙ writable) run)
+
+  pub receiver_stays : Ends m (rules.receiver_called m d r values h next f w) a v → Stays
+  receiver_stays = rw (clear, found) called_so
+
+-- where a receiver goes, whatever the answer of its call
+module _ {S : Type 0} (m : Setup S) (next : ℕ) (f : Frame) (h : Held) (a : Answer) (w : World S) where
+  module _ (plain : cell_of h.value ≡ None) (writable : h.read_only ≡ false) where
+    pub goes_to_this : (p : Place) → f.this ≡ Some p →
+        rules.receiver_over m ToThis next f h a w
+        ≡ rules.call_over m next f a (record w { roots = put w.roots p h.value })
+    goes_to_this p is = rw (plain, writable, is) refl
+
+    pub goes_to_entry : (slot : ℕ) (before : Held) → held_at w.scope (f.base + slot) ≡ Some before →
+        rules.receiver_over m (ToSlot slot) next f h a w
+        ≡ rules.call_over m next f a (record w { scope = set_held w.scope (f.base + slot) h })
+    goes_to_entry slot before is = rw (plain, writable, is) refl
+
+  pub goes_nowhere : (d : Destination) → (is_some (cell_of h.value) || h.read_only) ≡ true →
+      rules.receiver_over m d next f h a w ≡ rules.call_over m next f a w
+  goes_nowhere d kept = rw kept refl
 
 -- a walk that comes to a call of a function only drops roots after the call's fault
 module _ {S : Type 0} (m : Setup S) (c : ChainWalk S) (i : Invocation) (go : Answer → Task)
@@ -240,17 +314,17 @@ module _ {S : Type 0} (m : Setup S) (k next n : ℕ) (f : Frame) (back : Held �
       (record v { roots = take (length w.roots) v.roots }))
 
   pub goes_back : (t : Task) → Falls n x t → (u : World S) →
-      walks m k f (new_root w.roots) (length w.roots + 1) t after u ≡ after (Ill n x) u
+      walks m k f (new_root w.roots) (length w.roots + 1) t after u ≡ after (WalkFailed n x) u
   goes_back (Done o) falls u = ap (λ (z : Walked). after z u) falls
   goes_back (Drop i go) falls u =
       let j : ℕ = length w.roots + 1 + i in
       let low : length w.roots < j = omega arith in
       let h : Held = look u.roots (record { root = j; path = [] }) in
       goes_back (go h) (falls h) (record u { roots = take j u.roots })
-      ∙ ap (λ (rs : List Held). chain_over m k next f (Ill n x)
+      ∙ ap (λ (rs : List Held). chain_over m k next f (WalkFailed n x)
       (back (look (take j u.roots) (new_root w.roots)) (record u { roots = rs })))
       (take-below u.roots (length w.roots) j low)
-      ∙ ap (λ (o : Option Held). chain_over m k next f (Ill n x) (back (or_unit (along [] o))
+      ∙ ap (λ (o : Option Held). chain_over m k next f (WalkFailed n x) (back (or_unit (along [] o))
       (record u { roots = take (length w.roots) u.roots })))
       (get_below u.roots (length w.roots) j low)
   goes_back (Mark o go) falls u = elim falls [ ]

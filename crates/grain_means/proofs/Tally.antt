@@ -18,6 +18,9 @@ pub mod Calling
 pub mod Walks
 pub mod Roots
 pub mod Chains
+pub mod Methods
+pub mod Returns
+pub mod Receivers
 use Rattle.std.proofs.Common.{◌≡◌, ℕ, ◌+◌, ◌-◌, List, [], ◌∷◌, ◌++◌, Option, Some, None, true, false, refl, ap, inl, inr, arith, length}
 use Rattle.std.specs.Prelude.{is_some}
 use Rattle.grain_value.specs.declared.values.Dynamic.TheVariants as dynamic
@@ -34,7 +37,7 @@ use Rattle.grain_program.specs.View.{chain_of, name_of, const_of, assign_op_of}
 use Rattle.grain_value.specs.Cells.{flat, content}
 use Rattle.grain_program.specs.Lookups.{function_of, function_by_text}
 use Rattle.grain_means.specs.Worlds.{End, Came, Setup, Frame, InFrame}
-use Rattle.grain_means.specs.Rules.{trees_in, native, function_found, held_at, or_return, operated, charged, instr, start_instruction, next, position, flat_all, spread, name_at, curried, pointer_called, function_by_name}
+use Rattle.grain_means.specs.Rules.{Nowhere, ToSlot, ToThis, trees_in, native, function_found, held_at, or_return, operated, charged, instr, start_instruction, next, position, flat_all, spread, name_at, curried, pointer_called, function_by_name}
 use Rattle.grain_means.specs.Comes.{tries}
 use Rattle.grain_means.specs.Places.{look}
 use Rattle.grain_means.specs.lemmas.Branches.{of_two}
@@ -49,6 +52,7 @@ use Rattle.grain_means.proofs.Tally.This.{even_assigned_op_this, even_assigned_t
 use Rattle.grain_means.proofs.Tally.Transfers.{even_jump_if, even_skipped, even_unwound, even_handled}
 use Rattle.grain_means.proofs.Tally.Calls.{even_called, even_pointer}
 use Rattle.grain_means.proofs.Tally.Chains.{even_chain}
+use Rattle.grain_means.proofs.Tally.Receivers.{even_method}
 
 module _ {S : Type 0} {m : Setup S} (walk : Walk m) where
   open walk use {root, footing as k, frame as f, now, tokens, level, trace, keeps, sits}
@@ -244,7 +248,7 @@ module _ {S : Type 0} {m : Setup S} (walk : Walk m) where
       (λ v. sits_at walk (op.Call n count) width at refl _ _ (inl refl)
       (λ _. omega
       (arith, length_pushed (under count f.operands) v, length_under count f.operands)))
-      (λ is. is) (λ g args on charged low many. (g, args, on, charged, low, many))
+      (λ is. is) (λ g args on charged low many. (g, args, inl on, charged, low, many))
       (function_found m.program n count) (λ none lent. (refl, none, lent))
       (λ none args read. (refl, read, none))
       (λ g e. (e, refl)) (λ g e valid. fits_found m.program valid (function_of m.program n count) g
@@ -291,13 +295,26 @@ module _ {S : Type 0} {m : Setup S} (walk : Walk m) where
         spread_under p n f.operands,
         enough,
       )))
-      (λ is. is) (λ g args on charged low many. (g, args, on, charged, low, many))
+      (λ is. is) (λ g args on charged low many. (g, args, inl on, charged, low, many))
       (function_by_name m.program p.name count)
       (λ none lent. (refl, inr (p, points, none, lent)))
       (λ none args read. (p, points, refl, read, none))
       (λ g e. (p, points, e, refl))
       (λ g e valid. fits_found m.program valid (function_by_text m.program p.name count) g 0 None
       e))
+  even_instr (op.CallFnPtrMethod n) width at =
+      even_method walk (op.CallFnPtrMethod n) width at Nowhere n refl
+      (λ operands many v. sits_at walk (op.CallFnPtrMethod n) width at refl _ _ (inl refl)
+      (λ _. omega (arith, many, length_pushed operands v))) (λ operands many. many) (λ _. tt)
+  even_instr (op.CallFnPtrOnLocal n slot) width at =
+      even_method walk (op.CallFnPtrOnLocal n slot) width at (ToSlot slot) n refl
+      (λ operands many v. sits_at walk (op.CallFnPtrOnLocal n slot) width at refl _ _ (inl refl)
+      (λ _. omega (arith, many, length_pushed operands v))) (λ operands many. many)
+      (λ has. (refl, has))
+  even_instr (op.CallFnPtrOnThis n) width at =
+      even_method walk (op.CallFnPtrOnThis n) width at ToThis n refl
+      (λ operands many v. sits_at walk (op.CallFnPtrOnThis n) width at refl _ _ (inl refl)
+      (λ _. omega (arith, many, length_pushed operands v))) (λ operands many. many) (λ _. tt)
   even_instr (op.UnwindTo depth) width at = even_unwound walk (op.UnwindTo depth) width at
       (f.base + depth)
       (sits_at walk (op.UnwindTo depth) width at refl _ f.operands (inl refl) (λ _. omega arith))

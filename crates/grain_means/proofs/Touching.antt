@@ -8,6 +8,7 @@ pub mod Instructions
 pub mod Calls
 pub mod Walks
 pub mod Chains
+pub mod Receivers
 pub mod Beside
 pub mod Within
 pub mod Children
@@ -30,13 +31,14 @@ use Rattle.grain_means.specs.Comes.{Comes, here, further, within, behind}
 use Rattle.grain_means.specs.Ends.{Ends, ended, went, joined}
 use Rattle.grain_means.specs.Places.{find}
 use Rattle.grain_means.specs.Rules as rules
-use Rattle.grain_means.specs.Rules.{exit_of, function_found, is_stop, operated, or_return, outer_handlers, stepped, without}
+use Rattle.grain_means.specs.Rules.{Nowhere, ToSlot, ToThis, exit_of, function_found, is_stop, operated, or_return, outer_handlers, stepped, without}
 use Rattle.grain_means.specs.Worlds.{Act, Go, End, Then, Answer, Came, Failed, Frame, InCatch, InFrame, Place, Setup, Todo, World}
 use Rattle.grain_means.proofs.Footing.{by_test}
 use Rattle.grain_means.proofs.Touching.Passing.{Leaves, this_of}
 use Rattle.grain_means.proofs.Touching.Frames.{At, Stays, charged, jumps, marks, onward, pushes, raises, reads, reads_all}
 use Rattle.grain_means.proofs.Touching.Instructions.{assigns, assigns_this, declares, loads, loads_shared, loads_this, loads_this_shared, op_assigns, op_assigns_this, pushes_outcome, requires_this, shares, skips, stores, tests_top, unwinds}
 use Rattle.grain_means.proofs.Touching.Calls.{calls_function, calls_pointer, catches, curries}
+use Rattle.grain_means.proofs.Touching.Receivers.{calls_method}
 use Rattle.grain_means.proofs.Touching.Chains.{chains}
 use Rattle.grain_means.proofs.Touching.Writes.{Bound, Stands, stands_same}
 use Rattle.grain_means.proofs.Touching.Beside.{root_beside, roots_kept}
@@ -94,6 +96,9 @@ module _ {S : Type 0} (m : Setup S) (t : Option Place) (old : List Held) where
         (dynamic.Pointer (record { name = name_of m.program k; curry = [] })) w at
     does (op.Curry k) next w at = curries m t old f is k next w at
     does (op.CallFnPtr k) next w at = calls_pointer m t old f is k next w at
+    does (op.CallFnPtrMethod k) next w at = calls_method m t old f is Nowhere k next w at
+    does (op.CallFnPtrOnLocal k slot) next w at = calls_method m t old f is (ToSlot slot) k next w at
+    does (op.CallFnPtrOnThis k) next w at = calls_method m t old f is ToThis k next w at
     does (op.UnwindTo depth) next w at = unwinds m t old f is (f.base + depth) next w at
     does op.Tick next w at =
         charged m t old f is (rules.onward m f (stepped f next f.operands))

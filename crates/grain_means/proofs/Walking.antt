@@ -5,7 +5,7 @@ use Rattle.std.proofs.lemmas.List.{length-append, length-take}
 use Rattle.std.specs.Prelude.{bytes_eq, codes, if◌then◌else◌}
 use Rattle.grain_value.specs.Cells.{flat}
 use Rattle.grain_value.specs.Operands.{read_write}
-use Rattle.grain_value.specs.Looking.{cell_of, is_unit, pointer_of}
+use Rattle.grain_value.specs.Looking.{is_unit, pointer_of}
 use Rattle.grain_value.specs.Locating.{locate}
 use Rattle.grain_value.specs.Parts.{part, with_part}
 use Rattle.grain_value.specs.Writing.{type_name_of}
@@ -33,7 +33,7 @@ use Rattle.grain_program.specs.declared.code.chains.Step.{Step}
 use Rattle.grain_program.specs.declared.code.chains.Step.TheVariants as step
 use Rattle.grain_means.specs.Worlds.{is_stop, Place, Answer, Came, Failed}
 use Rattle.grain_means.specs.Places.{look, put, next_root}
-use Rattle.grain_means.specs.Tasks.{Walked, Well, Ill, Task, Done, Mark, Look, Flatten, Write, Root, Drop, Need, Invoke, Own, Play, play, root_after}
+use Rattle.grain_means.specs.Tasks.{Walked, WalkEnded, WalkFailed, Task, Done, Mark, Look, Flatten, Write, Root, Drop, Need, Invoke, Own, Play, play, root_after}
 use Rattle.grain_means.specs.Walks as walks
 use Rattle.grain_means.specs.Walks.{Setting, Course, Rest, Next, Role, Passes, Reads, Writes, Operates, Origin, OfPart, OfIndex, OfProperty, OfMethod, OfNothing, at_mark, failing, flat_or_busy, flattening, asking, is_indexed, assigning, origin_of_part, skips, role_at_end}
 use Rattle.grain_means.specs.WalkEnds.{AllEnds, PlayEnds, EndsRight, WalkEnds}
@@ -76,10 +76,10 @@ module _ (N : ℕ) (assigns : Bool) where
   module _ (n : ℕ) (low : n < N) where
     marks : (j : ℕ) (done : Rest) (go : Task) → Follows j done → AllEnds P j go →
         AllEnds P j (at_mark n done go)
-    marks j done go f h = (f (Ill n NoMemory) low, h)
+    marks j done go f h = (f (WalkFailed n NoMemory) low, h)
 
     fails : (j : ℕ) (x : Problem) (done : Rest) → Follows j done → AllEnds P j (failing n x done)
-    fails j x done f = marks j done (done (Ill n x)) f (f (Ill n x) low)
+    fails j x done f = marks j done (done (WalkFailed n x)) f (f (WalkFailed n x) low)
 
     reads : (j : ℕ) (q : Position) (v : Dynamic) (done : Rest) (go : Dynamic → Task) →
         Follows j done → ((u : Dynamic) → AllEnds P j (go u)) →
@@ -90,36 +90,36 @@ module _ (N : ℕ) (assigns : Bool) where
       at (Some u) = h u
 
     sets_index : (j : ℕ) (q : Position) (p : Place) (i v u : Dynamic) (done : Rest) →
-        Follows j done → Right (Well u true) →
+        Follows j done → Right (WalkEnded u true) →
         AllEnds P j (walks.set_by_index n q p i v u done)
-    sets_index j q p i v u done f unit = (f (Ill n NoMemory) low, at) where
+    sets_index j q p i v u done f unit = (f (WalkFailed n NoMemory) low, at) where
       at : (a : Answer) → AllEnds P j (walks.index_was_set n u done a)
-      at (Came r) = f (Well u true) unit
+      at (Came r) = f (WalkEnded u true) unit
       at (Failed x) =
-          by (is_indexing_type x) j _ _ (f (Well u true) unit) (f (Ill n x) low)
+          by (is_indexing_type x) j _ _ (f (WalkEnded u true) unit) (f (WalkFailed n x) low)
 
     set_instead : (j : ℕ) (x : Problem) (assigned : Bool) (u : Dynamic) (done : Rest) →
-        Follows j done → Right (Well u true) → (a : Answer) →
+        Follows j done → Right (WalkEnded u true) → (a : Answer) →
         AllEnds P j (walks.set_instead n x assigned u done a)
-    set_instead j x assigned u done f unit (Came r) = f (Well u true) unit
+    set_instead j x assigned u done f unit (Came r) = f (WalkEnded u true) unit
     set_instead j x assigned u done f unit (Failed y) =
         by (is_indexing_type y) j _ _
-        (by assigned j _ _ (f (Ill n x) low) (f (Well u true) unit)) (f (Ill n y) low)
+        (by assigned j _ _ (f (WalkFailed n x) low) (f (WalkEnded u true) unit)) (f (WalkFailed n y) low)
 
     property_set : (j : ℕ) (name : Dynamic) (q : Position) (assigned : Bool) (p : Place)
-        (v u : Dynamic) (done : Rest) → Follows j done → Right (Well u true) → (a : Answer) →
+        (v u : Dynamic) (done : Rest) → Follows j done → Right (WalkEnded u true) → (a : Answer) →
         AllEnds P j (walks.property_was_set n name q assigned p v u done a)
-    property_set j name q assigned p v u done f unit (Came r) = f (Well u true) unit
+    property_set j name q assigned p v u done f unit (Came r) = f (WalkEnded u true) unit
     property_set j name q assigned p v u done f unit (Failed x) =
         by (is_dot_expr x) j _ _
-        ((f (Ill n NoMemory) low, set_instead j x assigned u done f unit)) (f (Ill n x) low)
+        ((f (WalkFailed n NoMemory) low, set_instead j x assigned u done f unit)) (f (WalkFailed n x) low)
 
     got_instead : (j : ℕ) (x : Problem) (done : Rest) (go : Dynamic → Task) → Follows j done →
         ((u : Dynamic) → AllEnds P j (go u)) → (a : Answer) →
         AllEnds P j (walks.got_instead n x done go a)
     got_instead j x done go f h (Came v) = h v
     got_instead j x done go f h (Failed y) =
-        by (is_indexing_type y) j _ _ (f (Ill n x) low) (f (Ill n y) low)
+        by (is_indexing_type y) j _ _ (f (WalkFailed n x) low) (f (WalkFailed n y) low)
 
     property_got : (j : ℕ) (name : Dynamic) (q : Position) (p : Place) (done : Rest)
         (go : Dynamic → Task) → Follows j done → ((u : Dynamic) → AllEnds P j (go u)) →
@@ -127,49 +127,57 @@ module _ (N : ℕ) (assigns : Bool) where
     property_got j name q p done go f h (Came v) = h v
     property_got j name q p done go f h (Failed x) =
         by (is_dot_expr x) j _ _
-        ((f (Ill n NoMemory) low, got_instead j x done go f h))
-        (f (Ill n x) low)
+        ((f (WalkFailed n NoMemory) low, got_instead j x done go f h))
+        (f (WalkFailed n x) low)
 
     index_got : (j : ℕ) (done : Rest) (go : Dynamic → Task) → Follows j done →
         ((u : Dynamic) → AllEnds P j (go u)) → (a : Answer) →
         AllEnds P j (walks.was_given n done go a)
     index_got j done go f h (Came v) = h v
-    index_got j done go f h (Failed x) = f (Ill n x) low
+    index_got j done go f h (Failed x) = f (WalkFailed n x) low
 
     module _ (g : Setting) where
       sets_property : (j name setter : ℕ) (q : Position) (assigned : Bool) (p : Place)
-          (v u : Dynamic) (done : Rest) → Follows j done → Right (Well u true) →
+          (v u : Dynamic) (done : Rest) → Follows j done → Right (WalkEnded u true) →
           AllEnds P j (walks.set_property g n name setter q assigned p v u done)
       sets_property j name setter q assigned p v u done f unit =
-          (f (Ill n NoMemory) low, property_set j (walks.named g name) q assigned p v u done f unit)
+          (f (WalkFailed n NoMemory) low, property_set j (walks.named g name) q assigned p v u done f unit)
 
       gets_property : (j name getter : ℕ) (q : Position) (p : Place) (done : Rest)
           (go : Dynamic → Task) → Follows j done → ((u : Dynamic) → AllEnds P j (go u)) →
           AllEnds P j (walks.get_property g n name getter q p done go)
       gets_property j name getter q p done go f h =
-          (f (Ill n NoMemory) low, property_got j (walks.named g name) q p done go f h)
+          (f (WalkFailed n NoMemory) low, property_got j (walks.named g name) q p done go f h)
 
       -- an op-assignment
       operator : (j : ℕ) (q : Position) (p : Place) (done : Rest) → Follows j done →
           (a : Answer) → AllEnds P j (walks.operator_answered n q p done a)
       operator j q p done f (Came r) =
-          reads j q r done _ f (λ u. (f (Ill n NoMemory) low, f (Well dynamic.Unit true) (λ s. refl)))
-      operator j q p done f (Failed x) = f (Ill n x) low
+          reads j q r done _ f (λ u. (
+            f (WalkFailed n NoMemory) low,
+            f (WalkEnded dynamic.Unit true)
+                (λ s. refl),
+          ))
+      operator j q p done f (Failed x) = f (WalkFailed n x) low
 
       op_assigned : (j : ℕ) (q : Position) (a : AssignOp) (v : Dynamic) (p : Place) (done : Rest) →
           Follows j done → (b : Answer) →
           AllEnds P j (walks.was_op_assigned g n q a v p done b)
-      op_assigned j q a v p done f (Came r) = f (Well dynamic.Unit true) (λ s. refl)
+      op_assigned j q a v p done f (Came r) = f (WalkEnded dynamic.Unit true) (λ s. refl)
       op_assigned j q a v p done f (Failed x) =
           by (says_missing (name_of g.program a.op_assign_name) x) j _ _
-          (λ h. (f (Ill n NoMemory) low, operator j q p done f))
-          (f (Ill n x) low)
+          (λ h. (f (WalkFailed n NoMemory) low, operator j q p done f))
+          (f (WalkFailed n x) low)
 
       stored : (j : ℕ) (q : Position) (a : AssignOp) (v : Dynamic) (p : Place) (done : Rest) →
           Follows j done → (o : Outcome) → AllEnds P j (walks.stored g n q a v p done o)
       stored j q a v p done f NotBuiltIn =
-          (f (Ill n NoMemory) low, op_assigned j q a v p done f)
-      stored j q a v p done f (Gave r) = (f (Ill n NoMemory) low, f (Well dynamic.Unit true) (λ s. refl))
+          (f (WalkFailed n NoMemory) low, op_assigned j q a v p done f)
+      stored j q a v p done f (Gave r) = (
+        f (WalkFailed n NoMemory) low,
+        f
+            (WalkEnded dynamic.Unit true) (λ s. refl),
+      )
       stored j q a v p done f (ArithmeticFault text) = fails j _ done f
       stored j q a v p done f (TooLarge what) = fails j _ done f
 
@@ -182,36 +190,37 @@ module _ (N : ℕ) (assigns : Bool) where
       index_read j q p i v done go f h (Came r) = h r
       index_read j q p i v done go f h (Failed x) =
           by (catchable x) j _ _ (sets_index j q p i v dynamic.Unit done f (λ s. refl))
-          (f (Ill n x) low)
+          (f (WalkFailed n x) low)
 
       -- the way back
       put_part : (j : ℕ) (s : Spot) (p : Place) (v u : Dynamic) (changed : Bool) (done : Rest) →
-          Follows j done → Right (Well u changed) → (d : Option Dynamic) →
+          Follows j done → Right (WalkEnded u changed) → (d : Option Dynamic) →
           AllEnds P j (walks.put_part g n s p v u changed done d)
-      put_part j s p v u changed done f unit (Some d) = (f (Ill n NoMemory) low, f (Well u changed) unit)
+      put_part j s p v u changed done f unit (Some d) =
+          (f (WalkFailed n NoMemory) low, f (WalkEnded u changed) unit)
       put_part j s p v u changed done f unit None = fails j _ done f
 
       sets_back : (j : ℕ) (o : Origin) (p : Place) (v u : Dynamic) (changed : Bool) (done : Rest) →
-          Follows j done → Right (Well u changed) →
+          Follows j done → Right (WalkEnded u changed) →
           AllEnds P j (walks.set_back g n o p v u changed done)
       sets_back j (OfPart s) p v u changed done f unit =
-          (f (Ill n NoMemory) low, λ h. put_part j s p v u changed done f unit (with_part h.value s v))
+          (f (WalkFailed n NoMemory) low, λ h. put_part j s p v u changed done f unit (with_part h.value s v))
       sets_back j (OfIndex i q) p v u changed done f unit =
-          by changed j _ _ (sets_index j q p i v u done f unit) (f (Well u false) unit)
+          by changed j _ _ (sets_index j q p i v u done f unit) (f (WalkEnded u false) unit)
       sets_back j (OfProperty name setter q assigned) p v u changed done f unit =
           by changed j _ _ (sets_property j name setter q assigned p v u done f unit)
-          (f (Well u false) unit)
-      sets_back j OfMethod p v u changed done f unit = f (Well u true) unit
-      sets_back j OfNothing p v u changed done f unit = f (Well u changed) unit
+          (f (WalkEnded u false) unit)
+      sets_back j OfMethod p v u changed done f unit = f (WalkEnded u true) unit
+      sets_back j OfNothing p v u changed done f unit = f (WalkEnded u changed) unit
 
       goes_back : (j : ℕ) (o : Origin) (p : Place) (done : Rest) → suc p.root ≡ j →
           Follows j done → Follows (suc j) (walks.back g n o p done)
-      goes_back j o p done is f (Ill k x) right = (
+      goes_back j o p done is f (WalkFailed k x) right = (
         omega (arith, is),
-        λ h. subst (λ i. AllEnds P i (done (Ill k x))) (sym is)
-            (f (Ill k x) right),
+        λ h. subst (λ i. AllEnds P i (done (WalkFailed k x))) (sym is)
+            (f (WalkFailed k x) right),
       )
-      goes_back j o p done is f (Well u changed) right = (
+      goes_back j o p done is f (WalkEnded u changed) right = (
         omega (arith, is),
         λ h. subst (λ i. AllEnds P i (walks.set_back g n o p h.value u changed done))
             (sym is) (sets_back j o p h.value u changed done f right),
@@ -219,14 +228,14 @@ module _ (N : ℕ) (assigns : Bool) where
 
       roots : (o : Origin) (h : Held) (next : Next) → Goes next → Goes (walks.rooted g n o h next)
       roots o h next on j p done is f = (
-        f (Ill n NoMemory) low,
+        f (WalkFailed n NoMemory) low,
         on (suc j) (next_root p) (walks.back g n o p done) (ap suc is)
             (goes_back j o p done is f),
       )
 
       own_value : (j : ℕ) (o : Origin) (done : Rest) → Follows j done → assigns ≡ false →
           (v : Dynamic) → AllEnds P j (walks.own_value o done v)
-      own_value j o done f none v = f (Well v (walks.is_change o)) (λ s. absurd cc)
+      own_value j o done f none v = f (WalkEnded v (walks.is_change o)) (λ s. absurd cc)
 
       into_answer : (q : Position) (o : Origin) (next : Next) → Goes next → (j : ℕ)
           (p : Place) (done : Rest) → suc p.root ≡ j → Follows j done → (v : Dynamic) →
@@ -238,22 +247,22 @@ module _ (N : ℕ) (assigns : Bool) where
       missing_key : (q : Position) (o : Origin) (role : Role) (k : List ℕ) (h : Held) (next : Next) →
           Goes next → Goes (walks.missing_key g n q o role k h next)
       missing_key q o role k h next on j p done is f =
-          by (assigning role) j _ _ ((f (Ill n NoMemory) low, on j _ done is f))
+          by (assigning role) j _ _ ((f (WalkFailed n NoMemory) low, on j _ done is f))
           (by g.engine.strict_properties j _ _ (fails j _ done f)
           (roots o (record h { value = dynamic.Unit }) next on j p done is f))
 
       by_indexer : (q bracket : Position) (role : Role) → Fits role → (i : Dynamic) (next : Next) →
           Goes next → Goes (walks.by_indexer g n q bracket role i next)
       by_indexer q bracket Passes fit i next on j p done is f = (
-        f (Ill n NoMemory) low,
+        f (WalkFailed n NoMemory) low,
         index_got j done _ f (into_answer q (OfIndex i bracket) next on j p done is f),
       )
       by_indexer q bracket Reads fit i next on j p done is f =
-          (f (Ill n NoMemory) low, index_got j done _ f (own_value j (OfIndex i bracket) done f fit))
+          (f (WalkFailed n NoMemory) low, index_got j done _ f (own_value j (OfIndex i bracket) done f fit))
       by_indexer q bracket (Writes v) fit i next on j p done is f =
           sets_index j bracket p i v dynamic.Unit done f (λ s. refl)
       by_indexer q bracket (Operates v a) fit i next on j p done is f = (
-        f (Ill n NoMemory) low,
+        f (WalkFailed n NoMemory) low,
         index_read j bracket p i v done _ f
             (into_answer bracket (OfIndex i bracket) (walks.operating g n bracket a v)
             (operates bracket a v) j p done is f),
@@ -264,9 +273,9 @@ module _ (N : ℕ) (assigns : Bool) where
           (r : Result Spot ValueFault) →
           AllEnds P j (walks.indexed g n q bracket role i v h next p done r)
       indexed q bracket role fit i v h next on j p done is f (Ok (spot.Item k)) =
-          (f (Ill n NoMemory) low, on j _ done is f)
+          (f (WalkFailed n NoMemory) low, on j _ done is f)
       indexed q bracket role fit i v h next on j p done is f (Ok spot.Key) =
-          (f (Ill n NoMemory) low, on j _ done is f)
+          (f (WalkFailed n NoMemory) low, on j _ done is f)
       indexed q bracket role fit i v h next on j p done is f (Ok s) =
           roots (origin_of_part role s) (record h { value = part h.value s }) next on j p done is f
       indexed q bracket role fit i v h next on j p done is f (Err (fault.Bounds size k)) =
@@ -303,7 +312,7 @@ module _ (N : ℕ) (assigns : Bool) where
       at_key : (q : Position) (role : Role) (k : List ℕ) (h : Held) (next : Next) → Goes next →
           (j : ℕ) (p : Place) (done : Rest) → suc p.root ≡ j → Follows j done → (t : Option Tree) →
           AllEnds P j (walks.at_key g n q role k h next p done t)
-      at_key q role k h next on j p done is f (Some t) = (f (Ill n NoMemory) low, on j _ done is f)
+      at_key q role k h next on j p done is f (Some t) = (f (WalkFailed n NoMemory) low, on j _ done is f)
       at_key q role k h next on j p done is f None =
           missing_key q OfNothing role k h next on j p done is f
 
@@ -341,7 +350,7 @@ module _ (N : ℕ) (assigns : Bool) where
         first_called : (o : Option FnPtr) (v : Dynamic) (vs : List Dynamic) →
             AllEnds P j (walks.first_called g n q args last next p done o v vs)
         first_called None v vs = fails j _ done f
-        first_called (Some r) v vs = (f (Ill n NoMemory) low, method_answered)
+        first_called (Some r) v vs = (f (WalkFailed n NoMemory) low, method_answered)
 
         called_on : (d : Dynamic) (vs : List Dynamic) →
             AllEnds P j (walks.called_on g n q args last next p done d vs)
@@ -351,7 +360,7 @@ module _ (N : ℕ) (assigns : Bool) where
         call_step : (o : Option FnPtr) (d : Dynamic) →
             AllEnds P j (walks.call_step g n q args last next p done o d)
         call_step None d = called_on d args
-        call_step (Some r) d = (f (Ill n NoMemory) low, method_answered)
+        call_step (Some r) d = (f (WalkFailed n NoMemory) low, method_answered)
 
         curry_step : (o : Option FnPtr) (d : Dynamic) →
             AllEnds P j (walks.curry_step g n q args last next p done o d)
@@ -360,14 +369,14 @@ module _ (N : ℕ) (assigns : Bool) where
 
         by_method : (o : Option ℕ) (text : List ℕ) →
             AllEnds P j (walks.by_method g n q args last next p done o text)
-        by_method None text = (f (Ill n NoMemory) low, method_answered)
-        by_method (Some i) text = (f (Ill n NoMemory) low, method_answered)
+        by_method None text = (f (WalkFailed n NoMemory) low, method_answered)
+        by_method (Some i) text = (f (WalkFailed n NoMemory) low, method_answered)
 
         by_own : (o : Option FnPtr) (name argc : ℕ) (d : Dynamic) →
             AllEnds P j (walks.by_own g n q args last next p done o name argc d)
         by_own None name argc d =
             by_method (method_of g.program name argc (type_name_of d)) (name_of g.program name)
-        by_own (Some r) name argc d = (f (Ill n NoMemory) low, method_answered)
+        by_own (Some r) name argc d = (f (WalkFailed n NoMemory) low, method_answered)
 
         method_at : (name argc : ℕ) (text : List ℕ) (h : Held) →
             AllEnds P j (walks.method_at g n q args last next p done name argc text h)
@@ -388,7 +397,7 @@ module _ (N : ℕ) (assigns : Bool) where
         Follows j done → AllEnds P j go → AllEnds P j (walks.unless_unit n q b p done go)
     unless q false j p done go f h = h
     unless q true j p done go f h = λ x. reads j q x.value done (walks.if_not_unit done go) f
-        (λ v. by (is_unit v) j _ _ (f (Well dynamic.Unit false) (λ s. refl)) h)
+        (λ v. by (is_unit v) j _ _ (f (WalkEnded dynamic.Unit false) (λ s. refl)) h)
 
 module _ (c : Course) where
   abbrev Even : ℕ → Next → Type 0
@@ -408,9 +417,9 @@ module _ (c : Course) where
   ends : (N n : ℕ) → n < N → (v : Option Dynamic) (op : Option AssignOp) →
       Goes N (is_some v) (walks.ended c.setting (role_at_end v op) n)
   ends N n low None op j p done is f =
-      (f (Ill n NoMemory) low, λ h. f (Well h.value false) (λ s. absurd cc))
+      (f (WalkFailed n NoMemory) low, λ h. f (WalkEnded h.value false) (λ s. absurd cc))
   ends N n low (Some v) None j p done is f =
-      (f (Ill n NoMemory) low, f (Well dynamic.Unit true) (λ s. refl))
+      (f (WalkFailed n NoMemory) low, f (WalkEnded dynamic.Unit true) (λ s. refl))
   ends N n low (Some v) (Some a) j p done is f =
       operates N true n low c.setting c.setting.position a v j p done is f
 
@@ -430,7 +439,7 @@ module _ (c : Course) where
       ends N (n - 1) (omega (arith, all, some)) c.assigns c.operator
   walks_on N (s ∷ steps) n all some = λ j p done is f.
       let low : n < N = omega (arith, all) in (
-        f (Ill n NoMemory) low,
+        f (WalkFailed n NoMemory) low,
         unless N (is_some c.assigns) n low (walks.step_position s) (skips s) j p done _ f
             (takes N n low s (walks.role_before c steps) (fits N steps) (walks.walked c steps (n + 1))
             (walks_on N steps (n + 1) (omega (arith, all)) some) j p done is f),

@@ -1,16 +1,17 @@
 -- Why a run ends in a fault: it came to a frame at an instruction that raises the fault on what the
 -- frame and the world then have.
+pub mod Pointers
 pub mod Instructions
 pub mod Natives
 pub mod Answers
 pub mod Positions
 pub mod Spots
 pub mod Chains
-pub use Rattle.grain_means.specs.Causes.Instructions.{truth_read, truth_on_top, Points, CallsOn, Calls, Charges, IsCharged, HasTooMany, ReadsTop, Overfills, UsesEntry, Unwinds, Tests, AsksPointer, Throws, Holds, AssignsConstant, Misses, Operates, HasNoBuiltIn, Mistypes, IsLent, AssignsLent, HoldsThis, AsksThis, AssignsLentThis, StoresLent, ReadsLent}
-pub use Rattle.grain_means.specs.Causes.Natives.{AssignsTo, AssignsByHost, Question, all_args, native_asked, reply_to, IsCalled, EndsWith, asks_first, AsksAgain, AsksSecond, AsksToAssign, AsksOnCopies, AsksNative, AsksLast, FindsNone, FindsNative, WritesConstant, HostAnswers}
+pub use Rattle.grain_means.specs.Causes.Instructions.{truth_read, truth_on_top, Points, PointsNowhere, PointsFirst, HasReceiver, IsMethodCall, receiver, args_beside, function_beside, CallsPointed, CallsUnder, MissesPointed, AsksEither, PointedReadsLent, FirstReadsLent, MethodReadsLent, CallsOn, CallsFunction, Calls, Charges, IsCharged, HasTooMany, ReadsTop, Overfills, UsesEntry, Unwinds, Tests, AsksPointer, Throws, Holds, AssignsConstant, Misses, Operates, HasNoBuiltIn, Mistypes, IsLent, AssignsLent, HoldsThis, AsksThis, AssignsLentThis, StoresLent, ReadsLent}
+pub use Rattle.grain_means.specs.Causes.Natives.{AssignsTo, AssignsByHost, Question, all_args, native_asked, reply_to, IsCalled, EndsWith, asks_first, AsksAgain, AsksSecond, AsksToAssign, AsksOnCopies, LendsReceiver, lent_last, AsksOnReceiver, AsksOnce, AsksNative, AsksLast, FindsNone, FindsNative, WritesConstant, HostAnswers}
 pub use Rattle.grain_means.specs.Causes.Spots.{ChainWalk, CallEnds, InvocationEnds, Invokes, WalksTo, AtStep, Falls, WalkRow}
 pub use Rattle.grain_means.specs.Causes.Chains.{ChainReads, ChainRow, RaisedByChain, FromHostOrChain}
-pub use Rattle.grain_means.specs.Causes.Positions.{CallsWith, ChainCalls, ChainCallFails, body_begins, out_of_body, Enters, LeftCall, BodyFails, LeftByChain, HasPosition, AnsweredSo, IsNoChain, TellsHere, ThrowsUnitAt, ThrowsUnit, HaveCaughtUnit, FirstIsArmed, ThrownAnew, Tells}
+pub use Rattle.grain_means.specs.Causes.Positions.{CallsWith, ReceiverCalls, this_for, roots_for, ChainCalls, ChainCallFails, body_begins, out_of_body, Enters, LeftCall, BodyFails, LeftByChain, HasPosition, AnsweredSo, IsNoChain, TellsHere, ThrowsUnitAt, ThrowsUnit, HaveCaughtUnit, FirstIsArmed, ThrownAnew, Tells}
 use Rattle.std.specs.Prelude.{◌≡◌, ◌⊎◌, ◌<◌, ◌≤◌, ◌+◌, ℕ, List, [], Some, None, true, length, Result, Ok, Err}
 use Rattle.grain_value.specs.declared.values.Dynamic.{Dynamic}
 use Rattle.grain_value.specs.declared.values.Held.{Held}
@@ -102,7 +103,7 @@ Raises m StackOverflow at = IsCharged m at.world ×
 Raises m (DataTooLarge t) at = (name : List ℕ) × (args : List Held) ×
     Operates m (TooLarge t) name args at.instruction at.frame at.world
 Raises m (Malformed (kind.SlotPastScope i n)) at =
-    (n ≡ length at.world.scope) × (n ≤ i) × UsesEntry i at.instruction at.frame
+    (n ≡ length at.world.scope) × (n ≤ i) × UsesEntry i at.instruction at.frame at.world
 Raises m (Malformed (kind.UnwindPastScope t n)) at =
     (n ≡ length at.world.scope) × (n < t) × Unwinds t at.instruction at.frame
 Raises m k at = ⊥

@@ -16,9 +16,10 @@ pub mod Pointers
 pub mod This
 pub mod InWorld
 pub mod Chains
+pub mod Receivers
 pub use Rattle.grain_means.specs.Rules.Frames.{stepped, without, frame_at, held_at, is_full, name_at, flag_of_cell, only_read, is_read_only, held_or}
 pub use Rattle.grain_means.specs.Worlds.{is_stop}
-pub use Rattle.grain_means.specs.Rules.Faults.{race_text, kind_throws_unit, throws_unit, thrown_anew, outer_handlers, own_or, position, leave_by_fault, marked_or, marked, if_armed, offered_to, offered, raised, on_verdict_or, progressed_or, operation_taken, on_verdict, progressed, charged_or, charged, escaped, data_race}
+pub use Rattle.grain_means.specs.Rules.Faults.{race_text, no_memory, kind_throws_unit, throws_unit, thrown_anew, outer_handlers, own_or, position, leave_by_fault, marked_or, marked, if_armed, offered_to, offered, raised, on_verdict_or, progressed_or, operation_taken, on_verdict, progressed, charged_or, charged, escaped, data_race}
 pub use Rattle.grain_means.specs.Rules.Catching.{catching, resumed, push_handler, bind_caught, caught}
 pub use Rattle.grain_means.specs.Rules.Going.{onward, jumped, pushed}
 pub use Rattle.grain_means.specs.Rules.Reads.{flat_before, flat_all, flat_or_race, flattened, all_or_race, flattened_all}
@@ -32,6 +33,7 @@ pub use Rattle.grain_means.specs.Rules.Pointers.{curried_in, spread, operand_und
 pub use Rattle.grain_means.specs.Rules.This.{at_place, at_this, load_this, load_this_shared, require_this, unless_read_only, assign_this, assign_this_op}
 pub use Rattle.grain_means.specs.Rules.InWorld.{world_place, placed, at_step, lent_at, failed_so, pointed_native, needed, performed, body_over, function_under, copy_dropped, function_on, function_called, pointed_called, numbered_called, invoked, walks}
 pub use Rattle.grain_means.specs.Rules.Chains.{root_name, root_operands, steps_operands, assigned_operand, operator_of, new_root, asks_root, lent_cell, root_position, at_root, assigned_value, course_of, chain_over, walk_from, walk_at, back_from, walk_cell, walk_held, walk_root, unless_constant, chain_in, chain}
+pub use Rattle.grain_means.specs.Rules.Receivers.{Destination, Nowhere, ToSlot, ToThis, root_at, call_over, over_without_entry, over_in_entry, over_in_this, over_at, receiver_over, root_over, native_lent, cell_given_back, native_lent_cell, native_on, native_on_read, callee_on, receiver_called, first_called, target_called, method_call}
 use Rattle.std.specs.Prelude.{ℕ, ◌+◌, is_some, List, [], Option, Some, None, Bool, true, false, if◌then◌else◌, length}
 use Rattle.grain_value.specs.declared.values.Dynamic.{Dynamic}
 use Rattle.grain_value.specs.declared.values.Dynamic.TheVariants as dynamic
@@ -99,6 +101,9 @@ module _ {S : Type 0} (m : Setup S) where
       (dynamic.Pointer (record { name = name_of m.program n; curry = [] })) w
   instr (op.Curry n) next f w = curry m n next f w
   instr (op.CallFnPtr n) next f w = call_pointer m n next f w
+  instr (op.CallFnPtrMethod n) next f w = method_call m Nowhere n next f w
+  instr (op.CallFnPtrOnLocal n slot) next f w = method_call m (ToSlot slot) n next f w
+  instr (op.CallFnPtrOnThis n) next f w = method_call m ToThis n next f w
   instr (op.UnwindTo depth) next f w = unwind m (f.base + depth) next f w
   instr op.Tick next f w = charged m f w (onward m f (stepped f next f.operands))
   instr op.Checkpoint next f w = onward m f (record f { address = next; floor = length w.scope }) w

@@ -13,8 +13,8 @@ use Rattle.grain_means.specs.Places.{look, put}
 
 -- how a walk ends: with a value and whether something changed, or with a fault at a step
 pub data Walked : Type 0 where
-  Well : Dynamic → (changed : Bool) → Walked
-  Ill : (step : ℕ) → Problem → Walked
+  WalkEnded : Dynamic → (changed : Bool) → Walked
+  WalkFailed : (step : ℕ) → Problem → Walked
 
 -- a native that a walk needs: the step that needs it, the position of its faults, its name, the place
 -- that is lent to it, if any, and its other arguments

@@ -5,10 +5,10 @@ use Rattle.grain_value.specs.declared.values.Dynamic.TheVariants as dynamic
 use Rattle.grain_value.specs.declared.values.Held.{Held}
 use Rattle.grain_program.specs.declared.code.chains.Step.{Step}
 use Rattle.grain_means.specs.Worlds.{Answer}
-use Rattle.grain_means.specs.Tasks.{Walked, Well, Ill, Task, Done, Mark, Look, Flatten, Write, Root, Drop, Need, Invoke, Play, Over, Asks, Calls}
+use Rattle.grain_means.specs.Tasks.{Walked, WalkEnded, WalkFailed, Task, Done, Mark, Look, Flatten, Write, Root, Drop, Need, Invoke, Play, Over, Asks, Calls}
 use Rattle.grain_means.specs.Walks.{Course}
 
--- a task that begins with n roots ends with so many, and so
+-- a task that begins with n roots ends with n roots, and so
 abbrev pub AllEnds : (ℕ → Walked → Type 0) → ℕ → Task → Type 0
 AllEnds P n (Done o) = P n o
 AllEnds P n (Mark out go) = AllEnds P n out × AllEnds P n go
@@ -29,8 +29,8 @@ PlayEnds P (Calls i go s) = (a : Answer) → AllEnds P (length s.roots) (go a)
 -- how a walk over this many steps ends: a chain that assigns ends with unit, and the step that is blamed
 -- is one of them
 abbrev pub EndsRight : ℕ → Bool → Walked → Type 0
-EndsRight steps assigns (Well v changed) = assigns ≡ true → v ≡ dynamic.Unit
-EndsRight steps assigns (Ill n x) = n < steps
+EndsRight steps assigns (WalkEnded v changed) = assigns ≡ true → v ≡ dynamic.Unit
+EndsRight steps assigns (WalkFailed n x) = n < steps
 
 -- one root is left, that at which the walk began
 abbrev pub WalkEnds : Course → List Step → ℕ → Walked → Type 0

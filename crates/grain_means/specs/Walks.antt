@@ -39,7 +39,7 @@ use Rattle.grain_program.specs.declared.code.chains.Step.{Step}
 use Rattle.grain_program.specs.declared.code.chains.Step.TheVariants as step
 use Rattle.grain_means.specs.Worlds.{Place}
 use Rattle.grain_means.specs.Places.{deeper}
-use Rattle.grain_means.specs.Tasks.{Well, Task, Done, Look, Write}
+use Rattle.grain_means.specs.Tasks.{WalkEnded, Task, Done, Look, Write}
 
 -- what a chain took from the operands: its own, and the value that it assigns, if it assigns one; and the
 -- op-assignment by which it does, if any
@@ -197,7 +197,7 @@ step_position (step.Method name argc i flags q) = q
 -- A chain whose value, as it is read, is unit ends before a step that asks for it. Of all that stands
 -- where a walk is, only a root that the first step asks whether it is a shared variable is a cell.
 abbrev pub if_not_unit : Rest → Task → Dynamic → Task
-if_not_unit done go v = if is_unit v then done (Well dynamic.Unit false) else go
+if_not_unit done go v = if is_unit v then done (WalkEnded dynamic.Unit false) else go
 
 abbrev pub unless_unit : ℕ → Position → Bool → Place → Rest → Task → Task
 unless_unit n q false p done go = go
@@ -212,9 +212,9 @@ role_at_end (Some v) (Some a) = Operates v a
 
 -- where the steps end
 abbrev pub ended : Setting → Role → ℕ → Place → Rest → Task
-ended g Passes n p done = at_mark n done (Look p (λ h. done (Well h.value false)))
-ended g Reads n p done = at_mark n done (Look p (λ h. done (Well h.value false)))
-ended g (Writes v) n p done = at_mark n done (Write p v (done (Well dynamic.Unit true)))
+ended g Passes n p done = at_mark n done (Look p (λ h. done (WalkEnded h.value false)))
+ended g Reads n p done = at_mark n done (Look p (λ h. done (WalkEnded h.value false)))
+ended g (Writes v) n p done = at_mark n done (Write p v (done (WalkEnded dynamic.Unit true)))
 ended g (Operates v a) n p done = operating g n g.position a v p done
 
 module _ (c : Course) where

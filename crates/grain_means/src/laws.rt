@@ -1,9 +1,10 @@
 //! Laws of the meaning alone. Each is a function that does nothing, whose contract is the law.
 
-ghost use Rattle.std.specs.Prelude.{◌≡◌, ◌<◌, ◌≤◌, ◌⊎◌, ◌+◌, ◌++◌, [], ◌∷◌, false, true, length, slice_get, take, List, ℕ, Bool, Ok, Option, None, Some};
+ghost use Rattle.std.specs.Prelude.{◌≡◌, ◌<◌, ◌≤◌, ◌⊎◌, ◌+◌, ◌++◌, ◌||◌, [], ◌∷◌, false, true, is_some, length, map, slice_get, take, List, ℕ, Bool, Ok, Option, None, Some};
 ghost use Rattle.grain_means.specs.Worlds.{Act, Answer, Failed, Go, World, Setup, Place, Frame, InFrame};
 ghost use Rattle.grain_means.specs.CatchBlocks.{Catches};
 ghost use Rattle.grain_means.specs.Rules.{called, chain_over, function_called, new_root};
+ghost use Rattle.grain_means.specs.Rules.{Destination, ToSlot, ToThis, call_over, curried_in, function_by_name, held_at, is_read_only, is_stop, receiver_called, receiver_over};
 ghost use Rattle.grain_means.specs.Causes.{Caused};
 ghost use Rattle.grain_means.specs.Causes.Spots.{ChainWalk, ComesTo, Falls, InsteadFails, NativeFails, OwnRow, PointedFails, WalkRow};
 ghost use Rattle.grain_fault.specs.Problems.{Problem};
@@ -25,13 +26,17 @@ ghost use Rattle.grain_value.specs.Paths.{at, put, Leads};
 ghost use Rattle.grain_value.specs.Tree.{Tree};
 ghost use Rattle.grain_value.specs.View.{tree};
 ghost use Rattle.grain_value.specs.declared.values.Dynamic.{Dynamic};
+ghost use Rattle.grain_value.specs.declared.values.FnPtr.{FnPtr};
 ghost use Rattle.grain_value.specs.declared.values.Held.{Held};
+ghost use Rattle.grain_value.specs.Looking.{cell_of};
+ghost use Rattle.grain_value.specs.Operands.{read_write};
+ghost use Rattle.grain_value.specs.Scopes.{set_held};
 ghost use Rattle.grain_value.specs.declared.values.paths.PathStep.{PathStep};
 ghost use Rattle.grain_means.specs.Places.{find, look, put as put_at, Part};
 ghost use Rattle.grain_means.specs.Rules.InWorld.{walks};
 ghost use Rattle.grain_means.specs.Readings.{ReadsAlong};
-ghost use Rattle.grain_means.specs.Staying.{IsOver};
-ghost use Rattle.grain_means.specs.Tasks.{Ill, Invocation, Invoke, Own, Task, Walked, Well, play};
+ghost use Rattle.grain_means.specs.Staying.{IsOver, ReceiverStays};
+ghost use Rattle.grain_means.specs.Tasks.{WalkFailed, Invocation, Invoke, Own, Task, Walked, WalkEnded, play};
 ghost use Rattle.grain_means.specs.Tasks.{Over as WalkOver};
 ghost use Rattle.grain_means.specs.WalkEnds.{AllEnds, PlayEnds, WalkEnds};
 ghost use Rattle.grain_means.specs.Walks.{Course, whole_walk};
@@ -136,7 +141,7 @@ pub fn reads_along()
         (path : List PathStep) (u : Dynamic) → c.assigns ≡ None →
         ReadsAlong cells c steps h.value path u →
         (j : ℕ) × (play None cells (whole_walk c steps) (record { roots = h ∷ []; passed = 0 })
-        ≡ WalkOver (Well u false) (record { roots = h ∷ []; passed = j }))
+        ≡ WalkOver (WalkEnded u false) (record { roots = h ∷ []; passed = j }))
         × (at path (tree h.value) ≡ Ok (tree u)) }
 {}
 
@@ -188,8 +193,35 @@ pub fn stays_written<S>()
         (w u : World S) (x : Problem) (t : Task) → Falls n x t →
         walks m k f (new_root w.roots) (length w.roots + 1) t (λ o v. chain_over m k next f o
         (back (look v.roots (new_root w.roots)) (record v { roots = take (length w.roots) v.roots })))
-        u ≡ chain_over m k next f (Ill n x)
+        u ≡ chain_over m k next f (WalkFailed n x)
         (back (look u.roots (new_root w.roots)) (record u { roots = take (length w.roots) u.roots })) }
+{}
+
+/// What a function wrote to the receiver of its call stays, also where it failed. The call goes on from
+/// the receiver's root as the body left it, or as it was if the body was not entered, and from the cells
+/// as the body left them; the roots before it are as they were (`stays`). Whatever the function's answer,
+/// the receiver then replaces what stands at the frame's `this` (`to_this`), or what is held in the slot's
+/// entry (`to_entry`), before a value is pushed or a handler hears of a fault. One that is a cell, or that
+/// can only be read, goes nowhere (`nowhere`).
+pub fn receiver_stays<S>()
+    ensures stays { (m : Setup S) (d : Destination) (r : FnPtr) (values : List Dynamic) (h : Held)
+        (next : ℕ) (f : Frame) (g : Function) (w v : World S) (a : Answer) →
+        function_by_name m.program r.name (length r.curry + length values) ≡ Some g →
+        is_stop m.stop w.passed ≡ false → is_read_only w h ≡ false →
+        Ends m (receiver_called m d r values h next f w) a v →
+        ReceiverStays m d g (curried_in r ++ map read_write values) h next f w v a }
+    ensures to_this { (m : Setup S) (next : ℕ) (f : Frame) (h : Held) (a : Answer) (w : World S)
+        (p : Place) → f.this ≡ Some p → cell_of h.value ≡ None → h.read_only ≡ false →
+        receiver_over m ToThis next f h a w
+        ≡ call_over m next f a (record w { roots = put_at w.roots p h.value }) }
+    ensures to_entry { (m : Setup S) (next : ℕ) (f : Frame) (h : Held) (a : Answer) (w : World S)
+        (slot : ℕ) (before : Held) → held_at w.scope (f.base + slot) ≡ Some before →
+        cell_of h.value ≡ None → h.read_only ≡ false →
+        receiver_over m (ToSlot slot) next f h a w
+        ≡ call_over m next f a (record w { scope = set_held w.scope (f.base + slot) h }) }
+    ensures nowhere { (m : Setup S) (d : Destination) (next : ℕ) (f : Frame) (h : Held) (a : Answer)
+        (w : World S) → (is_some (cell_of h.value) || h.read_only) ≡ true →
+        receiver_over m d next f h a w ≡ call_over m next f a w }
 {}
 
 /// A frame writes nothing that stands at a place but what stands at its own `this`. So one without a

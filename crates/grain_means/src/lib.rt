@@ -5,5 +5,6 @@ mod laws;
 
 pub use laws::{
     both_readings, bound_places, catches, contained, counted, leaves_places, one_end, one_meaning,
-    provided, reads_along, slow_end, stays_written, walk_ends, walk_rows, written_paths,
+    provided, reads_along, receiver_stays, slow_end, stays_written, walk_ends, walk_rows,
+    written_paths,
 };

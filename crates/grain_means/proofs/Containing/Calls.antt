@@ -66,11 +66,11 @@ module _ {S : Type 0} {m : Setup S} (on : Grounds m) where
         (λ v there. enters g count next v there) w at
 
     -- pointers
-    under_it : (count : ℕ) → HeldNames clean n (operand_under count f.operands)
+    pub under_it : (count : ℕ) → HeldNames clean n (operand_under count f.operands)
     under_it count =
         top_names clean n (under count f.operands) (under_names clean n count f.operands names.0)
 
-    no_pointer : (v : Dynamic) (w : World S) → Here on n low f names w → Stays on n low f names
+    pub no_pointer : (v : Dynamic) (w : World S) → Here on n low f names w → Stays on n low f names
         (rules.not_a_pointer m v f w)
     no_pointer v w at =
         raising on n low f names (Plain (MismatchDataType (codes "Fn") (type_name_of v))
@@ -96,26 +96,29 @@ module _ {S : Type 0} {m : Setup S} (on : Grounds m) where
               (arguments_name clean n count f.operands names.0)))
 
   module _ (n : ℕ) (low : least ≤ n) (f : Frame) (names : FrameNames clean n f) where
+    -- the function of a pointer is called
+    pub calls_pointed : (v : Dynamic) → Names clean n v → (o : Option FnPtr) → pointer_of v ≡ o →
+        (count next : ℕ) (w : World S) → Here on n low f names w →
+        Stays on n low f names (rules.pointer_called m o v count next f w)
+    calls_pointed v read None is count next w at = no_pointer n low f names v w at
+    calls_pointed v read (Some q) is count next w at =
+        calls_function n low (spread q count f) (given, names.1)
+        (function_by_name m.program q.name (length q.curry + count)) q.name
+        (length q.curry + count) next w at where
+          given : Operands clean n (under (count + 1) f.operands ++ curried_in q
+              ++ arguments count f.operands)
+          given =
+              all_joined (HeldNames clean n) (under (count + 1) f.operands ++ curried_in q)
+              (arguments count f.operands)
+              (all_joined (HeldNames clean n) (under (count + 1) f.operands) (curried_in q)
+              (under_names clean n (count + 1) f.operands names.0)
+              (curried_names clean n q (pointer_names clean n v q read is)))
+              (arguments_name clean n count f.operands names.0)
+
     pub calls_pointer : (count next : ℕ) (w : World S) → Here on n low f names w →
         Stays on n low f names (rules.call_pointer m count next f w)
     calls_pointer count next w at =
         reading on n low f names (operand_under count f.operands) [] w at
         (under_it n low f names count)
         (λ v. rules.pointer_called m (pointer_of v) v count next f w)
-        (λ v read plain. by_pointer v read (pointer_of v) refl) where
-          by_pointer : (v : Dynamic) → Names clean n v → (o : Option FnPtr) → pointer_of v ≡ o →
-              Stays on n low f names (rules.pointer_called m o v count next f w)
-          by_pointer v read None is = no_pointer n low f names v w at
-          by_pointer v read (Some q) is =
-              calls_function n low (spread q count f) (given, names.1)
-              (function_by_name m.program q.name (length q.curry + count)) q.name
-              (length q.curry + count) next w at where
-                given : Operands clean n (under (count + 1) f.operands ++ curried_in q
-                    ++ arguments count f.operands)
-                given =
-                    all_joined (HeldNames clean n) (under (count + 1) f.operands ++ curried_in q)
-                    (arguments count f.operands)
-                    (all_joined (HeldNames clean n) (under (count + 1) f.operands) (curried_in q)
-                    (under_names clean n (count + 1) f.operands names.0)
-                    (curried_names clean n q (pointer_names clean n v q read is)))
-                    (arguments_name clean n count f.operands names.0)
+        (λ v read plain. calls_pointed v read (pointer_of v) refl count next w at)

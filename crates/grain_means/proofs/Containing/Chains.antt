@@ -1,6 +1,5 @@
 -- A chain keeps to the store.
-use Rattle.std.proofs.Common.{◌≡◌, ◌≤◌, ◌+◌, ◌∙◌, ℕ, zero, suc, List, [], ◌∷◌, ◌++◌, Option, Some, None, Bool, true, false, if◌then◌else◌, ◌&&◌, length, take, refl, sym, subst, arith, length-append}
-use Rattle.std.proofs.lemmas.List.{length-set}
+use Rattle.std.proofs.Common.{◌≡◌, ◌≤◌, ◌+◌, ℕ, zero, suc, List, [], ◌∷◌, ◌++◌, Option, Some, None, Bool, true, false, if◌then◌else◌, ◌&&◌, length, take, refl, sym, subst, arith, length-append}
 use Rattle.std.specs.List.{AllByRecursion}
 use Rattle.std.specs.Prelude.{slice_get, slice_set}
 use Rattle.grain_value.specs.Cells.{idle, lent}
@@ -23,16 +22,16 @@ use Rattle.grain_means.specs.Contained.{HeldNames}
 use Rattle.grain_means.specs.Places.{look, or_unit}
 use Rattle.grain_means.specs.Rules as rules
 use Rattle.grain_means.specs.Rules.{asks_root, assigned_operand, back_from, course_of, is_read_only, lent_cell, new_root, placed, race_text, root_name, root_operands, steps_operands, trees_in, without, world_place}
-use Rattle.grain_means.specs.Tasks.{Task, Walked, Well, Ill}
+use Rattle.grain_means.specs.Tasks.{Task, Walked, WalkEnded, WalkFailed}
 use Rattle.grain_means.specs.Walks.{whole_walk}
 use Rattle.grain_means.specs.Worlds.{Act, Frame, Place, Setup, World}
 use Rattle.grain_means.proofs.Footing.{by_test}
 use Rattle.grain_means.proofs.Inside.{Firm, TreeNames, firm}
-use Rattle.grain_means.proofs.Naming.{CellHolds, all_got, all_set, arguments_name, top_names, under_names}
+use Rattle.grain_means.proofs.Naming.{CellHolds, all_got, arguments_name, top_names, under_names}
 use Rattle.grain_means.proofs.Containing.Parts.{FrameNames, Operands}
 use Rattle.grain_means.proofs.Containing.Frames.{Grounds, At, Holds, Keeps, Leaves, entry_set, raises}
-use Rattle.grain_means.proofs.Containing.Roots.{FirmAt, firm_look, look_names, look_whole, new_root_plain, past_roots, roots_on}
-use Rattle.grain_means.proofs.Containing.Keeping.{Kept, from_here, joined_on, lends_back, lends_on, lends_same, root_gone, with_root}
+use Rattle.grain_means.proofs.Containing.Roots.{FirmAt, firm_look, look_names, look_whole, new_root_plain, past_roots}
+use Rattle.grain_means.proofs.Containing.Keeping.{Kept, cell_back, cell_lent, from_here, joined_on, root_gone, with_root}
 use Rattle.grain_means.proofs.Containing.Steps.{Stays, Here, frame_wider, looking, marking, pushing, raising, reading}
 use Rattle.grain_means.proofs.Containing.StepTasks.{AssignsNames, CourseNames, bare_names, walk_names}
 use Rattle.grain_means.proofs.Containing.Tasks.{Solid, TaskNames, WalkedNames}
@@ -57,9 +56,9 @@ module _ {S : Type 0} {m : Setup S} (on : Grounds m) where
     -- a walk is over
     chain_ends : (k next : ℕ) (g : Frame) → FrameNames clean n g → (o : Walked) (w : World S) →
         WalkedNames clean n o → At on n w → Keeps on n low (rules.chain_over m k next g o w)
-    chain_ends k next g names (Well v changed) w bound at =
+    chain_ends k next g names (WalkEnded v changed) w bound at =
         pushing on n low g names next g.operands v w at names.0 bound
-    chain_ends k next g names (Ill j x) w bound at =
+    chain_ends k next g names (WalkFailed j x) w bound at =
         raises on n low (record g { slot = Some (slot_of m.program k j) }) names x w at bound
 
   -- what stands further inside than at a firm place
@@ -187,7 +186,8 @@ module _ {S : Type 0} {m : Setup S} (on : Grounds m) where
         (λ busy. raising on n low f names (Plain (DataRace (race_text name)) (rules.position m f)) w
         at (omega arith, λ s. refl))
         (λ free. walks_from n low k false task written next g kept content here.names
-        (λ e. here.flat) back_in (record w { cells = lents }) (with_root content here.names begun)
+        (λ e. here.flat) back_in (record w { cells = lents })
+        (with_root content here.names (cell_lent i c.held at))
         backs) where
           content : Held
           content = record { value = c.held.value; read_only = read_only }
@@ -203,37 +203,11 @@ module _ {S : Type 0} {m : Setup S} (on : Grounds m) where
           here : CellHolds clean n c
           here = all_got (CellHolds clean n) w.cells i c at.contents is
 
-          begun : Kept m.law clean n (record { cells = lents; roots = w.roots }) w.scope lents w.host
-              w.roots
-          begun = record {
-            size = length-set w.cells i (lent c.held) ∙ at.size;
-            entries = at.entries;
-            contents = all_set (CellHolds clean n) w.cells i (lent c.held) at.contents
-                (record { flat = refl; names = (omega arith, λ s. refl) });
-            reaches = at.reaches;
-            hands = at.hands;
-            lends = lends_same lents;
-            stand = (from_here at).stand;
-          }
-
           backs : (j : ℕ) → n ≤ j → (r : Held) (v : World S) → HeldNames clean j r →
               (cell_of c.held.value ≡ None → cell_of r.value ≡ None) →
               Holds m clean (record { cells = lents; roots = w.roots }) j v → At on j (back_in r v)
           backs j le r v named keeps there =
-              let now : List Cell = slice_set v.cells i (idle (record c.held { value = r.value })) in
-              record {
-                size = length-set v.cells i (idle (record c.held { value = r.value })) ∙ there.size;
-                entries = there.entries;
-                contents = all_set (CellHolds clean j) v.cells i
-                    (idle (record c.held { value = r.value })) there.contents
-                    (record { flat = keeps here.flat; names = named });
-                reaches = there.reaches;
-                hands = there.hands;
-                lends = lends_on now w.cells since.cells
-                    (lends_back v.cells w.cells i c.held (record c.held { value = r.value })
-                    there.lends) at.lends;
-                stand = roots_on clean n j v.roots w.roots since.roots there.stand at.stand;
-              }
+              cell_back i c.held (record c.held { value = r.value }) named (keeps here.flat) at there
 
     module _ (c : Chain) (bare : asks_root m.program c.steps ≡ true → TaskNames clean true n task)
       where

@@ -1,15 +1,17 @@
 -- What a stretch of a run keeps, as seen from where it began: what there is names cells of the store
 -- only, no cell is lent but those that were, and no root is a cell where none was.
-use Rattle.std.proofs.Common.{◌≡◌, ◌≤◌, ℕ, zero, suc, List, [], ◌∷◌, ◌++◌, Bool, true, false, length, take, refl}
+use Rattle.std.proofs.Common.{◌≡◌, ◌≤◌, ◌∙◌, ℕ, zero, suc, List, [], ◌∷◌, ◌++◌, None, Bool, true, false, length, take, refl, arith}
+use Rattle.std.proofs.lemmas.List.{length-set}
 use Rattle.std.specs.List.{AllByRecursion}
 use Rattle.std.specs.Prelude.{slice_set}
 use Rattle.grain_value.specs.Cells.{idle, lent}
+use Rattle.grain_value.specs.Looking.{cell_of}
 use Rattle.grain_value.specs.declared.scopes.Entry.{Entry}
 use Rattle.grain_value.specs.declared.stores.Cell.{Cell}
 use Rattle.grain_value.specs.declared.values.Held.{Held}
 use Rattle.grain_host.specs.Law.{Law}
 use Rattle.grain_means.specs.Contained.{CellNames, Contained, EntryNames, HeldNames}
-use Rattle.grain_means.proofs.Naming.{CellHolds, all_joined, all_wider}
+use Rattle.grain_means.proofs.Naming.{CellHolds, all_joined, all_set, all_wider}
 use Rattle.grain_means.proofs.Containing.Roots.{Roots, roots_back, roots_named, roots_on, roots_same}
 
 -- the cells and the roots where a stretch began
@@ -178,5 +180,40 @@ module _ {S : Type 0} {law : Law S} {clean : Bool} where
         reaches = at.reaches;
         hands = at.hands;
         lends = lends_on cells amid since.cells at.lends was.lends;
+        stand = roots_on clean n k roots stood since.roots at.stand was.stand;
+      }
+
+  -- a stretch begins here, with the cell of number i lent
+  pub cell_lent : {n : ℕ} {since : Since} {scope : List Entry} {cells : List Cell} {host : S}
+      {roots : List Held} (i : ℕ) (h : Held) → Kept law clean n since scope cells host roots →
+      Kept law clean n (record { cells = slice_set cells i (lent h); roots = roots }) scope
+      (slice_set cells i (lent h)) host roots
+  cell_lent {n} {since} {scope} {cells} {host} {roots} i h at = record {
+    size = length-set cells i (lent h) ∙ at.size;
+    entries = at.entries;
+    contents = all_set (CellHolds clean n) cells i (lent h) at.contents
+        (record { flat = refl; names = (omega arith, λ s. refl) });
+    reaches = at.reaches;
+    hands = at.hands;
+    lends = lends_same (slice_set cells i (lent h));
+    stand = roots_same clean n roots (all_named at);
+  }
+
+  -- the cell has a content back
+  pub cell_back : {n k : ℕ} {since : Since} {scope before : List Entry} {cells amid : List Cell}
+      {host first : S} {roots stood : List Held} (i : ℕ) (g h : Held) → HeldNames clean k h →
+      cell_of h.value ≡ None → Kept law clean n since before amid first stood →
+      Kept law clean k (record { cells = slice_set amid i (lent g); roots = stood }) scope cells host
+      roots → Kept law clean k since scope (slice_set cells i (idle h)) host roots
+  cell_back {n} {k} {since} {scope} {before} {cells} {amid} {host} {first} {roots} {stood} i g h named
+      plain was at = record {
+        size = length-set cells i (idle h) ∙ at.size;
+        entries = at.entries;
+        contents = all_set (CellHolds clean k) cells i (idle h) at.contents
+            (record { flat = plain; names = named });
+        reaches = at.reaches;
+        hands = at.hands;
+        lends = lends_on (slice_set cells i (idle h)) amid since.cells
+            (lends_back cells amid i g h at.lends) was.lends;
         stand = roots_on clean n k roots stood since.roots at.stand was.stand;
       }

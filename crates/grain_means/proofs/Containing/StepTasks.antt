@@ -23,7 +23,7 @@ use Rattle.grain_program.specs.declared.code.parts.AssignOp.{AssignOp}
 use Rattle.grain_program.specs.declared.code.chains.Step.{Step}
 use Rattle.grain_program.specs.declared.code.chains.Step.TheVariants as step
 use Rattle.grain_means.specs.Contained.{HeldNames, Names, ProblemNames}
-use Rattle.grain_means.specs.Tasks.{Well, Task, Done}
+use Rattle.grain_means.specs.Tasks.{WalkEnded, Task, Done}
 use Rattle.grain_means.specs.Walks as walks
 use Rattle.grain_means.specs.Walks.{Setting, Course, Rest, Next, Role, Passes, Reads, Writes, Operates, Origin, OfIndex, OfProperty, OfNothing, assigning, flattening, is_indexed, origin_of_part, out_of_bounds, role_at_end, skips, with_key}
 use Rattle.grain_means.specs.Rules.{asks_root}
@@ -208,7 +208,7 @@ module _ (clean bare : Bool) (n : ℕ) where
   unless j q true p done go f h = λ x held.
       reads clean bare n j q x.value done (walks.if_not_unit done go) f held
       (λ u plain. by clean bare n (is_unit u) _ _
-      (now clean bare n done f (Well dynamic.Unit false) (unit_names clean bare n)) h)
+      (now clean bare n done f (WalkEnded dynamic.Unit false) (unit_names clean bare n)) h)
 
 -- an operand of the chain
 trees_got : (clean : Bool) (n : ℕ) (ts : List Tree) (i : ℕ) → AllByRecursion (TreeNames clean n) ts →
@@ -272,7 +272,7 @@ module _ (clean bare : Bool) (c : Course) where
     ends : (k : ℕ) (v : Option Dynamic) → AssignsNames clean n v → (op : Option AssignOp) →
         Goes clean bare n (walks.ended c.setting (role_at_end v op) k)
     ends k None named op p solid done f =
-        (out clean bare n done k f, λ h held. now clean bare n done f (Well h.value false) held)
+        (out clean bare n done k f, λ h held. now clean bare n done f (WalkEnded h.value false) held)
     ends k (Some v) named None p solid done f =
         (out clean bare n done k f, (named, assigned clean bare n done f))
     ends k (Some v) named (Some a) p solid done f =

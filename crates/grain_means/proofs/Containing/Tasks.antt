@@ -23,7 +23,7 @@ use Rattle.grain_program.specs.declared.code.parts.AssignOp.{AssignOp}
 use Rattle.grain_means.specs.Contained.{AnswerNames, HeldNames, Names, ProblemNames}
 use Rattle.grain_means.specs.Places.{next_root}
 use Rattle.grain_means.specs.Rules.{op_assigned}
-use Rattle.grain_means.specs.Tasks.{Walked, Well, Ill, Task, Done, Mark, Look, Flatten, Write, Root, Drop, Need, Invoke, Method, Numbered, Pointed}
+use Rattle.grain_means.specs.Tasks.{Walked, WalkEnded, WalkFailed, Task, Done, Mark, Look, Flatten, Write, Root, Drop, Need, Invoke, Method, Numbered, Pointed}
 use Rattle.grain_means.specs.Walks as walks
 use Rattle.grain_means.specs.Walks.{Setting, Rest, Next, Origin, OfPart, OfIndex, OfProperty, OfMethod, OfNothing, at_mark, failing, flattening}
 use Rattle.grain_means.specs.Worlds.{Place, Answer, Came, Failed}
@@ -70,8 +70,8 @@ LendsSolid bare (Some p) = Solid bare p
 
 module _ (clean : Bool) (n : ℕ) where
   abbrev pub WalkedNames : Walked → Type 0
-  WalkedNames (Well v changed) = Names clean n v
-  WalkedNames (Ill k x) = ProblemNames clean n x
+  WalkedNames (WalkEnded v changed) = Names clean n v
+  WalkedNames (WalkFailed k x) = ProblemNames clean n x
 
   abbrev pub ValuesName : List Dynamic → Type 0
   ValuesName vs = AllByRecursion (Names clean n) vs
@@ -149,21 +149,21 @@ module _ (clean bare : Bool) (n : ℕ) where
   by true x y h i = h
   by false x y h i = i
 
-  pub out : (done : Rest) (k : ℕ) → Follows clean bare n done → Tasked (done (Ill k NoMemory))
-  out done k f = now done f (Ill k NoMemory) (omega arith, λ s. refl)
+  pub out : (done : Rest) (k : ℕ) → Follows clean bare n done → Tasked (done (WalkFailed k NoMemory))
+  out done k f = now done f (WalkFailed k NoMemory) (omega arith, λ s. refl)
 
   -- unit, and a text
   pub unit_names : Names clean n dynamic.Unit
   unit_names = (omega arith, λ s. refl)
 
-  pub assigned : (done : Rest) → Follows clean bare n done → Tasked (done (Well dynamic.Unit true))
-  assigned done f = now done f (Well dynamic.Unit true) unit_names
+  pub assigned : (done : Rest) → Follows clean bare n done → Tasked (done (WalkEnded dynamic.Unit true))
+  assigned done f = now done f (WalkEnded dynamic.Unit true) unit_names
 
   -- a step of the chain
   module _ (k : ℕ) where
     pub fails : (x : Problem) (done : Rest) → Follows clean bare n done → ProblemNames clean n x →
         Tasked (failing k x done)
-    fails x done f bound = (out done k f, now done f (Ill k x) bound)
+    fails x done f bound = (out done k f, now done f (WalkFailed k x) bound)
 
     pub reads : (q : Position) (v : Dynamic) (done : Rest) (go : Dynamic → Task) →
         Follows clean bare n done → Names clean n v →
@@ -172,9 +172,9 @@ module _ (clean bare : Bool) (n : ℕ) where
 
     pub index_set : (u : Dynamic) (done : Rest) → Follows clean bare n done → Names clean n u →
         (a : Answer) → AnswerNames clean n a → Tasked (walks.index_was_set k u done a)
-    index_set u done f names (Came r) bound = now done f (Well u true) names
+    index_set u done f names (Came r) bound = now done f (WalkEnded u true) names
     index_set u done f names (Failed x) bound =
-        by (is_indexing_type x) _ _ (now done f (Well u true) names) (now done f (Ill k x) bound)
+        by (is_indexing_type x) _ _ (now done f (WalkEnded u true) names) (now done f (WalkFailed k x) bound)
 
     pub sets_index : (q : Position) (p : Place) (i v u : Dynamic) (done : Rest) → Solid bare p →
         Follows clean bare n done → Names clean n i → Names clean n v → Names clean n u →
@@ -185,29 +185,29 @@ module _ (clean bare : Bool) (n : ℕ) where
     pub set_instead : (x : Problem) (assigned : Bool) (u : Dynamic) (done : Rest) →
         Follows clean bare n done → ProblemNames clean n x → Names clean n u → (a : Answer) →
         AnswerNames clean n a → Tasked (walks.set_instead k x assigned u done a)
-    set_instead x assigned u done f first names (Came r) bound = now done f (Well u true) names
+    set_instead x assigned u done f first names (Came r) bound = now done f (WalkEnded u true) names
     set_instead x assigned u done f first names (Failed y) bound =
         by (is_indexing_type y) _ _
-        (by assigned _ _ (now done f (Ill k x) first) (now done f (Well u true) names))
-        (now done f (Ill k y) bound)
+        (by assigned _ _ (now done f (WalkFailed k x) first) (now done f (WalkEnded u true) names))
+        (now done f (WalkFailed k y) bound)
 
     pub property_set : (name : Dynamic) (q : Position) (assigned : Bool) (p : Place) (v u : Dynamic)
         (done : Rest) → Solid bare p → Follows clean bare n done → Names clean n name →
         Names clean n v → Names clean n u → (a : Answer) → AnswerNames clean n a →
         Tasked (walks.property_was_set k name q assigned p v u done a)
     property_set name q assigned p v u done solid f text value names (Came r) bound =
-        now done f (Well u true) names
+        now done f (WalkEnded u true) names
     property_set name q assigned p v u done solid f text value names (Failed x) bound =
         by (is_dot_expr x) _ _
         (out done k f, ((text, (value, tt)), solid, set_instead x assigned u done f bound names))
-        (now done f (Ill k x) bound)
+        (now done f (WalkFailed k x) bound)
 
     pub got_instead : (x : Problem) (done : Rest) (go : Dynamic → Task) →
         Follows clean bare n done → ProblemNames clean n x → Reading go → (a : Answer) →
         AnswerNames clean n a → Tasked (walks.got_instead k x done go a)
     got_instead x done go f first h (Came v) bound = h v bound
     got_instead x done go f first h (Failed y) bound =
-        by (is_indexing_type y) _ _ (now done f (Ill k x) first) (now done f (Ill k y) bound)
+        by (is_indexing_type y) _ _ (now done f (WalkFailed k x) first) (now done f (WalkFailed k y) bound)
 
     pub property_got : (name : Dynamic) (q : Position) (p : Place) (done : Rest)
         (go : Dynamic → Task) → Solid bare p → Follows clean bare n done → Names clean n name →
@@ -217,12 +217,12 @@ module _ (clean bare : Bool) (n : ℕ) where
     property_got name q p done go solid f text h (Failed x) bound =
         by (is_dot_expr x) _ _
         (out done k f, ((text, tt), solid, got_instead x done go f bound h))
-        (now done f (Ill k x) bound)
+        (now done f (WalkFailed k x) bound)
 
     pub given : (done : Rest) (go : Dynamic → Task) → Follows clean bare n done → Reading go →
         (a : Answer) → AnswerNames clean n a → Tasked (walks.was_given k done go a)
     given done go f h (Came v) bound = h v bound
-    given done go f h (Failed x) bound = now done f (Ill k x) bound
+    given done go f h (Failed x) bound = now done f (WalkFailed k x) bound
 
     pub index_read : (q : Position) (p : Place) (i v : Dynamic) (done : Rest)
         (go : Dynamic → Task) → Solid bare p → Follows clean bare n done → Names clean n i →
@@ -231,7 +231,7 @@ module _ (clean bare : Bool) (n : ℕ) where
     index_read q p i v done go solid f index value h (Came r) bound = h r bound
     index_read q p i v done go solid f index value h (Failed x) bound =
         by (catchable x) _ _ (sets_index q p i v dynamic.Unit done solid f index value unit_names)
-        (now done f (Ill k x) bound)
+        (now done f (WalkFailed k x) bound)
 
     module _ (g : Setting) where
       pub name_names : (name : ℕ) → Names clean n (walks.named g name)
@@ -263,9 +263,9 @@ module _ (clean bare : Bool) (n : ℕ) where
       pub operator : (q : Position) (p : Place) (done : Rest) → Follows clean bare n done →
           (a : Answer) → AnswerNames clean n a → Tasked (walks.operator_answered k q p done a)
       operator q p done f (Came r) bound =
-          reads q r done (λ u. at_mark k done (Write p u (done (Well dynamic.Unit true)))) f bound
+          reads q r done (λ u. at_mark k done (Write p u (done (WalkEnded dynamic.Unit true)))) f bound
           (λ u plain. (out done k f, (plain, assigned done f)))
-      operator q p done f (Failed x) bound = now done f (Ill k x) bound
+      operator q p done f (Failed x) bound = now done f (WalkFailed k x) bound
 
       module _ (q : Position) (a : AssignOp) (v : Dynamic) (value : Names clean n v) where
         pub op_assigned_by : (p : Place) (done : Rest) → Follows clean bare n done → (b : Answer) →
@@ -274,7 +274,7 @@ module _ (clean bare : Bool) (n : ℕ) where
         op_assigned_by p done f (Failed x) bound =
             by (says_missing (name_of g.program a.op_assign_name) x) _ _
             (λ h named. (out done k f, ((named, (value, tt)), tt, operator q p done f)))
-            (now done f (Ill k x) bound)
+            (now done f (WalkFailed k x) bound)
 
         pub stored : (p : Place) (done : Rest) → Solid bare p → Follows clean bare n done →
             (o : Outcome) → NamesNone o → Tasked (walks.stored g k q a v p done o)
@@ -295,7 +295,7 @@ module _ (clean bare : Bool) (n : ℕ) where
           Follows clean bare n done → Names clean n u → (d : Option Dynamic) →
           NoneInside clean n d → Tasked (walks.put_part g k s p v u changed done d)
       put_part s p v u changed done f names (Some d) none =
-          (out done k f, (none, now done f (Well u changed) names))
+          (out done k f, (none, now done f (WalkEnded u changed) names))
       put_part s p v u changed done f names None none = fails _ done f (omega arith, λ s. refl)
 
       sets_back : (o : Origin) (p : Place) → OriginNames clean bare n o p → (v u : Dynamic)
@@ -308,18 +308,18 @@ module _ (clean bare : Bool) (n : ℕ) where
       )
       sets_back (OfIndex i q) p from v u changed done f value names =
           by changed _ _ (sets_index q p i v u done from.1 f from.0 value names)
-          (now done f (Well u false) names)
+          (now done f (WalkEnded u false) names)
       sets_back (OfProperty name setter q assigned) p from v u changed done f value names =
           by changed _ _ (sets_property name setter q assigned p v u done from f value names)
-          (now done f (Well u false) names)
-      sets_back OfMethod p from v u changed done f value names = now done f (Well u true) names
-      sets_back OfNothing p from v u changed done f value names = now done f (Well u changed) names
+          (now done f (WalkEnded u false) names)
+      sets_back OfMethod p from v u changed done f value names = now done f (WalkEnded u true) names
+      sets_back OfNothing p from v u changed done f value names = now done f (WalkEnded u changed) names
 
       pub comes_back : (o : Origin) (p : Place) → OriginNames clean bare n o p → (done : Rest) →
           Follows clean bare n done → (x : Walked) → WalkedNames clean n x →
           Tasked (walks.back g k o p done x)
-      comes_back o p from done f (Ill j x) bound = λ h held. now done f (Ill j x) bound
-      comes_back o p from done f (Well u changed) names = λ h held.
+      comes_back o p from done f (WalkFailed j x) bound = λ h held. now done f (WalkFailed j x) bound
+      comes_back o p from done f (WalkEnded u changed) names = λ h held.
           sets_back o p from h.value u changed done f held names
 
 -- the same once the store has grown
@@ -355,7 +355,7 @@ module _ (clean bare : Bool) (n k : ℕ) (g : Setting) where
       Follows clean bare n done →
       Reading clean bare n (walks.into_answer g k q own o next p done)
   into_answer q true o p from next on done f v names =
-      now clean bare n done f (Well v (walks.is_change o)) names
+      now clean bare n done f (WalkEnded v (walks.is_change o)) names
   into_answer q false o p from next on done f v names =
       reads clean bare n k q v done (λ u. walks.rooted g k o (read_write u) next p done) f names
       (λ u plain. roots o p from (read_write u) plain next on done f)

@@ -19,7 +19,7 @@ use Rattle.grain_means.specs.Worlds.{Act, Answer, Came, Failed, Frame, Place, Se
 use Rattle.grain_means.proofs.Footing.{by_test}
 use Rattle.grain_means.proofs.Inside.{may_put}
 use Rattle.grain_means.proofs.Naming.{all_joined, curried_names, curry_values, flat_all_names, flat_names}
-use Rattle.grain_means.proofs.Containing.Parts.{LendsPlain, Operands, ReceiverNames}
+use Rattle.grain_means.proofs.Containing.Parts.{Arguments, LendsPlain, Operands, ReceiverNames}
 use Rattle.grain_means.proofs.Containing.Bodies.{body_calls, body_fails}
 use Rattle.grain_means.proofs.Containing.Frames.{Grounds, At, Leaves, fails_or, root_put}
 use Rattle.grain_means.proofs.Containing.Natives.{natives}
@@ -28,7 +28,7 @@ use Rattle.grain_means.proofs.Containing.Keeping.{Since, joined_on, root_gone, w
 use Rattle.grain_means.proofs.Containing.Tasks.{LendsSolid, MethodNames, Solid, TaskNames, ValuesName, WalkedNames}
 
 -- values as they are held
-held_values : (clean : Bool) (n : ℕ) (vs : List Dynamic) → ValuesName clean n vs →
+pub held_values : (clean : Bool) (n : ℕ) (vs : List Dynamic) → ValuesName clean n vs →
     Operands clean n (map read_write vs)
 held_values clean n [] h = tt
 held_values clean n (v ∷ vs) h = (h.0, held_values clean n vs h.1)
@@ -60,7 +60,7 @@ module _ {S : Type 0} {m : Setup S} (on : Grounds m) (to : Since) where
         Leaves m clean to n (heard (Failed x) w)
     failing x w at bound = hears (Failed x) w bound at
 
-    fails_so : (x : Problem) (w : World S) → At on n w → ProblemNames clean n x →
+    pub fails_so : (x : Problem) (w : World S) → At on n w → ProblemNames clean n x →
         Leaves m clean to n (rules.failed_so m heard x w)
     fails_so x w at bound =
         fails_or on to n (heard (Failed NoMemory)) outs (λ y. heard (Failed y)) failing x w at bound
@@ -80,6 +80,18 @@ module _ {S : Type 0} {m : Setup S} (on : Grounds m) (to : Since) where
     lent_plain None firm w at = tt
     lent_plain (Some q) firm w at = firm_still clean n w.roots since.roots q at.stand firm
 
+    -- a native is called, to which the place is lent
+    pub lends_native : (name : List ℕ) (args : List Held) (e : Frame) → Arguments clean n args →
+        (o : Option Place) → LendsFirm o → (w : World S) → At on n w →
+        Leaves m clean to n (rules.native_or m (heard (Failed NoMemory)) name (lent_at w.roots o) args e w
+        (λ v w1. heard (Came v) w1) (rules.failed_so m heard))
+    lends_native name args e given o firm w at =
+        natives on to n low (heard (Failed NoMemory)) outs e (lent_at w.roots o)
+        (λ v w1. heard (Came v) w1) (rules.failed_so m heard)
+        (λ v w1 there named. hears (Came v) w1 named there)
+        (λ x w1 there plain bound. fails_so x w1 there bound) name args w at
+        (lent_names o firm w at) (lent_plain o firm w at) given
+
     -- a native that a walk calls
     pub performs : (k : ℕ) (f : Frame) (c : Call) (o : Option Place) → LendsFirm o →
         ValuesName clean n c.values → (w : World S) → At on n w →
@@ -91,14 +103,9 @@ module _ {S : Type 0} {m : Setup S} (on : Grounds m) (to : Since) where
           by_content None is =
               fails_so (Plain (DataRace (race_text [])) c.position) w at (omega arith, λ s. refl)
           by_content (Some args) is =
-              natives on to n low (heard (Failed NoMemory)) outs
-              (at_step m.program k c.step c.position f) (lent_at w.roots o) (λ v w1. heard (Came v) w1)
-              (rules.failed_so m heard)
-              (λ v w1 there named. hears (Came v) w1 named there)
-              (λ x w1 there plain bound. fails_so x w1 there bound) c.name args w at
-              (lent_names o firm w at) (lent_plain o firm w at)
+              lends_native c.name args (at_step m.program k c.step c.position f)
               (flat_all_names clean n w.cells (map read_write c.values) args at.contents
-              (held_values clean n c.values values) is)
+              (held_values clean n c.values values) is) o firm w at
 
   -- a function that a walk calls is over
   overs : (q : Position) (g : Function) (n : ℕ) → least ≤ n → (heard : Answer → World S → Act S) →
@@ -137,7 +144,7 @@ module _ {S : Type 0} {m : Setup S} (on : Grounds m) (to : Since) where
         (joined_on at (root_gone w.roots h there))) this (record w { roots = w.roots ++ h ∷ [] })
         (with_root h held at)
 
-    calls : (q : Position) (g : Function) (args : List Held) → Operands clean n args →
+    pub calls : (q : Position) (g : Function) (args : List Held) → Operands clean n args →
         (o : Option Place) (w : World S) → At on n w →
         Leaves m clean to n (rules.function_called m q g args heard o w)
     calls q g args given None w at = under on to q g args n low given heard hears None w at

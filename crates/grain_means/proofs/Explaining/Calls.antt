@@ -18,7 +18,7 @@ use Rattle.grain_program.specs.declared.code.parts.AssignOp.{AssignOp}
 use Rattle.grain_means.specs.Worlds.{Came, Failed, Place, Setup}
 use Rattle.grain_means.specs.Places.{look, put, next_root}
 use Rattle.grain_means.specs.Rules.{op_assigned}
-use Rattle.grain_means.specs.Tasks.{Call, Task, Write, Root, Well, Ill}
+use Rattle.grain_means.specs.Tasks.{Call, Task, Write, Root, WalkEnded, WalkFailed}
 use Rattle.grain_means.specs.Walks as walks
 use Rattle.grain_means.specs.Walks.{Rest, Next, Origin, OfPart, OfIndex, OfProperty, OfMethod, OfNothing, at_mark}
 use Rattle.grain_means.specs.Causes.Spots.{ChainWalk, here, marked, looked, wrote, added, dropped, past, Falls, CallFails, world_of}
@@ -43,13 +43,13 @@ module _ {S : Type 0} (m : Setup S) (c : ChainWalk S) where
     index_set call step u done f v come (Failed x) w ends arrived =
         by_absence (is_indexing_type x) refl arrived where
           by_absence : (b : Bool) → is_indexing_type x ≡ b →
-              On m c (if b then done (Well u true) else done (Ill n x)) w →
-              Why m c (if b then done (Well u true) else done (Ill n x)) w
+              On m c (if b then done (WalkEnded u true) else done (WalkFailed n x)) w →
+              Why m c (if b then done (WalkEnded u true) else done (WalkFailed n x)) w
           by_absence true e on = f.well u true w on
           by_absence false e on =
               ill m c n x done f (native_row m c n x
               (failing_call m c n call step (walks.index_was_set n u done) v come x w ends)
-              (if_false (Falls n x) (is_indexing_type x) (done (Well u true)) (done (Ill n x)) e
+              (if_false (Falls n x) (is_indexing_type x) (done (WalkEnded u true)) (done (WalkFailed n x)) e
               (f.falls n x))) w
 
     pub sets_index : (q : Position) (p : Place) (i v u : Dynamic) (done : Rest) → Follows m c done →
@@ -69,26 +69,28 @@ module _ {S : Type 0} (m : Setup S) (c : ChainWalk S) where
     set_instead call step x first assigned u done replaced f v come (Failed y) w ends arrived =
         by_absence (is_indexing_type y) refl arrived where
           kept : Task
-          kept = if assigned then done (Ill n x) else done (Well u true)
+          kept = if assigned then done (WalkFailed n x) else done (WalkEnded u true)
 
           second : CallFails m c n y
           second = failing_call m c n call step (walks.set_instead n x assigned u done) v come y w ends
 
           by_assigned : is_indexing_type y ≡ true → (b : Bool) → assigned ≡ b →
-              On m c (if b then done (Ill n x) else done (Well u true)) w →
-              Why m c (if b then done (Ill n x) else done (Well u true)) w
+              On m c (if b then done (WalkFailed n x) else done (WalkEnded u true)) w →
+              Why m c (if b then done (WalkFailed n x) else done (WalkEnded u true)) w
           by_assigned absent true e on =
               ill m c n x done f (instead_row m c n x y first second replaced absent
-              (if_true (Falls n x) (is_indexing_type y) kept (done (Ill n y)) absent
-              (if_true (Falls n x) assigned (done (Ill n x)) (done (Well u true)) e (f.falls n x)))) w
+              (if_true (Falls n x) (is_indexing_type y) kept (done (WalkFailed n y)) absent
+              (if_true (Falls n x) assigned (done (WalkFailed n x)) (done (WalkEnded u true)) e
+              (f.falls n x)))) w
           by_assigned absent false e on = f.well u true w on
 
           by_absence : (b : Bool) → is_indexing_type y ≡ b →
-              On m c (if b then kept else done (Ill n y)) w → Why m c (if b then kept else done (Ill n y)) w
+              On m c (if b then kept else done (WalkFailed n y)) w → Why m c
+              (if b then kept else done (WalkFailed n y)) w
           by_absence true e on = by_assigned e assigned refl on
           by_absence false e on =
               ill m c n y done f (native_row m c n y second (if_false (Falls n y) (is_indexing_type y) kept
-              (done (Ill n y)) e (f.falls n y))) w
+              (done (WalkFailed n y)) e (f.falls n y))) w
 
     pub property_set : (call : Call) → call.step ≡ n → (name : Dynamic) (q : Position)
         (assigned : Bool) (p : Place) (set u : Dynamic) (done : Rest) → Follows m c done →
@@ -105,21 +107,22 @@ module _ {S : Type 0} (m : Setup S) (c : ChainWalk S) where
           first = failing_call m c n call step (walks.property_was_set n name q assigned p set u done) v
               come x w ends
 
-          by_absence : (b : Bool) → is_dot_expr x ≡ b → On m c (if b then again else done (Ill n x)) w →
-              Why m c (if b then again else done (Ill n x)) w
+          by_absence : (b : Bool) → is_dot_expr x ≡ b → On m c
+              (if b then again else done (WalkFailed n x)) w →
+              Why m c (if b then again else done (WalkFailed n x)) w
           by_absence true e on =
               asks m c n q walks.index_set (Some p) (name ∷ set ∷ []) done
               (walks.set_instead n x assigned u done) f (f.falls n NoMemory)
               (set_instead (call_of m c n q walks.index_set (Some p) (name ∷ set ∷ [])) refl x first
               assigned u done (record {
                 none = e;
-                out = done (Ill n NoMemory);
+                out = done (WalkFailed n NoMemory);
                 instead =
-                    if_true (λ (t : Task). t ≡ again) (is_dot_expr x) again (done (Ill n x)) e refl;
+                    if_true (λ (t : Task). t ≡ again) (is_dot_expr x) again (done (WalkFailed n x)) e refl;
               }) f) w on
           by_absence false e on =
               ill m c n x done f (native_row m c n x first
-              (if_false (Falls n x) (is_dot_expr x) again (done (Ill n x)) e (f.falls n x))) w
+              (if_false (Falls n x) (is_dot_expr x) again (done (WalkFailed n x)) e (f.falls n x))) w
 
     pub sets_property : (name setter : ℕ) (q : Position) (assigned : Bool) (p : Place) (v u : Dynamic)
         (done : Rest) → Follows m c done →
@@ -147,14 +150,14 @@ module _ {S : Type 0} (m : Setup S) (c : ChainWalk S) where
           second = failing_call m c n call step (walks.got_instead n x done go) v come y w ends
 
           by_absence : (b : Bool) → is_indexing_type y ≡ b →
-              Why m c (if b then done (Ill n x) else done (Ill n y)) w
+              Why m c (if b then done (WalkFailed n x) else done (WalkFailed n y)) w
           by_absence true e =
               ill m c n x done f (instead_row m c n x y first second replaced e
-              (if_true (Falls n x) (is_indexing_type y) (done (Ill n x)) (done (Ill n y)) e
+              (if_true (Falls n x) (is_indexing_type y) (done (WalkFailed n x)) (done (WalkFailed n y)) e
               (f.falls n x))) w
           by_absence false e =
               ill m c n y done f (native_row m c n y second
-              (if_false (Falls n y) (is_indexing_type y) (done (Ill n x)) (done (Ill n y)) e
+              (if_false (Falls n y) (is_indexing_type y) (done (WalkFailed n x)) (done (WalkFailed n y)) e
               (f.falls n y))) w
 
     pub property_got : (call : Call) → call.step ≡ n → (name : Dynamic) (q : Position) (p : Place)
@@ -170,21 +173,22 @@ module _ {S : Type 0} (m : Setup S) (c : ChainWalk S) where
           first : CallFails m c n x
           first = failing_call m c n call step (walks.property_was_got n name q p done go) v come x w ends
 
-          by_absence : (b : Bool) → is_dot_expr x ≡ b → On m c (if b then again else done (Ill n x)) w →
-              Why m c (if b then again else done (Ill n x)) w
+          by_absence : (b : Bool) → is_dot_expr x ≡ b → On m c
+              (if b then again else done (WalkFailed n x)) w →
+              Why m c (if b then again else done (WalkFailed n x)) w
           by_absence true e at =
               asks m c n q walks.index_get (Some p) (name ∷ []) done (walks.got_instead n x done go) f
               (f.falls n NoMemory)
               (got_instead (call_of m c n q walks.index_get (Some p) (name ∷ [])) refl x first done go
               (record {
                 none = e;
-                out = done (Ill n NoMemory);
+                out = done (WalkFailed n NoMemory);
                 instead =
-                    if_true (λ (t : Task). t ≡ again) (is_dot_expr x) again (done (Ill n x)) e refl;
+                    if_true (λ (t : Task). t ≡ again) (is_dot_expr x) again (done (WalkFailed n x)) e refl;
               }) f on) w at
           by_absence false e at =
               ill m c n x done f (native_row m c n x first
-              (if_false (Falls n x) (is_dot_expr x) again (done (Ill n x)) e (f.falls n x))) w
+              (if_false (Falls n x) (is_dot_expr x) again (done (WalkFailed n x)) e (f.falls n x))) w
 
     pub gets_property : (name getter : ℕ) (q : Position) (p : Place) (done : Rest)
         (go : Dynamic → Task) → Follows m c done → Answers go →
@@ -211,26 +215,26 @@ module _ {S : Type 0} (m : Setup S) (c : ChainWalk S) where
           plain : Task
           plain = walks.set_by_index n q p i set dynamic.Unit done
 
-          by_class : (b : Bool) → catchable x ≡ b → On m c (if b then plain else done (Ill n x)) w →
-              Why m c (if b then plain else done (Ill n x)) w
+          by_class : (b : Bool) → catchable x ≡ b → On m c (if b then plain else done (WalkFailed n x)) w →
+              Why m c (if b then plain else done (WalkFailed n x)) w
           by_class true e at = sets_index q p i set dynamic.Unit done f w at
           by_class false e at =
               ill m c n x done f (native_row m c n x
               (failing_call m c n call step (walks.index_was_read n q p i set done go) v come x w ends)
-              (if_false (Falls n x) (catchable x) plain (done (Ill n x)) e (f.falls n x))) w
+              (if_false (Falls n x) (catchable x) plain (done (WalkFailed n x)) e (f.falls n x))) w
 
     -- an op-assignment
     pub writes : (p : Place) (u : Dynamic) (done : Rest) → Follows m c done →
-        From m c (at_mark n done (Write p u (done (Well dynamic.Unit true))))
+        From m c (at_mark n done (Write p u (done (WalkEnded dynamic.Unit true))))
     writes p u done f =
-        marks m c n done (Write p u (done (Well dynamic.Unit true))) f (λ v come.
+        marks m c n done (Write p u (done (WalkEnded dynamic.Unit true))) f (λ v come.
         f.well dynamic.Unit true (record v { roots = put v.roots (world_of m c p) u })
         (join m c come (wrote here)))
 
     pub operator : (call : Call) → call.step ≡ n → (q : Position) (p : Place) (done : Rest) →
         Follows m c done → Hears m c n call (walks.operator_answered n q p done)
     operator call step q p done f v come (Came r) w ends arrived =
-        reads m c n q r done (λ u. at_mark n done (Write p u (done (Well dynamic.Unit true)))) f
+        reads m c n q r done (λ u. at_mark n done (Write p u (done (WalkEnded dynamic.Unit true)))) f
         (λ d. writes p d done f) w arrived
     operator call step q p done f v come (Failed x) w ends arrived =
         ill m c n x done f (native_row m c n x
@@ -260,15 +264,15 @@ module _ {S : Type 0} (m : Setup S) (c : ChainWalk S) where
 
           by_absence : (b : Bool) →
               says_missing (name_of c.course.setting.program a.op_assign_name) x ≡ b →
-              On m c (if b then again else done (Ill n x)) w →
-              Why m c (if b then again else done (Ill n x)) w
+              On m c (if b then again else done (WalkFailed n x)) w →
+              Why m c (if b then again else done (WalkFailed n x)) w
           by_absence true e at = operator_asked p done f w at
           by_absence false e at =
               ill m c n x done f (native_row m c n x (failing_call m c n call step
               (walks.was_op_assigned c.course.setting n q a value p done) v come x w ends)
               (if_false (Falls n x)
               (says_missing (name_of c.course.setting.program a.op_assign_name) x) again
-              (done (Ill n x)) e (f.falls n x))) w
+              (done (WalkFailed n x)) e (f.falls n x))) w
 
       pub operates : Goes m c (walks.operating c.course.setting n q a value)
       operates p done f v come =
@@ -327,7 +331,7 @@ module _ {S : Type 0} (m : Setup S) (c : ChainWalk S) where
           On m c (walks.put_part c.course.setting n s p held u changed done d) (past v) →
           Why m c (walks.put_part c.course.setting n s p held u changed done d) (past v)
       by_part (Some d) e at =
-          marks m c n done (Write p d (done (Well u changed))) f (λ v2 come2.
+          marks m c n done (Write p d (done (WalkEnded u changed))) f (λ v2 come2.
           f.well u changed (record v2 { roots = put v2.roots (world_of m c p) d })
           (join m c come2 (wrote here))) (past v) at
       by_part None e at =
@@ -347,8 +351,8 @@ module _ {S : Type 0} (m : Setup S) (c : ChainWalk S) where
           }))))))) (past v) at
     sets_back (OfIndex i q) p held u changed done f v come = by_change changed come where
       by_change : (b : Bool) →
-          On m c (if b then walks.set_by_index n q p i held u done else done (Well u false)) v →
-          Why m c (if b then walks.set_by_index n q p i held u done else done (Well u false)) v
+          On m c (if b then walks.set_by_index n q p i held u done else done (WalkEnded u false)) v →
+          Why m c (if b then walks.set_by_index n q p i held u done else done (WalkEnded u false)) v
       by_change true at = sets_index q p i held u done f v at
       by_change false at = f.well u false v at
     sets_back (OfProperty name setter q assigned) p held u changed done f v come =
@@ -356,8 +360,8 @@ module _ {S : Type 0} (m : Setup S) (c : ChainWalk S) where
           set : Task
           set = walks.set_property c.course.setting n name setter q assigned p held u done
 
-          by_change : (b : Bool) → On m c (if b then set else done (Well u false)) v →
-              Why m c (if b then set else done (Well u false)) v
+          by_change : (b : Bool) → On m c (if b then set else done (WalkEnded u false)) v →
+              Why m c (if b then set else done (WalkEnded u false)) v
           by_change true at = sets_property name setter q assigned p held u done f v at
           by_change false at = f.well u false v at
     sets_back OfMethod p held u changed done f v come = f.well u true v come

@@ -10,7 +10,7 @@ use Rattle.grain_fault.specs.declared.places.Position.{Position}
 use Rattle.grain_means.specs.Worlds.{is_stop, Answer, Came, Failed, Place, Setup, World}
 use Rattle.grain_means.specs.Places.{look, put}
 use Rattle.grain_means.specs.Rules.{race_text}
-use Rattle.grain_means.specs.Tasks.{Call, Invocation, Method, Task, Done, Mark, Look, Flatten, Write, Root, Drop, Need, Invoke, Well, Ill}
+use Rattle.grain_means.specs.Tasks.{Call, Invocation, Method, Task, Done, Mark, Look, Flatten, Write, Root, Drop, Need, Invoke, WalkEnded, WalkFailed}
 use Rattle.grain_means.specs.Walks as walks
 use Rattle.grain_means.specs.Walks.{Rest, Next, at_mark, failing, flat_or_busy, flattening}
 use Rattle.grain_means.specs.Causes.Spots.{ChainWalk, WalksTo, here, marked, looked, read, wrote, added, dropped, heard, returned, past, CallEnds, InvocationEnds, Falls, ComesTo, WalkRow, CallFails, lent_for, under_for, world_of}
@@ -39,8 +39,8 @@ module _ {S : Type 0} (m : Setup S) (c : ChainWalk S) where
   -- Every fault that a task comes to from this world has its row. The walk comes to a call of a
   -- function, and with the fault of the call the walk ends.
   abbrev pub Why : Task → World S → Type 0
-  Why (Done (Well u changed)) v = Unit {0}
-  Why (Done (Ill n x)) v = WalkRow m c n x
+  Why (Done (WalkEnded u changed)) v = Unit {0}
+  Why (Done (WalkFailed n x)) v = WalkRow m c n x
   Why (Mark out go) v = Stops out × (is_stop m.stop v.passed ≡ false → Why go (past v))
   Why (Look q go) v = Why (go (look v.roots (world_of m c q))) v
   Why (Flatten u go) v = Why (go (flat v.cells u)) v
@@ -63,8 +63,8 @@ module _ {S : Type 0} (m : Setup S) (c : ChainWalk S) where
 
   -- what follows: a fault goes to the walk's end, and a value is gone on from
   pub record Follows (done : Rest) : Type 0 where
-    pub falls : (n : ℕ) (x : Problem) → Falls n x (done (Ill n x))
-    pub well : (u : Dynamic) (changed : Bool) → From (done (Well u changed))
+    pub falls : (n : ℕ) (x : Problem) → Falls n x (done (WalkFailed n x))
+    pub well : (u : Dynamic) (changed : Bool) → From (done (WalkEnded u changed))
 
   abbrev pub Goes : Next → Type 0
   Goes next = (p : Place) (done : Rest) → Follows done → From (next p done)
@@ -86,10 +86,10 @@ module _ {S : Type 0} (m : Setup S) (c : ChainWalk S) where
 
   module _ (n : ℕ) where
     pub ill : (x : Problem) (done : Rest) → Follows done → WalkRow m c n x → (v : World S) →
-        Why (done (Ill n x)) v
-    ill x done f row v = fallen n x row (done (Ill n x)) (f.falls n x) v
+        Why (done (WalkFailed n x)) v
+    ill x done f row v = fallen n x row (done (WalkFailed n x)) (f.falls n x) v
 
-    pub out : (done : Rest) → Follows done → Stops (done (Ill n NoMemory))
+    pub out : (done : Rest) → Follows done → Stops (done (WalkFailed n NoMemory))
     out done f = (n, f.falls n NoMemory)
 
     pub marks : (done : Rest) (go : Task) → Follows done → From go → From (at_mark n done go)
@@ -97,7 +97,7 @@ module _ {S : Type 0} (m : Setup S) (c : ChainWalk S) where
         (out done f, λ clear. from (past v) (join come (marked clear here)))
 
     pub fails : (x : Problem) (done : Rest) → Follows done → WalkRow m c n x → From (failing n x done)
-    fails x done f row = marks done (done (Ill n x)) f (λ v come. ill x done f row v)
+    fails x done f row = marks done (done (WalkFailed n x)) f (λ v come. ill x done f row v)
 
     -- a value is read in a world, or it is a lent cell
     pub reads_at : (q : Position) (u : Dynamic) (done : Rest) (go : Dynamic → Task) → Follows done →

@@ -224,9 +224,9 @@ module _ {S : Type 0} {m : Setup S} (walk : Walk m) where
           lent = None;
           args = args;
         }) (point walk o) =
-        inl (refl, refl, refl, inl (misses refl args e)) in
+        inl (inl (refl, refl, refl, inl (misses refl args e))) in
         even_native_in walk o width stands (start walk) (steady walk) name None args q
-        (λ x. inl (refl, refl, refl, inl (misses refl args e))) operands full
+        (λ x. inl (inl (refl, refl, refl, inl (misses refl args e)))) operands full
         (λ v w1. pushed m (holding walk operands) (f.address + width) (under count operands) v w1)
         (λ n there _ v _. even_onward walk (now.ran + 1)
         (stepped f (f.address + width) (under count operands ++ read_write v ∷ []))
@@ -235,13 +235,13 @@ module _ {S : Type 0} {m : Setup S} (walk : Walk m) where
         (flat_all now.cells (arguments count operands)) refl
     even_called name count operands full enough u charges fills (Some g) lent misses calls fits =
         let on : CallsOn m.program g (arguments count operands) o f now = calls g refl in
-        let is : Calls m.program o f now = (g, arguments count operands, on) in
+        let is : Calls m.program o f now = (g, arguments count operands, inl on) in
         even_entered g count operands full enough u is (charges is)
         (λ charged low many. fills g (arguments count operands) on charged low many) (fits g refl)
         on
 
     -- the pointer under the last n operands, or the fault that there is none
-    pub even_pointer : (n : ℕ) → AsksPointer n o →
+    pub even_pointer : (n : ℕ) → AsksPointer n o f now →
         (IsLent now (operand_under n f.operands) → ReadsLent m.program [] o f now) →
         (go : Option FnPtr → Dynamic → Act S) →
         ((v : Dynamic) → go None v ≡ not_a_pointer m v f (start walk)) →

@@ -23,7 +23,7 @@ use Rattle.grain_program.specs.declared.code.instruction_set.Op.TheVariants as o
 use Rattle.grain_means.specs.Places.{look}
 use Rattle.grain_means.specs.Rules as rules
 use Rattle.grain_means.specs.Rules.{assigned_operand, back_from, course_of, held_at, is_read_only, is_stop, leave_by_fault, new_root, offered, position, race_text, root_name, root_position, stepped, without}
-use Rattle.grain_means.specs.Tasks.{Task, Well, Ill}
+use Rattle.grain_means.specs.Tasks.{Task, WalkEnded, WalkFailed}
 use Rattle.grain_means.specs.Walks.{whole_walk}
 use Rattle.grain_means.specs.Worlds.{Act, Frame, Place, Setup, World}
 use Rattle.grain_means.specs.Causes.Chains.{AssignsValue, ChainReads, ChainRow, RootHolds, RootLends, by_walk, constant, past_scope, root_lent, unbound, value_lent, walk_of, walk_place, walk_roots}
@@ -73,20 +73,20 @@ module _ {S : Type 0} {m : Setup S} (walk : Walk m) where
 
     -- the walk is over
     over_well : (u : Dynamic) (changed : Bool) (n : ℕ) (w : World S) → Kept walk n w →
-        Even walk n (rules.chain_over m index next walking (Well u changed) w)
+        Even walk n (rules.chain_over m index next walking (WalkEnded u changed) w)
     over_well u changed n w s =
         even_onward walk n (stepped walking next (walking.operands ++ read_write u ∷ [])) w s.0 s.1
         (inl refl) (on u)
 
     over_ill : (j : ℕ) (x : Problem) (n : ℕ) (w : World S) →
         ReasonAt walk (Some (slot_of m.program index j)) x → Steady walk n w →
-        Even walk n (rules.chain_over m index next walking (Ill j x) w)
+        Even walk n (rules.chain_over m index next walking (WalkFailed j x) w)
     over_ill j x n w because s =
         even_raised_at walk o width stands (Some (slot_of m.program index j)) f.position
         walking.operands after n x w s because
 
     over_out : (j n : ℕ) (w : World S) → is_stop m.stop w.passed ≡ true → Steady walk n w →
-        Even walk n (rules.chain_over m index next walking (Ill j NoMemory) w)
+        Even walk n (rules.chain_over m index next walking (WalkFailed j NoMemory) w)
     over_out j n w stop s =
         let g : Frame = stepping walk (Some (slot_of m.program index j)) f.position walking.operands in
         by_test (Even walk n) (is_stop m.stop w.passed) (leave_by_fault m g NoMemory w)

@@ -29,7 +29,7 @@ use Rattle.grain_means.proofs.Tally.Frames.{Walk, Even, Steady, start, steady, e
 use Rattle.grain_means.proofs.Tally.Faults.{why, even_raised, even_race, even_flat, even_on}
 
 -- a cell is lent where what it holds is not there
-lent_cell : (cells : List Cell) (v : Dynamic) (n : ℕ) (c : Option Cell) → cell_of v ≡ Some n →
+pub lent_cell : (cells : List Cell) (v : Dynamic) (n : ℕ) (c : Option Cell) → cell_of v ≡ Some n →
     slice_get cells n ≡ c → content c ≡ None → flat cells v ≡ None
 lent_cell cells v n c is at none = rw (is, at) none
 
@@ -42,7 +42,7 @@ module _ {S : Type 0} {m : Setup S} (walk : Walk m) where
   -- the rules of an instruction that stands where the frame does
   module _ (o : Op) (width : ℕ) (stands : op_at m.program.code f.address ≡ Some (o, width)) where
     -- what the entry of a slot holds, if any
-    pub even_at : (slot : ℕ) → UsesEntry (f.base + slot) o f → (go : Held → Act S) →
+    pub even_at : (slot : ℕ) → UsesEntry (f.base + slot) o f now → (go : Held → Act S) →
         (h : Option Held) → held_at now.scope (f.base + slot) ≡ h →
         ((g : Held) → held_at now.scope (f.base + slot) ≡ Some g → Even walk (now.ran + 1) (go g)) →
         Even walk (now.ran + 1) (at_entry m h f (f.base + slot) (start walk) go)

@@ -122,6 +122,13 @@ module _ {S : Type 0} {m : Setup S} (walk : Walk m) where
   stepping slot position operands =
       record f { operands = operands; slot = slot; position = position }
 
+  -- memory is out in the frame with these operands, and leaves it
+  pub even_out_of_memory : (operands : List Held) (r : ℕ) (w : World S) → Steady r w →
+      is_stop m.stop w.passed ≡ true → Even r (leave_by_fault m (holding operands) NoMemory w)
+  even_out_of_memory operands r w s stop =
+      even_left_at (holding operands) r NoMemory w refl (inl refl) sits.1 (inl refl) s
+      (inl (refl, stop))
+
   -- the frame at another address with one more handler, and without its innermost one
   abbrev pub guarding : ℕ → Option ℕ → ℕ → Frame
   guarding target variable next = record f {

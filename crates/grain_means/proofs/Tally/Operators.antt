@@ -57,9 +57,9 @@ module _ {S : Type 0} {m : Setup S} (walk : Walk m) where
           lent = None;
           args = args;
         }) (point walk o) =
-        inl (refl, refl, refl, inr (asks refl)) in
+        inl (inl (refl, refl, refl, inr (asks refl))) in
         even_native walk o width stands (start walk) (steady walk) name None args q
-        (λ x. inl (refl, refl, refl, inr (asks refl)))
+        (λ x. inl (inl (refl, refl, refl, inr (asks refl))))
         (λ v w1. pushed m f (f.address + width) operands v w1)
         (λ n e _ v _. even_onward walk (now.ran + 1) (stepped f (f.address + width)
         (operands ++ read_write v ∷ []))

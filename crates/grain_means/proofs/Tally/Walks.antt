@@ -21,7 +21,7 @@ use Rattle.grain_program.specs.declared.code.instruction_set.Op.{Op}
 use Rattle.grain_means.specs.Places.{look, put}
 use Rattle.grain_means.specs.Ends.{Ends, ended}
 use Rattle.grain_means.specs.Rules.{Receiver, answered, at_step, cells_given_back, copy_dropped, curried_in, failed_so, first_is_read_only, flat_all, frame_at, function_by_name, function_called, function_numbered, function_under, given, given_back, host_called_or, invoked, is_stop, lent_at, lent_held, marked_or, native_found_or, needed, numbered_called, pointed_called, pointed_native, race_text, roots_given_back, trees_in, walks}
-use Rattle.grain_means.specs.Tasks.{Call, Invocation, Invoke, Method, Numbered, Pointed, Task, Done, Mark, Look, Flatten, Write, Root, Drop, Need, Walked, Well, Ill}
+use Rattle.grain_means.specs.Tasks.{Call, Invocation, Invoke, Method, Numbered, Pointed, Task, Done, Mark, Look, Flatten, Write, Root, Drop, Need, Walked, WalkEnded, WalkFailed}
 use Rattle.grain_means.specs.Worlds.{Act, Answer, Came, End, Failed, Frame, Place, Setup, World}
 use Rattle.grain_means.specs.Causes.Natives.{IsCalled, Question, native_asked, reply_to}
 use Rattle.grain_means.specs.Causes.Spots.{CallEnds, ChainWalk, ComesTo, Falls, InvocationEnds, Invokes, Passes, WalkRow, answered_world, by_function, by_native, by_nothing, failed, gave, lent, lent_for, missing, past, question_of, refused, resolved, under_for, world_of}
@@ -30,8 +30,8 @@ use Rattle.grain_means.proofs.Explaining.Ways.{Why}
 use Rattle.grain_means.proofs.Footing.{by_test}
 use Rattle.grain_means.proofs.Kept.{keeps_given}
 use Rattle.grain_means.proofs.Standing.{Fitting, fits_found}
-use Rattle.grain_means.proofs.Tally.Bodies.{IsKeptOut, even_under}
-use Rattle.grain_means.proofs.Tally.Calling.{CalledAt, CallsOf}
+use Rattle.grain_means.proofs.Tally.Bodies.{IsKeptOut}
+use Rattle.grain_means.proofs.Tally.Calling.{CalledAt, CallsOf, even_by_chain}
 use Rattle.grain_means.proofs.Tally.Frames.{Even, ReasonAt, Steady, Walk}
 
 module _ {S : Type 0} {m : Setup S} (walk : Walk m) where
@@ -50,7 +50,7 @@ module _ {S : Type 0} {m : Setup S} (walk : Walk m) where
 
     -- the walk ends with a fault, if this holds of how many marks are passed
     falls_to : (ok : ℕ → Type 0) (n : ℕ) (j : ℕ) (x : Problem) →
-        ((w : World S) → ok w.passed → Steady walk n w → Even walk n (done (Ill j x) w)) →
+        ((w : World S) → ok w.passed → Steady walk n w → Even walk n (done (WalkFailed j x) w)) →
         (t : Task) → Falls j x t → (w : World S) → ok w.passed → Steady walk n w → Walks n t w
     falls_to ok n j x over (Done u) falls w is s = rw falls (over w is s)
     falls_to ok n j x over (Mark out go) falls w is s = absurd falls
@@ -169,11 +169,11 @@ module _ {S : Type 0} {m : Setup S} (walk : Walk m) where
     -- how each end of the walk goes on, the reason of a fault that has its row, and that the chain calls
     -- a function to whose call the walk comes
     module _ (over_well : (u : Dynamic) (changed : Bool) (n : ℕ) (w : World S) → Kept n w →
-        Even walk n (done (Well u changed) w))
+        Even walk n (done (WalkEnded u changed) w))
         (over_ill : (j : ℕ) (x : Problem) (n : ℕ) (w : World S) → ReasonOf j x → Steady walk n w →
-        Even walk n (done (Ill j x) w))
+        Even walk n (done (WalkFailed j x) w))
         (over_out : (j : ℕ) (n : ℕ) (w : World S) → is_stop m.stop w.passed ≡ true →
-        Steady walk n w → Even walk n (done (Ill j NoMemory) w))
+        Steady walk n w → Even walk n (done (WalkFailed j NoMemory) w))
         (reason : (j : ℕ) (x : Problem) → WalkRow m c j x → ReasonOf j x)
         (calls_so : CallsOf walk o k c) where
       falls_out : (n j : ℕ) (t : Task) → Falls j NoMemory t → (w : World S) →
@@ -259,7 +259,7 @@ module _ {S : Type 0} {m : Setup S} (walk : Walk m) where
               InvocationEnds m i under w a u = λ a u ends. by_function f args is
               (subst (λ (p : Option Place). Ends m (function_called m i.position f args End p w) a u)
               (sym e) ends) in
-              even_under walk o width stands i.position f args None w by.0 (fits None) n s.0 s.1 heard
+              even_by_chain walk o width stands i.position f args None w by.0 (fits None) n s.0 s.1 heard
               End heard_out (λ x u l because at. heard_fault x u l (of_step by x because) at)
               (λ d u l whole at empty. hears d u l (ends_so (Came d) u (whole (Came d) u ended))
               (at, empty)) (λ x why. at_slot by x (kept_out x why))
@@ -285,7 +285,7 @@ module _ {S : Type 0} {m : Setup S} (walk : Walk m) where
               (if_true (λ (act : Act S). Ends m act a u) only
               (function_under m i.position f args (copy_dropped m size End) (Some copy) v)
               (function_under m i.position f args End (Some p) w) yes ends)) in
-              even_under walk o width stands i.position f args (Some copy) v by.0 (fits (Some copy)) n
+              even_by_chain walk o width stands i.position f args (Some copy) v by.0 (fits (Some copy)) n
               s.0 s.1 (copy_dropped m size heard) (copy_dropped m size End)
               (λ u l stop at. heard_out (dropped u) l stop at)
               (λ x u l because at. heard_fault x (dropped u) l (of_step by x because) at)
@@ -305,7 +305,7 @@ module _ {S : Type 0} {m : Setup S} (walk : Walk m) where
               (if_false (λ (act : Act S). Ends m act a u) only
               (function_under m i.position f args (copy_dropped m size End) (Some copy) v)
               (function_under m i.position f args End (Some p) w) no ends)) in
-              even_under walk o width stands i.position f args (Some p) w by.0 (fits (Some p)) n s.0 s.1
+              even_by_chain walk o width stands i.position f args (Some p) w by.0 (fits (Some p)) n s.0 s.1
               heard End heard_out (λ x u l because at. heard_fault x u l (of_step by x because) at)
               (λ d u l whole at empty. hears d u l (ends_so (Came d) u (whole (Came d) u ended))
               (at, empty)) (λ x why. at_slot by x (kept_out x why))
@@ -365,8 +365,8 @@ module _ {S : Type 0} {m : Setup S} (walk : Walk m) where
 
       -- every walk of which each fault has its row
       pub even_walks : (t : Task) (w : World S) → Why m c t w → (n : ℕ) → Kept n w → Walks n t w
-      even_walks (Done (Well u changed)) w why n s = over_well u changed n w s
-      even_walks (Done (Ill j x)) w why n s = over_ill j x n w (reason j x why) s.0
+      even_walks (Done (WalkEnded u changed)) w why n s = over_well u changed n w s
+      even_walks (Done (WalkFailed j x)) w why n s = over_ill j x n w (reason j x why) s.0
       even_walks (Mark out go) w why n s =
           by_test (Even walk n) (is_stop m.stop w.passed)
           (walks m k g c.place c.others out done w) (walks m k g c.place c.others go done (past w))

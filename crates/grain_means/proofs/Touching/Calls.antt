@@ -55,7 +55,7 @@ module _ {S : Type 0} (m : Setup S) (t : Option Place) (old : List Held) where
       (stands_on t None old from u.roots tt was under)) v there) w at
 
   module _ (f : Frame) (is : f.this ≡ t) where
-    no_pointer : (v : Dynamic) (w : World S) → At m t old w →
+    pub no_pointer : (v : Dynamic) (w : World S) → At m t old w →
         Stays m t old (rules.not_a_pointer m v f w)
     no_pointer v w at =
         raises m t old f is (Plain (MismatchDataType (codes "Fn") (type_name_of v))
@@ -74,19 +74,21 @@ module _ {S : Type 0} (m : Setup S) (t : Option Place) (old : List Held) where
                 curry = q.curry ++ trees_in (arguments count f.operands);
               })) w at
 
+    -- the function of a pointer is called
+    pub calls_pointed : (o : Option FnPtr) (v : Dynamic) (count next : ℕ) (w : World S) → At m t old w →
+        Stays m t old (rules.pointer_called m o v count next f w)
+    calls_pointed None v count next w at = no_pointer v w at
+    calls_pointed (Some q) v count next w at =
+        calls_function (spread q count f) is
+        (function_by_name m.program q.name (length q.curry + count)) q.name
+        (length q.curry + count) next w at
+
     pub calls_pointer : (count next : ℕ) (w : World S) → At m t old w →
         Stays m t old (rules.call_pointer m count next f w)
     calls_pointer count next w at =
         reads m t old f is (operand_under count f.operands) [] w at
         (λ v. rules.pointer_called m (pointer_of v) v count next f w)
-        (λ v. by_pointer v (pointer_of v)) where
-          by_pointer : (v : Dynamic) (o : Option FnPtr) →
-              Stays m t old (rules.pointer_called m o v count next f w)
-          by_pointer v None = no_pointer v w at
-          by_pointer v (Some q) =
-              calls_function (spread q count f) is
-              (function_by_name m.program q.name (length q.curry + count)) q.name
-              (length q.curry + count) next w at
+        (λ v. calls_pointed (pointer_of v) v count next w at)
 
     -- a handler catches
     pub catches : (h : Handler) (x : Problem) (w : World S) → At m t old w →

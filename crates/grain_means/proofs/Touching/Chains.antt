@@ -19,7 +19,7 @@ use Rattle.grain_program.specs.declared.code.chains.Tail.TheVariants as tail
 use Rattle.grain_means.specs.Places.{look}
 use Rattle.grain_means.specs.Rules as rules
 use Rattle.grain_means.specs.Rules.{assigned_operand, back_from, course_of, is_read_only, lent_cell, new_root, placed, race_text, root_name, without, world_place}
-use Rattle.grain_means.specs.Tasks.{Task, Walked, Well, Ill}
+use Rattle.grain_means.specs.Tasks.{Task, Walked, WalkEnded, WalkFailed}
 use Rattle.grain_means.specs.WalkEnds.{AllEnds, WalkEnds}
 use Rattle.grain_means.specs.Walks.{Course, whole_walk}
 use Rattle.grain_means.specs.Worlds.{Act, Frame, Place, Setup, World}
@@ -71,8 +71,8 @@ module _ {S : Type 0} (m : Setup S) (t : Option Place) (old : List Held) where
       (calls : BindsAll task) (next : ℕ) where
     -- a walk is over
     chain_ends : (o : Walked) (w : World S) → Here w → Keeps (rules.chain_over m k next g o w)
-    chain_ends (Well v changed) w at = pushes m t old g is next g.operands v w at
-    chain_ends (Ill j x) w at =
+    chain_ends (WalkEnded v changed) w at = pushes m t old g is next g.operands v w at
+    chain_ends (WalkFailed j x) w at =
         raises m t old (record g { slot = Some (slot_of m.program k j) }) is x w at
 
     -- a walk from a root that is added

@@ -26,7 +26,7 @@ use Rattle.grain_program.specs.declared.code.chains.Step.{Step}
 use Rattle.grain_program.specs.declared.code.chains.Step.TheVariants as step
 use Rattle.grain_means.specs.Places.{deeper, look, put}
 use Rattle.grain_means.specs.Rules.{placed}
-use Rattle.grain_means.specs.Tasks.{Well, Ill, Task, Done, Write}
+use Rattle.grain_means.specs.Tasks.{WalkEnded, WalkFailed, Task, Done, Write}
 use Rattle.grain_means.specs.Walks as walks
 use Rattle.grain_means.specs.Walks.{Setting, Course, Rest, Next, Role, Passes, Reads, Writes, Operates, Origin, OfIndex, OfProperty, OfMethod, OfNothing, at_mark, assigning, failing, is_indexed, origin_of_part, role_at_end, skips}
 use Rattle.grain_means.specs.Worlds.{Place, Answer}
@@ -58,7 +58,7 @@ module _ (p0 : Place) (n0 : ℕ) where
           else (if g.engine.strict_properties then failing n (Plain (PropertyNotFound k) x) done
           else walks.rooted g n o (record h { value = dynamic.Unit }) next q done))
       by_role true is = (
-        f (Ill n NoMemory) rs,
+        f (WalkFailed n NoMemory) rs,
         last is (deeper q (path_step.Key k)) done f (put rs (placed p0 n0 q) (walks.with_key k h.value)),
       )
       by_role false is =
@@ -103,12 +103,12 @@ module _ (p0 : Place) (n0 : ℕ) where
         (r : Result Spot ValueFault) → locate here.value v ≡ r →
         Keeps (walks.indexed g n x bracket role i v here next q done r)
     indexed x bracket role last i v (Ok (spot.Item k)) is = (
-      f (Ill n NoMemory) rs,
+      f (WalkFailed n NoMemory) rs,
       on (deeper q (path_step.Index k)) done f rs size
           (found_deeper p0 n0 rs q (path_step.Index k) found (item_child here.value v k is)),
     )
     indexed x bracket role last i v (Ok spot.Key) is = (
-      f (Ill n NoMemory) rs,
+      f (WalkFailed n NoMemory) rs,
       on (deeper q (path_step.Key (walks.key_of v))) done f rs size
           (found_deeper p0 n0 rs q (path_step.Key (walks.key_of v)) found (key_child here.value v is)),
     )
@@ -160,7 +160,7 @@ module _ (p0 : Place) (n0 : ℕ) where
           by_entry : (o : Option Tree) → entry_at (name_of g.program name) es ≡ o →
               Keeps (walks.at_key g n x role (name_of g.program name) here next q done o)
           by_entry (Some t) e = (
-            f (Ill n NoMemory) rs,
+            f (WalkFailed n NoMemory) rs,
             on (deeper q (path_step.Key (name_of g.program name))) done f rs size
                 (found_deeper p0 n0 rs q (path_step.Key (name_of g.program name)) found
                 (subst (HasChild (path_step.Key (name_of g.program name))) (sym is)
@@ -182,7 +182,7 @@ module _ (p0 : Place) (n0 : ℕ) where
           Keeps (walks.first_called g n x args last next q done o v vs)
       first_called None v vs = fails p0 n0 n done f _ rs
       first_called (Some r) v vs =
-          (f (Ill n NoMemory) rs, (found, λ a now same. heard a now (same ∙ size)))
+          (f (WalkFailed n NoMemory) rs, (found, λ a now same. heard a now (same ∙ size)))
 
       called_on : (d : Dynamic) (vs : List Dynamic) →
           Keeps (walks.called_on g n x args last next q done d vs)
@@ -196,7 +196,7 @@ module _ (p0 : Place) (n0 : ℕ) where
           Keeps (walks.call_step g n x args last next q done o d)
       call_step None d = called_on d args
       call_step (Some r) d =
-          (f (Ill n NoMemory) rs, (tt, λ a now same. heard a now (same ∙ size)))
+          (f (WalkFailed n NoMemory) rs, (tt, λ a now same. heard a now (same ∙ size)))
 
       curry_step : (o : Option FnPtr) (d : Dynamic) →
           Keeps (walks.curry_step g n x args last next q done o d)
@@ -209,14 +209,14 @@ module _ (p0 : Place) (n0 : ℕ) where
           asks p0 n0 n done f (n0 + q.root) x text (Some q) args
           (walks.method_answered g n x args last next q done) heard rs size
       by_method (Some i) text =
-          (f (Ill n NoMemory) rs, (found, λ a now same. heard a now (same ∙ size)))
+          (f (WalkFailed n NoMemory) rs, (found, λ a now same. heard a now (same ∙ size)))
 
       by_own : (o : Option FnPtr) (name argc : ℕ) (d : Dynamic) →
           Keeps (walks.by_own g n x args last next q done o name argc d)
       by_own None name argc d =
           by_method (method_of g.program name argc (type_name_of d)) (name_of g.program name)
       by_own (Some r) name argc d =
-          (f (Ill n NoMemory) rs, (found, λ a now same. heard a now (same ∙ size)))
+          (f (WalkFailed n NoMemory) rs, (found, λ a now same. heard a now (same ∙ size)))
 
       method_step : (name argc : ℕ) → Keeps (walks.method_step g n x args last next q done name argc)
       method_step name argc =
@@ -234,8 +234,8 @@ module _ (p0 : Place) (n0 : ℕ) where
     unless x false go h = h
     unless x true go h =
         reads p0 n0 n done f rs x here.value (walks.if_not_unit done go)
-        (λ v. by p0 n0 (is_unit v) rs (done (Well dynamic.Unit false)) go
-        (f (Well dynamic.Unit false) rs) h)
+        (λ v. by p0 n0 (is_unit v) rs (done (WalkEnded dynamic.Unit false)) go
+        (f (WalkEnded dynamic.Unit false) rs) h)
 
   module _ (c : Course) where
     takes : (n : ℕ) (s : Step) (role : Role) (next : Next) → Last role next → Goes p0 n0 next →
@@ -252,9 +252,9 @@ module _ (p0 : Place) (n0 : ℕ) where
     ends : (n : ℕ) (v : Option Dynamic) (op : Option AssignOp) →
         GoesAnywhere p0 n0 (walks.ended c.setting (role_at_end v op) n)
     ends n None op q done f rs =
-        (f (Ill n NoMemory) rs, f (Well (look rs (placed p0 n0 q)).value false) rs)
+        (f (WalkFailed n NoMemory) rs, f (WalkEnded (look rs (placed p0 n0 q)).value false) rs)
     ends n (Some v) None q done f rs =
-        (f (Ill n NoMemory) rs, f (Well dynamic.Unit true) (put rs (placed p0 n0 q) v))
+        (f (WalkFailed n NoMemory) rs, f (WalkEnded dynamic.Unit true) (put rs (placed p0 n0 q) v))
     ends n (Some v) (Some a) q done f rs =
         operates p0 n0 n done f c.setting c.setting.position a v q rs
 
@@ -265,7 +265,7 @@ module _ (p0 : Place) (n0 : ℕ) where
     walks_bound : (steps : List Step) (n : ℕ) → Goes p0 n0 (walks.walked c steps n)
     walks_bound [] n q done f rs size found = ends (n - 1) c.assigns c.operator q done f rs
     walks_bound (s ∷ steps) n q done f rs size found = (
-      f (Ill n NoMemory) rs,
+      f (WalkFailed n NoMemory) rs,
       unless n c.setting (walks.walked c steps (n + 1)) (walks_bound steps (n + 1)) q done f rs size
           found (walks.step_position s) (skips s)
           (walks.taken c s n (walks.role_before c steps) (walks.walked c steps (n + 1)) q done)

@@ -64,7 +64,7 @@ module _ {S : Type 0} (m : Setup S) (t : Option Place) (old : List Held) (n j : 
   )
 
   -- a native that a walk calls
-  fails_so : (x : Problem) (w : World S) → Meanwhile w.roots → Follows (rules.failed_so m heard x w)
+  pub fails_so : (x : Problem) (w : World S) → Meanwhile w.roots → Follows (rules.failed_so m heard x w)
   fails_so x w at =
       fails_or m t old Meanwhile (heard (Failed NoMemory)) (hears (Failed NoMemory))
       (λ y. heard (Failed y)) (λ y. hears (Failed y)) x w at
@@ -74,6 +74,15 @@ module _ {S : Type 0} (m : Setup S) (t : Option Place) (old : List Held) (n j : 
   lends_back roots None may = tt
   lends_back roots (Some q) may = puts q may
 
+  pub lends_native : (name : List ℕ) (args : List Held) (e : Frame) (o : Option Place) →
+      MayThis t (length old) o → (w : World S) → Meanwhile w.roots →
+      Follows (rules.native_or m (heard (Failed NoMemory)) name (lent_at w.roots o) args e w
+      (λ v w1. heard (Came v) w1) (rules.failed_so m heard))
+  lends_native name args e o may w at =
+      natives m t old Meanwhile (heard (Failed NoMemory)) (hears (Failed NoMemory)) e
+      (lent_at w.roots o) (lends_back w.roots o may) (λ v w1. heard (Came v) w1)
+      (rules.failed_so m heard) (λ v. hears (Came v)) fails_so name args w at
+
   pub performs : (k : ℕ) (f : Frame) (c : Call) (o : Option Place) → MayThis t (length old) o →
       (w : World S) → Meanwhile w.roots → Follows (rules.performed m k f c o heard w)
   performs k f c o may w at = by_content (flat_all w.cells (map read_write c.values)) where
@@ -81,10 +90,7 @@ module _ {S : Type 0} (m : Setup S) (t : Option Place) (old : List Held) (n j : 
         Follows (rules.needed m k f c (lent_at w.roots o) heard w hs)
     by_content None = fails_so (Plain (DataRace (race_text [])) c.position) w at
     by_content (Some args) =
-        natives m t old Meanwhile (heard (Failed NoMemory)) (hears (Failed NoMemory))
-        (at_step m.program k c.step c.position f) (lent_at w.roots o) (lends_back w.roots o may)
-        (λ v w1. heard (Came v) w1) (rules.failed_so m heard) (λ v. hears (Came v)) fails_so c.name
-        args w at
+        lends_native c.name args (at_step m.program k c.step c.position f) o may w at
 
   -- a function that it calls
   module _ (q : Position) (g : Function) (args : List Held) where
@@ -158,7 +164,7 @@ module _ {S : Type 0} (m : Setup S) (t : Option Place) (old : List Held) (n j : 
               body_fails m t old (Lent h w) (quiet (Failed NoMemory)) (dropped (Failed NoMemory))
               (λ y. quiet (Failed y)) (λ y. dropped (Failed y)) q g x u here
 
-    calls : (o : Option Place) → MayThis t (length old) o → (w : World S) → Meanwhile w.roots →
+    pub calls : (o : Option Place) → MayThis t (length old) o → (w : World S) → Meanwhile w.roots →
         (Bound t old → Bound o w.roots) → Follows (rules.function_called m q g args heard o w)
     calls None may w at given = under None tt w at given
     calls (Some p) may w at given =

@@ -1,13 +1,13 @@
 -- What a frame does to the roots of a world: it writes inside its `this`, and it adds roots of its own
 -- and drops them.
-use Rattle.std.proofs.Common.{◌≡◌, ◌≤◌, ◌⊎◌, ◌+◌, ◌∙◌, ℕ, List, [], ◌∷◌, ◌++◌, Option, Some, None, length, take, refl, sym, ap, inl, inr, arith, append_assoc, append-nil}
+use Rattle.std.proofs.Common.{◌≡◌, ◌≤◌, ◌⊎◌, ◌∙◌, ℕ, List, [], ◌∷◌, ◌++◌, Option, Some, None, length, take, refl, sym, ap, inl, inr, arith, append_assoc, append-nil}
 use Rattle.grain_value.specs.declared.values.Dynamic.{Dynamic}
 use Rattle.grain_value.specs.declared.values.Held.{Held}
 use Rattle.grain_value.specs.declared.values.paths.PathStep.{PathStep}
 use Rattle.grain_means.specs.Places.{find, put}
 use Rattle.grain_means.specs.Worlds.{Place}
 
--- a place where a frame with this `this` may write, if there were so many roots where it began
+-- a place where a frame with this `this` may write, if there were as many roots as `size` where it began
 abbrev pub May : Option Place → ℕ → Place → Type 0
 May None size q = size ≤ q.root
 May (Some p) size q =

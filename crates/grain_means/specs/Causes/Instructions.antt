@@ -1,9 +1,9 @@
 -- What an instruction does and finds where it raises a fault: which instructions call, charge an
 -- operation, use an entry, read, operate and throw.
+pub use Rattle.grain_means.specs.Causes.Pointers.{IsMethodCall, IsLent, Points, PointsNowhere, PointsFirst, HasReceiver, receiver, args_beside, function_beside, CallsPointed, CallsUnder, MissesPointed, AsksEither, PointedReadsLent, FirstReadsLent, MethodReadsLent}
 use Rattle.std.specs.Prelude.{◌≡◌, ◌⊎◌, ◌<◌, ◌≤◌, ◌+◌, ℕ, List, [], ◌∷◌, Option, Some, None, Bool, true, false, length, codes}
 use Rattle.grain_value.specs.declared.values.Dynamic.{Dynamic}
 use Rattle.grain_value.specs.declared.values.Held.{Held}
-use Rattle.grain_value.specs.declared.values.FnPtr.{FnPtr}
 use Rattle.grain_value.specs.Cells.{flat}
 use Rattle.grain_value.specs.Looking.{truth_of, is_unit, cell_of, pointer_of}
 use Rattle.grain_value.specs.Operands.{top, arguments}
@@ -16,7 +16,7 @@ use Rattle.grain_ops.specs.Outcomes.{Outcome, NotBuiltIn}
 use Rattle.grain_means.specs.Worlds.{World, Setup, Frame, Place}
 use Rattle.grain_means.specs.Places.{look}
 use Rattle.grain_host.specs.Law.{GoOn}
-use Rattle.grain_means.specs.Rules.{name_at, flat_all, spread, operand_under, is_read_only, function_by_name, held_at, function_found, operated, op_assigned}
+use Rattle.grain_means.specs.Rules.{name_at, flat_all, operand_under, is_read_only, held_at, function_found, operated, op_assigned}
 
 -- the truth value that is read, if it is one
 abbrev pub truth_read : Option Dynamic → Option Bool
@@ -27,23 +27,24 @@ truth_read (Some v) = truth_of v
 abbrev pub truth_on_top : {S : Type 0} → Frame → World S → Option Bool
 truth_on_top f w = truth_read (flat w.cells (top f.operands).value)
 
--- the operand under the last n is this pointer, as it is read
-abbrev pub Points : {S : Type 0} → FnPtr → ℕ → Frame → World S → Type 0
-Points p n f w = (v : Dynamic) × (flat w.cells (operand_under n f.operands).value ≡ Some v)
-    × (pointer_of v ≡ Some p)
-
--- a call of this function on these arguments
+-- a call of this function on these arguments, without a receiver
 abbrev pub CallsOn : {S : Type 0} → View → Function → List Held → Op → Frame → World S → Type 0
 CallsOn program g args (op.Call n k) f w =
     (function_found program n k ≡ Some g) × (args ≡ arguments k f.operands)
-CallsOn program g args (op.CallFnPtr n) f w = (p : FnPtr) × Points p n f w
-    × (function_by_name program p.name (length p.curry + n) ≡ Some g)
-    × (args ≡ arguments (length p.curry + n) (spread p n f).operands)
+CallsOn program g args (op.CallFnPtr n) f w = CallsPointed program g args n f w
+CallsOn program g args (op.CallFnPtrMethod n) f w = CallsPointed program g args n f w
+CallsOn program g args (op.CallFnPtrOnLocal n slot) f w = CallsPointed program g args n f w
+CallsOn program g args (op.CallFnPtrOnThis n) f w = CallsPointed program g args n f w
 CallsOn program g args o f w = ⊥
+
+-- a call of this function on these arguments, with a receiver or without one
+abbrev pub CallsFunction : {S : Type 0} → View → Function → List Held → Op → Frame → World S → Type 0
+CallsFunction program g args o f w =
+    CallsOn program g args o f w ⊎ ((n : ℕ) × CallsUnder program g args n o f w)
 
 -- a call of a function that exists
 abbrev pub Calls : {S : Type 0} → View → Op → Frame → World S → Type 0
-Calls program o f w = (g : Function) × (args : List Held) × CallsOn program g args o f w
+Calls program o f w = (g : Function) × (args : List Held) × CallsFunction program g args o f w
 
 -- it costs an operation: a transfer that is taken to a target that does not lie ahead, a call of a
 -- function that exists, or a tick
@@ -55,6 +56,9 @@ Charges program (op.SkipIfNotUnit t) f w =
     (t ≤ f.address) × (is_unit (top f.operands).value ≡ false)
 Charges program (op.Call n k) f w = Calls program (op.Call n k) f w
 Charges program (op.CallFnPtr n) f w = Calls program (op.CallFnPtr n) f w
+Charges program (op.CallFnPtrMethod n) f w = Calls program (op.CallFnPtrMethod n) f w
+Charges program (op.CallFnPtrOnLocal n slot) f w = Calls program (op.CallFnPtrOnLocal n slot) f w
+Charges program (op.CallFnPtrOnThis n) f w = Calls program (op.CallFnPtrOnThis n) f w
 Charges program op.Tick f w = Unit {0}
 Charges program o f w = ⊥
 
@@ -66,7 +70,7 @@ IsCharged m w = (w.count < m.engine.limits.operations)
 -- this function is called, its operation is taken, a level is left for it, and its parameters pass
 -- the limit of variables
 abbrev pub HasTooMany : {S : Type 0} → Setup S → Op → Frame → World S → Type 0
-HasTooMany m o f w = (g : Function) × (args : List Held) × CallsOn m.program g args o f w
+HasTooMany m o f w = (g : Function) × (args : List Held) × CallsFunction m.program g args o f w
     × IsCharged m w × (w.level < m.engine.limits.levels)
     × (m.engine.limits.variables < length g.params)
 
@@ -83,19 +87,24 @@ Overfills m (op.DeclareConst n) f w =
     ReadsTop f w × (m.engine.limits.variables ≤ length w.scope)
 Overfills m (op.Call n k) f w = HasTooMany m (op.Call n k) f w
 Overfills m (op.CallFnPtr n) f w = HasTooMany m (op.CallFnPtr n) f w
+Overfills m (op.CallFnPtrMethod n) f w = HasTooMany m (op.CallFnPtrMethod n) f w
+Overfills m (op.CallFnPtrOnLocal n slot) f w = HasTooMany m (op.CallFnPtrOnLocal n slot) f w
+Overfills m (op.CallFnPtrOnThis n) f w = HasTooMany m (op.CallFnPtrOnThis n) f w
 Overfills m o f w = ⊥
 
--- it reads or writes the entry at this index, by its slot
-abbrev pub UsesEntry : ℕ → Op → Frame → Type 0
-UsesEntry i (op.LoadLocal s) f = i ≡ f.base + s
-UsesEntry i (op.StoreLocal s) f = i ≡ f.base + s
-UsesEntry i (op.StoreConst s) f = i ≡ f.base + s
-UsesEntry i (op.StoreShared s) f = i ≡ f.base + s
-UsesEntry i (op.LoadShared s) f = i ≡ f.base + s
-UsesEntry i (op.Share s) f = i ≡ f.base + s
-UsesEntry i (op.AssignLocal s n) f = i ≡ f.base + s
-UsesEntry i (op.AssignLocalOp s n a) f = i ≡ f.base + s
-UsesEntry i o f = ⊥
+-- it reads or writes the entry at this index, by its slot; a call with a receiver writes it once the call
+-- is over
+abbrev pub UsesEntry : {S : Type 0} → ℕ → Op → Frame → World S → Type 0
+UsesEntry i (op.LoadLocal s) f w = i ≡ f.base + s
+UsesEntry i (op.StoreLocal s) f w = i ≡ f.base + s
+UsesEntry i (op.StoreConst s) f w = i ≡ f.base + s
+UsesEntry i (op.StoreShared s) f w = i ≡ f.base + s
+UsesEntry i (op.LoadShared s) f w = i ≡ f.base + s
+UsesEntry i (op.Share s) f w = i ≡ f.base + s
+UsesEntry i (op.AssignLocal s n) f w = i ≡ f.base + s
+UsesEntry i (op.AssignLocalOp s n a) f w = i ≡ f.base + s
+UsesEntry i (op.CallFnPtrOnLocal n s) f w = (i ≡ f.base + s) × HasReceiver n f w
+UsesEntry i o f w = ⊥
 
 -- the frame's `this` is at a place at which this is held
 abbrev pub HoldsThis : {S : Type 0} → Frame → World S → Held → Type 0
@@ -122,10 +131,13 @@ Tests (op.JumpIfTrue t) = Unit {0}
 Tests o = ⊥
 
 -- it asks for a pointer, under the last n operands
-abbrev pub AsksPointer : ℕ → Op → Type 0
-AsksPointer n (op.Curry k) = n ≡ k
-AsksPointer n (op.CallFnPtr k) = n ≡ k
-AsksPointer n o = ⊥
+abbrev pub AsksPointer : {S : Type 0} → ℕ → Op → Frame → World S → Type 0
+AsksPointer n (op.Curry k) f w = n ≡ k
+AsksPointer n (op.CallFnPtr k) f w = n ≡ k
+AsksPointer n (op.CallFnPtrMethod k) f w = AsksEither n k f w
+AsksPointer n (op.CallFnPtrOnLocal k slot) f w = AsksEither n k f w
+AsksPointer n (op.CallFnPtrOnThis k) f w = AsksEither n k f w
+AsksPointer n o f w = ⊥
 
 -- it throws the last operand
 abbrev pub Throws : Op → Type 0
@@ -149,13 +161,14 @@ AssignsConstant program s (op.AssignThisOp a) f w =
     (s ≡ []) × ReadsTop f w × ((h : Held) × HoldsThis f w h × (is_read_only w h ≡ true))
 AssignsConstant program s o f w = ⊥
 
--- a call looks for a function of this name with these arguments, and there is none
+-- a call without a receiver looks for a function of this name with these arguments, and there is none
 abbrev pub Misses : {S : Type 0} → View → List ℕ → List Held → Op → Frame → World S → Type 0
 Misses program name args (op.Call n k) f w = (name ≡ name_of program n) ×
     (flat_all w.cells (arguments k f.operands) ≡ Some args) × (function_found program n k ≡ None)
-Misses program name args (op.CallFnPtr n) f w = (p : FnPtr) × Points p n f w × (name ≡ p.name) ×
-    (flat_all w.cells (arguments (length p.curry + n) (spread p n f).operands) ≡ Some args) ×
-    (function_by_name program p.name (length p.curry + n) ≡ None)
+Misses program name args (op.CallFnPtr n) f w = MissesPointed program name args n f w
+Misses program name args (op.CallFnPtrMethod n) f w = MissesPointed program name args n f w
+Misses program name args (op.CallFnPtrOnLocal n slot) f w = MissesPointed program name args n f w
+Misses program name args (op.CallFnPtrOnThis n) f w = MissesPointed program name args n f w
 Misses program name args o f w = ⊥
 
 -- an operator or an op-assignment of this name asks the built-in of these operands, which says this
@@ -192,11 +205,7 @@ Mistypes r a o f w =
     ((v : Dynamic) × (flat w.cells (top f.operands).value ≡ Some v) × (r ≡ codes "bool") ×
     (a ≡ type_name_of v) × (truth_of v ≡ None) × Tests o)
     ⊎ ((n : ℕ) × (v : Dynamic) × (flat w.cells (operand_under n f.operands).value ≡ Some v) ×
-    (r ≡ codes "Fn") × (a ≡ type_name_of v) × (pointer_of v ≡ None) × AsksPointer n o)
-
--- what is held is a cell whose content is lent, or that is not there
-abbrev pub IsLent : {S : Type 0} → World S → Held → Type 0
-IsLent w h = flat w.cells h.value ≡ None
+    (r ≡ codes "Fn") × (a ≡ type_name_of v) × (pointer_of v ≡ None) × AsksPointer n o f w)
 
 -- of an assignment to an entry that is there: the value that it assigns is a lent cell, or the entry,
 -- which can be written, is one
@@ -240,9 +249,9 @@ ReadsLent program name (op.Call n k) f w = (name ≡ []) × (function_found prog
 ReadsLent program name (op.CallOp n k t) f w =
     (name ≡ []) × (flat_all w.cells (arguments k f.operands) ≡ None)
 ReadsLent program name (op.Curry n) f w = (name ≡ []) × IsLent w (operand_under n f.operands)
-ReadsLent program name (op.CallFnPtr n) f w = (name ≡ []) ×
-    (IsLent w (operand_under n f.operands) ⊎ ((p : FnPtr) × Points p n f w ×
-    (function_by_name program p.name (length p.curry + n) ≡ None) ×
-    (flat_all w.cells (arguments (length p.curry + n) (spread p n f).operands) ≡ None)))
+ReadsLent program name (op.CallFnPtr n) f w = (name ≡ []) × PointedReadsLent program n f w
+ReadsLent program name (op.CallFnPtrMethod n) f w = (name ≡ []) × MethodReadsLent program n f w
+ReadsLent program name (op.CallFnPtrOnLocal n slot) f w = (name ≡ []) × MethodReadsLent program n f w
+ReadsLent program name (op.CallFnPtrOnThis n) f w = (name ≡ []) × MethodReadsLent program n f w
 ReadsLent program name op.Throw f w = (name ≡ []) × IsLent w (top f.operands)
 ReadsLent program name o f w = ⊥

@@ -1,10 +1,11 @@
 -- What an instruction asks the host for, and what it is answered.
-use Rattle.std.specs.Prelude.{◌≡◌, ◌⊎◌, ◌&&◌, ◌+◌, ℕ, List, [], ◌∷◌, Option, Some, None, true, false}
+use Rattle.std.specs.Prelude.{◌≡◌, ◌⊎◌, ◌&&◌, ◌+◌, ℕ, suc, List, [], ◌∷◌, ◌++◌, Option, Some, None, true, false, slice_get, slice_set}
 use Rattle.grain_value.specs.declared.values.Dynamic.{Dynamic}
 use Rattle.grain_value.specs.declared.values.Held.{Held}
 use Rattle.grain_value.specs.declared.scopes.Entry.{Entry}
 use Rattle.grain_value.specs.declared.stores.Cell.{Cell}
-use Rattle.grain_value.specs.Cells.{flat}
+use Rattle.grain_value.specs.Cells.{flat, lent}
+use Rattle.grain_value.specs.declared.values.FnPtr.{FnPtr}
 use Rattle.grain_value.specs.Looking.{cell_of}
 use Rattle.grain_value.specs.Operands.{top, values_in}
 use Rattle.grain_fault.specs.Positions.{at_position_if_none}
@@ -20,9 +21,10 @@ use Rattle.grain_host.specs.Signatures.{missing_kind, not_found, says_missing}
 use Rattle.grain_host.specs.Law.{Reply, native_of}
 use Rattle.grain_host.specs.Law as reply
 use Rattle.grain_value.specs.declared.natives.Native.{Native}
-use Rattle.grain_means.specs.Rules.{Home, Receiver, at_place_of, content_at, in_entry, is_read_only, lent_held, given, given_back, cells_given_back, roots_given_back, kinds_in, trees_in, first_is_read_only, position, op_assigned}
+use Rattle.grain_means.specs.Rules.{Home, Receiver, flat_all, lent_at, new_root, at_place_of, content_at, in_entry, is_read_only, lent_held, given, given_back, cells_given_back, roots_given_back, kinds_in, trees_in, first_is_read_only, position, op_assigned}
 use Rattle.grain_means.specs.Comes.{ProgramPoint}
 use Rattle.grain_means.specs.Causes.Instructions.{Holds, Misses, HasNoBuiltIn}
+use Rattle.grain_means.specs.Causes.Pointers.{IsMethodCall, PointsFirst, receiver, args_beside, function_beside}
 
 -- an op-assignment writes here, where this is held and can be written: in the entry of a slot, or in
 -- `this`, or in the cell that one of them is
@@ -126,22 +128,55 @@ AsksToAssign {S = S} m q at =
     AssignsByHost m a i h u v at.instruction at.frame at.world ×
     ((q ≡ asks_first m a i h u v at.world) ⊎ AsksAgain m a i h u v q at)
 
--- it asks the host for a native on copies of its operands: no function is found for a call, or no
--- built-in for an operator
+-- it asks the host for a native on copies of its operands: no function is found for a call without a
+-- receiver, or no built-in for an operator
 abbrev pub AsksOnCopies : {S : Type 0} → Setup S → Question S → ProgramPoint S → Type 0
 AsksOnCopies m q at =
     (q.host ≡ at.world.host) × (q.cells ≡ at.world.cells) × (q.lent ≡ None) ×
     (Misses m.program q.name q.args at.instruction at.frame at.world
     ⊎ HasNoBuiltIn m q.name q.args at.instruction at.frame at.world)
 
--- it asks the host for a native: on copies of its operands, or for an op-assignment
+-- what a native is lent where it is lent this, which is a root after these
+abbrev pub lent_last : List Held → Held → Option Receiver
+lent_last roots h = lent_at (roots ++ h ∷ []) (Some (new_root roots))
+
+-- What a native is lent of a receiver, which is a root then, and the cells then: the receiver; or, if it is
+-- the cell of number i, its content, which is one more root, and can only be read if the receiver can.
+abbrev pub LendsReceiver : {S : Type 0} → Option ℕ → Held → World S → Option Receiver → List Cell →
+    Type 0
+LendsReceiver None h w r cells = (r ≡ lent_last w.roots h) × (cells ≡ w.cells)
+LendsReceiver (Some i) h w r cells =
+    (a : Cell) × (slice_get w.cells i ≡ Some a) × (a.busy ≡ false) ×
+    (r ≡ lent_last (w.roots ++ h ∷ []) (record { value = a.held.value; read_only = h.read_only })) ×
+    (cells ≡ slice_set w.cells i (lent a.held))
+
+-- it asks the host for a native to which a receiver is lent: the pointer that is called on the receiver,
+-- and on n arguments more, names no function
+pub record AsksOnReceiver {S : Type 0} (m : Setup S) (q : Question S) (at : ProgramPoint S) : Type 0
+  where
+    pub n : ℕ
+    pub is : IsMethodCall (suc n) at.instruction
+    pub pointer : FnPtr
+    pub points : PointsFirst pointer n at.frame at.world
+    pub none : function_beside m.program pointer n at.frame ≡ None
+    pub host : q.host ≡ at.world.host
+    pub named : q.name ≡ pointer.name
+    pub reads : flat_all at.world.cells (args_beside pointer n at.frame) ≡ Some q.args
+    pub lends : let h = receiver n at.frame at.world in
+        LendsReceiver (cell_of h.value) h at.world q.lent q.cells
+
+-- it asks the host for a native, and for no other
+abbrev pub AsksOnce : {S : Type 0} → Setup S → Question S → ProgramPoint S → Type 0
+AsksOnce m q at = AsksOnCopies m q at ⊎ AsksOnReceiver m q at
+
+-- it asks the host for a native: on copies of its operands, or on a receiver, or for an op-assignment
 abbrev pub AsksNative : {S : Type 0} → Setup S → Question S → ProgramPoint S → Type 0
-AsksNative m q at = AsksOnCopies m q at ⊎ AsksToAssign m q at
+AsksNative m q at = AsksOnce m q at ⊎ AsksToAssign m q at
 
 -- It asks this question, and asks no other after this fault: the first of an op-assignment is the
 -- last unless the fault says that no function of its name is found.
 abbrev pub AsksLast : {S : Type 0} → Setup S → Problem → Question S → ProgramPoint S → Type 0
-AsksLast {S = S} m x q at = AsksOnCopies m q at ⊎
+AsksLast {S = S} m x q at = AsksOnce m q at ⊎
     ((a : AssignOp) × (i : Home) × (h : Held) × (u : Dynamic) × (v : Held) ×
     AssignsByHost m a i h u v at.instruction at.frame at.world ×
     (((q ≡ asks_first m a i h u v at.world)

@@ -17,10 +17,10 @@ use Rattle.grain_program.specs.declared.code.instruction_set.Op.{Op}
 use Rattle.grain_program.specs.declared.code.instruction_set.Op.TheVariants as op
 use Rattle.grain_means.specs.Worlds.{Act, Go, Failed, World, Setup, Handler, Frame, InFrame, Place}
 use Rattle.grain_means.specs.Places.{look}
-use Rattle.grain_means.specs.Rules.{throws_unit, bound, frame_at, lent_cell, position}
+use Rattle.grain_means.specs.Rules.{throws_unit, bound, frame_at, lent_cell, new_root, position}
 use Rattle.grain_means.specs.Comes.{ProgramPoint, CatchPoint, Comes, ComesToCatch, Meets}
 use Rattle.grain_means.specs.Ends.{Ends}
-use Rattle.grain_means.specs.Causes.Instructions.{CallsOn, Throws}
+use Rattle.grain_means.specs.Causes.Instructions.{CallsOn, CallsUnder, Throws, receiver}
 use Rattle.grain_means.specs.Causes.Natives.{HostAnswers}
 use Rattle.grain_means.specs.Causes.Spots.{InvocationEnds, Invokes, under_for}
 use Rattle.grain_means.specs.Causes.Chains.{ChainReads, RaisedByChain, RootLends, begun_at, walk_of}
@@ -65,12 +65,27 @@ pub record ChainCalls {S : Type 0} (m : Setup S) (g : Function) (args : List Hel
             invokes.call);
       }
 
--- the instruction at the point calls this function on these arguments in this world, or its chain does
+-- The instruction at the point calls this function on these arguments under a receiver, with this `this`,
+-- in this world: a mark is passed, and the receiver is a root.
+abbrev pub ReceiverCalls : {S : Type 0} → Setup S → Function → List Held → Option Place → World S →
+    ProgramPoint S → Type 0
+ReceiverCalls m g args this w at = (n : ℕ)
+    × CallsUnder m.program g args n at.instruction at.frame at.world
+    × (let roots = at.world.roots ++ receiver n at.frame at.world ∷ [] in
+    let place = Some (new_root at.world.roots) in
+    (this ≡ this_for roots place) × (w ≡ record (begun_at at) {
+      passed = at.world.passed + 1 + 1;
+      roots = roots_for roots place;
+    }))
+
+-- the instruction at the point calls this function on these arguments in this world, with a receiver or
+-- without one, or its chain does
 abbrev pub CallsWith : {S : Type 0} → Setup S → Function → List Held → Option Place → Position →
     World S → ProgramPoint S → Type 0
 CallsWith m g args this q w at = (CallsOn m.program g args at.instruction at.frame at.world
     × (this ≡ None) × (q ≡ position m at.frame) × (w ≡ begun_at at))
-    ⊎ ChainCalls m g args this q w at
+    ⊎ (ChainCalls m g args this q w at
+    ⊎ (ReceiverCalls m g args this w at × (q ≡ position m at.frame)))
 
 -- The world in which the body of a function on these arguments begins, where the function is called in
 -- the world w: an operation is counted, of which the host has heard, and the scope is the function's own,

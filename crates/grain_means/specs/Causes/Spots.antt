@@ -28,7 +28,7 @@ use Rattle.grain_program.specs.declared.code.chains.StepFlags.{StepFlags}
 use Rattle.grain_means.specs.Worlds.{Answer, Failed, Place, Setup, World}
 use Rattle.grain_means.specs.Places.{look, put}
 use Rattle.grain_means.specs.Rules.{Receiver, pointed_native, lent_at, op_assigned, placed, race_text}
-use Rattle.grain_means.specs.Tasks.{Call, Invocation, Pointed, Task, Done, Mark, Look, Flatten, Write, Root, Drop, Need, Invoke, Ill}
+use Rattle.grain_means.specs.Tasks.{Call, Invocation, Pointed, Task, Done, Mark, Look, Flatten, Write, Root, Drop, Need, Invoke, WalkFailed}
 use Rattle.grain_means.specs.Walks.{Course, OfPart, Rest, assigning, flattening, index_type, key_of, operand, operands_from, operating, out_of_bounds, role_before, set_back, taken, walked, whole_walk}
 use Rattle.grain_means.specs.Causes.Instructions.{IsCharged}
 
@@ -45,7 +45,7 @@ pub record ChainWalk (S : Type 0) : Type 0 where
 
 -- what is left of the walk does nothing but drop roots, and then ends with the fault x of step n
 abbrev pub Falls : ℕ → Problem → Task → Type 0
-Falls n x (Done o) = o ≡ Ill n x
+Falls n x (Done o) = o ≡ WalkFailed n x
 Falls n x (Mark out go) = ⊥
 Falls n x (Look q go) = ⊥
 Falls n x (Flatten v go) = ⊥
@@ -136,7 +136,7 @@ module _ {S : Type 0} (m : Setup S) (c : ChainWalk S) where
     pub number : ℤ
     pub none : locate (value_at step.at) index ≡ Err (fault.Bounds size number)
     pub is : x ≡ Plain (out_of_bounds (value_at step.at) size number) position
-    pub last : Falls n x (step.at.rest (Ill n x))
+    pub last : Falls n x (step.at.rest (WalkFailed n x))
 
   -- the index is of a type by which the value is not indexed, and with that fault the walk ends
   pub record MistypesIndex (n : ℕ) (x : Problem) : Type 0 where
@@ -145,7 +145,7 @@ module _ {S : Type 0} (m : Setup S) (c : ChainWalk S) where
     pub step : Indexes n index position
     pub none : locate (value_at step.at) index ≡ Err fault.WrongType
     pub is : x ≡ Plain (MismatchDataType (index_type (value_at step.at)) (type_name_of index)) position
-    pub last : Falls n x (step.at.rest (Ill n x))
+    pub last : Falls n x (step.at.rest (WalkFailed n x))
 
   -- a map lacks the key of an index, or of a property, which the chain does not assign, and with that
   -- fault the walk ends
@@ -157,7 +157,7 @@ module _ {S : Type 0} (m : Setup S) (c : ChainWalk S) where
     pub reads : assigning (role_before c.course step.at.left) ≡ false
     pub strict : c.course.setting.engine.strict_properties ≡ true
     pub is : x ≡ Plain (PropertyNotFound (key_of index)) position
-    pub last : Falls n x (step.at.rest (Ill n x))
+    pub last : Falls n x (step.at.rest (WalkFailed n x))
 
   pub record LacksProperty (n : ℕ) (x : Problem) : Type 0 where
     pub name : ℕ
@@ -172,7 +172,7 @@ module _ {S : Type 0} (m : Setup S) (c : ChainWalk S) where
     pub reads : assigning (role_before c.course at.left) ≡ false
     pub strict : c.course.setting.engine.strict_properties ≡ true
     pub is : x ≡ Plain (PropertyNotFound (name_of c.course.setting.program name)) position
-    pub last : Falls n x (at.rest (Ill n x))
+    pub last : Falls n x (at.rest (WalkFailed n x))
 
   -- An index, an answer in which the walk goes on, what an operator answers, the first argument of the
   -- method `call`, or the root of a chain whose first step asks whether it is unit, is a cell whose content
@@ -186,7 +186,7 @@ module _ {S : Type 0} (m : Setup S) (c : ChainWalk S) where
     pub comes : ComesTo (flattening n position value rest go) world
     pub lent : flat world.cells value ≡ None
     pub is : x ≡ Plain (DataRace (race_text [])) position
-    pub last : Falls n x (rest (Ill n x))
+    pub last : Falls n x (rest (WalkFailed n x))
 
   -- what is put back of a byte, a character or a bit is of another type, and with that fault the walk
   -- ends
@@ -202,7 +202,7 @@ module _ {S : Type 0} (m : Setup S) (c : ChainWalk S) where
     pub none : with_part (look world.roots (world_of place)).value spot part ≡ None
     pub is : x ≡ Plain (MismatchDataType (part_type spot) (type_name_of part))
         c.course.setting.position
-    pub last : Falls n x (rest (Ill n x))
+    pub last : Falls n x (rest (WalkFailed n x))
 
   -- a built-in op-assignment has no result, or it is too large, and with that fault the walk ends
   pub record Calculates (n : ℕ) (x : Problem) : Type 0 where
@@ -218,7 +218,7 @@ module _ {S : Type 0} (m : Setup S) (c : ChainWalk S) where
         (look world.roots (world_of place)).value value in
         ((outcome ≡ ArithmeticFault text) × (x ≡ Plain (Arithmetic text) position))
         ⊎ ((outcome ≡ TooLarge text) × (x ≡ Plain (DataTooLarge text) position))
-    pub last : Falls n x (rest (Ill n x))
+    pub last : Falls n x (rest (WalkFailed n x))
 
   -- the walk calls a native, and the call ends with a fault
   pub record CallFails (n : ℕ) (x : Problem) : Type 0 where
@@ -302,7 +302,7 @@ module _ {S : Type 0} (m : Setup S) (c : ChainWalk S) where
         (operands_from c.course first argc) at.world.cells (value_at at) value
     pub none : pointer_of value ≡ None
     pub is : x ≡ Plain (MismatchDataType (codes "Fn") (type_name_of value)) position
-    pub last : Falls n x (at.rest (Ill n x))
+    pub last : Falls n x (at.rest (WalkFailed n x))
 
   -- why the walk ends in this fault, and blames the step of this number
   abbrev pub WalkRow : ℕ → Problem → Type 0

@@ -21,7 +21,7 @@ use Rattle.grain_program.specs.Chains.{assigns, chain_takes, slot_of}
 use Rattle.grain_program.specs.View.{View, name_of, chain_of, assign_op_of}
 use Rattle.grain_means.specs.Worlds.{Place, Frame, World, Act, Setup}
 use Rattle.grain_means.specs.Places.{look}
-use Rattle.grain_means.specs.Tasks.{Walked, Well, Ill, Task}
+use Rattle.grain_means.specs.Tasks.{Walked, WalkEnded, WalkFailed, Task}
 use Rattle.grain_means.specs.Walks.{Course, asks_shared, whole_walk}
 use Rattle.grain_means.specs.Rules.Frames.{without, is_read_only}
 use Rattle.grain_means.specs.Rules.Faults.{position, marked, raised, data_race}
@@ -108,8 +108,8 @@ module _ {S : Type 0} (m : Setup S) where
   -- The walk of the chain of index k is over, in a frame without the chain's operands: its value is
   -- pushed, or its fault is raised, for which the step is blamed.
   abbrev pub chain_over : ℕ → ℕ → Frame → Walked → World S → Act S
-  chain_over k next f (Well v changed) w = pushed m f next f.operands v w
-  chain_over k next f (Ill n x) w =
+  chain_over k next f (WalkEnded v changed) w = pushed m f next f.operands v w
+  chain_over k next f (WalkFailed n x) w =
       raised m (record f { slot = Some (slot_of m.program k n) }) x w
 
   -- The walk of the chain of index k, from a root that is added to those of the world. However the walk

@@ -1,5 +1,5 @@
 -- Marks, faults that are raised and offered to handlers, and operations that are charged.
-use Rattle.std.specs.Prelude.{ℕ, ◌+◌, List, [], ◌∷◌, ◌++◌, Option, Some, None, Bool, false, if◌then◌else◌, nat_lt, take, codes}
+use Rattle.std.specs.Prelude.{ℕ, ◌+◌, List, [], ◌∷◌, ◌++◌, Option, Some, None, Bool, true, false, if◌then◌else◌, nat_lt, take, codes}
 use Rattle.grain_value.specs.Looking.{is_unit}
 use Rattle.grain_fault.specs.declared.places.Position.{Position}
 use Rattle.grain_fault.specs.Classes.{catchable}
@@ -28,6 +28,14 @@ throws_unit NoMemory = false
 -- what was caught, at the position of the throw, where unit is thrown; and else the fault
 abbrev pub thrown_anew : Problem → Problem → Problem
 thrown_anew y x = if throws_unit x then at_position (position_of_problem x) y else x
+
+-- whether a fault is want of memory
+abbrev pub no_memory : Problem → Bool
+no_memory (Plain k p) = false
+no_memory (InFunctionCall f s x p) = false
+no_memory (InModule n x p) = false
+no_memory (SystemError s x) = false
+no_memory NoMemory = true
 
 -- the handlers around the innermost one
 abbrev pub outer_handlers : List Handler → List Handler

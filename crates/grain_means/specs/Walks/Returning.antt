@@ -10,7 +10,7 @@ use Rattle.grain_fault.specs.Problems.{Plain, MismatchDataType}
 use Rattle.grain_fault.specs.declared.places.Position.{Position}
 use Rattle.grain_means.specs.Worlds.{Place}
 use Rattle.grain_means.specs.Places.{next_root}
-use Rattle.grain_means.specs.Tasks.{Walked, Well, Ill, Task, Look, Write, Root, Drop}
+use Rattle.grain_means.specs.Tasks.{Walked, WalkEnded, WalkFailed, Task, Look, Write, Root, Drop}
 use Rattle.grain_means.specs.Walks.Asking.{Setting, Rest, Next, at_mark, failing, flattening, set_by_index, set_property}
 
 -- what a new root is, and so what becomes of it on the way back
@@ -35,12 +35,12 @@ is_change o = false
 
 -- an answer that is the chain's own value, as it is given
 abbrev pub own_value : Origin → Rest → Dynamic → Task
-own_value o done v = done (Well v (is_change o))
+own_value o done v = done (WalkEnded v (is_change o))
 
 module _ (g : Setting) where
   abbrev pub put_part : ℕ → Spot → Place → Dynamic → Dynamic → Bool → Rest → Option Dynamic → Task
   put_part n s p v u changed done (Some d) =
-      at_mark n done (Write p d (done (Well u changed)))
+      at_mark n done (Write p d (done (WalkEnded u changed)))
   put_part n s p v u changed done None =
       failing n (Plain (MismatchDataType (part_type s) (type_name_of v)) g.position) done
 
@@ -51,16 +51,16 @@ module _ (g : Setting) where
   set_back n (OfPart s) p v u changed done =
       at_mark n done (Look p (λ h. put_part n s p v u changed done (with_part h.value s v)))
   set_back n (OfIndex i q) p v u changed done =
-      if changed then set_by_index n q p i v u done else done (Well u false)
+      if changed then set_by_index n q p i v u done else done (WalkEnded u false)
   set_back n (OfProperty name setter q assigned) p v u changed done =
-      if changed then set_property g n name setter q assigned p v u done else done (Well u false)
-  set_back n OfMethod p v u changed done = done (Well u true)
-  set_back n OfNothing p v u changed done = done (Well u changed)
+      if changed then set_property g n name setter q assigned p v u done else done (WalkEnded u false)
+  set_back n OfMethod p v u changed done = done (WalkEnded u true)
+  set_back n OfNothing p v u changed done = done (WalkEnded u changed)
 
   -- The way back over a new root: it goes, and where all went well, it is set back.
   abbrev pub back : ℕ → Origin → Place → Rest → Walked → Task
-  back n o p done (Ill k x) = Drop p.root (λ h. done (Ill k x))
-  back n o p done (Well u changed) = Drop p.root (λ h. set_back n o p h.value u changed done)
+  back n o p done (WalkFailed k x) = Drop p.root (λ h. done (WalkFailed k x))
+  back n o p done (WalkEnded u changed) = Drop p.root (λ h. set_back n o p h.value u changed done)
 
   -- the walk goes on in a new root
   abbrev pub rooted : ℕ → Origin → Held → Next → Place → Rest → Task
