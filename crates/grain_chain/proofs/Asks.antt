@@ -21,7 +21,7 @@ use Rattle.grain_chain.specs.Going.{Goes, Needs, Asked, AskedFor, IsRequest, Len
 use Rattle.grain_chain.specs.laws.Joining.{go_on, by_play}
 use Rattle.grain_chain.specs.laws.Ways.{put-here}
 use Rattle.grain_chain.specs.declared.contexts.Context.{Context}
-use Rattle.grain_chain.specs.declared.origins.Awaits.{Awaits}
+use Rattle.grain_chain.specs.declared.origins.Awaited.{Awaited}
 use Rattle.grain_chain.specs.declared.requests.Request.{Request}
 use Rattle.grain_chain.specs.declared.requests.What.{What}
 use Rattle.grain_chain.specs.declared.requests.What.TheVariants as what
@@ -71,7 +71,7 @@ calling w q (what.Compiled n) b args heard = Invoke (function_called w q (Number
 calling w q (what.Pointer f) b args heard = Invoke (function_called w q (Pointed f) b args) heard
 
 -- the walk that waits
-abbrev waiting : Walk → Awaits → Walk
+abbrev waiting : Walk → Awaited → Walk
 waiting w s = record w { awaits = s; marks = w.marks + 1 }
 
 module _ (x : Context) where
@@ -129,7 +129,7 @@ module _ (x : Context) where
       (record r { step = w.step; pos = q; what = call; arguments = n })) is.arguments
       ∙ made w q call b r.receiver args heard is.receiver
 
-  waits_for : (w : Walk) (q : Position) (call : What) (args : List Tree) (s : Awaits)
+  waits_for : (w : Walk) (q : Position) (call : What) (args : List Tree) (s : Awaited)
       (r : Request) → IsRequest w q call (lends s) args r →
       Goes x w (at_mark w.step (rest x w) (calling w q call (lends s) args
       (resumed x.engine.now x.program.now w s))) (Ok (answer.Need r)) (waiting w s)
@@ -148,7 +148,7 @@ module _ (x : Context) where
       go_on (passes x w go k) two tt
 
   -- what is asked for is what the rule asks for
-  pub asks_for : (w v : Walk) (q : Position) (call : What) (args : List Tree) (s : Awaits)
+  pub asks_for : (w v : Walk) (q : Position) (call : What) (args : List Tree) (s : Awaited)
       (r : Result WalkAnswer OutOfMemory) → AskedFor w q call args s r v →
       Goes x w (at_mark w.step (rest x w) (calling w q call (lends s) args
       (resumed x.engine.now x.program.now w s))) r v
@@ -162,7 +162,7 @@ module _ (x : Context) where
       subst (λ (u : Walk). Goes x w (at_mark w.step (rest x w) (calling w q call (lends s) args
       (resumed x.engine.now x.program.now w s))) (Err o) u) (sym h) (halts x w _)
 
-  pub asks : (w v : Walk) (q : Position) (name : List ℕ) (args : List Tree) (s : Awaits)
+  pub asks : (w v : Walk) (q : Position) (name : List ℕ) (args : List Tree) (s : Awaited)
       (r : Result WalkAnswer OutOfMemory) → Asked w q name args s r v →
       Goes x w (asking w.step q name (lent_place w (lends s)) (map value_of args) (rest x w)
       (resumed x.engine.now x.program.now w s)) r v
@@ -197,7 +197,7 @@ can_call p w q call b args r is can =
 
 -- the walk then waits, and needs less
 pub asks_for_less : (p : View) (w v : Walk) (q : Position) (call : What) (args : List Tree)
-    (s : Awaits) (r : Result WalkAnswer OutOfMemory) (n : ℕ) → AskedFor w q call args s r v →
+    (s : Awaited) (r : Result WalkAnswer OutOfMemory) (n : ℕ) → AskedFor w q call args s r v →
     IsAtStep p (waiting w s) s → still p (waiting w s) s < n → CanCall p call (length args) →
     Needs p v r n
 asks_for_less p w v q call args s (Ok (answer.Need r)) n h at less can =
@@ -216,7 +216,7 @@ asks_for_less p w v q call args s (Ok (answer.Faulted y k)) n h at less can = ab
 asks_for_less p w v q call args s (Err o) n h at less can = tt
 
 pub asks_less : (p : View) (w v : Walk) (q : Position) (name : List ℕ) (args : List Tree)
-    (s : Awaits) (r : Result WalkAnswer OutOfMemory) (n : ℕ) → Asked w q name args s r v →
+    (s : Awaited) (r : Result WalkAnswer OutOfMemory) (n : ℕ) → Asked w q name args s r v →
     IsAtStep p (waiting w s) s → still p (waiting w s) s < n → Needs p v r n
 asks_less p w v q name args s r n h at less =
     asks_for_less p w v q (what.Native name) args s r n h at less tt
@@ -236,7 +236,7 @@ none_of args e = ap (map value_of) e
 
 -- a request of this name and with these arguments
 pub asks_with : (x : Context) (w v : Walk) (q : Position) (n name : List ℕ) (args : List Tree)
-    (values : List Dynamic) (s : Awaits) (r : Result WalkAnswer OutOfMemory) → n ≡ name →
+    (values : List Dynamic) (s : Awaited) (r : Result WalkAnswer OutOfMemory) → n ≡ name →
     map value_of args ≡ values → Asked w q n args s r v →
     Goes x w (asking w.step q name (lent_place w (lends s)) values (rest x w)
     (resumed x.engine.now x.program.now w s)) r v

@@ -7,7 +7,7 @@ use Rattle.grain_value.specs.declared.memory.OutOfMemory.{OutOfMemory}
 use Rattle.grain_value.specs.declared.values.Dynamic.{Dynamic}
 use Rattle.grain_value.specs.declared.values.locating.Spot.{Spot}
 use Rattle.grain_fault.specs.Problems.{Plain, MismatchDataType}
-use Rattle.grain_means.specs.Tasks.{Task, Look, Write, Well}
+use Rattle.grain_means.specs.Tasks.{Task, Look, Write, WalkEnded}
 use Rattle.grain_means.specs.Walks.{OfPart, failing, put_part, set_back}
 use Rattle.grain_chain.specs.Standings.{Stands, put_there}
 use Rattle.grain_chain.specs.Walking.{place_of}
@@ -31,17 +31,17 @@ not_wrote w v None h = (refl, h.1)
 module _ (x : Context) where
   -- nothing is set back
   pub as_it_was : (w : Walk) (changed : Bool) →
-      GoesBack x w (rest x w (Well w.gives changed)) changed (Ok None) w
+      GoesBack x w (rest x w (WalkEnded w.gives changed)) changed (Ok None) w
   as_it_was w changed = (λ k. as_is refl, record { same = refl; outer = refl })
 
   pub unchanged_back : (w : Walk) (ask : Task) (changed : Bool) → changed ≡ false →
-      GoesBack x w (if changed then ask else rest x w (Well w.gives false)) changed (Ok None) w
+      GoesBack x w (if changed then ask else rest x w (WalkEnded w.gives false)) changed (Ok None) w
   unchanged_back w ask false e = as_it_was w false
   unchanged_back w ask true e = cc
 
   pub changed_back : (w v : Walk) (ask : Task) (changed : Bool)
       (r : Result (Option WalkAnswer) OutOfMemory) → changed ≡ true → GoesBack x w ask changed r v →
-      GoesBack x w (if changed then ask else rest x w (Well w.gives false)) changed r v
+      GoesBack x w (if changed then ask else rest x w (WalkEnded w.gives false)) changed r v
   changed_back w v ask true r e h = h
   changed_back w v ask false r e h = cc
 
@@ -76,7 +76,7 @@ module _ (x : Context) where
         let got = wrote m v (with_part t s part)
         (subst (λ (u : Walk). WrotePart u (with_part t s part) true v) e h) in
         let d = got.0 in
-        let after : Task = rest x m (Well m.gives changed) in
+        let after : Task = rest x m (WalkEnded m.gives changed) in
         let go : Task = Write (place_of m) d after in
         let written : Walk = record m { trail = put_there m.trail d; marks = m.marks + 1 } in
         let back : GoesBack x m (putting m (Some d)) changed (Ok None) written = (

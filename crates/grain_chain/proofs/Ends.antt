@@ -7,15 +7,15 @@ use Rattle.grain_fault.specs.declared.faults.EvalAltResult.TheVariants as fault
 use Rattle.grain_program.specs.View.{View}
 use Rattle.grain_global.specs.declared.engines.Engine.{Engine}
 use Rattle.grain_means.specs.Worlds.{Answer}
-use Rattle.grain_means.specs.Tasks.{Task, Ill}
+use Rattle.grain_means.specs.Tasks.{Task, WalkFailed}
 use Rattle.grain_chain.specs.OwnWalks.{WalksOn, own}
 use Rattle.grain_chain.specs.Walking.{roots_of, roots_at, setting_of, left_to_do, resumed, with_receiver, is_out, IsAtStep, still, Falls}
 use Rattle.grain_chain.specs.Going.{Reaches, Goes, Needs, Settles, fallen, received, rest}
 use Rattle.grain_chain.specs.laws.Joining.{go_on, any}
 use Rattle.grain_chain.specs.laws.Ways.{put-here, fell}
 use Rattle.grain_chain.specs.declared.contexts.Context.{Context}
-use Rattle.grain_chain.specs.declared.origins.Awaits.{Awaits}
-use Rattle.grain_chain.specs.declared.origins.Awaits.TheVariants as awaits
+use Rattle.grain_chain.specs.declared.origins.Awaited.{Awaited}
+use Rattle.grain_chain.specs.declared.origins.Awaited.TheVariants as awaited
 use Rattle.grain_chain.specs.declared.requests.WalkAnswer.{WalkAnswer}
 use Rattle.grain_chain.specs.declared.requests.WalkAnswer.TheVariants as answer
 use Rattle.grain_chain.specs.declared.walks.Walk.{Walk}
@@ -26,7 +26,8 @@ module _ (x : Context) where
       (k : ℕ) → WalksOn x.cells.now (own (roots_of w) (k + w.marks)) t (is_out a)
       (own (roots_at v a) (k + v.marks)) (left_to_do x.engine.now x.program.now v a)
 
-  over : (w u : Walk) (t : Task) → Reaches x w t true (roots_of u) u.marks (rest x u (Ill u.step NoMemory)) →
+  over : (w u : Walk) (t : Task) → Reaches x w t true (roots_of u) u.marks
+      (rest x u (WalkFailed u.step NoMemory)) →
       Ended w t (fallen u) (answer.Faulted fault.Memory u.step)
   over w u t h = λ k.
       go_on (h k)
@@ -52,88 +53,88 @@ settled_needs p u v (Err o) a n need h =
     subst (λ (c : WalkAnswer). Falls p v c n) (sym h.0) tt
 
 -- the receiver is back, and the awaited is taken
-abbrev pub taken_up : Walk → Option Held → Awaits → Walk
+abbrev pub taken_up : Walk → Option Held → Awaited → Walk
 taken_up w r q = record (received w r) { awaits = q }
 
-same_roots : (w : Walk) (r : Option Held) (q : Awaits) → roots_of (taken_up w r q) ≡ with_receiver w r
+same_roots : (w : Walk) (r : Option Held) (q : Awaited) → roots_of (taken_up w r q) ≡ with_receiver w r
 same_roots w None q = refl
 same_roots w (Some h) q = sym (put-here w.trail.outer w.trail.here h.value w.trail.path)
 
-module _ (e : Engine) (p : View) (w : Walk) (q : Awaits) where
+module _ (e : Engine) (p : View) (w : Walk) (q : Awaited) where
   -- what is left to do does not see it
-  pub same_resumed : (r : Option Held) (s : Awaits) (a : Answer) →
+  pub same_resumed : (r : Option Held) (s : Awaited) (a : Answer) →
       resumed e p (taken_up w r q) s a ≡ resumed e p w s a
-  same_resumed None awaits.IndexSet a = refl
-  same_resumed None (awaits.PropertySet name pos assigned v) a = refl
-  same_resumed None (awaits.SetInstead x assigned) a = refl
-  same_resumed None (awaits.PropertyGot name pos i) a = refl
-  same_resumed None (awaits.GotInstead x i) a = refl
-  same_resumed None (awaits.IndexGot i) a = refl
-  same_resumed None (awaits.IndexRead pos i n) a = refl
-  same_resumed None (awaits.OpAssigned pos o) a = refl
-  same_resumed None (awaits.Operator pos) a = refl
-  same_resumed None (awaits.Called b i) a = refl
-  same_resumed (Some h) awaits.IndexSet a = refl
-  same_resumed (Some h) (awaits.PropertySet name pos assigned v) a = refl
-  same_resumed (Some h) (awaits.SetInstead x assigned) a = refl
-  same_resumed (Some h) (awaits.PropertyGot name pos i) a = refl
-  same_resumed (Some h) (awaits.GotInstead x i) a = refl
-  same_resumed (Some h) (awaits.IndexGot i) a = refl
-  same_resumed (Some h) (awaits.IndexRead pos i n) a = refl
-  same_resumed (Some h) (awaits.OpAssigned pos o) a = refl
-  same_resumed (Some h) (awaits.Operator pos) a = refl
-  same_resumed (Some h) (awaits.Called b i) a = refl
+  same_resumed None awaited.IndexSet a = refl
+  same_resumed None (awaited.PropertySet name pos assigned v) a = refl
+  same_resumed None (awaited.SetInstead x assigned) a = refl
+  same_resumed None (awaited.PropertyGot name pos i) a = refl
+  same_resumed None (awaited.GotInstead x i) a = refl
+  same_resumed None (awaited.IndexGot i) a = refl
+  same_resumed None (awaited.IndexRead pos i n) a = refl
+  same_resumed None (awaited.OpAssigned pos o) a = refl
+  same_resumed None (awaited.Operator pos) a = refl
+  same_resumed None (awaited.Called b i) a = refl
+  same_resumed (Some h) awaited.IndexSet a = refl
+  same_resumed (Some h) (awaited.PropertySet name pos assigned v) a = refl
+  same_resumed (Some h) (awaited.SetInstead x assigned) a = refl
+  same_resumed (Some h) (awaited.PropertyGot name pos i) a = refl
+  same_resumed (Some h) (awaited.GotInstead x i) a = refl
+  same_resumed (Some h) (awaited.IndexGot i) a = refl
+  same_resumed (Some h) (awaited.IndexRead pos i n) a = refl
+  same_resumed (Some h) (awaited.OpAssigned pos o) a = refl
+  same_resumed (Some h) (awaited.Operator pos) a = refl
+  same_resumed (Some h) (awaited.Called b i) a = refl
 
-  pub same_step : (r : Option Held) (s : Awaits) → IsAtStep p w s → IsAtStep p (taken_up w r q) s
-  same_step None awaits.IndexSet h = tt
-  same_step None (awaits.PropertySet name pos assigned v) h = tt
-  same_step None (awaits.SetInstead x assigned) h = tt
-  same_step None (awaits.PropertyGot name pos i) h = h
-  same_step None (awaits.GotInstead x i) h = h
-  same_step None (awaits.IndexGot i) h = h
-  same_step None (awaits.IndexRead pos i n) h = h
-  same_step None (awaits.OpAssigned pos o) h = tt
-  same_step None (awaits.Operator pos) h = tt
-  same_step None (awaits.Called b i) h = h
-  same_step (Some r) awaits.IndexSet h = tt
-  same_step (Some r) (awaits.PropertySet name pos assigned v) h = tt
-  same_step (Some r) (awaits.SetInstead x assigned) h = tt
-  same_step (Some r) (awaits.PropertyGot name pos i) h = h
-  same_step (Some r) (awaits.GotInstead x i) h = h
-  same_step (Some r) (awaits.IndexGot i) h = h
-  same_step (Some r) (awaits.IndexRead pos i n) h = h
-  same_step (Some r) (awaits.OpAssigned pos o) h = tt
-  same_step (Some r) (awaits.Operator pos) h = tt
-  same_step (Some r) (awaits.Called b i) h = h
+  pub same_step : (r : Option Held) (s : Awaited) → IsAtStep p w s → IsAtStep p (taken_up w r q) s
+  same_step None awaited.IndexSet h = tt
+  same_step None (awaited.PropertySet name pos assigned v) h = tt
+  same_step None (awaited.SetInstead x assigned) h = tt
+  same_step None (awaited.PropertyGot name pos i) h = h
+  same_step None (awaited.GotInstead x i) h = h
+  same_step None (awaited.IndexGot i) h = h
+  same_step None (awaited.IndexRead pos i n) h = h
+  same_step None (awaited.OpAssigned pos o) h = tt
+  same_step None (awaited.Operator pos) h = tt
+  same_step None (awaited.Called b i) h = h
+  same_step (Some r) awaited.IndexSet h = tt
+  same_step (Some r) (awaited.PropertySet name pos assigned v) h = tt
+  same_step (Some r) (awaited.SetInstead x assigned) h = tt
+  same_step (Some r) (awaited.PropertyGot name pos i) h = h
+  same_step (Some r) (awaited.GotInstead x i) h = h
+  same_step (Some r) (awaited.IndexGot i) h = h
+  same_step (Some r) (awaited.IndexRead pos i n) h = h
+  same_step (Some r) (awaited.OpAssigned pos o) h = tt
+  same_step (Some r) (awaited.Operator pos) h = tt
+  same_step (Some r) (awaited.Called b i) h = h
 
-  pub same_still : (r : Option Held) (s : Awaits) → still p (taken_up w r q) s ≡ still p w s
-  same_still None awaits.IndexSet = refl
-  same_still None (awaits.PropertySet name pos assigned v) = refl
-  same_still None (awaits.SetInstead x assigned) = refl
-  same_still None (awaits.PropertyGot name pos i) = refl
-  same_still None (awaits.GotInstead x i) = refl
-  same_still None (awaits.IndexGot i) = refl
-  same_still None (awaits.IndexRead pos i n) = refl
-  same_still None (awaits.OpAssigned pos o) = refl
-  same_still None (awaits.Operator pos) = refl
-  same_still None (awaits.Called b i) = refl
-  same_still (Some h) awaits.IndexSet = refl
-  same_still (Some h) (awaits.PropertySet name pos assigned v) = refl
-  same_still (Some h) (awaits.SetInstead x assigned) = refl
-  same_still (Some h) (awaits.PropertyGot name pos i) = refl
-  same_still (Some h) (awaits.GotInstead x i) = refl
-  same_still (Some h) (awaits.IndexGot i) = refl
-  same_still (Some h) (awaits.IndexRead pos i n) = refl
-  same_still (Some h) (awaits.OpAssigned pos o) = refl
-  same_still (Some h) (awaits.Operator pos) = refl
-  same_still (Some h) (awaits.Called b i) = refl
+  pub same_still : (r : Option Held) (s : Awaited) → still p (taken_up w r q) s ≡ still p w s
+  same_still None awaited.IndexSet = refl
+  same_still None (awaited.PropertySet name pos assigned v) = refl
+  same_still None (awaited.SetInstead x assigned) = refl
+  same_still None (awaited.PropertyGot name pos i) = refl
+  same_still None (awaited.GotInstead x i) = refl
+  same_still None (awaited.IndexGot i) = refl
+  same_still None (awaited.IndexRead pos i n) = refl
+  same_still None (awaited.OpAssigned pos o) = refl
+  same_still None (awaited.Operator pos) = refl
+  same_still None (awaited.Called b i) = refl
+  same_still (Some h) awaited.IndexSet = refl
+  same_still (Some h) (awaited.PropertySet name pos assigned v) = refl
+  same_still (Some h) (awaited.SetInstead x assigned) = refl
+  same_still (Some h) (awaited.PropertyGot name pos i) = refl
+  same_still (Some h) (awaited.GotInstead x i) = refl
+  same_still (Some h) (awaited.IndexGot i) = refl
+  same_still (Some h) (awaited.IndexRead pos i n) = refl
+  same_still (Some h) (awaited.OpAssigned pos o) = refl
+  same_still (Some h) (awaited.Operator pos) = refl
+  same_still (Some h) (awaited.Called b i) = refl
 
-same_marks : (w : Walk) (r : Option Held) (q : Awaits) → (taken_up w r q).marks ≡ 0
+same_marks : (w : Walk) (r : Option Held) (q : Awaited) → (taken_up w r q).marks ≡ 0
 same_marks w None q = refl
 same_marks w (Some h) q = refl
 
 -- the answer of a walk that was resumed
-pub resumes : (x : Context) (w u v : Walk) (r : Option Held) (q s : Awaits) (b : Answer)
+pub resumes : (x : Context) (w u v : Walk) (r : Option Held) (q s : Awaited) (b : Answer)
     (went : Result WalkAnswer OutOfMemory) (a : WalkAnswer) →
     Goes x (taken_up w r q) (resumed x.engine.now x.program.now (taken_up w r q) s b) went u →
     Settles went u a v →

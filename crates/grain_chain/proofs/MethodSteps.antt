@@ -14,7 +14,7 @@ use Rattle.grain_value.specs.declared.values.Dynamic.TheVariants as dynamic
 use Rattle.grain_value.specs.declared.values.FnPtr.{FnPtr}
 use Rattle.grain_value.specs.declared.values.Held.{Held}
 use Rattle.grain_program.specs.Lookups.{method_of}
-use Rattle.grain_means.specs.Tasks.{Task, Well, play}
+use Rattle.grain_means.specs.Tasks.{Task, WalkEnded, play}
 use Rattle.grain_means.specs.Walks as walks
 use Rattle.grain_means.specs.Walks.{OfMethod, asks_shared, at_mark, flat_or_busy, flattening, into_answer, own_pointer, rooted}
 use Rattle.grain_chain.specs.OwnWalks.{own}
@@ -167,10 +167,10 @@ module _ (x : Context) (w : Walk) (s : MethodStep) where
 
   pub gives_own : (v : Walk) (value : Dynamic) (r : Result WalkAnswer OutOfMemory)
       (q : Result (Option WalkAnswer) OutOfMemory) → s.last ≡ true → q ≡ stopped r →
-      Goes x w (rest x w (Well value true)) r v → Takes x w (gave_task x w s value) q v
+      Goes x w (rest x w (WalkEnded value true)) r v → Takes x w (gave_task x w s value) q v
   gives_own v value r q last is g =
       subst (λ (b : Bool). Takes x w (giving_so value b) q v) (sym last)
-      (stops_takes x w v (rest x w (Well value true)) r q is g)
+      (stops_takes x w v (rest x w (WalkEnded value true)) r q is g)
 
   abbrev into_root : Dynamic → Task
   into_root u =

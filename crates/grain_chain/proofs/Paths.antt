@@ -16,7 +16,7 @@ use Rattle.grain_ops.specs.Answers.{Assigns}
 use Rattle.grain_ops.specs.declared.answers.AssignAnswer.{AssignAnswer}
 use Rattle.grain_ops.specs.declared.answers.AssignAnswer.TheVariants as assigned
 use Rattle.grain_chain.specs.Standings.{Standing, AllLead, Leading, Stands, PartPut, AssignedThere, put_there}
-use Rattle.grain_chain.specs.declared.origins.Outer.{Outer}
+use Rattle.grain_chain.specs.declared.origins.OuterRoot.{OuterRoot}
 
 pub leads_put : (path : List PathStep) (d v e : Dynamic) → e ≡ put_value path v d →
     Leads path (tree d) → Leads path (tree e)
@@ -45,14 +45,14 @@ pub one_value : (r : Result Tree ValueFault) (a v : Dynamic) → r ≡ Ok (tree 
 one_value r a v h i = sym (value_of-tree a) ∙ ap value_of (ok-inj (tree a) (tree v) (sym h ∙ i))
     ∙ value_of-tree v
 
-pub leading_put : (os : List Outer) (h : Held) (path : List PathStep) (v e : Dynamic) →
+pub leading_put : (os : List OuterRoot) (h : Held) (path : List PathStep) (v e : Dynamic) →
     e ≡ put_value path v h.value →
     Leading (record { outer = os; here = h; path = path }) →
     Leading (record { outer = os; here = record h { value = e }; path = path })
 leading_put os h path v e is l =
     record { leads = leads_put path h.value v e is l.leads; outer = l.outer }
 
-pub leading_twice : (os : List Outer) (h : Held) (path : List PathStep) (a v e f : Dynamic) →
+pub leading_twice : (os : List OuterRoot) (h : Held) (path : List PathStep) (a v e f : Dynamic) →
     e ≡ put_value path a h.value → f ≡ put_value path v e →
     Leading (record { outer = os; here = h; path = path }) →
     Leading (record { outer = os; here = record h { value = f }; path = path })
@@ -62,12 +62,12 @@ leading_twice os h path a v e f one two l =
       outer = l.outer;
     }
 
-pub lead_fewer : (os : List Outer) (o : Outer) → AllLead (os ++ o ∷ []) →
+pub lead_fewer : (os : List OuterRoot) (o : OuterRoot) → AllLead (os ++ o ∷ []) →
     AllLead os × Leads o.path (tree o.root.value)
 lead_fewer [] o h = (tt, h.0)
 lead_fewer (p ∷ os) o h = let below = lead_fewer os o h.1 in ((h.0, below.0), below.1)
 
-pub lead_more : (os : List Outer) (o : Outer) → AllLead os → Leads o.path (tree o.root.value) →
+pub lead_more : (os : List OuterRoot) (o : OuterRoot) → AllLead os → Leads o.path (tree o.root.value) →
     AllLead (os ++ o ∷ [])
 lead_more [] o h l = (l, tt)
 lead_more (p ∷ os) o h l = (h.0, lead_more os o h.1 l)

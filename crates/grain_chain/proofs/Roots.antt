@@ -7,7 +7,7 @@ use Rattle.grain_value.specs.declared.values.paths.PathStep.{PathStep}
 use Rattle.grain_value.specs.declared.values.paths.PathStep.TheVariants as path_step
 use Rattle.grain_program.specs.View.{View}
 use Rattle.grain_means.specs.Places.{deeper}
-use Rattle.grain_means.specs.Tasks.{Task, Done, Write, Well}
+use Rattle.grain_means.specs.Tasks.{Task, Done, Write, WalkEnded}
 use Rattle.grain_means.specs.Walks.{Next, Setting, at_mark, rooted, set_back, with_key}
 use Rattle.grain_chain.specs.OwnWalks.{WalksOn, own}
 use Rattle.grain_chain.specs.Standings.{Standing, WentBack, key_added}
@@ -17,14 +17,14 @@ use Rattle.grain_chain.specs.laws.Joining.{go_on, as_is}
 use Rattle.grain_chain.specs.laws.Ways.{popped, goes_in}
 use Rattle.grain_chain.specs.declared.contexts.Context.{Context}
 use Rattle.grain_chain.specs.declared.origins.Origin.{Origin as CodeOrigin}
-use Rattle.grain_chain.specs.declared.origins.Outer.{Outer}
-use Rattle.grain_chain.specs.declared.trails.Gone.{Gone}
+use Rattle.grain_chain.specs.declared.origins.OuterRoot.{OuterRoot}
+use Rattle.grain_chain.specs.declared.trails.LeftRoot.{LeftRoot}
 use Rattle.grain_chain.specs.declared.requests.WalkAnswer.{WalkAnswer}
 use Rattle.grain_chain.specs.declared.walks.Walk.{Walk}
 use Rattle.grain_chain.proofs.Strides.{passes, writes, marked}
 
 -- where the newest root went
-abbrev pub left_root : Walk → Gone → Standing → Walk
+abbrev pub left_root : Walk → LeftRoot → Standing → Walk
 left_root w g t = record w { trail = t; step = g.step }
 
 module _ (x : Context) where
@@ -73,30 +73,31 @@ module _ (x : Context) where
       )
 
   -- the newest root goes
-  pub leaves : (w : Walk) (g : Gone) (t : Standing) (u : Dynamic) (changed : Bool) →
+  pub leaves : (w : Walk) (g : LeftRoot) (t : Standing) (u : Dynamic) (changed : Bool) →
       WentBack w.trail (Some g) t →
-      Reaches x w (rest x w (Well u changed)) false (roots_of (left_root w g t)) w.marks
+      Reaches x w (rest x w (WalkEnded u changed)) false (roots_of (left_root w g t)) w.marks
       (set_back (setting x w) g.step (origin_of g.origin) (place_of (left_root w g t)) g.root.value u
       changed (rest x (left_root w g t)))
   leaves w g t u changed h = λ k.
-      let o : Outer = record { root = t.here; path = t.path; step = g.step; origin = g.origin } in
+      let o : OuterRoot = record { root = t.here; path = t.path; step = g.step; origin = g.origin } in
       subst (λ (r : Held). WalksOn x.cells.now (own (roots_of w) (k + w.marks))
-      (rest x w (Well u changed)) false (own (roots_of (left_root w g t)) (k + w.marks))
+      (rest x w (WalkEnded u changed)) false (own (roots_of (left_root w g t)) (k + w.marks))
       (set_back (setting x w) g.step (origin_of g.origin) (place_of (left_root w g t)) r.value u
       changed (rest x (left_root w g t)))) (sym h.1)
       (popped (setting x w) x.cells.now w.trail.outer t.outer o w.trail.here u changed (k + w.marks) h.0)
 
-  one_root : (g : Setting) (os : List Outer) (h : Held) (u : Dynamic) (changed : Bool) (k : ℕ) →
-      os ≡ [] → WalksOn x.cells.now (own (roots os h) k) (way_back g 0 os Done (Well u changed)) false
-      (own (h ∷ []) k) (Done (Well u changed))
+  one_root : (g : Setting) (os : List OuterRoot) (h : Held) (u : Dynamic) (changed : Bool) (k : ℕ) →
+      os ≡ [] → WalksOn x.cells.now (own (roots os h) k) (way_back g 0 os Done (WalkEnded u changed)) false
+      (own (h ∷ []) k) (Done (WalkEnded u changed))
   one_root g os h u changed k e =
-      subst (λ (l : List Outer). WalksOn x.cells.now (own (roots l h) k)
-      (way_back g 0 l Done (Well u changed)) false (own (h ∷ []) k) (Done (Well u changed))) (sym e)
+      subst (λ (l : List OuterRoot). WalksOn x.cells.now (own (roots l h) k)
+      (way_back g 0 l Done (WalkEnded u changed)) false (own (h ∷ []) k) (Done (WalkEnded u changed))) (sym e)
       (as_is refl)
 
   -- no newer root is left
   pub comes_home : (w : Walk) (u : Dynamic) (changed : Bool) → w.trail.outer ≡ [] →
-      Reaches x w (rest x w (Well u changed)) false (w.trail.here ∷ []) w.marks (Done (Well u changed))
+      Reaches x w (rest x w (WalkEnded u changed)) false (w.trail.here ∷ []) w.marks
+      (Done (WalkEnded u changed))
   comes_home w u changed e = λ k.
       one_root (setting x w) w.trail.outer w.trail.here u changed (k + w.marks) e
 

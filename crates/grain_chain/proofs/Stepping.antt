@@ -12,7 +12,7 @@ use Rattle.grain_fault.specs.declared.places.Position.{Position}
 use Rattle.grain_program.specs.View.{View}
 use Rattle.grain_program.specs.declared.code.chains.Step.{Step}
 use Rattle.grain_means.specs.Worlds.{is_stop}
-use Rattle.grain_means.specs.Tasks.{Task, Play, Well, Ill, play}
+use Rattle.grain_means.specs.Tasks.{Task, Play, WalkEnded, WalkFailed, play}
 use Rattle.grain_means.specs.Walks.{at_mark, failing, flat_or_busy, flattening, if_not_unit, unless_unit, skips, step_position, taken, walked, role_before, ended, last_role}
 use Rattle.grain_chain.specs.OwnWalks.{own}
 use Rattle.grain_chain.specs.Standings.{Stands}
@@ -75,12 +75,12 @@ module _ (x : Context) where
       Reaches x w (at_mark w.step (rest x w) t) false (roots_of w) w.marks (at_mark w.step (rest x w) u)
   under w t u same = λ k. by_play (λ stop.
       ap (λ (q : Play). if is_stop stop (k + w.marks)
-      then play stop x.cells.now (rest x w (Ill w.step NoMemory)) (own (roots_of w) (k + w.marks))
+      then play stop x.cells.now (rest x w (WalkFailed w.step NoMemory)) (own (roots_of w) (k + w.marks))
       else q) (same stop (k + w.marks + 1))) refl
 
   -- what follows by whether the chain ends there
   abbrev ending : Walk → Position → Task → Option Bool → Task
-  ending w q t (Some true) = rest x w (Well dynamic.Unit false)
+  ending w q t (Some true) = rest x w (WalkEnded dynamic.Unit false)
   ending w q t (Some false) = t
   ending w q t None =
       failing w.step (Plain (DataRace (codes "variable ''")) q) (rest x w)
@@ -90,7 +90,7 @@ module _ (x : Context) where
       ≡ ending w q t (ends_before true o)
   by_flat w q t None = refl
   by_flat w q t (Some v) = by_unit (is_unit v) where
-    by_unit : (b : Bool) → (if b then rest x w (Well dynamic.Unit false) else t) ≡ ending w q t (Some b)
+    by_unit : (b : Bool) → (if b then rest x w (WalkEnded dynamic.Unit false) else t) ≡ ending w q t (Some b)
     by_unit true = refl
     by_unit false = refl
 
@@ -129,7 +129,7 @@ module _ (x : Context) where
   pub skips_next : (w : Walk) (s : Step) (d : Dynamic) → slice_get (steps x w) w.step ≡ Some s →
       Stands w.trail d → Some true ≡ ends_before (skips s) (flat x.cells.now d) →
       Reaches x w (ahead w) false (roots_of w) w.marks
-      (at_mark w.step (rest x w) (rest x w (Well dynamic.Unit false)))
+      (at_mark w.step (rest x w) (rest x w (WalkEnded dynamic.Unit false)))
   skips_next w s d h l e = next w s d (Some true) h l e
 
   -- or a lent cell stands there

@@ -8,7 +8,7 @@ use Rattle.grain_fault.specs.Problems.{Problem, problem_of}
 use Rattle.grain_fault.specs.declared.faults.EvalAltResult.{EvalAltResult}
 use Rattle.grain_means.specs.Worlds.{Place}
 use Rattle.grain_means.specs.Places.{look}
-use Rattle.grain_means.specs.Tasks.{Task, Own, Done, Look, Flatten, Write, Ill, play}
+use Rattle.grain_means.specs.Tasks.{Task, Own, Done, Look, Flatten, Write, WalkFailed, play}
 use Rattle.grain_means.specs.Walks.{at_mark}
 use Rattle.grain_chain.specs.OwnWalks.{WalksOn, own}
 use Rattle.grain_chain.specs.Standings.{Stands, put_there}
@@ -149,16 +149,18 @@ module _ (x : Context) where
 
   -- a step failed, and the newer roots are gone
   fell_down : (w : Walk) (n : ℕ) (y : Problem) →
-      Reaches x w (rest x w (Ill n y)) false ((fallen w).trail.here ∷ []) w.marks (Done (Ill n y))
+      Reaches x w (rest x w (WalkFailed n y)) false ((fallen w).trail.here ∷ []) w.marks
+      (Done (WalkFailed n y))
   fell_down w n y = λ k.
       fell (setting_of x.engine.now x.program.now w.pos) x.cells.now n y w.trail.outer w.trail.here
       (fallen w).trail.here (k + w.marks) refl
 
   pub fails : (w v : Walk) (y : EvalAltResult) (a : WalkAnswer) → a ≡ answer.Faulted y w.step →
-      v ≡ fallen w → Goes x w (rest x w (Ill w.step (problem_of y))) (Ok a) v
+      v ≡ fallen w → Goes x w (rest x w (WalkFailed w.step (problem_of y))) (Ok a) v
   fails w v y a is left =
-      subst (λ (b : WalkAnswer). Goes x w (rest x w (Ill w.step (problem_of y))) (Ok b) v) (sym is)
-      (subst (λ (u : Walk). Goes x w (rest x w (Ill w.step (problem_of y))) (Ok (answer.Faulted y w.step)) u)
+      subst (λ (b : WalkAnswer). Goes x w (rest x w (WalkFailed w.step (problem_of y))) (Ok b) v) (sym is)
+      (subst (λ (u : Walk). Goes x w (rest x w (WalkFailed w.step (problem_of y)))
+      (Ok (answer.Faulted y w.step)) u)
       (sym left) (fell_down w w.step (problem_of y)))
 
   -- want of memory, wherever it was found

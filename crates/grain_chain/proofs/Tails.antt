@@ -14,7 +14,7 @@ use Rattle.grain_program.specs.declared.code.chains.Step.{Step}
 use Rattle.grain_ops.specs.Outcomes.{Outcome, NotBuiltIn, Gave, ArithmeticFault, TooLarge}
 use Rattle.grain_ops.specs.Operators.{assignment}
 use Rattle.grain_means.specs.Places.{look}
-use Rattle.grain_means.specs.Tasks.{Task, Look, Write, Well}
+use Rattle.grain_means.specs.Tasks.{Task, Look, Write, WalkEnded}
 use Rattle.grain_means.specs.Walks.{at_mark, failing, flattening, flat_or_busy, stored, native_stored, operating, Course, Passes, role_before, last_role}
 use Rattle.grain_chain.specs.Standings.{Standing, Stands, put_there}
 use Rattle.grain_chain.specs.Walking.{roots_of, place_of}
@@ -46,26 +46,26 @@ module _ (x : Context) where
   pick_false w v true t u r e h = cc
 
   pub goes_written : (w v : Walk) (d : Dynamic) (r : Result WalkAnswer OutOfMemory) →
-      Goes x (written w (put_there w.trail d)) (rest x w (Well dynamic.Unit true)) r v →
-      Goes x w (at_mark w.step (rest x w) (Write (place_of w) d (rest x w (Well dynamic.Unit true)))) r v
+      Goes x (written w (put_there w.trail d)) (rest x w (WalkEnded dynamic.Unit true)) r v →
+      Goes x w (at_mark w.step (rest x w) (Write (place_of w) d (rest x w (WalkEnded dynamic.Unit true)))) r v
   goes_written w v d r g =
-      let after : Task = rest x w (Well dynamic.Unit true) in
+      let after : Task = rest x w (WalkEnded dynamic.Unit true) in
       let go : Task = Write (place_of w) d after in
       then_goes x w (written w (put_there w.trail d)) v (at_mark w.step (rest x w) go) after r
       (λ k. go_on (passes x w go k) (writes x (marked w) d after k) tt) g
 
   pub goes_read : (w v : Walk) (t d : Dynamic) (r : Result WalkAnswer OutOfMemory) → Stands w.trail t →
-      d ≡ t → Goes x (giving w d) (rest x w (Well d false)) r v →
-      Goes x w (at_mark w.step (rest x w) (Look (place_of w) (λ h. rest x w (Well h.value false)))) r v
+      d ≡ t → Goes x (giving w d) (rest x w (WalkEnded d false)) r v →
+      Goes x w (at_mark w.step (rest x w) (Look (place_of w) (λ h. rest x w (WalkEnded h.value false)))) r v
   goes_read w v t d r stands same g =
       let m = marked w in
-      let f : Held → Task = λ h. rest x w (Well h.value false) in
-      let here : Goes x m (rest x w (Well t false)) r v =
-      subst (λ (e : Dynamic). Goes x m (rest x w (Well e false)) r v) same
-      (from_same x m (giving w d) v (rest x w (Well d false)) r (λ k. refl) g) in
+      let f : Held → Task = λ h. rest x w (WalkEnded h.value false) in
+      let here : Goes x m (rest x w (WalkEnded t false)) r v =
+      subst (λ (e : Dynamic). Goes x m (rest x w (WalkEnded e false)) r v) same
+      (from_same x m (giving w d) v (rest x w (WalkEnded d false)) r (λ k. refl) g) in
       then_goes x w m v (at_mark w.step (rest x w) (Look (place_of w) f)) (Look (place_of w) f) r
       (passes x w (Look (place_of w) f))
-      (then_goes x m m v (Look (place_of w) f) (rest x w (Well t false)) r (looks x m t f stands) here)
+      (then_goes x m m v (Look (place_of w) f) (rest x w (WalkEnded t false)) r (looks x m t f stands) here)
 
   -- an op-assignment
   module _ (w v : Walk) (q : Position) (a : AssignOp) (r : Result WalkAnswer OutOfMemory) where

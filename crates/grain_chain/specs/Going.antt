@@ -11,7 +11,7 @@ use Rattle.grain_fault.specs.declared.faults.EvalAltResult.TheVariants as fault
 use Rattle.grain_means.specs.Worlds.{Place}
 use Rattle.grain_program.specs.View.{View}
 use Rattle.grain_program.specs.declared.code.chains.Step.{Step}
-use Rattle.grain_means.specs.Tasks.{Task, Well, Ill}
+use Rattle.grain_means.specs.Tasks.{Task, WalkEnded, WalkFailed}
 use Rattle.grain_means.specs.Walks.{Setting, Course, Rest, Next}
 use Rattle.grain_chain.specs.OwnWalks.{WalksOn, own}
 use Rattle.grain_chain.specs.Standings.{Stands, oldest, put_there}
@@ -23,8 +23,8 @@ use Rattle.grain_value.specs.declared.values.FnPtr.{FnPtr}
 use Rattle.grain_ops.specs.Outcomes.{Outcome, NotBuiltIn, Gave, ArithmeticFault, TooLarge}
 use Rattle.grain_value.specs.declared.values.paths.PathStep.{PathStep}
 use Rattle.grain_chain.specs.declared.origins.Origin.{Origin}
-use Rattle.grain_chain.specs.declared.origins.Outer.{Outer}
-use Rattle.grain_chain.specs.declared.origins.Awaits.{Awaits}
+use Rattle.grain_chain.specs.declared.origins.OuterRoot.{OuterRoot}
+use Rattle.grain_chain.specs.declared.origins.Awaited.{Awaited}
 use Rattle.grain_chain.specs.declared.requests.Request.{Request}
 use Rattle.grain_chain.specs.declared.requests.What.{What}
 use Rattle.grain_chain.specs.declared.requests.What.TheVariants as what
@@ -75,7 +75,7 @@ module _ (x : Context) where
 
   -- what is left to do if memory is out at the next mark
   abbrev pub given_up : Walk → Task
-  given_up w = rest w (Ill w.step NoMemory)
+  given_up w = rest w (WalkFailed w.step NoMemory)
 
   -- From the state `old` with this task, the walk by itself reaches the roots `new` and this count of
   -- marks, with `now` left to do.
@@ -95,7 +95,7 @@ module _ (x : Context) where
   GoesBack old task changed (Ok (Some a)) new =
       Reaches old task false (roots_at new a) new.marks (left_to_do x.engine.now x.program.now new a)
   GoesBack old task changed (Ok None) new =
-      Reaches old task false (roots_of new) new.marks (rest new (Well old.gives changed))
+      Reaches old task false (roots_of new) new.marks (rest new (WalkEnded old.gives changed))
       × CameBack old new
   GoesBack old task changed (Err o) new =
       Reaches old task true (roots_of new) new.marks (given_up new)
@@ -155,7 +155,7 @@ pub record IsRequest (w : Walk) (q : Position) (call : What) (lent : Bool) (args
   pub receiver : Lends w lent r.receiver
 
 -- the walk asks for this call, or memory is out
-abbrev pub AskedFor : Walk → Position → What → List Tree → Awaits → Result WalkAnswer OutOfMemory →
+abbrev pub AskedFor : Walk → Position → What → List Tree → Awaited → Result WalkAnswer OutOfMemory →
     Walk → Type 0
 AskedFor w q call args s (Ok (answer.Need r)) v =
     IsRequest w q call (lends s) args r × (v ≡ record w { awaits = s; marks = w.marks + 1 })
@@ -164,7 +164,7 @@ AskedFor w q call args s (Ok (answer.Faulted x n)) v = ⊥
 AskedFor w q call args s (Err o) v = v ≡ w
 
 -- the walk asks for the native of this name, or memory is out
-abbrev pub Asked : Walk → Position → List ℕ → List Tree → Awaits → Result WalkAnswer OutOfMemory →
+abbrev pub Asked : Walk → Position → List ℕ → List Tree → Awaited → Result WalkAnswer OutOfMemory →
     Walk → Type 0
 Asked w q name args s r v = AskedFor w q (what.Native name) args s r v
 
@@ -186,7 +186,7 @@ deep w s = record w {
 }
 
 -- the newest root, put aside for a newer one
-abbrev pub aside : Walk → Origin → Outer
+abbrev pub aside : Walk → Origin → OuterRoot
 aside w o = record { root = w.trail.here; path = w.trail.path; step = w.step; origin = o }
 
 -- a walk in a new root, a mark later

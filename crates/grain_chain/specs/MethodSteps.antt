@@ -32,7 +32,7 @@ kind_named text argc =
     else (if bytes_eq text (codes "call") then kind.Call
     else (if bytes_eq text (codes "curry") then kind.Curry else kind.Method))
 
--- the operands of a walk from this one on, at most so many
+-- the operands of a walk from this one on, at most `count` of them
 abbrev pub operands_of : Walk → ℕ → ℕ → List Tree
 operands_of w first count = take count (drop first w.operands)
 

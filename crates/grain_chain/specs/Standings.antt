@@ -15,16 +15,16 @@ use Rattle.grain_ops.specs.declared.answers.AssignAnswer.{AssignAnswer}
 use Rattle.grain_ops.specs.declared.answers.AssignAnswer.TheVariants as assigned
 use Rattle.grain_means.specs.Places.{put_held}
 use Rattle.grain_means.specs.Walks.{with_key}
-use Rattle.grain_chain.specs.declared.origins.Outer.{Outer}
-use Rattle.grain_chain.specs.declared.trails.Gone.{Gone}
+use Rattle.grain_chain.specs.declared.origins.OuterRoot.{OuterRoot}
+use Rattle.grain_chain.specs.declared.trails.LeftRoot.{LeftRoot}
 
 -- all roots but the newest, the oldest first; the newest; and the path to the walk's place in it
 pub record Standing : Type 0 where
-  pub outer : List Outer
+  pub outer : List OuterRoot
   pub here : Held
   pub path : List PathStep
 
-abbrev pub AllLead : List Outer → Type 0
+abbrev pub AllLead : List OuterRoot → Type 0
 AllLead [] = Unit {0}
 AllLead (o ∷ os) = Leads o.path (tree o.root.value) × AllLead os
 
@@ -38,12 +38,12 @@ abbrev pub Stands : Standing → Dynamic → Type 0
 Stands s v = at s.path (tree s.here.value) ≡ Ok (tree v)
 
 -- the first root, which stays when all others are left
-abbrev pub oldest : List Outer → Held → Held
+abbrev pub oldest : List OuterRoot → Held → Held
 oldest [] h = h
 oldest (o ∷ os) h = o.root
 
 -- the newest root was left, and the one before it is now the newest; or there is none before it
-abbrev pub WentBack : Standing → Option Gone → Standing → Type 0
+abbrev pub WentBack : Standing → Option LeftRoot → Standing → Type 0
 WentBack s None t = (s.outer ≡ []) × (t ≡ s)
 WentBack s (Some g) t =
     (s.outer ≡ t.outer ++ record { root = t.here; path = t.path; step = g.step; origin = g.origin } ∷ [])

@@ -17,23 +17,24 @@ use Rattle.grain_program.specs.declared.code.chains.Step.{Step}
 use Rattle.grain_program.specs.declared.code.chains.Tail.{Tail}
 use Rattle.grain_program.specs.declared.code.chains.Tail.TheVariants as tail
 use Rattle.grain_global.specs.declared.engines.Engine.{Engine}
+pub use Rattle.grain_means.specs.Rules.Faults.{no_memory}
 use Rattle.grain_means.specs.Places.{put}
 use Rattle.grain_means.specs.Worlds.{Place, Answer, Came, Failed}
-use Rattle.grain_means.specs.Tasks.{Task, Done, Need, Invoke, Call, Invocation, Method, Numbered, Pointed, Well, Ill}
+use Rattle.grain_means.specs.Tasks.{Task, Done, Need, Invoke, Call, Invocation, Method, Numbered, Pointed, WalkEnded, WalkFailed}
 use Rattle.grain_means.specs.Walks.{Setting, Course, Role, Passes, Reads, Writes, Operates, Rest, Next, Origin, OfPart, OfIndex, OfProperty, OfMethod, OfNothing, back, into_answer, walked, operating, index_was_set, property_was_set, set_instead, property_was_got, got_instead, was_given, index_was_read, was_op_assigned, operator_answered, named}
 use Rattle.grain_chain.specs.OwnWalks.{WalksOn, own}
 use Rattle.grain_chain.specs.declared.origins.Origin.{Origin as CodeOrigin}
 use Rattle.grain_chain.specs.declared.origins.Origin.TheVariants as origin
-use Rattle.grain_chain.specs.declared.origins.Outer.{Outer}
+use Rattle.grain_chain.specs.declared.origins.OuterRoot.{OuterRoot}
 use Rattle.grain_chain.specs.declared.origins.Ending.{Ending}
 use Rattle.grain_chain.specs.declared.origins.Ending.TheVariants as ending
 use Rattle.grain_chain.specs.declared.origins.Role.{Role as CodeRole}
 use Rattle.grain_chain.specs.declared.origins.Role.TheVariants as role
-use Rattle.grain_chain.specs.declared.origins.Go.{Go}
-use Rattle.grain_chain.specs.declared.origins.Go.TheVariants as go
-use Rattle.grain_chain.specs.declared.origins.Into.{Into}
-use Rattle.grain_chain.specs.declared.origins.Awaits.{Awaits}
-use Rattle.grain_chain.specs.declared.origins.Awaits.TheVariants as awaits
+use Rattle.grain_chain.specs.declared.origins.Onward.{Onward}
+use Rattle.grain_chain.specs.declared.origins.Onward.TheVariants as onward
+use Rattle.grain_chain.specs.declared.origins.AnswerUse.{AnswerUse}
+use Rattle.grain_chain.specs.declared.origins.Awaited.{Awaited}
+use Rattle.grain_chain.specs.declared.origins.Awaited.TheVariants as awaited
 use Rattle.grain_chain.specs.declared.requests.Request.{Request}
 use Rattle.grain_chain.specs.declared.requests.What.{What}
 use Rattle.grain_chain.specs.declared.requests.What.TheVariants as what
@@ -107,10 +108,10 @@ course_of e p w = record {
   operator = operator_of w.ending;
 }
 
-abbrev pub outer_root : Outer → Held
+abbrev pub outer_root : OuterRoot → Held
 outer_root o = o.root
 
-abbrev pub roots : List Outer → Held → List Held
+abbrev pub roots : List OuterRoot → Held → List Held
 roots os h = map outer_root os ++ h ∷ []
 
 -- the roots of a walk, the one at which it began first
@@ -118,7 +119,7 @@ abbrev pub roots_of : Walk → List Held
 roots_of w = roots w.trail.outer w.trail.here
 
 -- the place at this path in the newest root
-abbrev pub place_in : List Outer → List PathStep → Place
+abbrev pub place_in : List OuterRoot → List PathStep → Place
 place_in os path = record { root = length os; path = path }
 
 abbrev pub place_of : Walk → Place
@@ -157,11 +158,11 @@ lent w (Some h) = Some (place_of w)
 
 module _ (g : Setting) where
   -- the way back over one more root
-  abbrev pub back_over : ℕ → Outer → Rest → Rest
+  abbrev pub back_over : ℕ → OuterRoot → Rest → Rest
   back_over i o done = back g o.step (origin_of o.origin) (record { root = i; path = o.path }) done
 
   -- the way back over all roots but the first
-  abbrev pub way_back : ℕ → List Outer → Rest → Rest
+  abbrev pub way_back : ℕ → List OuterRoot → Rest → Rest
   way_back i [] done = done
   way_back i (o ∷ os) done = way_back (suc i) os (back_over i o done)
 
@@ -173,41 +174,41 @@ module _ (e : Engine) (p : View) where
   abbrev pub further : Walk → Next
   further w = walked (course_of e p w) (drop (w.step + 1) (steps_of p w.chain)) (w.step + 1)
 
-  abbrev pub next_of : Walk → Go → Next
-  next_of w go.Further = further w
-  next_of w (go.Operate q a) = operating (setting_of e p w.pos) w.step q a w.value
+  abbrev pub next_of : Walk → Onward → Next
+  next_of w onward.Further = further w
+  next_of w (onward.Operate q a) = operating (setting_of e p w.pos) w.step q a w.value
 
   -- the walk goes on with an answer, which is a new root or the chain's value
-  abbrev pub gone_into : Walk → Into → Dynamic → Task
+  abbrev pub gone_into : Walk → AnswerUse → Dynamic → Task
   gone_into w i =
       into_answer (setting_of e p w.pos) w.step i.pos i.own (origin_of i.origin) (next_of w i.go)
       (place_of w) (rest_of w)
 
   -- what is done with an answer
-  abbrev pub resumed : Walk → Awaits → Answer → Task
-  resumed w awaits.IndexSet = index_was_set w.step w.gives (rest_of w)
-  resumed w (awaits.PropertySet name q assigned v) =
+  abbrev pub resumed : Walk → Awaited → Answer → Task
+  resumed w awaited.IndexSet = index_was_set w.step w.gives (rest_of w)
+  resumed w (awaited.PropertySet name q assigned v) =
       property_was_set w.step (named (setting_of e p w.pos) name) q assigned (place_of w) v w.gives
       (rest_of w)
-  resumed w (awaits.SetInstead x assigned) =
+  resumed w (awaited.SetInstead x assigned) =
       set_instead w.step (problem_of x) assigned w.gives (rest_of w)
-  resumed w (awaits.PropertyGot name q i) =
+  resumed w (awaited.PropertyGot name q i) =
       property_was_got w.step (named (setting_of e p w.pos) name) q (place_of w) (rest_of w) (gone_into w i)
-  resumed w (awaits.GotInstead x i) =
+  resumed w (awaited.GotInstead x i) =
       got_instead w.step (problem_of x) (rest_of w) (gone_into w i)
-  resumed w (awaits.IndexGot i) = was_given w.step (rest_of w) (gone_into w i)
-  resumed w (awaits.IndexRead q i n) =
+  resumed w (awaited.IndexGot i) = was_given w.step (rest_of w) (gone_into w i)
+  resumed w (awaited.IndexRead q i n) =
       index_was_read w.step q (place_of w) i w.value (rest_of w) (gone_into w n)
-  resumed w (awaits.OpAssigned q a) =
+  resumed w (awaited.OpAssigned q a) =
       was_op_assigned (setting_of e p w.pos) w.step q a w.value (place_of w) (rest_of w)
-  resumed w (awaits.Operator q) = operator_answered w.step q (place_of w) (rest_of w)
-  resumed w (awaits.Called b i) = was_given w.step (rest_of w) (gone_into w i)
+  resumed w (awaited.Operator q) = operator_answered w.step q (place_of w) (rest_of w)
+  resumed w (awaited.Called b i) = was_given w.step (rest_of w) (gone_into w i)
 
   -- what a walk that gave this answer has left to do
   abbrev pub left_to_do : Walk → WalkAnswer → Task
   left_to_do w (answer.Need r) = task_for r.what r (lent w r.receiver) (resumed w w.awaits)
-  left_to_do w (answer.Ended v changed) = Done (Well v changed)
-  left_to_do w (answer.Faulted x n) = Done (Ill n (problem_of x))
+  left_to_do w (answer.Ended v changed) = Done (WalkEnded v changed)
+  left_to_do w (answer.Faulted x n) = Done (WalkFailed n (problem_of x))
 
 -- the roots once a receiver is back in its place
 abbrev pub with_receiver : Walk → Option Held → List Held
@@ -220,13 +221,6 @@ abbrev pub roots_at : Walk → WalkAnswer → List Held
 roots_at w (answer.Need r) = with_receiver w r.receiver
 roots_at w (answer.Ended v changed) = w.trail.here ∷ []
 roots_at w (answer.Faulted x n) = w.trail.here ∷ []
-
-abbrev pub no_memory : Problem → Bool
-no_memory (Plain k p) = false
-no_memory (InFunctionCall f s x p) = false
-no_memory (InModule n x p) = false
-no_memory (SystemError s x) = false
-no_memory NoMemory = true
 
 -- whether the walk is over because memory ran out
 abbrev pub is_out : WalkAnswer → Bool
@@ -251,17 +245,17 @@ Did e p cells before passed task w a =
     (own (roots_at w a) (k + w.marks)) (left_to_do e p w a)
 
 -- whether the request for this lends the value at the walk's place
-abbrev pub lends : Awaits → Bool
-lends awaits.IndexSet = true
-lends (awaits.PropertySet name q assigned v) = true
-lends (awaits.SetInstead x assigned) = true
-lends (awaits.PropertyGot name q i) = true
-lends (awaits.GotInstead x i) = true
-lends (awaits.IndexGot i) = true
-lends (awaits.IndexRead q i n) = true
-lends (awaits.OpAssigned q a) = true
-lends (awaits.Operator q) = false
-lends (awaits.Called b i) = b
+abbrev pub lends : Awaited → Bool
+lends awaited.IndexSet = true
+lends (awaited.PropertySet name q assigned v) = true
+lends (awaited.SetInstead x assigned) = true
+lends (awaited.PropertyGot name q i) = true
+lends (awaited.GotInstead x i) = true
+lends (awaited.IndexGot i) = true
+lends (awaited.IndexRead q i n) = true
+lends (awaited.OpAssigned q a) = true
+lends (awaited.Operator q) = false
+lends (awaited.Called b i) = b
 
 -- the operand of this number, or unit if the chain has none
 abbrev pub operand_of : Walk → ℕ → Dynamic
@@ -272,17 +266,17 @@ abbrev pub count : View → Walk → ℕ
 count p w = count_of p w.chain
 
 -- If the walk may go on with what it awaits, its present step is one of the chain's.
-abbrev pub IsAtStep : View → Walk → Awaits → Type 0
-IsAtStep p w awaits.IndexSet = Unit {0}
-IsAtStep p w (awaits.PropertySet name q assigned v) = Unit {0}
-IsAtStep p w (awaits.SetInstead x assigned) = Unit {0}
-IsAtStep p w (awaits.PropertyGot name q i) = w.step < count p w
-IsAtStep p w (awaits.GotInstead x i) = w.step < count p w
-IsAtStep p w (awaits.IndexGot i) = w.step < count p w
-IsAtStep p w (awaits.IndexRead q i n) = w.step < count p w
-IsAtStep p w (awaits.OpAssigned q a) = Unit {0}
-IsAtStep p w (awaits.Operator q) = Unit {0}
-IsAtStep p w (awaits.Called b i) = w.step < count p w
+abbrev pub IsAtStep : View → Walk → Awaited → Type 0
+IsAtStep p w awaited.IndexSet = Unit {0}
+IsAtStep p w (awaited.PropertySet name q assigned v) = Unit {0}
+IsAtStep p w (awaited.SetInstead x assigned) = Unit {0}
+IsAtStep p w (awaited.PropertyGot name q i) = w.step < count p w
+IsAtStep p w (awaited.GotInstead x i) = w.step < count p w
+IsAtStep p w (awaited.IndexGot i) = w.step < count p w
+IsAtStep p w (awaited.IndexRead q i n) = w.step < count p w
+IsAtStep p w (awaited.OpAssigned q a) = Unit {0}
+IsAtStep p w (awaited.Operator q) = Unit {0}
+IsAtStep p w (awaited.Called b i) = w.step < count p w
 
 -- how many requests there are at most on the way back over all roots but the first
 abbrev pub backs : Walk → ℕ
@@ -293,17 +287,17 @@ abbrev pub steps_left : View → Walk → ℕ
 steps_left p w = 4 * (count p w - w.step) + backs w
 
 -- how many requests there are at most after this one
-abbrev pub still : View → Walk → Awaits → ℕ
-still p w awaits.IndexSet = backs w
-still p w (awaits.PropertySet name q assigned v) = backs w + 1
-still p w (awaits.SetInstead x assigned) = backs w
-still p w (awaits.PropertyGot name q i) = steps_left p w + 2
-still p w (awaits.GotInstead x i) = steps_left p w + 1
-still p w (awaits.IndexGot i) = steps_left p w + 1
-still p w (awaits.IndexRead q i n) = steps_left p w + 2
-still p w (awaits.OpAssigned q a) = backs w + 1
-still p w (awaits.Operator q) = backs w
-still p w (awaits.Called b i) = steps_left p w + 1
+abbrev pub still : View → Walk → Awaited → ℕ
+still p w awaited.IndexSet = backs w
+still p w (awaited.PropertySet name q assigned v) = backs w + 1
+still p w (awaited.SetInstead x assigned) = backs w
+still p w (awaited.PropertyGot name q i) = steps_left p w + 2
+still p w (awaited.GotInstead x i) = steps_left p w + 1
+still p w (awaited.IndexGot i) = steps_left p w + 1
+still p w (awaited.IndexRead q i n) = steps_left p w + 2
+still p w (awaited.OpAssigned q a) = backs w + 1
+still p w (awaited.Operator q) = backs w
+still p w (awaited.Called b i) = steps_left p w + 1
 
 -- A walk that waits for an answer. A receiver comes back exactly if one was lent, and it has the
 -- read-only flag of its root.
@@ -313,8 +307,8 @@ pub record Waits (p : View) (w : Walk) (receiver : Option Held) : Type 0 where
   pub lent : is_some receiver ≡ lends w.awaits
   pub flag : (h : Held) → receiver ≡ Some h → h.read_only ≡ w.trail.here.read_only
 
--- What is to be called with so many arguments is there, if it is a function of the program by its number:
--- it has as many parameters.
+-- A function of the program that is to be called by its number is there, and it has as many parameters
+-- as there are arguments.
 abbrev pub CanCall : View → What → ℕ → Type 0
 CanCall p (what.Native name) count = Unit {0}
 CanCall p (what.Compiled number) count =

@@ -8,14 +8,14 @@ ghost use Rattle.grain_means.specs.Worlds.{Came, Failed};
 ghost use Rattle.grain_value.specs.Operands.{read_write};
 ghost use Rattle.grain_means.specs.Walks.{rooted, index_was_set, property_was_set, set_instead, property_was_got, got_instead, index_was_read, was_op_assigned, named};
 ghost use Rattle.grain_value.specs.declared.values.Dynamic.{Dynamic as AnyValue};
-ghost use Rattle.grain_means.specs.Tasks.{Task, Well, Ill};
+ghost use Rattle.grain_means.specs.Tasks.{Task, WalkEnded, WalkFailed};
 ghost use Rattle.grain_chain.specs.declared.contexts.Context.{Context as AnyContext};
 ghost use Rattle.grain_chain.specs.Walking.{resumed, gone_into, next_of, origin_of, place_of, still, IsAtStep, count, steps_left, backs};
 ghost use Rattle.grain_chain.specs.Going.{Goes, Needs, setting, rest};
 
 use crate::asking::flat_copy;
 use crate::contexts::Context;
-use crate::origins::{Awaits, Go, Into, Origin};
+use crate::origins::{AnswerUse, Awaited, Onward, Origin};
 use crate::requests::WalkAnswer;
 use crate::walks::Walk;
 use grain_fault::{EvalAltResult, Position};
@@ -26,10 +26,10 @@ use std::alloc::Global;
 
 impl Walk {
     // Goes on after a request that gave a value.
-    pub(crate) fn came(
+    pub(crate) fn take_value(
         &mut self,
         context: Context<'_>,
-        awaits: Awaits,
+        awaits: Awaited,
         value: Dynamic,
     ) -> Result<WalkAnswer, OutOfMemory>
         requires at { IsAtStep context.program.now self.old awaits }
@@ -40,19 +40,19 @@ impl Walk {
             (still context.entry.program.now self.old awaits) }
     {
         match awaits {
-            Awaits::IndexSet => self.well(context, true),
-            Awaits::PropertySet { .. } => self.well(context, true),
-            Awaits::SetInstead { .. } => self.well(context, true),
-            Awaits::PropertyGot { into, .. } => self.go_in(context, into, value),
-            Awaits::GotInstead { into, .. } => self.go_in(context, into, value),
-            Awaits::IndexGot(into) => self.go_in(context, into, value),
-            Awaits::IndexRead { into, .. } => self.go_in(context, into, value),
-            Awaits::OpAssigned(..) => {
+            Awaited::IndexSet => self.walk_back(context, true),
+            Awaited::PropertySet { .. } => self.walk_back(context, true),
+            Awaited::SetInstead { .. } => self.walk_back(context, true),
+            Awaited::PropertyGot { into, .. } => self.go_in(context, into, value),
+            Awaited::GotInstead { into, .. } => self.go_in(context, into, value),
+            Awaited::IndexGot(into) => self.go_in(context, into, value),
+            Awaited::IndexRead { into, .. } => self.go_in(context, into, value),
+            Awaited::OpAssigned(..) => {
                 self.gives = Dynamic::Unit;
-                self.well(context, true)
+                self.walk_back(context, true)
             }
-            Awaits::Operator(pos) => self.store_answer(context, pos, value),
-            Awaits::Called { into, .. } => self.go_in(context, into, value),
+            Awaited::Operator(pos) => self.store_answer(context, pos, value),
+            Awaited::Called { into, .. } => self.go_in(context, into, value),
         }
     }
 
@@ -60,7 +60,7 @@ impl Walk {
     fn go_in(
         &mut self,
         context: Context<'_>,
-        into: Into,
+        into: AnswerUse,
         value: Dynamic,
     ) -> Result<WalkAnswer, OutOfMemory>
         requires at { self.old.step < count context.program.now self.old }
@@ -70,7 +70,7 @@ impl Walk {
         ensures needs { Needs context.entry.program.now self.new result
             (steps_left context.entry.program.now self.old + 1) }
     {
-        let Into {
+        let AnswerUse {
             pos,
             own,
             origin,
@@ -78,14 +78,14 @@ impl Walk {
         } = into;
         if own {
             self.gives = value;
-            return self.well(context, origin.is_change());
+            return self.walk_back(context, origin.is_change());
         }
         let Ok(content) = flat_copy(self.alloc, context.cells, value) else {
             return Err(OutOfMemory);
         };
         match content {
             Some(content) => self.go_on(context, origin, go, content),
-            None => self.race(pos),
+            None => self.raise_data_race(pos),
         }
     }
 
@@ -94,7 +94,7 @@ impl Walk {
         &mut self,
         context: Context<'_>,
         origin: Origin,
-        go: Go,
+        go: Onward,
         value: Dynamic,
     ) -> Result<WalkAnswer, OutOfMemory>
         requires at { self.old.step < count context.program.now self.old }
@@ -110,21 +110,21 @@ impl Walk {
             value,
             read_only: false,
         };
-        self.enter(origin, root)?;
+        self.enter_root(origin, root)?;
         match go {
-            Go::Further => {
+            Onward::Further => {
                 self.step_on(context);
                 self.advance(context)
             }
-            Go::Operate(pos, op) => self.operate(context, pos, op),
+            Onward::Operate(pos, op) => self.operate(context, pos, op),
         }
     }
 
     // Goes on after a request that gave a fault.
-    pub(crate) fn refused(
+    pub(crate) fn take_fault(
         &mut self,
         context: Context<'_>,
-        awaits: Awaits,
+        awaits: Awaited,
         fault: EvalAltResult,
     ) -> Result<WalkAnswer, OutOfMemory>
         requires at { IsAtStep context.program.now self.old awaits }
@@ -135,33 +135,33 @@ impl Walk {
             (still context.entry.program.now self.old awaits) }
     {
         match awaits {
-            Awaits::IndexSet => self.not_set(context, fault),
-            Awaits::PropertySet {
+            Awaited::IndexSet => self.not_set(context, fault),
+            Awaited::PropertySet {
                 name,
                 pos,
                 assigned,
                 set,
             } => self.property_not_set(context, name, pos, assigned, set, fault),
-            Awaits::SetInstead {
+            Awaited::SetInstead {
                 fault: first,
                 assigned,
             } => self.not_set_instead(context, first, assigned, fault),
-            Awaits::PropertyGot { name, pos, into } => {
+            Awaited::PropertyGot { name, pos, into } => {
                 self.property_not_got(context, name, pos, into, fault)
             }
-            Awaits::GotInstead {
+            Awaited::GotInstead {
                 fault: first,
                 into: _into,
             } => self.not_got_instead(first, fault),
-            Awaits::IndexGot(_) => Ok(self.failed(fault)),
-            Awaits::IndexRead {
+            Awaited::IndexGot(_) => Ok(self.failed(fault)),
+            Awaited::IndexRead {
                 bracket,
                 index,
                 into: _into,
             } => self.not_read(bracket, index, fault),
-            Awaits::OpAssigned(pos, op) => self.not_assigned(context, pos, op, fault),
-            Awaits::Operator(_) => Ok(self.failed(fault)),
-            Awaits::Called { .. } => Ok(self.failed(fault)),
+            Awaited::OpAssigned(pos, op) => self.not_assigned(context, pos, op, fault),
+            Awaited::Operator(_) => Ok(self.failed(fault)),
+            Awaited::Called { .. } => Ok(self.failed(fault)),
         }
     }
 
@@ -177,7 +177,7 @@ impl Walk {
         ensures needs { Needs context.entry.program.now self.new result (backs self.old) }
     {
         if fault.is_indexing_type() {
-            return self.well(context, true);
+            return self.walk_back(context, true);
         }
         Ok(self.failed(fault))
     }
@@ -210,7 +210,7 @@ impl Walk {
         context: Context<'_>,
         name: u32,
         pos: Position,
-        into: Into,
+        into: AnswerUse,
         fault: EvalAltResult,
     ) -> Result<WalkAnswer, OutOfMemory>
         requires at { self.old.step < count context.program.now self.old }
@@ -299,28 +299,28 @@ impl Walk {
         ensures needs { Needs context.entry.program.now self.new result (backs self.old) }
     {
         if fault.is_indexing_type() {
-            return self.unset(context, first, assigned);
+            return self.setter_missing(context, first, assigned);
         }
         Ok(self.failed(fault))
     }
 
     // Neither a setter nor an indexer is there: the setter's fault if the chain assigns the
     // property, and no fault if its value was only changed.
-    fn unset(
+    fn setter_missing(
         &mut self,
         context: Context<'_>,
         first: EvalAltResult,
         assigned: bool,
     ) -> Result<WalkAnswer, OutOfMemory>
         ensures goes { Goes context.entry self.old
-            (if assigned then rest context.entry self.old (Ill self.old.step (problem_of first))
-            else rest context.entry self.old (Well self.old.gives true)) result self.new }
+            (if assigned then rest context.entry self.old (WalkFailed self.old.step (problem_of first))
+            else rest context.entry self.old (WalkEnded self.old.gives true)) result self.new }
         ensures needs { Needs context.entry.program.now self.new result (backs self.old) }
     {
         if assigned {
             return Ok(self.failed(first));
         }
-        self.well(context, true)
+        self.walk_back(context, true)
     }
 }
 

@@ -13,7 +13,7 @@ ghost use Rattle.grain_chain.specs.declared.contexts.Context.{Context as AnyCont
 ghost use Rattle.grain_chain.specs.declared.requests.WalkAnswer.TheVariants as answer;
 
 use crate::contexts::name_at;
-use crate::origins::Awaits;
+use crate::origins::Awaited;
 use crate::requests::{Request, WalkAnswer, What};
 use crate::walks::Walk;
 use grain_fault::{EvalAltResult, Position};
@@ -30,7 +30,7 @@ impl Walk {
     }
 
     // Passes a mark.
-    pub(crate) fn pass(&mut self) -> Result<(), OutOfMemory>
+    pub(crate) fn pass_mark(&mut self) -> Result<(), OutOfMemory>
         ensures passed { IfOk result (λ _. self.new ≡ record self.old { marks = self.old.marks + 1 }) }
         ensures unchanged { IfErr result (λ _. self.new ≡ self.old) }
     {
@@ -43,7 +43,7 @@ impl Walk {
         ensures answer { result ≡ answer.Faulted fault self.old.step }
         ensures left { self.new ≡ fallen self.old }
     {
-        self.trail.fall();
+        self.trail.drop_newer_roots();
         WalkAnswer::Faulted {
             fault,
             step: self.step,
@@ -56,7 +56,7 @@ impl Walk {
             (failing self.old.step (problem_of fault) (rest x self.old)) result self.new }
         ensures needs { (p : AnyProgram) (n : ℕ) → Needs p self.new result n }
     {
-        self.pass()?;
+        self.pass_mark()?;
         Ok(self.failed(fault))
     }
 
@@ -76,7 +76,7 @@ impl Walk {
         pos: Position,
         name: &str,
         arguments: Array,
-        awaits: Awaits,
+        awaits: Awaited,
     ) -> Result<WalkAnswer, OutOfMemory>
         ensures { Asked self.old pos name.now arguments awaits result self.new }
     {
@@ -90,7 +90,7 @@ impl Walk {
         pos: Position,
         what: What,
         arguments: Array,
-        awaits: Awaits,
+        awaits: Awaited,
     ) -> Result<WalkAnswer, OutOfMemory>
         ensures { AskedFor self.old pos what arguments awaits result self.new }
     {
@@ -148,7 +148,7 @@ impl Walk {
 }
 
 // A list of one argument.
-pub(crate) fn one(alloc: Global, value: Dynamic) -> Result<Array, OutOfMemory>
+pub(crate) fn one_argument(alloc: Global, value: Dynamic) -> Result<Array, OutOfMemory>
     ensures { IfOk result (λ values. values ≡ tree value ∷ []) }
 {
     let mut values = Array::new(alloc);
@@ -157,7 +157,11 @@ pub(crate) fn one(alloc: Global, value: Dynamic) -> Result<Array, OutOfMemory>
 }
 
 // A list of two arguments.
-pub(crate) fn two(alloc: Global, first: Dynamic, second: Dynamic) -> Result<Array, OutOfMemory>
+pub(crate) fn two_arguments(
+    alloc: Global,
+    first: Dynamic,
+    second: Dynamic,
+) -> Result<Array, OutOfMemory>
     ensures { IfOk result (λ values. values ≡ tree first ∷ tree second ∷ []) }
 {
     let mut values = Array::new(alloc);
@@ -184,7 +188,7 @@ pub(crate) fn flat_copy(
 }
 
 // The name with this index, as a text.
-pub(crate) fn named(alloc: Global, program: &Program, name: u32) -> Result<Dynamic, OutOfMemory>
+pub(crate) fn name_text(alloc: Global, program: &Program, name: u32) -> Result<Dynamic, OutOfMemory>
     ensures { IfOk result (λ value. value ≡ dynamic.Text (name_of program.now name)) }
 {
     let name = Text::copy_of(alloc, name_at(program, name))?;

@@ -19,7 +19,7 @@ use std::alloc::Global;
 
 impl Walk {
     // Raises the fault that a value is a lent cell.
-    pub(crate) fn race(&mut self, pos: Position) -> Result<WalkAnswer, OutOfMemory>
+    pub(crate) fn raise_data_race(&mut self, pos: Position) -> Result<WalkAnswer, OutOfMemory>
         ensures goes { (x : AnyContext) → Goes x self.old
             (failing self.old.step (Plain (DataRace (codes "variable ''")) pos) (rest x self.old))
             result self.new }
@@ -87,7 +87,7 @@ pub(crate) fn wrong_part(
 }
 
 // The fault of an op-assignment, with this position. `OutOfMemory` if it is `Memory`.
-pub(crate) fn placed(fault: EvalAltResult, pos: Position) -> Result<EvalAltResult, OutOfMemory>
+pub(crate) fn fault_at(fault: EvalAltResult, pos: Position) -> Result<EvalAltResult, OutOfMemory>
     ensures { (o : AnyOutcome) → FailsSo fault o → FailsAt pos result o }
 {
     if matches!(&fault, EvalAltResult::Memory) {

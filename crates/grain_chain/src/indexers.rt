@@ -9,8 +9,8 @@ ghost use Rattle.grain_chain.specs.Walking.{place_of, role_in, count, steps_left
 ghost use Rattle.grain_chain.specs.Going.{Goes, Needs, setting, rest, next_step, Asked};
 ghost use Rattle.grain_chain.specs.declared.contexts.Context.{Context as AnyContext};
 
-use crate::asking::{one, two};
-use crate::origins::{Awaits, Go, Into, Origin, Role};
+use crate::asking::{one_argument, two_arguments};
+use crate::origins::{AnswerUse, Awaited, Onward, Origin, Role};
 use crate::requests::WalkAnswer;
 use crate::walks::Walk;
 use grain_fault::Position;
@@ -58,13 +58,13 @@ impl Walk {
             Needs p self.new result (steps_left p self.old + 2) }
     {
         let argument = index.copy(self.alloc)?;
-        let into = Into {
+        let into = AnswerUse {
             pos,
             own,
             origin: Origin::Index { index, bracket },
-            go: Go::Further,
+            go: Onward::Further,
         };
-        self.get_by_index(bracket, argument, Awaits::IndexGot(into))
+        self.get_by_index(bracket, argument, Awaited::IndexGot(into))
     }
 
     // Asks an indexer for the value that an op-assignment changes.
@@ -83,13 +83,13 @@ impl Walk {
     {
         let kept = index.copy(self.alloc)?;
         let argument = index.copy(self.alloc)?;
-        let into = Into {
+        let into = AnswerUse {
             pos: bracket,
             own: false,
             origin: Origin::Index { index, bracket },
-            go: Go::Operate(bracket, op),
+            go: Onward::Operate(bracket, op),
         };
-        let awaits = Awaits::IndexRead {
+        let awaits = Awaited::IndexRead {
             bracket,
             index: kept,
             into,
@@ -102,11 +102,11 @@ impl Walk {
         &mut self,
         bracket: Position,
         index: Dynamic,
-        awaits: Awaits,
+        awaits: Awaited,
     ) -> Result<WalkAnswer, OutOfMemory>
         ensures { Asked self.old bracket (codes "index$get$") (tree index ∷ []) awaits result self.new }
     {
-        let values = one(self.alloc, index)?;
+        let values = one_argument(self.alloc, index)?;
         self.ask(bracket, "index$get$", values, awaits)
     }
 
@@ -138,7 +138,7 @@ impl Walk {
             (rest x self.old)) result self.new }
         ensures needs { (p : AnyProgram) → Needs p self.new result (backs self.old + 1) }
     {
-        let values = two(self.alloc, index, value)?;
-        self.ask(bracket, "index$set$", values, Awaits::IndexSet)
+        let values = two_arguments(self.alloc, index, value)?;
+        self.ask(bracket, "index$set$", values, Awaited::IndexSet)
     }
 }

@@ -20,7 +20,7 @@ use crate::contexts::Context;
 use crate::faults::{out_of_bounds, wrong_index};
 use crate::origins::{Origin, Role};
 use crate::requests::WalkAnswer;
-use crate::steps::stop;
+use crate::steps::stopping;
 use crate::walks::Walk;
 use grain_fault::Position;
 use grain_value::{Dynamic, Held, OutOfMemory, PathStep, Spot, Text, ValueFault};
@@ -75,8 +75,8 @@ impl Walk {
         // Only the contract names it.
         let _ = context;
         let index = self.operand(operand)?;
-        self.pass()?;
-        stop(self.by_indexer(role, pos, bracket, index))
+        self.pass_mark()?;
+        stopping(self.by_indexer(role, pos, bracket, index))
     }
 
     // Takes an index step at a value that has indices of its own, with the mark at its start.
@@ -97,10 +97,10 @@ impl Walk {
         ensures needs { (n : ℕ) → NeedsOr context.entry.program.now self.new result n }
     {
         let index = self.flat_operand(context, operand)?;
-        self.pass()?;
+        self.pass_mark()?;
         match index {
             Some(index) => self.at_index(context, role, operand, pos, bracket, index),
-            None => stop(self.race(pos)),
+            None => stopping(self.raise_data_race(pos)),
         }
     }
 
@@ -183,7 +183,7 @@ impl Walk {
                 index: place,
             } => {
                 let fault = out_of_bounds(self.trail.target(), length, place, pos);
-                stop(self.raise(fault))
+                stopping(self.raise(fault))
             }
             ValueFault::NoKey => {
                 let key = key_of(self.alloc, index);
@@ -191,7 +191,7 @@ impl Walk {
             }
             ValueFault::WrongType => {
                 let fault = wrong_index(self.alloc, self.trail.target(), &index, pos)?;
-                stop(self.raise(fault))
+                stopping(self.raise(fault))
             }
             _ => unreachable!(),
         }
@@ -240,7 +240,7 @@ impl Walk {
         let origin = origin_of_part(role, spot);
         let value = self.trail.target().part(spot);
         let read_only = self.trail.is_read_only();
-        self.enter(origin, Held { value, read_only })?;
+        self.enter_root(origin, Held { value, read_only })?;
         Ok(None)
     }
 

@@ -14,7 +14,7 @@ ghost use Rattle.grain_chain.specs.Going.{Takes, NeedsOr, WentIn, setting, rest,
 use crate::contexts::Context;
 use crate::origins::{Origin, Role};
 use crate::requests::WalkAnswer;
-use crate::steps::stop;
+use crate::steps::stopping;
 use crate::walks::Walk;
 use grain_fault::{EvalAltResult, Position};
 use grain_value::{Dynamic, Held, OutOfMemory, PathStep, Text};
@@ -36,12 +36,12 @@ impl Walk {
     }
 
     // Goes into a new root, at a mark.
-    pub(crate) fn enter(&mut self, origin: Origin, root: Held) -> Result<(), OutOfMemory>
+    pub(crate) fn enter_root(&mut self, origin: Origin, root: Held) -> Result<(), OutOfMemory>
         ensures entered { IfOk result (λ _. WentIn self.old origin root self.new) }
         ensures unchanged { IfErr result (λ _. self.new ≡ self.old) }
     {
         let marks = self.next_mark()?;
-        self.trail.enter(self.alloc, root, self.step, origin)?;
+        self.trail.enter_root(self.alloc, root, self.step, origin)?;
         self.marks = marks;
         Ok(())
     }
@@ -69,11 +69,11 @@ impl Walk {
             return Ok(None);
         }
         if context.engine.strict_properties {
-            return stop(self.raise(EvalAltResult::ErrorPropertyNotFound(key, pos)));
+            return stopping(self.raise(EvalAltResult::ErrorPropertyNotFound(key, pos)));
         }
         let read_only = self.trail.is_read_only();
         let value = Dynamic::Unit;
-        self.enter(origin, Held { value, read_only })?;
+        self.enter_root(origin, Held { value, read_only })?;
         Ok(None)
     }
 

@@ -8,7 +8,7 @@ ghost use Rattle.grain_value.specs.Writing.{type_name_of};
 ghost use Rattle.grain_value.specs.declared.values.Dynamic.{Dynamic as AnyValue};
 ghost use Rattle.grain_program.specs.Lookups.{method_of};
 ghost use Rattle.grain_program.specs.View.{View as AnyProgram, name_of};
-ghost use Rattle.grain_means.specs.Tasks.{Well};
+ghost use Rattle.grain_means.specs.Tasks.{WalkEnded};
 ghost use Rattle.grain_means.specs.Walks.{at_mark, own_pointer};
 ghost use Rattle.grain_chain.specs.Standings.{Stands};
 ghost use Rattle.grain_chain.specs.Walking.{CanCall, count, steps_left, backs};
@@ -17,9 +17,9 @@ ghost use Rattle.grain_chain.specs.MethodSteps.{kind_named, operands_of, typed_m
 ghost use Rattle.grain_chain.specs.declared.contexts.Context.{Context as AnyContext};
 
 use crate::contexts::{Context, name_at};
-use crate::origins::{Awaits, Go, Into, Origin};
+use crate::origins::{AnswerUse, Awaited, Onward, Origin};
 use crate::requests::{WalkAnswer, What};
-use crate::steps::stop;
+use crate::steps::stopping;
 use crate::walks::Walk;
 use grain_fault::Position;
 use grain_value::{Array, Dynamic, FnPtr, Held, OutOfMemory, Text};
@@ -103,15 +103,15 @@ impl Walk {
             (gave_task context.entry self.old step value)) result self.new }
         ensures needs { NeedsOr context.entry.program.now self.new result (backs self.old) }
     {
-        self.pass()?;
+        self.pass_mark()?;
         if step.last {
-            return stop(self.give_own(context, value));
+            return stopping(self.give_own(context, value));
         }
         let root = Held {
             value,
             read_only: false,
         };
-        let Ok(()) = self.enter(Origin::Method, root) else {
+        let Ok(()) = self.enter_root(Origin::Method, root) else {
             return Err(OutOfMemory);
         };
         Ok(None)
@@ -120,11 +120,11 @@ impl Walk {
     // Gives a method's value as the chain's own.
     fn give_own(&mut self, context: Context<'_>, value: Dynamic) -> Result<WalkAnswer, OutOfMemory>
         ensures goes { Goes context.entry self.old
-            (rest context.entry self.old (Well value true)) result self.new }
+            (rest context.entry self.old (WalkEnded value true)) result self.new }
         ensures needs { Needs context.entry.program.now self.new result (backs self.old) }
     {
         self.gives = value;
-        self.well(context, true)
+        self.walk_back(context, true)
     }
 
     // Puts copies of `argc` operands of the chain, from operand `first` on, after these values. The chains
@@ -177,7 +177,7 @@ impl Walk {
             (steps_left context.entry.program.now self.old + 3) }
     {
         let what = self.called_method(context, step)?;
-        stop(self.invoke_with_all(step, what, true))
+        stopping(self.invoke_with_all(step, what, true))
     }
 
     // What a method step calls: the pointer that a map has at the key of the step's name, or else the
@@ -211,7 +211,7 @@ impl Walk {
             CanCall p what step.argc → Needs p self.new result (steps_left p self.old + 2) }
     {
         let arguments = self.operands_from(step.operand as usize, step.argc)?;
-        self.pass()?;
+        self.pass_mark()?;
         self.invoke(step, what, arguments, lends)
     }
 
@@ -230,13 +230,13 @@ impl Walk {
         ensures needs { (p : AnyProgram) → self.old.step < count p self.old →
             CanCall p what (length arguments) → Needs p self.new result (steps_left p self.old + 2) }
     {
-        let into = Into {
+        let into = AnswerUse {
             pos: step.pos,
             own: step.last,
             origin: Origin::Method,
-            go: Go::Further,
+            go: Onward::Further,
         };
-        self.ask_for(step.pos, what, arguments, Awaits::Called { lends, into })
+        self.ask_for(step.pos, what, arguments, Awaited::Called { lends, into })
     }
 }
 

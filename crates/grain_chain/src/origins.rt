@@ -37,7 +37,7 @@ pub(crate) enum Origin {
 /// A root that is not the newest, the path to the place in it, the step that led from there to the
 /// next root, and where the next root came from.
 #[derive(Drop)]
-pub(crate) struct Outer {
+pub(crate) struct OuterRoot {
     pub(crate) root: Held,
     pub(crate) path: Path,
     pub(crate) step: usize,
@@ -70,7 +70,7 @@ pub(crate) enum Role {
 
 /// What is done in a new root.
 #[derive(Drop)]
-pub(crate) enum Go {
+pub(crate) enum Onward {
     /// The remaining steps are taken.
     Further,
     /// The chain's value is assigned by its op-assignment, whose faults have this position.
@@ -80,7 +80,7 @@ pub(crate) enum Go {
 /// What is done with an answer of a getter, an indexer or a method: it becomes a new root, or, if
 /// `own`, the chain's value.
 #[derive(Drop)]
-pub(crate) struct Into {
+pub(crate) struct AnswerUse {
     /// The position of `ErrorDataRace`, raised if the answer is a lent cell.
     pub(crate) pos: Position,
     /// Whether it becomes the chain's value. It then stays as it is, even if it is a cell.
@@ -88,12 +88,12 @@ pub(crate) struct Into {
     /// Where the new root came from.
     pub(crate) origin: Origin,
     /// What is done in the new root.
-    pub(crate) go: Go,
+    pub(crate) go: Onward,
 }
 
 /// What the last request was for, which decides what the walk does with the answer to it.
 #[derive(Drop)]
-pub(crate) enum Awaits {
+pub(crate) enum Awaited {
     /// An indexer sets a value.
     IndexSet,
     /// A setter sets a property to this value.
@@ -112,20 +112,20 @@ pub(crate) enum Awaits {
     PropertyGot {
         name: u32,
         pos: Position,
-        into: Into,
+        into: AnswerUse,
     },
     /// An indexer gives a property after its getter failed with this fault.
     GotInstead {
         fault: EvalAltResult,
-        into: Into,
+        into: AnswerUse,
     },
     /// An indexer gives what an index names.
-    IndexGot(Into),
+    IndexGot(AnswerUse),
     /// An indexer gives the value that an op-assignment changes.
     IndexRead {
         bracket: Position,
         index: Dynamic,
-        into: Into,
+        into: AnswerUse,
     },
     /// The host's op-assignment assigns the chain's value.
     OpAssigned(Position, AssignOp),
@@ -134,7 +134,7 @@ pub(crate) enum Awaits {
     /// A method gives a value. `lends` says whether the value at the walk's place is its receiver.
     Called {
         lends: bool,
-        into: Into,
+        into: AnswerUse,
     },
 }
 
@@ -154,14 +154,14 @@ impl Origin {
     }
 }
 
-impl Awaits {
+impl Awaited {
     /// Whether the request for this lends the value at the walk's place.
     pub(crate) fn lends(&self) -> bool
         ensures { result ≡ lends self.now }
     {
         match self {
-            Awaits::Operator(_) => false,
-            Awaits::Called { lends, .. } => *lends,
+            Awaited::Operator(_) => false,
+            Awaited::Called { lends, .. } => *lends,
             _ => true,
         }
     }

@@ -17,7 +17,7 @@ ghost use Rattle.grain_chain.specs.declared.contexts.Context.{Context as AnyCont
 use crate::contexts::Context;
 use crate::methods::MethodStep;
 use crate::requests::{WalkAnswer, What};
-use crate::steps::stop;
+use crate::steps::stopping;
 use crate::walks::Walk;
 use grain_fault::{EvalAltResult, Position};
 use grain_value::{Dynamic, FnPtr, OutOfMemory, Text};
@@ -47,7 +47,7 @@ impl Walk {
         ensures needs { NeedsOr context.entry.program.now self.new result (backs self.old) }
     {
         match self.pointer_there()? {
-            None => stop(self.no_pointer_there(step.pos)),
+            None => stopping(self.no_pointer_there(step.pos)),
             Some(pointer) => self.curry_pointer(context, step, pointer),
         }
     }
@@ -86,8 +86,8 @@ impl Walk {
             (steps_left context.entry.program.now self.old + 3) }
     {
         match self.pointer_there()? {
-            None => stop(self.call_first(context, step)),
-            Some(pointer) => stop(self.invoke_with_all(step, What::Pointer(pointer), false)),
+            None => stopping(self.call_first(context, step)),
+            Some(pointer) => stopping(self.invoke_with_all(step, What::Pointer(pointer), false)),
         }
     }
 
@@ -110,9 +110,9 @@ impl Walk {
             return self.no_pointer_there(step.pos);
         }
         let first = self.flat_operand(context, step.operand)?;
-        self.pass()?;
+        self.pass_mark()?;
         match first {
-            None => self.race(step.pos),
+            None => self.raise_data_race(step.pos),
             Some(first) => self.call_argument(step, first),
         }
     }
@@ -155,7 +155,7 @@ impl Walk {
         ensures needs { (p : AnyProgram) (n : ℕ) → Needs p self.new result n }
     {
         let fault = no_pointer(self.alloc, self.trail.target(), pos)?;
-        self.pass()?;
+        self.pass_mark()?;
         self.raise(fault)
     }
 

@@ -10,11 +10,11 @@ ghost use Rattle.grain_means.specs.Walks.{at_mark, asking, index_get, index_set,
 ghost use Rattle.grain_chain.specs.Walking.{place_of, role_in, gone_into, count, steps_left, backs};
 ghost use Rattle.grain_chain.specs.Going.{Goes, Takes, Needs, NeedsOr, setting, rest, next_step};
 
-use crate::asking::{named, one, two};
+use crate::asking::{name_text, one_argument, two_arguments};
 use crate::contexts::{Context, name_at};
-use crate::origins::{Awaits, Go, Into, Origin, Role};
+use crate::origins::{AnswerUse, Awaited, Onward, Origin, Role};
 use crate::requests::WalkAnswer;
-use crate::steps::stop;
+use crate::steps::stopping;
 use crate::walks::Walk;
 use grain_fault::{EvalAltResult, Position};
 use grain_value::{Array, Dynamic, OutOfMemory, PathStep, Text};
@@ -67,7 +67,7 @@ impl Walk {
         ensures needs { (n : ℕ) → NeedsOr context.entry.program.now self.new result n }
     {
         let key = Text::copy_of(self.alloc, name_at(context.program, name))?;
-        self.pass()?;
+        self.pass_mark()?;
         if is_there {
             self.deeper(PathStep::Key(key))?;
             return Ok(None);
@@ -96,8 +96,8 @@ impl Walk {
         ensures needs { NeedsOr context.entry.program.now self.new result
             (steps_left context.entry.program.now self.old + 3) }
     {
-        self.pass()?;
-        stop(self.by_accessor(context, role, name, getter, setter, pos))
+        self.pass_mark()?;
+        stopping(self.by_accessor(context, role, name, getter, setter, pos))
     }
 
     // Asks the host's getters and setters, for a property of a value that is no map.
@@ -121,7 +121,7 @@ impl Walk {
         match role {
             Role::Writes => self.set_value(context, name, setter, pos),
             Role::Operates(op) => {
-                let into = Into {
+                let into = AnswerUse {
                     pos,
                     own: false,
                     origin: Origin::Property {
@@ -130,7 +130,7 @@ impl Walk {
                         pos,
                         assigned: true,
                     },
-                    go: Go::Operate(pos, op),
+                    go: Onward::Operate(pos, op),
                 };
                 self.get_property(context, name, getter, pos, into)
             }
@@ -159,7 +159,7 @@ impl Walk {
         ensures needs { Needs context.entry.program.now self.new result
             (steps_left context.entry.program.now self.old + 3) }
     {
-        let into = Into {
+        let into = AnswerUse {
             pos,
             own,
             origin: Origin::Property {
@@ -168,7 +168,7 @@ impl Walk {
                 pos,
                 assigned: false,
             },
-            go: Go::Further,
+            go: Onward::Further,
         };
         self.get_property(context, name, getter, pos, into)
     }
@@ -180,7 +180,7 @@ impl Walk {
         name: u32,
         getter: u32,
         pos: Position,
-        into: Into,
+        into: AnswerUse,
     ) -> Result<WalkAnswer, OutOfMemory>
         requires at { self.old.step < count context.program.now self.old }
         ensures goes { Goes context.entry self.old
@@ -193,7 +193,12 @@ impl Walk {
     {
         let getter = name_at(context.program, getter);
         let values = Array::new(self.alloc);
-        self.ask(pos, getter, values, Awaits::PropertyGot { name, pos, into })
+        self.ask(
+            pos,
+            getter,
+            values,
+            Awaited::PropertyGot { name, pos, into },
+        )
     }
 
     // Asks an indexer for a property after its getter failed.
@@ -203,7 +208,7 @@ impl Walk {
         name: u32,
         pos: Position,
         fault: EvalAltResult,
-        into: Into,
+        into: AnswerUse,
     ) -> Result<WalkAnswer, OutOfMemory>
         requires at { self.old.step < count context.program.now self.old }
         ensures goes { Goes context.entry self.old
@@ -215,13 +220,13 @@ impl Walk {
         ensures needs { Needs context.entry.program.now self.new result
             (steps_left context.entry.program.now self.old + 2) }
     {
-        let name = named(self.alloc, context.program, name)?;
-        let values = one(self.alloc, name)?;
+        let name = name_text(self.alloc, context.program, name)?;
+        let values = one_argument(self.alloc, name)?;
         self.ask(
             pos,
             "index$get$",
             values,
-            Awaits::GotInstead { fault, into },
+            Awaited::GotInstead { fault, into },
         )
     }
 
@@ -260,9 +265,9 @@ impl Walk {
             result self.new }
         ensures needs { Needs context.entry.program.now self.new result (backs self.old + 2) }
     {
-        let values = one(self.alloc, set.copy(self.alloc)?)?;
+        let values = one_argument(self.alloc, set.copy(self.alloc)?)?;
         let setter = name_at(context.program, setter);
-        let awaits = Awaits::PropertySet {
+        let awaits = Awaited::PropertySet {
             name,
             pos,
             assigned,
@@ -288,9 +293,9 @@ impl Walk {
             (rest context.entry self.old))) result self.new }
         ensures needs { Needs context.entry.program.now self.new result (backs self.old + 1) }
     {
-        let name = named(self.alloc, context.program, name)?;
-        let values = two(self.alloc, name, set)?;
-        let awaits = Awaits::SetInstead { fault, assigned };
+        let name = name_text(self.alloc, context.program, name)?;
+        let values = two_arguments(self.alloc, name, set)?;
+        let awaits = Awaited::SetInstead { fault, assigned };
         self.ask(pos, "index$set$", values, awaits)
     }
 }

@@ -6,7 +6,7 @@ ghost use Rattle.grain_value.specs.Writing.{type_name_of};
 ghost use Rattle.grain_value.specs.declared.values.Dynamic.{Dynamic as AnyValue};
 ghost use Rattle.grain_fault.specs.Problems.{Plain, MismatchDataType};
 ghost use Rattle.grain_chain.specs.Standings.{Stands};
-ghost use Rattle.grain_means.specs.Tasks.{Well};
+ghost use Rattle.grain_means.specs.Tasks.{WalkEnded};
 ghost use Rattle.grain_means.specs.Walks.{set_back, failing, is_change, OfPart, OfIndex, OfProperty};
 ghost use Rattle.grain_chain.specs.Walking.{place_of, origin_of, backs};
 ghost use Rattle.grain_program.specs.View.{View as AnyProgram};
@@ -17,7 +17,7 @@ use crate::contexts::Context;
 use crate::faults::wrong_part;
 use crate::origins::Origin;
 use crate::requests::WalkAnswer;
-use crate::steps::stop;
+use crate::steps::stopping;
 use crate::walks::Walk;
 use grain_fault::Position;
 use grain_value::{Dynamic, OutOfMemory, Spot};
@@ -25,18 +25,18 @@ use std::mem;
 
 impl Walk {
     // Walks back: leaves each new root and sets it back, and then ends with what the walk gives.
-    pub(crate) fn well(
+    pub(crate) fn walk_back(
         &mut self,
         context: Context<'_>,
         changed: bool,
     ) -> Result<WalkAnswer, OutOfMemory>
         ensures goes { Goes context.entry self.old
-            (rest context.entry self.old (Well self.old.gives changed)) result self.new }
+            (rest context.entry self.old (WalkEnded self.old.gives changed)) result self.new }
         ensures needs { Needs context.entry.program.now self.new result (backs self.old) }
     {
         let mut changed = changed;
         'back: loop {
-            let Some(gone) = self.trail.leave() else {
+            let Some(gone) = self.trail.leave_root() else {
                 let value = mem::replace(&mut self.gives, Dynamic::Unit);
                 return Ok(WalkAnswer::Ended { value, changed });
             };
@@ -92,7 +92,7 @@ impl Walk {
         ensures needs { (p : AnyProgram) → NeedsOr p self.new result (backs self.old + 2) }
     {
         if changed {
-            return stop(self.set_by_index(bracket, index, inner));
+            return stopping(self.set_by_index(bracket, index, inner));
         }
         Ok(None)
     }
@@ -115,7 +115,7 @@ impl Walk {
         ensures needs { NeedsOr context.entry.program.now self.new result (backs self.old + 2) }
     {
         if changed {
-            return stop(self.set_property(context, name, setter, pos, assigned, inner));
+            return stopping(self.set_property(context, name, setter, pos, assigned, inner));
         }
         Ok(None)
     }
@@ -127,7 +127,7 @@ impl Walk {
             self.old.gives changed (rest x self.old)) changed result self.new }
         ensures needs { (p : AnyProgram) (n : ℕ) → NeedsOr p self.new result n }
     {
-        self.pass()?;
+        self.pass_mark()?;
         let Ok(is_put) = self.write_part(spot, &part) else {
             return Err(OutOfMemory);
         };
@@ -160,6 +160,6 @@ impl Walk {
         ensures needs { (p : AnyProgram) (n : ℕ) → NeedsOr p self.new result n }
     {
         let fault = wrong_part(self.alloc, spot, part, self.pos)?;
-        stop(self.raise(fault))
+        stopping(self.raise(fault))
     }
 }

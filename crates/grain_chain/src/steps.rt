@@ -7,7 +7,7 @@ ghost use Rattle.grain_fault.specs.Problems.{Plain, DataRace};
 ghost use Rattle.grain_program.specs.View.{View as AnyProgram};
 ghost use Rattle.grain_value.specs.declared.values.Dynamic.{Dynamic as AnyValue};
 ghost use Rattle.grain_chain.specs.Standings.{Stands};
-ghost use Rattle.grain_means.specs.Tasks.{Well};
+ghost use Rattle.grain_means.specs.Tasks.{WalkEnded};
 ghost use Rattle.grain_means.specs.Walks.{walked, taken, role_before, at_mark, failing, reads, skips, step_position};
 ghost use Rattle.grain_chain.specs.Walking.{place_of, role_in, count, steps_left, backs};
 ghost use Rattle.grain_chain.specs.Going.{Goes, Takes, Needs, NeedsOr, ends_before, stopped, course, steps, rest, next_step};
@@ -75,8 +75,8 @@ impl Walk {
             (Plain (DataRace (codes "variable ''")) pos) (rest x self.old))) result self.new }
         ensures needs { (p : AnyProgram) (n : ℕ) → Needs p self.new result n }
     {
-        self.pass()?;
-        self.race(pos)
+        self.pass_mark()?;
+        self.raise_data_race(pos)
     }
 
     // Moves on to the next step.
@@ -94,12 +94,12 @@ impl Walk {
     fn skip(&mut self, context: Context<'_>) -> Result<WalkAnswer, OutOfMemory>
         ensures goes { Goes context.entry self.old
             (at_mark self.old.step (rest context.entry self.old)
-            (rest context.entry self.old (Well dynamic.Unit false))) result self.new }
+            (rest context.entry self.old (WalkEnded dynamic.Unit false))) result self.new }
         ensures needs { Needs context.entry.program.now self.new result (backs self.old) }
     {
-        self.pass()?;
+        self.pass_mark()?;
         self.gives = Dynamic::Unit;
-        self.well(context, false)
+        self.walk_back(context, false)
     }
 
     // Takes a step. Returns None if the walk goes on at the next step.
@@ -197,7 +197,9 @@ fn skips(step: Step) -> bool
 }
 
 // The answer with which a step stops the walk.
-pub(crate) fn stop(went: Result<WalkAnswer, OutOfMemory>) -> Result<Option<WalkAnswer>, OutOfMemory>
+pub(crate) fn stopping(
+    went: Result<WalkAnswer, OutOfMemory>,
+) -> Result<Option<WalkAnswer>, OutOfMemory>
     ensures { result ≡ stopped went }
 {
     match went {

@@ -3,15 +3,15 @@
 ghost use Rattle.std.specs.Prelude.{◌+◌, ◌-◌, true, false};
 ghost use Rattle.grain_value.specs.declared.values.Dynamic.TheVariants as dynamic;
 ghost use Rattle.grain_means.specs.Worlds.{Came};
-ghost use Rattle.grain_means.specs.Tasks.{Look, Write, Well};
+ghost use Rattle.grain_means.specs.Tasks.{Look, Write, WalkEnded};
 ghost use Rattle.grain_means.specs.Walks.{at_mark, ended, last_role, operating, native_stored, operator_asked, operator_answered};
 ghost use Rattle.grain_chain.specs.Walking.{place_of, backs};
 ghost use Rattle.grain_chain.specs.Going.{Goes, Needs, setting, course, rest};
 
-use crate::asking::{flat_copy, one, two};
+use crate::asking::{flat_copy, one_argument, two_arguments};
 use crate::contexts::{Context, name_at};
-use crate::faults::placed;
-use crate::origins::{Awaits, Ending};
+use crate::faults::fault_at;
+use crate::origins::{Awaited, Ending};
 use crate::requests::WalkAnswer;
 use crate::walks::Walk;
 use grain_fault::Position;
@@ -45,28 +45,28 @@ impl Walk {
     fn read(&mut self, context: Context<'_>) -> Result<WalkAnswer, OutOfMemory>
         ensures goes { Goes context.entry self.old
             (at_mark self.old.step (rest context.entry self.old)
-            (Look (place_of self.old) (λ h. rest context.entry self.old (Well h.value false))))
+            (Look (place_of self.old) (λ h. rest context.entry self.old (WalkEnded h.value false))))
             result self.new }
         ensures needs { Needs context.entry.program.now self.new result (backs self.old) }
     {
         let value = self.trail.target().copy(self.alloc)?;
-        self.pass()?;
+        self.pass_mark()?;
         self.gives = value;
-        self.well(context, false)
+        self.walk_back(context, false)
     }
 
     // Writes a value at the walk's place.
     fn write(&mut self, context: Context<'_>, value: Dynamic) -> Result<WalkAnswer, OutOfMemory>
         ensures goes { Goes context.entry self.old
             (at_mark self.old.step (rest context.entry self.old)
-            (Write (place_of self.old) value (rest context.entry self.old (Well dynamic.Unit true))))
+            (Write (place_of self.old) value (rest context.entry self.old (WalkEnded dynamic.Unit true))))
             result self.new }
         ensures needs { Needs context.entry.program.now self.new result (backs self.old) }
     {
-        self.pass()?;
+        self.pass_mark()?;
         self.trail.put(value);
         self.gives = Dynamic::Unit;
-        self.well(context, true)
+        self.walk_back(context, true)
     }
 
     // Assigns the chain's value by an op-assignment.
@@ -96,9 +96,9 @@ impl Walk {
             AssignAnswer::Done => {
                 self.marks = marks;
                 self.gives = Dynamic::Unit;
-                self.well(context, true)
+                self.walk_back(context, true)
             }
-            AssignAnswer::Failed(fault) => match placed(fault, pos) {
+            AssignAnswer::Failed(fault) => match fault_at(fault, pos) {
                 Ok(fault) => self.raise(fault),
                 Err(OutOfMemory) => Err(OutOfMemory),
             },
@@ -117,9 +117,9 @@ impl Walk {
             (place_of self.old) (rest context.entry self.old)) result self.new }
         ensures needs { Needs context.entry.program.now self.new result (backs self.old + 2) }
     {
-        let values = one(self.alloc, self.value.copy(self.alloc)?)?;
+        let values = one_argument(self.alloc, self.value.copy(self.alloc)?)?;
         let name = name_at(context.program, op.op_assign_name);
-        self.ask(pos, name, values, Awaits::OpAssigned(pos, op))
+        self.ask(pos, name, values, Awaited::OpAssigned(pos, op))
     }
 
     // Asks for the host's operator, on a copy of the value at the walk's place.
@@ -136,9 +136,9 @@ impl Walk {
     {
         let target = self.trail.target().copy(self.alloc)?;
         let value = mem::replace(&mut self.value, Dynamic::Unit);
-        let values = two(self.alloc, target, value)?;
+        let values = two_arguments(self.alloc, target, value)?;
         let name = name_at(context.program, op.op_name);
-        self.ask(pos, name, values, Awaits::Operator(pos))
+        self.ask(pos, name, values, Awaited::Operator(pos))
     }
 
     // Writes an operator's answer at the walk's place.
@@ -158,7 +158,7 @@ impl Walk {
         };
         match content {
             Some(content) => self.write(context, content),
-            None => self.race(pos),
+            None => self.raise_data_race(pos),
         }
     }
 }

@@ -15,7 +15,7 @@ ghost use Rattle.grain_value.specs.declared.values.paths.PathStep.TheVariants as
 ghost use Rattle.grain_means.specs.Walks.{with_key};
 ghost use Rattle.grain_chain.specs.Standings.{oldest, Stands, WentBack, AssignedThere, PartPut, key_added};
 
-use crate::origins::{Origin, Outer};
+use crate::origins::{Origin, OuterRoot};
 use grain_ops::{AssignAnswer, assign};
 use grain_value::{
     Dynamic, Held, Limits, MOST_LEVELS, OutOfMemory, Path, PathStep, Spot, Text, Token,
@@ -28,7 +28,7 @@ use std::mem;
 #[derive(Drop)]
 pub(crate) struct Trail {
     // all roots but the newest, the oldest first
-    outer: Vec<Outer>,
+    outer: Vec<OuterRoot>,
     // the newest root, and the path to the walk's place in it
     here: Held,
     path: Path,
@@ -50,7 +50,7 @@ impl Model for Trail {
 
 /// A root that the walk has left, the step that gave it, and where it came from.
 #[derive(Drop)]
-pub(crate) struct Gone {
+pub(crate) struct LeftRoot {
     pub(crate) root: Held,
     pub(crate) step: usize,
     pub(crate) origin: Origin,
@@ -114,9 +114,9 @@ impl Trail {
             IfOk result (λ _. self.new ≡ key_added self.old key value) }
         ensures unchanged { IfErr result (λ _. self.new ≡ self.old) }
     {
-        let path = further(alloc, &self.path, key.copy(alloc)?)?;
+        let path = path_with_key(alloc, &self.path, key.copy(alloc)?)?;
         let mut map = self.here.value.take_at(&self.path);
-        let added = add(&mut map, key);
+        let added = insert_key(&mut map, key);
         discard(self.here.value.put_at(&self.path, map));
         match added {
             Ok(()) => {
@@ -162,7 +162,7 @@ impl Trail {
     }
 
     /// Goes into a new root, which this step gave. If memory runs out, nothing changes.
-    pub(crate) fn enter(
+    pub(crate) fn enter_root(
         &mut self,
         alloc: Global,
         root: Held,
@@ -179,7 +179,7 @@ impl Trail {
     {
         let root = mem::replace(&mut self.here, root);
         let path = mem::replace(&mut self.path, Path::new(alloc));
-        match self.outer.push(Outer {
+        match self.outer.push(OuterRoot {
             root,
             path,
             step,
@@ -194,11 +194,11 @@ impl Trail {
     }
 
     // Makes a root that was put aside the newest again.
-    fn take_back(&mut self, outer: Outer)
+    fn take_back(&mut self, outer: OuterRoot)
         requires { Leads outer.path (tree outer.root.value) }
         ensures { self.new ≡ record self.old { here = outer.root; path = outer.path } }
     {
-        let Outer {
+        let OuterRoot {
             root,
             path,
             step: _step,
@@ -209,13 +209,13 @@ impl Trail {
     }
 
     /// Leaves the newest root, and goes back to the one before it. Returns None if it is the first.
-    pub(crate) fn leave(&mut self) -> Option<Gone>
+    pub(crate) fn leave_root(&mut self) -> Option<LeftRoot>
         ensures { WentBack self.old result self.new }
     {
         let Some(outer) = self.outer.pop() else {
             return None;
         };
-        let Outer {
+        let OuterRoot {
             root,
             path,
             step,
@@ -223,11 +223,11 @@ impl Trail {
         } = outer;
         let root = mem::replace(&mut self.here, root);
         self.path = path;
-        Some(Gone { root, step, origin })
+        Some(LeftRoot { root, step, origin })
     }
 
     /// Leaves all roots but the first.
-    pub(crate) fn fall(&mut self)
+    pub(crate) fn drop_newer_roots(&mut self)
         ensures { self.new ≡ record { outer = []; here = oldest self.old.outer self.old.here; path = [] } }
     {
         self.path.clear();
@@ -253,7 +253,7 @@ fn discard(value: Dynamic) {
 }
 
 // Adds a key, with unit, to a map. A value that is no map stays as it is.
-fn add(map: &mut Dynamic, key: Text) -> Result<(), OutOfMemory>
+fn insert_key(map: &mut Dynamic, key: Text) -> Result<(), OutOfMemory>
     ensures { map.new ≡ (if is_ok result then with_key key map.old else map.old) }
 {
     match map {
@@ -266,7 +266,7 @@ fn add(map: &mut Dynamic, key: Text) -> Result<(), OutOfMemory>
 }
 
 // A copy of a path, with a key after it. It refuses more than `MOST_LEVELS` steps as if memory were out.
-fn further(alloc: Global, path: &Path, key: Text) -> Result<Path, OutOfMemory>
+fn path_with_key(alloc: Global, path: &Path, key: Text) -> Result<Path, OutOfMemory>
     ensures { IfOk result (λ longer. longer ≡ path.now ++ step.Key key ∷ []) }
 {
     if path.len() >= MOST_LEVELS {

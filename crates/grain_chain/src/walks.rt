@@ -9,7 +9,7 @@ ghost use Rattle.grain_chain.specs.Walking.{is_want, is_out, roots_of, roots_at,
 ghost use Rattle.grain_chain.specs.Going.{Goes, Needs, received};
 
 use crate::contexts::{Context, ending_of};
-use crate::origins::{Awaits, Ending};
+use crate::origins::{Awaited, Ending};
 use crate::requests::WalkAnswer;
 use crate::trails::Trail;
 use grain_fault::{EvalAltResult, Position};
@@ -27,7 +27,7 @@ pub struct Walk {
     // the number of the present step, from 0
     pub(crate) step: usize,
     // what the last request was for
-    pub(crate) awaits: Awaits,
+    pub(crate) awaits: Awaited,
     // what the walk gives: it is set where the steps end
     pub(crate) gives: Dynamic,
     // where its values and lists take their memory from
@@ -76,7 +76,7 @@ impl Walk {
         let mut walk = Walk {
             trail: Trail::new(alloc, root),
             step: 0,
-            awaits: Awaits::IndexSet,
+            awaits: Awaited::IndexSet,
             gives: Dynamic::Unit,
             alloc,
             chain,
@@ -117,8 +117,8 @@ impl Walk {
             cells,
         };
         self.take_back(receiver);
-        let awaits = mem::replace(&mut self.awaits, Awaits::IndexSet);
-        let went = self.hear(context, awaits, outcome);
+        let awaits = mem::replace(&mut self.awaits, Awaited::IndexSet);
+        let went = self.take_outcome(context, awaits, outcome);
         self.settle(went)
     }
 
@@ -134,10 +134,10 @@ impl Walk {
     }
 
     // Goes on with the value or the fault that a call gave.
-    fn hear(
+    fn take_outcome(
         &mut self,
         context: Context<'_>,
-        awaits: Awaits,
+        awaits: Awaited,
         outcome: Result<Dynamic, EvalAltResult>,
     ) -> Result<WalkAnswer, OutOfMemory>
         requires { IsAtStep context.program.now self.old awaits }
@@ -148,8 +148,8 @@ impl Walk {
             (still context.entry.program.now self.old awaits) }
     {
         match outcome {
-            Ok(value) => self.came(context, awaits, value),
-            Err(fault) => self.refused(context, awaits, fault),
+            Ok(value) => self.take_value(context, awaits, value),
+            Err(fault) => self.take_fault(context, awaits, fault),
         }
     }
 

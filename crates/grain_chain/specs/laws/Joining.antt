@@ -4,7 +4,7 @@ use Rattle.std.specs.Prelude.{if◌then◌else◌}
 use Rattle.grain_value.specs.declared.values.Held.{Held}
 use Rattle.grain_value.specs.declared.stores.Cell.{Cell}
 use Rattle.grain_fault.specs.Problems.{NoMemory}
-use Rattle.grain_means.specs.Tasks.{Task, Own, Ill, play}
+use Rattle.grain_means.specs.Tasks.{Task, Own, WalkFailed, play}
 use Rattle.grain_means.specs.Worlds.{is_stop}
 use Rattle.grain_means.specs.Simulation.{NoStopWithin, StopsHere, StopPersists}
 use Rattle.grain_means.specs.Walks.{Rest, at_mark}
@@ -51,16 +51,16 @@ module _ {cells : List Cell} where
   passed_by n rs k k2 done go e = record {
     order = omega (arith, e);
     equal = λ stop clear halts.
-        ap (λ (b : Bool). if b then play stop cells (done (Ill n NoMemory)) (own rs k)
+        ap (λ (b : Bool). if b then play stop cells (done (WalkFailed n NoMemory)) (own rs k)
         else play stop cells go (own rs (k + 1))) (clear k (omega arith) (omega (arith, e)))
         ∙ ap (λ (j : ℕ). play stop cells go (own rs j)) (sym e);
   }
 
   pub halted : (n : ℕ) (rs : List Held) (k : ℕ) (done : Rest) (go : Task) →
-      WalksOn cells (own rs k) (at_mark n done go) true (own rs k) (done (Ill n NoMemory))
+      WalksOn cells (own rs k) (at_mark n done go) true (own rs k) (done (WalkFailed n NoMemory))
   halted n rs k done go = record {
     order = omega arith;
     equal = λ stop clear halts.
-        ap (λ (b : Bool). if b then play stop cells (done (Ill n NoMemory)) (own rs k)
+        ap (λ (b : Bool). if b then play stop cells (done (WalkFailed n NoMemory)) (own rs k)
         else play stop cells go (own rs (k + 1))) halts;
   }

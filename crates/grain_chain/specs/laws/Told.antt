@@ -1,5 +1,5 @@
--- What holds of every walk that did what a task says: its first root keeps its flag, and if it is told
--- that memory ran out, it answers that too.
+-- What holds of every walk that did what a task says: its first root keeps its flag, and if an answer
+-- says that memory ran out, so does the walk.
 use Rattle.std.proofs.Common.{◌≡◌, ◌<◌, ℕ, suc, ◌+◌, List, [], ◌∷◌, ◌++◌, Bool, true, false, Option, Some, None, Result, Ok, Err, take, refl, sym, ap, ◌∙◌, subst, arith}
 use Rattle.std.specs.Prelude.{nat_eq, if◌then◌else◌}
 use Rattle.std.proofs.lemmas.Bool.Decides.{nat_tests}
@@ -14,13 +14,13 @@ use Rattle.grain_means.specs.Worlds.{Failed, is_stop}
 use Rattle.grain_means.specs.Simulation.{NoStopWithin, StopsHere, StopPersists}
 use Rattle.grain_means.specs.lemmas.Spreading.{Rooted, rooted-put, rooted-add, rooted-take}
 use Rattle.grain_means.specs.Places.{put, put_held}
-use Rattle.grain_means.specs.Tasks.{Task, Done, Mark, Look, Flatten, Write, Root, Drop, Need, Invoke, Own, Play, Over, Asks, Calls, Well, Ill, play}
+use Rattle.grain_means.specs.Tasks.{Task, Done, Mark, Look, Flatten, Write, Root, Drop, Need, Invoke, Own, Play, Over, Asks, Calls, WalkEnded, WalkFailed, play}
 use Rattle.grain_chain.specs.OwnWalks.{WalksOn, own}
 use Rattle.grain_chain.specs.Walking.{Did, roots_of, place_of, roots_at, rest_of, setting_of, left_to_do, lent, task_for, resumed, with_receiver, is_out, no_memory, is_want, outcome_of}
 use Rattle.grain_chain.specs.Standings.{oldest}
 use Rattle.grain_chain.specs.laws.Ways.{put-here, fell}
-use Rattle.grain_chain.specs.declared.origins.Awaits.{Awaits}
-use Rattle.grain_chain.specs.declared.origins.Awaits.TheVariants as awaits
+use Rattle.grain_chain.specs.declared.origins.Awaited.{Awaited}
+use Rattle.grain_chain.specs.declared.origins.Awaited.TheVariants as awaited
 use Rattle.grain_chain.specs.declared.requests.What.{What}
 use Rattle.grain_chain.specs.declared.requests.What.TheVariants as what
 use Rattle.grain_chain.specs.declared.requests.WalkAnswer.{WalkAnswer}
@@ -62,8 +62,8 @@ state_of (Calls i f s) = s
 
 -- the fault by which it is over; `NoMemory` if there is none
 abbrev problem_in : Play → Problem
-problem_in (Over (Ill n x) s) = x
-problem_in (Over (Well v changed) s) = NoMemory
+problem_in (Over (WalkFailed n x) s) = x
+problem_in (Over (WalkEnded v changed) s) = NoMemory
 problem_in (Asks c f s) = NoMemory
 problem_in (Calls i f s) = NoMemory
 
@@ -114,22 +114,23 @@ module _ (e : Engine) (p : View) (cells : List Cell) where
       (keeps run.0 cells b t (own before (0 + passed)) h))
 
   -- `NoMemory` is handed on at once
-  refused : (w : Walk) (s : Awaits) →
-      resumed e p w s (Failed NoMemory) ≡ rest_of e p w (Ill w.step NoMemory)
-  refused w awaits.IndexSet = refl
-  refused w (awaits.PropertySet name q assigned v) = refl
-  refused w (awaits.SetInstead x assigned) = refl
-  refused w (awaits.PropertyGot name q i) = refl
-  refused w (awaits.GotInstead x i) = refl
-  refused w (awaits.IndexGot i) = refl
-  refused w (awaits.IndexRead q i n) = refl
-  refused w (awaits.OpAssigned q a) = refl
-  refused w (awaits.Operator q) = refl
-  refused w (awaits.Called b i) = refl
+  refused : (w : Walk) (s : Awaited) →
+      resumed e p w s (Failed NoMemory) ≡ rest_of e p w (WalkFailed w.step NoMemory)
+  refused w awaited.IndexSet = refl
+  refused w (awaited.PropertySet name q assigned v) = refl
+  refused w (awaited.SetInstead x assigned) = refl
+  refused w (awaited.PropertyGot name q i) = refl
+  refused w (awaited.GotInstead x i) = refl
+  refused w (awaited.IndexGot i) = refl
+  refused w (awaited.IndexRead q i n) = refl
+  refused w (awaited.OpAssigned q a) = refl
+  refused w (awaited.Operator q) = refl
+  refused w (awaited.Called b i) = refl
 
   falls_with : (w : Walk) (receiver : Option Held) (n : ℕ) (k : ℕ) →
-      (h : Held) × WalksOn cells (own (with_receiver w receiver) k) (rest_of e p w (Ill n NoMemory)) false
-      (own (h ∷ []) k) (Done (Ill n NoMemory))
+      (h : Held) × WalksOn cells (own (with_receiver w receiver) k)
+      (rest_of e p w (WalkFailed n NoMemory)) false
+      (own (h ∷ []) k) (Done (WalkFailed n NoMemory))
   falls_with w None n k = (
     oldest w.trail.outer w.trail.here,
     fell (setting_of e p w.pos) cells n NoMemory w.trail.outer w.trail.here
@@ -138,18 +139,18 @@ module _ (e : Engine) (p : View) (cells : List Cell) where
   falls_with w (Some r) n k =
       let here : Held = put_held w.trail.path r.value w.trail.here in (
         oldest w.trail.outer here,
-        subst (λ (rs : List Held). WalksOn cells (own rs k) (rest_of e p w (Ill n NoMemory)) false
-            (own (oldest w.trail.outer here ∷ []) k) (Done (Ill n NoMemory)))
+        subst (λ (rs : List Held). WalksOn cells (own rs k) (rest_of e p w (WalkFailed n NoMemory)) false
+            (own (oldest w.trail.outer here ∷ []) k) (Done (WalkFailed n NoMemory)))
             (sym (put-here w.trail.outer w.trail.here r.value w.trail.path))
             (fell (setting_of e p w.pos) cells n NoMemory w.trail.outer here (oldest w.trail.outer here)
             k refl),
       )
 
   is_over : (stop : Option ℕ) (w : Walk) (a : WalkAnswer) (n : ℕ) (s : Own) (rs : List Held) (k : ℕ) →
-      Over (Ill n NoMemory) s ≡ play stop cells (left_to_do e p w a) (own rs k) →
+      Over (WalkFailed n NoMemory) s ≡ play stop cells (left_to_do e p w a) (own rs k) →
       (is_out a ≡ true) × (k ≡ s.passed)
   is_over stop w (answer.Need r) n s rs k h = needs r.what h where
-    needs : (call : What) → Over (Ill n NoMemory) s ≡ play stop cells
+    needs : (call : What) → Over (WalkFailed n NoMemory) s ≡ play stop cells
         (task_for call r (lent w r.receiver) (resumed e p w w.awaits)) (own rs k) →
         (false ≡ true) × (k ≡ s.passed)
     needs (what.Native name) h = cc

@@ -26,9 +26,9 @@ invariant_of-self c =
     subst (λ (u : Standing). Stands u (dynamic.Map es)) (sym c.self.view_is) c.requires.1 in
     let same = one_value (at path (tree d)) c.take_at-map.result (dynamic.Map es)
     c.take_at-map.ensures.taken here in
-    let made : c.add-added.new.map ≡ with_key c.args.key (dynamic.Map es) =
+    let made : c.insert_key-added.new.map ≡ with_key c.args.key (dynamic.Map es) =
     c.in-Ok.ensures ∙ ap (with_key c.args.key) same in
-    let is = twice path d dynamic.Unit c.add-added.new.map c.take_at-map.new.self c.put_at.new.self
+    let is = twice path d dynamic.Unit c.insert_key-added.new.map c.take_at-map.new.self c.put_at.new.self
     c.self.invariant.leads c.take_at-map.ensures.left c.put_at.ensures.left in
     let longer = c.in_ok-path.ensures ∙ ap (λ (k : List ℕ). path ++ Key k ∷ []) c.in_ok-copy.ensures in
     record {
@@ -41,7 +41,7 @@ invariant_of-self c =
 pub invariant_of-self-in-Err-1 : goal.invariant_of-self-in-Err-1
 invariant_of-self-in-Err-1 c =
     leading_twice c.self.inside.outer.items c.self.inside.here c.self.inside.path dynamic.Unit
-    c.add-added.new.map c.take_at-map.new.self c.put_at.new.self
+    c.insert_key-added.new.map c.take_at-map.new.self c.put_at.new.self
     c.take_at-map.ensures.left c.put_at.ensures.left c.self.invariant
 
 pub returns-in-Ok-clause-added : goal.returns-in-Ok-clause-added
@@ -54,12 +54,12 @@ returns-in-Ok-clause-added c = λ v stands.
     let here : Stands s v = subst (λ (u : Standing). Stands u v) (sym c.self.view_is) stands in
     let same = one_value (at s.path (tree s.here.value)) c.take_at-map.result v
     c.take_at-map.ensures.taken here in
-    let back = put_back s dynamic.Unit c.add-added.new.map c.take_at-map.new.self c.put_at.new.self
+    let back = put_back s dynamic.Unit c.insert_key-added.new.map c.take_at-map.new.self c.put_at.new.self
     c.self.invariant c.take_at-map.ensures.left c.put_at.ensures.left in
-    let made : c.add-added.new.map ≡ with_key c.args.key v =
+    let made : c.insert_key-added.new.map ≡ with_key c.args.key v =
     c.in-Ok.ensures ∙ ap (with_key c.args.key) same in
     ap (λ (u : Standing). let t : Standing = record u { path = c.in_ok-path.path } in t) back
-    ∙ ap (λ (p : List PathStep). let t : Standing = record (put_there s c.add-added.new.map)
+    ∙ ap (λ (p : List PathStep). let t : Standing = record (put_there s c.insert_key-added.new.map)
     { path = p } in t)
     (c.in_ok-path.ensures ∙ ap (λ (k : List ℕ). s.path ++ Key k ∷ []) c.in_ok-copy.ensures)
     ∙ ap (λ (d : Dynamic). let t : Standing = record (put_there s d)
@@ -73,7 +73,7 @@ returns-in-Err-clause-unchanged c =
       here = c.self.inside.here;
       path = c.self.inside.path;
     } in
-    put_back s dynamic.Unit c.add-added.new.map c.take_at-map.new.self c.put_at.new.self
+    put_back s dynamic.Unit c.insert_key-added.new.map c.take_at-map.new.self c.put_at.new.self
     c.self.invariant c.take_at-map.ensures.left c.put_at.ensures.left
     ∙ ap (put_there s) c.in-Err.ensures
     ∙ unchanged s c.take_at-map.result c.take_at-map.ensures.taken

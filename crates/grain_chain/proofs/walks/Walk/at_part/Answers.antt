@@ -14,9 +14,9 @@ returns-clause-takes c = λ x v stands.
     let there : c.part-value.result ≡ part v c.args.spot =
     c.part-value.ensures ∙ ap (λ (d : Dynamic). part d c.args.spot) same in
     rw (← c.origin_of_part-origin.ensures w.value)
-    (roots_in x w c.enter.new.self c.origin_of_part-origin.result
+    (roots_in x w c.enter_root.new.self c.origin_of_part-origin.result
     (record (with_value w v) { value = part v c.args.spot })
-    (c.in_ok-enter.ensures.entered
+    (c.in_ok-enter_root.ensures.entered
     ∙ ap (λ (b : Bool). in_root w c.origin_of_part-origin.result
     (record { value = c.part-value.result; read_only = b })) c.is_read_only-read_only.ensures
     ∙ ap (λ (d : Dynamic). in_root w c.origin_of_part-origin.result

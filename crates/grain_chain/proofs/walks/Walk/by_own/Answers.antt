@@ -20,8 +20,8 @@ returns-clause-takes c = λ v stands.
     let o = Walks.own_pointer (name_of x.program.now s.name) v in
     let new = c.invoke_with_all.new.self in
     let r = c.invoke_with_all.result in
-    stops_takes x w new (Walks.at_mark w.step (rest x w) (own_task x w s o v)) r c.stop.result
-    c.stop.ensures
+    stops_takes x w new (Walks.at_mark w.step (rest x w) (own_task x w s o v)) r c.stopping.result
+    c.stopping.ensures
     (subst (λ (t : Task). Goes x w (Walks.at_mark w.step (rest x w) t) r new)
     (ap (λ (q : What). asking_task x w s q (Some (place_of w)) (step_arguments x w s))
     (c.in_ok-what.ensures.is v stands) ∙ sym (own_asks x w s v o))
@@ -30,6 +30,6 @@ returns-clause-takes c = λ v stands.
 pub returns-clause-needs : goal.returns-clause-needs
 returns-clause-needs c =
     let p = c.args.context.program.now in
-    stops_need p c.invoke_with_all.new.self c.invoke_with_all.result c.stop.result _ c.stop.ensures
+    stops_need p c.invoke_with_all.new.self c.invoke_with_all.result c.stopping.result _ c.stopping.ensures
     (needs_more p c.invoke_with_all.new.self c.invoke_with_all.result _ _
     (c.invoke_with_all.ensures.needs p c.requires.at c.in_ok-what.ensures.can) (omega arith))

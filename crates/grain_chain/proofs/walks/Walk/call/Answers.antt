@@ -15,16 +15,16 @@ returns-in-None-clause-takes c = λ v stands.
     let x = c.args.context in
     let s = c.args.step in
     subst (λ (o : Option FnPtr). Takes x w (Walks.at_mark w.step (rest x w) (call_task x w s o v))
-    c.stop.result c.call_first.new.self)
+    c.stopping.result c.call_first.new.self)
     (sym c.in-None.is ∙ c.in_ok-pointer_there.ensures v stands)
     (stops_takes x w c.call_first.new.self
     (Walks.at_mark w.step (rest x w) (called_task x w s v (step_arguments x w s))) c.call_first.result
-    c.stop.result c.stop.ensures (c.call_first.ensures.goes v stands))
+    c.stopping.result c.stopping.ensures (c.call_first.ensures.goes v stands))
 
 pub returns-in-None-clause-needs : goal.returns-in-None-clause-needs
 returns-in-None-clause-needs c =
     let p = c.args.context.program.now in
-    stops_need p c.call_first.new.self c.call_first.result c.stop.result _ c.stop.ensures
+    stops_need p c.call_first.new.self c.call_first.result c.stopping.result _ c.stopping.ensures
     (needs_more p c.call_first.new.self c.call_first.result _ _ c.call_first.ensures.needs
     (omega arith))
 
@@ -34,18 +34,18 @@ returns-in-Some-clause-takes c = λ v stands.
     let x = c.args.context in
     let s = c.args.step in
     subst (λ (o : Option FnPtr). Takes x w (Walks.at_mark w.step (rest x w) (call_task x w s o v))
-    c.stop-in-Some.result c.invoke_with_all.new.self)
+    c.stopping-in-Some.result c.invoke_with_all.new.self)
     (sym c.in-Some.is ∙ c.in_ok-pointer_there.ensures v stands)
     (stops_takes x w c.invoke_with_all.new.self
     (Walks.at_mark w.step (rest x w)
     (asking_task x w s (what.Pointer c.in-Some.pointer) None (step_arguments x w s)))
-    c.invoke_with_all.result c.stop-in-Some.result c.stop-in-Some.ensures
+    c.invoke_with_all.result c.stopping-in-Some.result c.stopping-in-Some.ensures
     (c.invoke_with_all.ensures.goes x))
 
 pub returns-in-Some-clause-needs : goal.returns-in-Some-clause-needs
 returns-in-Some-clause-needs c =
     let p = c.args.context.program.now in
-    stops_need p c.invoke_with_all.new.self c.invoke_with_all.result c.stop-in-Some.result _
-    c.stop-in-Some.ensures
+    stops_need p c.invoke_with_all.new.self c.invoke_with_all.result c.stopping-in-Some.result _
+    c.stopping-in-Some.ensures
     (needs_more p c.invoke_with_all.new.self c.invoke_with_all.result _ _
     (c.invoke_with_all.ensures.needs p c.requires.at tt) (omega arith))

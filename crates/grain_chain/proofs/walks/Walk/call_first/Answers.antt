@@ -22,15 +22,16 @@ returns-then-lacks_argument-clause-goes c = λ v stands.
 
 pub returns-in-None-clause-goes : goal.returns-in-None-clause-goes
 returns-in-None-clause-goes c = λ v stands.
-    first_goes c.args.context c.args.self.now c.args.step v None c.pass.new.self c.race.new.self
-    c.race.result (sym c.lacks_argument.ensures ∙ c.if-lacks_argument.false) c.in_ok-pass.ensures.passed
-    (sym c.in-None.is ∙ c.in_ok-first.ensures) (c.race.ensures.goes c.args.context)
+    first_goes c.args.context c.args.self.now c.args.step v None c.pass_mark.new.self
+    c.raise_data_race.new.self c.raise_data_race.result
+    (sym c.lacks_argument.ensures ∙ c.if-lacks_argument.false) c.in_ok-pass_mark.ensures.passed
+    (sym c.in-None.is ∙ c.in_ok-first.ensures) (c.raise_data_race.ensures.goes c.args.context)
 
 pub returns-in-Some-clause-goes : goal.returns-in-Some-clause-goes
 returns-in-Some-clause-goes c = λ v stands.
-    first_goes c.args.context c.args.self.now c.args.step v (Some c.in-Some.first) c.pass.new.self
+    first_goes c.args.context c.args.self.now c.args.step v (Some c.in-Some.first) c.pass_mark.new.self
     c.call_argument.new.self c.call_argument.result
-    (sym c.lacks_argument.ensures ∙ c.if-lacks_argument.false) c.in_ok-pass.ensures.passed
+    (sym c.lacks_argument.ensures ∙ c.if-lacks_argument.false) c.in_ok-pass_mark.ensures.passed
     (sym c.in-Some.is ∙ c.in_ok-first.ensures) (c.call_argument.ensures.goes c.args.context)
 
 pub call_argument-requires : goal.call_argument-requires
@@ -43,4 +44,4 @@ returns-in-Some-clause-needs c =
     let p = c.args.context.program.now in
     subst (λ (u : Walk). u.step < count p u →
     Needs p c.call_argument.new.self c.call_argument.result (steps_left p u + 2))
-    c.in_ok-pass.ensures.passed (c.call_argument.ensures.needs p) c.requires.at
+    c.in_ok-pass_mark.ensures.passed (c.call_argument.ensures.needs p) c.requires.at

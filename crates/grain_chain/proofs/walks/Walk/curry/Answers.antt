@@ -13,16 +13,16 @@ returns-in-None-clause-takes c = λ v stands.
     let x = c.args.context in
     let s = c.args.step in
     subst (λ (o : Option FnPtr). Takes x w (Walks.at_mark w.step (rest x w) (curry_task x w s o v))
-    c.stop.result c.no_pointer_there.new.self)
+    c.stopping.result c.no_pointer_there.new.self)
     (sym c.in-None.is ∙ c.in_ok-pointer_there.ensures v stands)
     (stops_takes x w c.no_pointer_there.new.self
     (Walks.at_mark w.step (rest x w) (curry_task x w s None v)) c.no_pointer_there.result
-    c.stop.result c.stop.ensures (c.no_pointer_there.ensures.goes x v stands))
+    c.stopping.result c.stopping.ensures (c.no_pointer_there.ensures.goes x v stands))
 
 pub returns-in-None-clause-needs : goal.returns-in-None-clause-needs
 returns-in-None-clause-needs c =
     let p = c.args.context.program.now in
-    stops_need p c.no_pointer_there.new.self c.no_pointer_there.result c.stop.result _ c.stop.ensures
+    stops_need p c.no_pointer_there.new.self c.no_pointer_there.result c.stopping.result _ c.stopping.ensures
     (c.no_pointer_there.ensures.needs p _)
 
 pub returns-in-Some-clause-takes : goal.returns-in-Some-clause-takes

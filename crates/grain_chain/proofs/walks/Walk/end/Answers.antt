@@ -7,7 +7,7 @@ use Rattle.grain_chain.specs.Going.{Goes, rest, setting}
 use Rattle.grain_chain.specs.declared.walks.Walk.{Walk}
 use Rattle.grain_chain.proofs.Strides.{from_same}
 use Rattle.grain_chain.proofs.Stepping.{needs_more}
-use Rattle.grain_means.specs.Tasks.{Well, Write, Look}
+use Rattle.grain_means.specs.Tasks.{WalkEnded, Write, Look}
 use Rattle.grain_chain.specs.Walking.{assigned_by, operator_of}
 use Rattle.grain_chain.specs.declared.origins.Ending.{Ending}
 use Rattle.grain_chain.proofs.walks.Walk.end.Goals as goal
@@ -21,7 +21,7 @@ returns-in-Read-clause-goes c =
     (operator_of e)) (w.step - 1) (place_of w) (rest x w)) c.read.result c.read.new.self)
     (sym c.in-Read.is)
     (subst (λ (n : ℕ). Goes x w (Walks.at_mark n (rest x w) (Look (place_of w)
-    (λ h. rest x w (Well h.value false)))) c.read.result c.read.new.self) c.saturating_sub-self.ensures
+    (λ h. rest x w (WalkEnded h.value false)))) c.read.result c.read.new.self) c.saturating_sub-self.ensures
     (from_same x w w1 c.read.new.self _ c.read.result (λ k. refl) c.read.ensures.goes))
 
 pub returns-in-Read-clause-needs : goal.returns-in-Read-clause-needs
@@ -38,9 +38,9 @@ returns-in-Write-clause-goes c =
     (operator_of e)) (w.step - 1) (place_of w) (rest x w)) c.write.result c.write.new.self)
     (sym c.in-Write.is)
     (subst (λ (d : Dynamic). Goes x w (Walks.at_mark (w.step - 1) (rest x w) (Write (place_of w) d
-    (rest x w (Well dynamic.Unit true)))) c.write.result c.write.new.self) c.replace-value.ensures.value
+    (rest x w (WalkEnded dynamic.Unit true)))) c.write.result c.write.new.self) c.replace-value.ensures.value
     (subst (λ (n : ℕ). Goes x w (Walks.at_mark n (rest x w) (Write (place_of w) c.replace-value.result
-    (rest x w (Well dynamic.Unit true)))) c.write.result c.write.new.self) c.saturating_sub-self.ensures
+    (rest x w (WalkEnded dynamic.Unit true)))) c.write.result c.write.new.self) c.saturating_sub-self.ensures
     (from_same x w w1 c.write.new.self _ c.write.result (λ k. refl) c.write.ensures.goes)))
 
 pub returns-in-Write-clause-needs : goal.returns-in-Write-clause-needs

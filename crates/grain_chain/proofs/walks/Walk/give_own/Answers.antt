@@ -8,4 +8,4 @@ returns-clause-goes c =
     let w = c.args.self.now in
     let x = c.args.context in
     let w1 : Walk = record w { gives = c.args.value } in
-    from_same x w w1 c.well.new.self _ c.well.result (λ k. refl) c.well.ensures.goes
+    from_same x w w1 c.walk_back.new.self _ c.walk_back.result (λ k. refl) c.walk_back.ensures.goes

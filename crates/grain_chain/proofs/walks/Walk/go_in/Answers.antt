@@ -5,7 +5,7 @@ use Rattle.grain_chain.specs.Going.{Goes, rest}
 use Rattle.grain_chain.specs.declared.walks.Walk.{Walk}
 use Rattle.grain_chain.proofs.Strides.{from_same}
 use Rattle.grain_chain.proofs.Stepping.{needs_more}
-use Rattle.grain_means.specs.Tasks.{Well}
+use Rattle.grain_means.specs.Tasks.{WalkEnded}
 use Rattle.grain_chain.proofs.Strides.{halts}
 use Rattle.grain_chain.proofs.Tails.{pick_true, pick_false, goes_flat}
 use Rattle.grain_chain.proofs.Halting.{flattening_halts}
@@ -17,17 +17,18 @@ returns-then-own-clause-goes c =
     let x = c.args.context in
     let w1 : Walk = record w { gives = c.args.value } in
     let o = origin_of c.args.into.origin in
-    pick_true x w c.well.new.self c.args.into.own (rest x w (Well c.args.value (is_change o))) _
-    c.well.result c.if-own.true
-    (subst (λ (b : Bool). Goes x w (rest x w (Well c.args.value b)) c.well.result c.well.new.self)
+    pick_true x w c.walk_back.new.self c.args.into.own (rest x w (WalkEnded c.args.value (is_change o))) _
+    c.walk_back.result c.if-own.true
+    (subst (λ (b : Bool). Goes x w (rest x w (WalkEnded c.args.value b)) c.walk_back.result
+    c.walk_back.new.self)
     c.is_change.ensures
-    (from_same x w w1 c.well.new.self (rest x w (Well c.args.value c.is_change.result)) c.well.result
-    (λ k. refl) c.well.ensures.goes))
+    (from_same x w w1 c.walk_back.new.self (rest x w (WalkEnded c.args.value c.is_change.result))
+    c.walk_back.result (λ k. refl) c.walk_back.ensures.goes))
 
 pub returns-then-own-clause-needs : goal.returns-then-own-clause-needs
 returns-then-own-clause-needs c =
-    needs_more c.args.context.program.now c.well.new.self c.well.result _ _ c.well.ensures.needs
-    (omega arith)
+    needs_more c.args.context.program.now c.walk_back.new.self c.walk_back.result _ _
+    c.walk_back.ensures.needs (omega arith)
 
 pub returns-in_default-clause-goes : goal.returns-in_default-clause-goes
 returns-in_default-clause-goes c =
@@ -45,7 +46,8 @@ returns-in-Some-clause-goes c =
 
 pub returns-in-None-clause-goes : goal.returns-in-None-clause-goes
 returns-in-None-clause-goes c =
-    pick_false c.args.context c.args.self.now c.race.new.self c.args.into.own _ _
-    c.race.result c.if-own.false
-    (goes_flat c.args.context c.args.self.now c.race.new.self c.args.into.pos c.args.value _
-    None c.race.result (sym c.in-None.is ∙ c.in-Ok.ensures) (c.race.ensures.goes c.args.context))
+    pick_false c.args.context c.args.self.now c.raise_data_race.new.self c.args.into.own _ _
+    c.raise_data_race.result c.if-own.false
+    (goes_flat c.args.context c.args.self.now c.raise_data_race.new.self c.args.into.pos c.args.value _
+    None c.raise_data_race.result (sym c.in-None.is ∙ c.in-Ok.ensures)
+    (c.raise_data_race.ensures.goes c.args.context))

@@ -9,7 +9,7 @@ use Rattle.grain_chain.specs.Walking.{origin_of}
 use Rattle.grain_value.specs.Operands.{read_write}
 use Rattle.grain_chain.specs.Walking.{count, backs, steps_left, next_of}
 use Rattle.grain_chain.specs.Going.{in_root}
-use Rattle.grain_chain.specs.declared.origins.Go.{Go}
+use Rattle.grain_chain.specs.declared.origins.Onward.{Onward}
 use Rattle.grain_chain.proofs.Roots.{enters}
 use Rattle.grain_chain.proofs.Stepping.{ahead, stepped}
 use Rattle.std.proofs.Common.{length-append}
@@ -21,7 +21,7 @@ step_on-requires c =
     let w = c.args.self.now in
     let x = c.args.context in
     let i = in_root w c.args.origin (read_write c.args.value) in
-    let e : c.enter.new.self ≡ i = c.in_ok-enter.ensures.entered in
+    let e : c.enter_root.new.self ≡ i = c.in_ok-enter_root.ensures.entered in
     subst (λ (u : Walk). u.step < count x.program.now u) (sym e) c.requires.at
 
 pub returns-in-Further-clause-goes : goal.returns-in-Further-clause-goes
@@ -29,9 +29,9 @@ returns-in-Further-clause-goes c =
     let w = c.args.self.now in
     let x = c.args.context in
     let i = in_root w c.args.origin (read_write c.args.value) in
-    let e : c.enter.new.self ≡ i = c.in_ok-enter.ensures.entered in
+    let e : c.enter_root.new.self ≡ i = c.in_ok-enter_root.ensures.entered in
     let f : c.step_on.new.self ≡ stepped i = c.step_on.ensures ∙ ap stepped e in
-    subst (λ (o : Go). Goes x w (Walks.rooted (setting x w) w.step (origin_of c.args.origin)
+    subst (λ (o : Onward). Goes x w (Walks.rooted (setting x w) w.step (origin_of c.args.origin)
     (read_write c.args.value) (next_of x.engine.now x.program.now w o) (place_of w) (rest x w))
     c.advance.result c.advance.new.self) (sym c.in-Further.is)
     (then_goes x w i c.advance.new.self _ _ c.advance.result
@@ -46,7 +46,7 @@ returns-in-Further-clause-needs c =
     let w = c.args.self.now in
     let x = c.args.context in
     let i = in_root w c.args.origin (read_write c.args.value) in
-    let e : c.enter.new.self ≡ i = c.in_ok-enter.ensures.entered in
+    let e : c.enter_root.new.self ≡ i = c.in_ok-enter_root.ensures.entered in
     let p = x.program.now in
     let f : c.step_on.new.self ≡ stepped i = c.step_on.ensures ∙ ap stepped e in
     needs_more p c.advance.new.self c.advance.result _ _
@@ -59,8 +59,8 @@ returns-in-Operate-clause-goes c =
     let w = c.args.self.now in
     let x = c.args.context in
     let i = in_root w c.args.origin (read_write c.args.value) in
-    let e : c.enter.new.self ≡ i = c.in_ok-enter.ensures.entered in
-    subst (λ (o : Go). Goes x w (Walks.rooted (setting x w) w.step (origin_of c.args.origin)
+    let e : c.enter_root.new.self ≡ i = c.in_ok-enter_root.ensures.entered in
+    subst (λ (o : Onward). Goes x w (Walks.rooted (setting x w) w.step (origin_of c.args.origin)
     (read_write c.args.value) (next_of x.engine.now x.program.now w o) (place_of w) (rest x w))
     c.operate.result c.operate.new.self) (sym c.in-Operate.is)
     (then_goes x w i c.operate.new.self _ _ c.operate.result
@@ -75,7 +75,7 @@ returns-in-Operate-clause-needs c =
     let w = c.args.self.now in
     let x = c.args.context in
     let i = in_root w c.args.origin (read_write c.args.value) in
-    let e : c.enter.new.self ≡ i = c.in_ok-enter.ensures.entered in
+    let e : c.enter_root.new.self ≡ i = c.in_ok-enter_root.ensures.entered in
     let p = x.program.now in
     needs_more p c.operate.new.self c.operate.result _ _
     (subst (λ (u : Walk). Needs p c.operate.new.self c.operate.result (backs u + 2)) e

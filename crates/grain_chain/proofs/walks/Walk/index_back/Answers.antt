@@ -11,13 +11,13 @@ returns-clause-goes c = λ x.
 
 pub returns-then-changed-clause-goes : goal.returns-then-changed-clause-goes
 returns-then-changed-clause-goes c = λ x.
-    changed_back x c.args.self.now c.set_by_index.new.self _ c.args.changed c.stop.result
+    changed_back x c.args.self.now c.set_by_index.new.self _ c.args.changed c.stopping.result
     c.if-changed.true
     (stops_back x c.args.self.now c.set_by_index.new.self _ c.args.changed c.set_by_index.result
-    c.stop.result c.stop.ensures (c.set_by_index.ensures.goes x))
+    c.stopping.result c.stopping.ensures (c.set_by_index.ensures.goes x))
 
 pub returns-then-changed-clause-needs : goal.returns-then-changed-clause-needs
 returns-then-changed-clause-needs c = λ p.
-    stops_need p c.set_by_index.new.self c.set_by_index.result c.stop.result _ c.stop.ensures
+    stops_need p c.set_by_index.new.self c.set_by_index.result c.stopping.result _ c.stopping.ensures
     (needs_more p c.set_by_index.new.self c.set_by_index.result _ _ (c.set_by_index.ensures.needs p)
     (omega arith))

@@ -13,7 +13,7 @@ pub at_index-requires : goal.at_index-requires
 at_index-requires c = (
   c.requires.0,
   (
-    subst (λ (u : Walk). Stands u.trail c.requires.0) (sym c.in_ok-pass.ensures.passed)
+    subst (λ (u : Walk). Stands u.trail c.requires.0) (sym c.in_ok-pass_mark.ensures.passed)
         c.requires.1.0,
     c.requires.1.1,
   ),
@@ -24,25 +24,28 @@ returns-in-Some-clause-takes c =
     let w = c.args.self.now in
     let x = c.args.context in
     let t = c.requires.0 in
-    let stands = subst (λ (u : Walk). Stands u.trail t) (sym c.in_ok-pass.ensures.passed) c.requires.1.0 in
+    let stands = subst (λ (u : Walk). Stands u.trail t)
+    (sym c.in_ok-pass_mark.ensures.passed) c.requires.1.0 in
     index_by_value x w c.at_index.new.self c.args.role c.args.operand c.args.pos c.args.bracket t
     (Some c.in-Some.index) c.at_index.result c.requires.1.0 c.requires.1.1
     (sym c.in-Some.is ∙ c.in_ok-index.ensures)
     (subst (λ (u : Walk). Takes x u (own_index x u c.args.role c.args.operand c.args.pos c.args.bracket t
-    c.in-Some.index) c.at_index.result c.at_index.new.self) c.in_ok-pass.ensures.passed
+    c.in-Some.index) c.at_index.result c.at_index.new.self) c.in_ok-pass_mark.ensures.passed
     (c.at_index.ensures.takes t stands))
 
 pub returns-in-None-clause-takes : goal.returns-in-None-clause-takes
 returns-in-None-clause-takes c =
     let w = c.args.self.now in
     let x = c.args.context in
-    index_by_value x w c.race.new.self c.args.role c.args.operand c.args.pos c.args.bracket c.requires.0
-    None c.stop.result c.requires.1.0 c.requires.1.1 (sym c.in-None.is ∙ c.in_ok-index.ensures)
-    (stops_takes x (marked w) c.race.new.self _ c.race.result c.stop.result c.stop.ensures
+    index_by_value x w c.raise_data_race.new.self c.args.role c.args.operand c.args.pos c.args.bracket
+    c.requires.0 None c.stopping.result c.requires.1.0 c.requires.1.1
+    (sym c.in-None.is ∙ c.in_ok-index.ensures) (stops_takes x (marked w) c.raise_data_race.new.self _
+    c.raise_data_race.result c.stopping.result c.stopping.ensures
     (subst (λ (u : Walk). Goes x u (Walks.failing u.step (Plain (DataRace (codes "variable ''")) c.args.pos)
-    (rest x u)) c.race.result c.race.new.self) c.in_ok-pass.ensures.passed (c.race.ensures.goes x)))
+    (rest x u)) c.raise_data_race.result c.raise_data_race.new.self) c.in_ok-pass_mark.ensures.passed
+    (c.raise_data_race.ensures.goes x)))
 
 pub returns-in-None-clause-needs : goal.returns-in-None-clause-needs
 returns-in-None-clause-needs c = λ n.
-    stops_need c.args.context.program.now c.race.new.self c.race.result c.stop.result n
-    c.stop.ensures (c.race.ensures.needs c.args.context.program.now n)
+    stops_need c.args.context.program.now c.raise_data_race.new.self c.raise_data_race.result
+    c.stopping.result n c.stopping.ensures (c.raise_data_race.ensures.needs c.args.context.program.now n)

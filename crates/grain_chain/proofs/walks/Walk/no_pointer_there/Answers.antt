@@ -13,11 +13,11 @@ use Rattle.grain_chain.proofs.walks.Walk.no_pointer_there.Goals as goal
 pub returns-clause-goes : goal.returns-clause-goes
 returns-clause-goes c = λ x v stands.
     let w = c.args.self.now in
-    let w1 = c.pass.new.self in
+    let w1 = c.pass_mark.new.self in
     passes_goes x w w1 c.raise.new.self
     (λ (u : Walk). Walks.failing u.step
     (Plain (MismatchDataType (codes "Fn") (type_name_of v)) c.args.pos) (rest x u))
-    c.raise.result refl c.in_ok-pass.ensures.passed
+    c.raise.result refl c.in_ok-pass_mark.ensures.passed
     (subst (λ (p : Problem). Goes x w1 (Walks.failing w1.step p (rest x w1)) c.raise.result
     c.raise.new.self)
     (c.in_ok-fault.ensures

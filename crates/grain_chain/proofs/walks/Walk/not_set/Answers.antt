@@ -5,8 +5,8 @@ use Rattle.grain_chain.proofs.walks.Walk.not_set.Goals as goal
 
 pub returns-then-is_indexing_type-clause-goes : goal.returns-then-is_indexing_type-clause-goes
 returns-then-is_indexing_type-clause-goes c =
-    pick_true c.args.context c.args.self.now c.well.new.self _ _ _ c.well.result
-    (sym c.is_indexing_type.ensures ∙ c.if-is_indexing_type.true) c.well.ensures.goes
+    pick_true c.args.context c.args.self.now c.walk_back.new.self _ _ _ c.walk_back.result
+    (sym c.is_indexing_type.ensures ∙ c.if-is_indexing_type.true) c.walk_back.ensures.goes
 
 pub returns-clause-goes : goal.returns-clause-goes
 returns-clause-goes c =

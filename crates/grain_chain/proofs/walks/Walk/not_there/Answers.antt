@@ -24,8 +24,8 @@ returns-in-Bounds-clause-takes c = λ v stands.
     let same = same_target w.trail c.target.result.now v c.target.ensures stands in
     subst (λ (y : ValueFault). Takes x w (Walks.indexed (setting x w) w.step c.args.pos c.args.bracket
     (role_in c.args.role w.value) (operand_of w c.args.operand) c.args.index (with_value w v)
-    (next_step x w) (place_of w) (rest x w) (Err y)) c.stop.result c.raise.new.self) (sym c.in-Bounds.is)
-    (stops_takes x w c.raise.new.self _ c.raise.result c.stop.result c.stop.ensures
+    (next_step x w) (place_of w) (rest x w) (Err y)) c.stopping.result c.raise.new.self) (sym c.in-Bounds.is)
+    (stops_takes x w c.raise.new.self _ c.raise.result c.stopping.result c.stopping.ensures
     (subst (λ (y : Problem). Goes x w (Walks.failing w.step y (rest x w)) c.raise.result c.raise.new.self)
     (rw (to_z-of_z w64 c.in-Bounds.place fits) at c.out_of_bounds-fault.ensures
     ∙ ap (λ (d : Dynamic). Plain (Walks.out_of_bounds d c.in-Bounds.length c.in-Bounds.place)
@@ -34,8 +34,8 @@ returns-in-Bounds-clause-takes c = λ v stands.
 
 pub returns-in-Bounds-clause-needs : goal.returns-in-Bounds-clause-needs
 returns-in-Bounds-clause-needs c = λ n.
-    stops_need c.args.context.program.now c.raise.new.self c.raise.result c.stop.result n
-    c.stop.ensures (c.raise.ensures.needs c.args.context.program.now n)
+    stops_need c.args.context.program.now c.raise.new.self c.raise.result c.stopping.result n
+    c.stopping.ensures (c.raise.ensures.needs c.args.context.program.now n)
 
 pub returns-in_ok-fault-in-WrongType-clause-takes : goal.returns-in_ok-fault-in-WrongType-clause-takes
 returns-in_ok-fault-in-WrongType-clause-takes c = λ v stands.
@@ -44,10 +44,10 @@ returns-in_ok-fault-in-WrongType-clause-takes c = λ v stands.
     let same = same_target w.trail c.target-in-WrongType.result.now v c.target-in-WrongType.ensures stands in
     subst (λ (y : ValueFault). Takes x w (Walks.indexed (setting x w) w.step c.args.pos c.args.bracket
     (role_in c.args.role w.value) (operand_of w c.args.operand) c.args.index (with_value w v)
-    (next_step x w) (place_of w) (rest x w) (Err y)) c.stop-in-WrongType.result
+    (next_step x w) (place_of w) (rest x w) (Err y)) c.stopping-in-WrongType.result
     c.raise-in-WrongType.new.self) (sym c.in-WrongType.is)
     (stops_takes x w c.raise-in-WrongType.new.self _ c.raise-in-WrongType.result
-    c.stop-in-WrongType.result c.stop-in-WrongType.ensures
+    c.stopping-in-WrongType.result c.stopping-in-WrongType.ensures
     (subst (λ (y : Problem). Goes x w (Walks.failing w.step y (rest x w)) c.raise-in-WrongType.result
     c.raise-in-WrongType.new.self)
     (c.in_ok-fault-in-WrongType.ensures
@@ -58,7 +58,7 @@ returns-in_ok-fault-in-WrongType-clause-takes c = λ v stands.
 pub returns-in_ok-fault-in-WrongType-clause-needs : goal.returns-in_ok-fault-in-WrongType-clause-needs
 returns-in_ok-fault-in-WrongType-clause-needs c = λ n.
     stops_need c.args.context.program.now c.raise-in-WrongType.new.self c.raise-in-WrongType.result
-    c.stop-in-WrongType.result n c.stop-in-WrongType.ensures
+    c.stopping-in-WrongType.result n c.stopping-in-WrongType.ensures
     (c.raise-in-WrongType.ensures.needs c.args.context.program.now n)
 
 pub missing_index-requires : goal.missing_index-requires

@@ -5,7 +5,7 @@ use Rattle.grain_means.specs.Walks
 use Rattle.grain_chain.specs.Walking.{place_of}
 use Rattle.grain_chain.specs.Going.{Goes, rest, setting}
 use Rattle.grain_chain.specs.declared.walks.Walk.{Walk}
-use Rattle.grain_means.specs.Tasks.{Well}
+use Rattle.grain_means.specs.Tasks.{WalkEnded}
 use Rattle.grain_chain.specs.Standings.{Standing, AssignedThere}
 use Rattle.grain_chain.specs.Going.{FailsAt}
 use Rattle.grain_chain.proofs.Tails.{goes_written, operates_slow, operates_fast, operating_halts, stored_fault, written}
@@ -50,30 +50,32 @@ returns-in-Done-clause-goes c =
     let v0 = c.assign.ensures in
     let o = assignment x.engine.now.limits c.args.op.op_assign v0.0 w.value in
     let h = subst (λ (a : AssignAnswer). AssignedThere w.trail a o c.assign.new.self) c.in-Done.is v0.1.1 in
-    operates_fast x w c.well.new.self c.args.pos c.args.op c.well.result v0.0 v0.1.0 c.if-not-context.false
+    operates_fast x w c.walk_back.new.self c.args.pos c.args.op c.walk_back.result v0.0 v0.1.0
+    c.if-not-context.false
     (subst (λ (p : Outcome). Goes x w (Walks.stored (setting x w) w.step c.args.pos c.args.op w.value
-    (place_of w) (rest x w) p) c.well.result c.well.new.self) (sym h.1)
-    (goes_written x w c.well.new.self h.0 c.well.result
-    (subst (λ (t : Standing). Goes x (written w t) (rest x (written w t) (Well dynamic.Unit true))
-    c.well.result c.well.new.self) h.2
+    (place_of w) (rest x w) p) c.walk_back.result c.walk_back.new.self) (sym h.1)
+    (goes_written x w c.walk_back.new.self h.0 c.walk_back.result
+    (subst (λ (t : Standing). Goes x (written w t) (rest x (written w t) (WalkEnded dynamic.Unit true))
+    c.walk_back.result c.walk_back.new.self) h.2
     (subst (λ (m : ℕ). let w1 : Walk =
     record w { trail = c.assign.new.self; gives = dynamic.Unit; marks = m } in
-    Goes x w1 (rest x w1 (Well dynamic.Unit true)) c.well.result c.well.new.self) c.in-Ok.ensures
-    c.well.ensures.goes))))
+    Goes x w1 (rest x w1 (WalkEnded dynamic.Unit true)) c.walk_back.result c.walk_back.new.self)
+    c.in-Ok.ensures
+    c.walk_back.ensures.goes))))
 
-pub returns-in-Ok-placed-clause-goes : goal.returns-in-Ok-placed-clause-goes
-returns-in-Ok-placed-clause-goes c =
+pub returns-in-Ok-fault_at-clause-goes : goal.returns-in-Ok-fault_at-clause-goes
+returns-in-Ok-fault_at-clause-goes c =
     let w = c.args.self.now in
     let x = c.args.context in
     let v0 = c.assign.ensures in
     let o = assignment x.engine.now.limits c.args.op.op_assign v0.0 w.value in
     let h = subst (λ (a : AssignAnswer). AssignedThere w.trail a o c.assign.new.self) c.in-Failed.is v0.1.1 in
-    let at = subst (λ (p : Result EvalAltResult OutOfMemory). FailsAt c.args.pos p o) c.in-Ok-placed.is
-    (c.placed.ensures o h.0) in
+    let at = subst (λ (p : Result EvalAltResult OutOfMemory). FailsAt c.args.pos p o) c.in-Ok-fault_at.is
+    (c.fault_at.ensures o h.0) in
     operates_fast x w c.raise.new.self c.args.pos c.args.op c.raise.result v0.0 v0.1.0 c.if-not-context.false
-    (stored_fault x w c.raise.new.self c.args.pos c.args.op c.raise.result o c.in-Ok-placed.fault at
+    (stored_fault x w c.raise.new.self c.args.pos c.args.op c.raise.result o c.in-Ok-fault_at.fault at
     (subst (λ (t : Standing). let w1 : Walk = record w { trail = t } in Goes x w1 (Walks.failing w1.step
-    (problem_of c.in-Ok-placed.fault) (rest x w1)) c.raise.result c.raise.new.self) h.1
+    (problem_of c.in-Ok-fault_at.fault) (rest x w1)) c.raise.result c.raise.new.self) h.1
     (c.raise.ensures.goes x)))
 
 pub returns-in-Err-clause-goes : goal.returns-in-Err-clause-goes

@@ -9,12 +9,12 @@ returns-clause-goes c =
 
 pub returns-then-changed-clause-goes : goal.returns-then-changed-clause-goes
 returns-then-changed-clause-goes c =
-    changed_back c.args.context c.args.self.now c.set_property.new.self _ c.args.changed c.stop.result
+    changed_back c.args.context c.args.self.now c.set_property.new.self _ c.args.changed c.stopping.result
     c.if-changed.true
     (stops_back c.args.context c.args.self.now c.set_property.new.self _ c.args.changed
-    c.set_property.result c.stop.result c.stop.ensures c.set_property.ensures.goes)
+    c.set_property.result c.stopping.result c.stopping.ensures c.set_property.ensures.goes)
 
 pub returns-then-changed-clause-needs : goal.returns-then-changed-clause-needs
 returns-then-changed-clause-needs c =
-    stops_need c.args.context.program.now c.set_property.new.self c.set_property.result c.stop.result _
-    c.stop.ensures c.set_property.ensures.needs
+    stops_need c.args.context.program.now c.set_property.new.self c.set_property.result c.stopping.result _
+    c.stopping.ensures c.set_property.ensures.needs

@@ -23,7 +23,7 @@ deeper-requires c =
     let same = c.in_ok-key.ensures ∙ c.name_at.ensures in
     let has = c.requires.1.1 ∙ ap Some c.if-is_there.true in
     subst (λ (u : Walk). Leads (u.trail.path ++ path_step.Key c.in_ok-key.key ∷ []) (tree u.trail.here.value))
-    (sym c.in_ok-pass.ensures.passed)
+    (sym c.in_ok-pass_mark.ensures.passed)
     (subst (λ (n : List ℕ). Leads (w.trail.path ++ path_step.Key n ∷ []) (tree w.trail.here.value))
     (sym same) (leads_there w.trail.path w.trail.here.value c.requires.0 k c.requires.1.0 has))
 
@@ -39,7 +39,7 @@ returns-then-is_there-clause-takes c = λ getter setter.
     c.requires.0 (Ok None) (c.requires.1.1 ∙ ap Some c.if-is_there.true)
     (dives x (marked w) c.deeper.new.self (path_step.Key k)
     (c.in_ok-deeper.ensures.deeper
-    ∙ ap (λ (u : Walk). deep u (path_step.Key c.in_ok-key.key)) c.in_ok-pass.ensures.passed
+    ∙ ap (λ (u : Walk). deep u (path_step.Key c.in_ok-key.key)) c.in_ok-pass_mark.ensures.passed
     ∙ ap (λ (n : List ℕ). deep (marked w) (path_step.Key n)) same)))
 
 pub missing_key-requires : goal.missing_key-requires
@@ -47,7 +47,7 @@ missing_key-requires c =
     let got = is_map c.requires.0 (name_of c.args.context.program.now c.args.name) c.args.is_there
     c.requires.1.1 in (
       got.0,
-      subst (λ (u : Walk). Stands u.trail (dynamic.Map got.0)) (sym c.in_ok-pass.ensures.passed)
+      subst (λ (u : Walk). Stands u.trail (dynamic.Map got.0)) (sym c.in_ok-pass_mark.ensures.passed)
           (subst (λ (d : Dynamic). Stands c.args.self.now.trail d) got.1 c.requires.1.0),
     )
 
@@ -58,7 +58,8 @@ returns-clause-takes c = λ getter setter.
     let t = c.requires.0 in
     let k = name_of x.program.now c.args.name in
     let same = c.in_ok-key.ensures ∙ c.name_at.ensures in
-    let stands = subst (λ (u : Walk). Stands u.trail t) (sym c.in_ok-pass.ensures.passed) c.requires.1.0 in
+    let stands = subst (λ (u : Walk). Stands u.trail t)
+    (sym c.in_ok-pass_mark.ensures.passed) c.requires.1.0 in
     property_takes x w c.missing_key.new.self c.args.role c.args.name getter setter c.args.pos t
     c.missing_key.result c.requires.1.0
     (at_missing x (marked w) c.missing_key.new.self c.args.role c.args.name getter setter c.args.pos
@@ -69,5 +70,5 @@ returns-clause-takes c = λ getter setter.
     c.missing_key.new.self) same
     (subst (λ (u : Walk). Takes x u (Walks.missing_key (setting x u) u.step c.args.pos Walks.OfNothing
     (role_in c.args.role u.value) c.in_ok-key.key (with_value u t) (next_step x u) (place_of u)
-    (rest x u)) c.missing_key.result c.missing_key.new.self) c.in_ok-pass.ensures.passed
+    (rest x u)) c.missing_key.result c.missing_key.new.self) c.in_ok-pass_mark.ensures.passed
     (c.missing_key.ensures.takes t stands))))

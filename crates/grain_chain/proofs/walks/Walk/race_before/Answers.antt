@@ -9,6 +9,6 @@ use Rattle.grain_chain.proofs.walks.Walk.race_before.Goals as goal
 
 pub returns-clause-goes : goal.returns-clause-goes
 returns-clause-goes c = λ x.
-    passes_goes x c.args.self.now c.pass.new.self c.race.new.self
+    passes_goes x c.args.self.now c.pass_mark.new.self c.raise_data_race.new.self
     (λ (u : Walk). Walks.failing u.step (Plain (DataRace (codes "variable ''")) c.args.pos) (rest x u))
-    c.race.result refl c.in_ok-pass.ensures.passed (c.race.ensures.goes x)
+    c.raise_data_race.result refl c.in_ok-pass_mark.ensures.passed (c.raise_data_race.ensures.goes x)

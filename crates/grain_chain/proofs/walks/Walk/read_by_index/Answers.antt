@@ -4,25 +4,25 @@ use Rattle.grain_value.specs.declared.values.Dynamic.{Dynamic}
 use Rattle.grain_means.specs.Walks
 use Rattle.grain_chain.specs.Walking.{place_of, gone_into}
 use Rattle.grain_chain.specs.Going.{Goes, rest}
-use Rattle.grain_chain.specs.declared.origins.Awaits.TheVariants as awaits
-use Rattle.grain_chain.specs.declared.origins.Go.TheVariants as go
+use Rattle.grain_chain.specs.declared.origins.Awaited.TheVariants as awaited
+use Rattle.grain_chain.specs.declared.origins.Onward.TheVariants as onward
 use Rattle.grain_chain.specs.declared.origins.Origin.TheVariants as origin
-use Rattle.grain_chain.specs.declared.origins.Into.{Into}
+use Rattle.grain_chain.specs.declared.origins.AnswerUse.{AnswerUse}
 use Rattle.grain_chain.proofs.Asks.{asks_with, asks_less, one_of}
 use Rattle.grain_chain.proofs.walks.Walk.read_by_index.Goals as goal
 
 pub returns-clause-goes : goal.returns-clause-goes
 returns-clause-goes c = λ x.
     let w = c.args.self.now in
-    let made : Into = record {
+    let made : AnswerUse = record {
       pos = c.args.bracket;
       own = false;
       origin = origin.Index c.args.index c.args.bracket;
-      go = go.Operate c.args.bracket c.args.op;
+      go = onward.Operate c.args.bracket c.args.op;
     } in
     let asked = asks_with x w c.get_by_index.new.self c.args.bracket (codes "index$get$")
     (codes "index$get$") (tree c.in_ok-argument.argument ∷ []) (c.args.index ∷ [])
-    (awaits.IndexRead c.args.bracket c.in_ok-kept.kept made) c.get_by_index.result refl
+    (awaited.IndexRead c.args.bracket c.in_ok-kept.kept made) c.get_by_index.result refl
     (one_of (tree c.in_ok-argument.argument ∷ []) c.args.index
     (ap (λ (d : Dynamic). tree d ∷ []) c.in_ok-argument.ensures)) c.get_by_index.ensures in
     subst (λ (d : Dynamic). Goes x w (Walks.asking w.step c.args.bracket Walks.index_get
@@ -33,9 +33,9 @@ returns-clause-goes c = λ x.
 pub returns-clause-needs : goal.returns-clause-needs
 returns-clause-needs c = λ p at.
     asks_less p c.args.self.now c.get_by_index.new.self c.args.bracket (codes "index$get$")
-    (tree c.in_ok-argument.argument ∷ []) (awaits.IndexRead c.args.bracket c.in_ok-kept.kept (record {
+    (tree c.in_ok-argument.argument ∷ []) (awaited.IndexRead c.args.bracket c.in_ok-kept.kept (record {
       pos = c.args.bracket;
       own = false;
       origin = origin.Index c.args.index c.args.bracket;
-      go = go.Operate c.args.bracket c.args.op;
+      go = onward.Operate c.args.bracket c.args.op;
     })) c.get_by_index.result _ c.get_by_index.ensures at (omega arith)

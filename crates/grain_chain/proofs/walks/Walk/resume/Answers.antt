@@ -2,7 +2,7 @@ use Rattle.std.proofs.Common.{◌≡◌, ℕ, sym, ap, ◌∙◌, subst}
 use Rattle.grain_chain.specs.Going.{Goes, Needs}
 use Rattle.grain_chain.specs.declared.walks.Walk.{Walk}
 use Rattle.grain_chain.specs.Walking.{resumed, still, IsAtStep}
-use Rattle.grain_chain.specs.declared.origins.Awaits.{Awaits}
+use Rattle.grain_chain.specs.declared.origins.Awaited.{Awaited}
 use Rattle.grain_chain.proofs.Ends.{settled_needs, resumes, taken_up, same_step, same_still}
 use Rattle.grain_chain.specs.declared.contexts.Context.{Context}
 use Rattle.grain_chain.specs.laws.Told.{resume_rooted, carries}
@@ -10,8 +10,8 @@ use Rattle.grain_chain.specs.Walking.{outcome_of}
 use Rattle.grain_chain.proofs.Ends.{same_awaits}
 use Rattle.grain_chain.proofs.walks.Walk.resume.Goals as goal
 
-pub hear-went-requires : goal.hear-went-requires
-hear-went-requires c =
+pub take_outcome-went-requires : goal.take_outcome-went-requires
+take_outcome-went-requires c =
     let x : Context = record { engine = c.args.engine; program = c.args.program; cells = c.args.cells } in
     let p = c.args.program.now in
     let w = c.args.self.now in
@@ -23,7 +23,7 @@ hear-went-requires c =
     ∙ same_awaits w c.args.receiver in
     subst (λ (z : Walk). let u : Walk = record z { awaits = q } in IsAtStep p u s)
     (sym c.take_back.ensures)
-    (subst (λ (a : Awaits). IsAtStep p (taken_up w c.args.receiver q) a) (sym same)
+    (subst (λ (a : Awaited). IsAtStep p (taken_up w c.args.receiver q) a) (sym same)
     (same_step c.args.engine.now p w q c.args.receiver w.awaits c.requires.step))
 
 pub returns-clause-did : goal.returns-clause-did
@@ -38,12 +38,13 @@ returns-clause-did c =
     c.replace-awaits.ensures.value ∙ ap (λ (u : Walk). u.awaits) c.take_back.ensures
     ∙ same_awaits w c.args.receiver in
     let one = subst (λ (z : Walk). let u : Walk = record z { awaits = q } in
-    Goes x u (resumed x.engine.now p u s b) c.hear-went.result c.hear-went.new.self) c.take_back.ensures
-    c.hear-went.ensures.goes in
-    let two = subst (λ (a : Awaits). let u = taken_up w c.args.receiver q in
-    Goes x u (resumed x.engine.now p u a b) c.hear-went.result c.hear-went.new.self) same one in
-    resumes x w c.hear-went.new.self c.settle.new.self c.args.receiver q w.awaits b c.hear-went.result
-    c.settle.result two c.settle.ensures
+    Goes x u (resumed x.engine.now p u s b) c.take_outcome-went.result c.take_outcome-went.new.self)
+    c.take_back.ensures c.take_outcome-went.ensures.goes in
+    let two = subst (λ (a : Awaited). let u = taken_up w c.args.receiver q in
+    Goes x u (resumed x.engine.now p u a b) c.take_outcome-went.result c.take_outcome-went.new.self)
+    same one in
+    resumes x w c.take_outcome-went.new.self c.settle.new.self c.args.receiver q w.awaits b
+    c.take_outcome-went.result c.settle.result two c.settle.ensures
 
 pub returns-clause-falls : goal.returns-clause-falls
 returns-clause-falls c =
@@ -57,12 +58,12 @@ returns-clause-falls c =
     c.replace-awaits.ensures.value ∙ ap (λ (u : Walk). u.awaits) c.take_back.ensures
     ∙ same_awaits w c.args.receiver in
     let one = subst (λ (z : Walk). let u : Walk = record z { awaits = q } in
-    Needs p c.hear-went.new.self c.hear-went.result (still p u s)) c.take_back.ensures
-    c.hear-went.ensures.needs in
-    let two = subst (λ (a : Awaits). Needs p c.hear-went.new.self c.hear-went.result
+    Needs p c.take_outcome-went.new.self c.take_outcome-went.result (still p u s)) c.take_back.ensures
+    c.take_outcome-went.ensures.needs in
+    let two = subst (λ (a : Awaited). Needs p c.take_outcome-went.new.self c.take_outcome-went.result
     (still p (taken_up w c.args.receiver q) a)) same one in
-    settled_needs p c.hear-went.new.self c.settle.new.self c.hear-went.result c.settle.result _
-    (subst (λ (n : ℕ). Needs p c.hear-went.new.self c.hear-went.result n)
+    settled_needs p c.take_outcome-went.new.self c.settle.new.self c.take_outcome-went.result
+    c.settle.result _ (subst (λ (n : ℕ). Needs p c.take_outcome-went.new.self c.take_outcome-went.result n)
     (same_still c.args.engine.now p w q c.args.receiver w.awaits) two) c.settle.ensures
 
 pub returns-clause-carries : goal.returns-clause-carries

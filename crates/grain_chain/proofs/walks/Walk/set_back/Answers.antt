@@ -1,5 +1,5 @@
 use Rattle.std.proofs.Common.{◌≡◌, Bool, true, None, Ok, sym, ap, subst}
-use Rattle.grain_means.specs.Tasks.{Well}
+use Rattle.grain_means.specs.Tasks.{WalkEnded}
 use Rattle.grain_means.specs.Walks
 use Rattle.grain_means.specs.Walks.{is_change}
 use Rattle.grain_chain.specs.Walking.{place_of}
@@ -53,5 +53,5 @@ returns-in-Method-clause-goes c =
     (place_of c.args.self.now) c.args.inner c.args.self.now.gives c.args.changed
     (rest c.args.context c.args.self.now)) c.args.changed (Ok None) c.args.self.now) (sym c.in-Method.is)
     (subst (λ (b : Bool). GoesBack c.args.context c.args.self.now
-    (rest c.args.context c.args.self.now (Well c.args.self.now.gives true)) b (Ok None) c.args.self.now)
+    (rest c.args.context c.args.self.now (WalkEnded c.args.self.now.gives true)) b (Ok None) c.args.self.now)
     counts (as_it_was c.args.context c.args.self.now true))

@@ -3,7 +3,7 @@ use Rattle.grain_value.specs.View.{tree}
 use Rattle.grain_value.specs.declared.values.Dynamic.{Dynamic}
 use Rattle.grain_value.specs.declared.values.Dynamic.TheVariants as dynamic
 use Rattle.grain_program.specs.View.{name_of}
-use Rattle.grain_chain.specs.declared.origins.Awaits.TheVariants as awaits
+use Rattle.grain_chain.specs.declared.origins.Awaited.TheVariants as awaited
 use Rattle.grain_chain.proofs.Asks.{asks_with, asks_less, two_of}
 use Rattle.grain_chain.proofs.walks.Walk.set_instead.Goals as goal
 
@@ -13,7 +13,7 @@ returns-clause-goes c =
     asks_with c.args.context w c.ask.new.self c.args.pos (codes "index$set$") (codes "index$set$")
     c.in_ok-values.values
     (dynamic.Text (name_of c.args.context.program.now c.args.name) ∷ c.args.set ∷ [])
-    (awaits.SetInstead c.args.fault c.args.assigned) c.ask.result refl
+    (awaited.SetInstead c.args.fault c.args.assigned) c.ask.result refl
     (two_of c.in_ok-values.values (dynamic.Text (name_of c.args.context.program.now c.args.name))
     c.args.set (c.in_ok-values.ensures
     ∙ ap (λ (d : Dynamic). tree d ∷ tree c.args.set ∷ []) c.in_ok-name.ensures)) c.ask.ensures
@@ -21,5 +21,5 @@ returns-clause-goes c =
 pub returns-clause-needs : goal.returns-clause-needs
 returns-clause-needs c =
     asks_less c.args.context.program.now c.args.self.now c.ask.new.self c.args.pos (codes "index$set$")
-    c.in_ok-values.values (awaits.SetInstead c.args.fault c.args.assigned) c.ask.result _ c.ask.ensures
+    c.in_ok-values.values (awaited.SetInstead c.args.fault c.args.assigned) c.ask.result _ c.ask.ensures
     tt (omega arith)

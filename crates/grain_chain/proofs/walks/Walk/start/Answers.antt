@@ -4,7 +4,7 @@ use Rattle.grain_value.specs.declared.values.Dynamic.{Dynamic}
 use Rattle.grain_value.specs.declared.values.Dynamic.TheVariants as dynamic
 use Rattle.grain_chain.specs.Going.{Goes, Needs}
 use Rattle.grain_chain.specs.declared.walks.Walk.{Walk}
-use Rattle.grain_chain.specs.declared.origins.Awaits.TheVariants as awaits
+use Rattle.grain_chain.specs.declared.origins.Awaited.TheVariants as awaited
 use Rattle.grain_chain.proofs.Stepping.{needs_more}
 use Rattle.grain_chain.specs.Standings.{Standing}
 use Rattle.grain_chain.specs.Walking.{steps_left, ending_in}
@@ -23,7 +23,7 @@ abbrev beginning : Global → ℕ → List Tree → Dynamic → Position → Sta
 beginning alloc k operands d q t e = record {
   trail = t;
   step = 0;
-  awaits = awaits.IndexSet;
+  awaits = awaited.IndexSet;
   gives = dynamic.Unit;
   alloc = alloc;
   chain = k;

@@ -16,5 +16,6 @@ returns-in-Some-clause-goes c =
 
 pub returns-in-None-clause-goes : goal.returns-in-None-clause-goes
 returns-in-None-clause-goes c =
-    goes_flat c.args.context c.args.self.now c.race.new.self c.args.pos c.args.value _
-    None c.race.result (sym c.in-None.is ∙ c.in-Ok.ensures) (c.race.ensures.goes c.args.context)
+    goes_flat c.args.context c.args.self.now c.raise_data_race.new.self c.args.pos c.args.value _
+    None c.raise_data_race.result (sym c.in-None.is ∙ c.in-Ok.ensures)
+    (c.raise_data_race.ensures.goes c.args.context)

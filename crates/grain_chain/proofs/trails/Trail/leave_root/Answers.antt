@@ -4,7 +4,7 @@ use Rattle.grain_value.specs.Paths.{Leads}
 use Rattle.grain_value.specs.declared.values.Held.{Held}
 use Rattle.grain_chain.specs.Standings.{AllLead}
 use Rattle.grain_chain.proofs.Paths.{lead_fewer}
-use Rattle.grain_chain.proofs.trails.Trail.leave.Goals as goal
+use Rattle.grain_chain.proofs.trails.Trail.leave_root.Goals as goal
 
 pub invariant_of-self-2 : goal.invariant_of-self-2
 invariant_of-self-2 c =

@@ -2,7 +2,7 @@ use Rattle.std.proofs.Common.{ℕ, List, subst}
 use Rattle.grain_means.specs.Walks
 use Rattle.grain_chain.specs.Going.{Goes, rest}
 use Rattle.grain_fault.specs.Problems.{Plain, DataRace}
-use Rattle.grain_chain.proofs.walks.Walk.race.Goals as goal
+use Rattle.grain_chain.proofs.walks.Walk.raise_data_race.Goals as goal
 
 pub returns-clause-goes : goal.returns-clause-goes
 returns-clause-goes c = λ x.

@@ -4,13 +4,13 @@ use Rattle.grain_value.specs.Paths.{Leads}
 use Rattle.grain_value.specs.declared.values.Held.{Held}
 use Rattle.grain_value.specs.declared.values.paths.PathStep.{PathStep}
 use Rattle.grain_chain.specs.Standings.{AllLead}
-use Rattle.grain_chain.specs.declared.origins.Outer.{Outer}
+use Rattle.grain_chain.specs.declared.origins.OuterRoot.{OuterRoot}
 use Rattle.grain_chain.proofs.Paths.{lead_more}
-use Rattle.grain_chain.proofs.trails.Trail.enter.Goals as goal
+use Rattle.grain_chain.proofs.trails.Trail.enter_root.Goals as goal
 
 pub invariant_of-self : goal.invariant_of-self
 invariant_of-self c =
-    let aside : Outer = record {
+    let aside : OuterRoot = record {
       root = c.replace-root.result;
       path = c.replace-path.result;
       step = c.args.step;

@@ -1,7 +1,0 @@
-use Rattle.grain_chain.proofs.walks.Walk.hear.Goals as goal
-
-pub returns-in-Ok-clause-goes : goal.returns-in-Ok-clause-goes
-returns-in-Ok-clause-goes c = rw c.in-Ok.is c.came.ensures.goes
-
-pub returns-in-Err-clause-goes : goal.returns-in-Err-clause-goes
-returns-in-Err-clause-goes c = rw c.in-Err.is c.refused.ensures.goes
