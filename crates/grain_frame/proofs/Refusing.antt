@@ -23,8 +23,8 @@ use Rattle.grain_frame.proofs.Homes.{entry_home, this_home}
 use Rattle.grain_frame.proofs.Targeting.{cell_holds, cell_lends, cell_read, held_plainly, held_value, left_plain, plain_there, right_plain}
 use Rattle.grain_frame.specs.declared.activations.Activation.{Activation}
 use Rattle.grain_frame.specs.declared.runs.Run.{Run}
-use Rattle.grain_frame.specs.declared.targets.Refusal.{Refusal}
-use Rattle.grain_frame.specs.declared.targets.Refusal.TheVariants as refusal
+use Rattle.grain_frame.specs.declared.targets.TargetRefusal.{TargetRefusal}
+use Rattle.grain_frame.specs.declared.targets.TargetRefusal.TheVariants as refusal
 use Rattle.grain_frame.specs.lemmas.Failing.{lent_raises}
 use Rattle.grain_frame.proofs.Flattening.{value_there}
 
@@ -110,7 +110,7 @@ module _ {H : Type 0} (m : Setup H) (f : Activation) (s : Run H) (n : StepsView)
   abbrev now : World H
   now = world (abstraction s n host) u
 
-  pub assign_refused : (r : Refusal) → Refuses s (f.base + slot) r →
+  pub assign_refused : (r : TargetRefusal) → Refuses s (f.base + slot) r →
       assign m slot name next (frame_in f s place) now
       ≡ raised m (frame_in f s place)
       (refusal_fault m.program (length s.scope) f.address (name_of m.program name) r) now
@@ -132,7 +132,7 @@ module _ {H : Type 0} (m : Setup H) (f : Activation) (s : Run H) (n : StepsView)
       let read = value_there (flat s.cells (top s.stacks.operands).value) constant.0 in
       rw (is.1, read.1, constant.1) refl
 
-  pub op_refused : (a : AssignOp) (r : Refusal) → Refuses s (f.base + slot) r →
+  pub op_refused : (a : AssignOp) (r : TargetRefusal) → Refuses s (f.base + slot) r →
       assign_op m a slot name next (frame_in f s place) now
       ≡ raised m (frame_in f s place)
       (refusal_fault m.program (length s.scope) f.address (name_of m.program name) r) now
@@ -159,7 +159,7 @@ module _ {H : Type 0} (m : Setup H) (f : Activation) (s : Run H) (n : StepsView)
   abbrev met : World H
   met = world (abstraction s n host) u
 
-  pub this_refused : (r : Refusal) → RefusesThis s r →
+  pub this_refused : (r : TargetRefusal) → RefusesThis s r →
       assign_this m next (frame_in f s place) met
       ≡ raised m (frame_in f s place)
       (refusal_fault m.program (length s.scope) f.address [] r) met
@@ -181,7 +181,7 @@ module _ {H : Type 0} (m : Setup H) (f : Activation) (s : Run H) (n : StepsView)
       let at = bound_at_place u.roots place (this_of s) is.0 is.1 bound in
       rw (read.1, at.1, at.2, constant.1) refl
 
-  pub this_op_refused : (a : AssignOp) (r : Refusal) → RefusesThis s r →
+  pub this_op_refused : (a : AssignOp) (r : TargetRefusal) → RefusesThis s r →
       assign_this_op m a next (frame_in f s place) met
       ≡ raised m (frame_in f s place)
       (refusal_fault m.program (length s.scope) f.address [] r) met

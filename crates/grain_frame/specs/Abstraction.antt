@@ -140,8 +140,9 @@ ContinuesAt engine s f s' f' targets takes gives handlers (Ok progress.Failed) =
     × (s'.stacks.handlers ≡ s.stacks.handlers)
 ContinuesAt engine s f s' f' targets takes gives handlers (Err e) = Unit {0}
 
--- The frame is the same but for its address and its floor. The frames around it are as they were, with
--- their scopes and each `this`. The level is the same, and the frame has a `this` if it had one.
+-- The frame is the same but for its address, its floor and the slot that it blames. The frames around
+-- it are as they were, with their scopes and each `this`. The level is the same, and the frame has a
+-- `this` if it had one.
 pub record KeepsFrame {H : Type 0} (f : Activation) (s : Run H) (f' : Activation) (s' : Run H) :
     Type 0 where
   pub chunk : f'.chunk ≡ f.chunk
@@ -314,9 +315,13 @@ abbrev pub IsNoCall : Op → Type 0
 IsNoCall o = ((name count : ℕ) → o ≡ op.Call name count → ⊥)
     × ((count : ℕ) → o ≡ op.CallFnPtr count → ⊥)
 
--- the instruction walks along no place
-abbrev pub IsNoWalk : Op → Type 0
-IsNoWalk o = (index : ℕ) → o ≡ op.Chain index → ⊥
+-- the instruction walks along no place, and calls no pointer with a receiver: so it runs no function that
+-- has a `this`
+abbrev pub RunsNoMethod : Op → Type 0
+RunsNoMethod o = ((index : ℕ) → o ≡ op.Chain index → ⊥)
+    × ((count : ℕ) → o ≡ op.CallFnPtrMethod count → ⊥)
+    × ((count slot : ℕ) → o ≡ op.CallFnPtrOnLocal count slot → ⊥)
+    × ((count : ℕ) → o ≡ op.CallFnPtrOnThis count → ⊥)
 
 -- the frame at another address
 abbrev pub moved : Activation → ℕ → Activation

@@ -8,7 +8,7 @@ abbrev pub bound_at : ℕ → List Bound → Option Held
 bound_at level [] = None
 bound_at level (b ∷ bs) = if b.level == level then Some b.held else None
 
--- those of other levels
+-- all but the newest, if that is of this level; or else all
 abbrev pub others_at : ℕ → List Bound → List Bound
 others_at level [] = []
 others_at level (b ∷ bs) = if b.level == level then bs else b ∷ bs
@@ -27,7 +27,8 @@ abbrev pub with_newest : Held → List Bound → List Bound
 with_newest h [] = []
 with_newest h (b ∷ bs) = record b { held = h } ∷ bs
 
--- at a level, those of other levels are as they were, and there is one of this level if there was one
+-- at a level, those of other levels are as they were, and there is one of this level exactly if there
+-- was one
 abbrev pub KeepsBound : ℕ → (before after : List Bound) → Type 0
 KeepsBound level before after =
     (others_at level after ≡ others_at level before)

@@ -14,8 +14,8 @@ use Rattle.grain_frame.specs.Targets.{HoldsAt, target_in}
 use Rattle.grain_frame.specs.declared.runs.Run.{Run}
 use Rattle.grain_frame.specs.declared.targets.Target.{Target}
 use Rattle.grain_frame.specs.declared.targets.Target.TheVariants as to
-use Rattle.grain_frame.specs.declared.targets.Refusal.{Refusal}
-use Rattle.grain_frame.specs.declared.targets.Refusal.TheVariants as refusal
+use Rattle.grain_frame.specs.declared.targets.TargetRefusal.{TargetRefusal}
+use Rattle.grain_frame.specs.declared.targets.TargetRefusal.TheVariants as refusal
 
 -- what stands here holds this and can be written, it or its cell is the target, and it and the last
 -- operand can be read
@@ -42,14 +42,14 @@ abbrev pub IsLentThere : {H : Type 0} → Run H → Held → Type 0
 IsLentThere s h = (flat s.cells (top s.stacks.operands).value ≡ None) ⊎ IsLentCell s h
 
 -- nothing is assigned to the entry at this index
-abbrev pub Refuses : {H : Type 0} → Run H → ℕ → Refusal → Type 0
+abbrev pub Refuses : {H : Type 0} → Run H → ℕ → TargetRefusal → Type 0
 Refuses s i (refusal.NoEntry j) = (j ≡ i) × (held_at s.scope i ≡ None)
 Refuses s i refusal.Lent = (h : Held) × (held_at s.scope i ≡ Some h) × IsLentThere s h
 Refuses s i refusal.Constant = (h : Held) × (held_at s.scope i ≡ Some h) × IsConstant s h
 Refuses s i refusal.Unbound = ⊥
 
 -- nothing is assigned to `this`
-abbrev pub RefusesThis : {H : Type 0} → Run H → Refusal → Type 0
+abbrev pub RefusesThis : {H : Type 0} → Run H → TargetRefusal → Type 0
 RefusesThis s (refusal.NoEntry j) = ⊥
 RefusesThis s refusal.Lent = (flat s.cells (top s.stacks.operands).value ≡ None)
     ⊎ ((h : Held) × (this_of s ≡ Some h) × IsLentCell s h)
@@ -58,18 +58,18 @@ RefusesThis s refusal.Unbound =
     (is_some (flat s.cells (top s.stacks.operands).value) ≡ true) × (this_of s ≡ None)
 
 -- where an assignment to the entry at this index writes, or why it does not
-abbrev pub FindsAt : {H : Type 0} → Run H → ℕ → Result Target Refusal → Type 0
+abbrev pub FindsAt : {H : Type 0} → Run H → ℕ → Result Target TargetRefusal → Type 0
 FindsAt s i (Ok t) = (h : Held) × FindsTarget s (to.Entry i) t h
 FindsAt s i (Err r) = Refuses s i r
 
 -- where an assignment to `this` writes, or why it does not
-abbrev pub FindsThis : {H : Type 0} → Run H → Result Target Refusal → Type 0
+abbrev pub FindsThis : {H : Type 0} → Run H → Result Target TargetRefusal → Type 0
 FindsThis s (Ok t) = (h : Held) × FindsTarget s to.This t h
 FindsThis s (Err r) = RefusesThis s r
 
 -- the fault that is raised where nothing is assigned to what has this name, at the position of an
 -- address, where the scope has this length
-abbrev pub refusal_fault : View → (size address : ℕ) → List ℕ → Refusal → Problem
+abbrev pub refusal_fault : View → (size address : ℕ) → List ℕ → TargetRefusal → Problem
 refusal_fault p size address name (refusal.NoEntry i) =
     Plain (Malformed (kind.SlotPastScope i size)) (position_of p address)
 refusal_fault p size address name refusal.Lent =

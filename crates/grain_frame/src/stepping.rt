@@ -1,7 +1,7 @@
-//! One instruction of a frame that calls no function and walks along no place.
+//! One instruction of a frame that calls no function, walks along no place and has no receiver.
 
 ghost use Rattle.grain_program.specs.Indices.{InPools};
-ghost use Rattle.grain_frame.specs.Abstraction.{Runs, ReadyIn, StandsAt, Stepped, IsNoCall, IsNoWalk, setup_of, moment};
+ghost use Rattle.grain_frame.specs.Abstraction.{Runs, ReadyIn, StandsAt, Stepped, IsNoCall, RunsNoMethod, setup_of, moment};
 
 use crate::activations::Activation;
 use crate::contexts::Context;
@@ -13,8 +13,8 @@ use grain_value::{Dynamic, OutOfMemory};
 use std::sync::ledger::Ledger;
 
 impl<H: Host> Run<H> {
-    /// Does this instruction, at which the frame stands, which calls no function and walks along no place,
-    /// and after which the address `next` comes.
+    /// Does this instruction, at which the frame stands, and after which the address `next` comes. It is
+    /// none that calls a function, walks along a place, or calls a pointer with a receiver.
     #[inline(always)]
     pub fn perform<L: Ledger>(
         &mut self,
@@ -30,7 +30,7 @@ impl<H: Host> Run<H> {
         requires ready { ReadyIn context.program.now frame.old self.old op next }
         requires pools { InPools context.program.now op }
         requires calls_nothing { IsNoCall op }
-        requires walks_nowhere { IsNoWalk op }
+        requires runs_no_method { RunsNoMethod op }
         ensures stepped { Stepped (setup_of H.law context.entry)
             (moment frame.old self.old steps.old host.old) result
             (moment frame.new self.new steps.new host.new) }
@@ -80,6 +80,9 @@ impl<H: Host> Run<H> {
             Op::MakeClosure(name) => self.make_closure(context, steps, frame, name, next),
             Op::Curry(count) => self.curry(context, steps, frame, count, next),
             Op::CallFnPtr(_) => unreachable!(),
+            Op::CallFnPtrMethod(_) => unreachable!(),
+            Op::CallFnPtrOnLocal(_, _) => unreachable!(),
+            Op::CallFnPtrOnThis(_) => unreachable!(),
             Op::Chain(_) => unreachable!(),
             Op::UnwindTo(depth) => Ok(self.unwind_to(context, steps, frame, depth, next)),
             Op::Tick => self.tick(context, host, steps, frame, next),

@@ -32,7 +32,7 @@ pub enum Target {
 
 /// Why nothing is assigned.
 #[derive(Clone, Copy, Debug, PartialEq, Eq)]
-pub enum Refusal {
+pub enum TargetRefusal {
     /// There is no entry at this index.
     NoEntry(usize),
     /// The operand, or the entry, is a cell that is lent.
@@ -76,26 +76,26 @@ impl<H: Host> Run<H> {
 
     // Where an assignment of the last operand to the entry of a slot writes, or why it does not.
     #[inline(always)]
-    pub(crate) fn target_at(&self, frame: &Activation, slot: u16) -> Result<Target, Refusal>
+    pub(crate) fn target_at(&self, frame: &Activation, slot: u16) -> Result<Target, TargetRefusal>
         requires inside { frame.now.base ≤ length self.now.scope }
         requires operand { 0 < length self.now.stacks.operands }
         ensures { FindsAt self.now (frame.now.base + slot) result }
     {
         let index = self.slot_index(frame, slot);
         let Some(held) = self.scope.get(index) else {
-            return Err(Refusal::NoEntry(index));
+            return Err(TargetRefusal::NoEntry(index));
         };
         let cell = held.value.as_cell();
         let free = held.value.flat(&self.cells).is_some();
         let read_only = held.read_only | self.is_constant(cell);
         if !self.is_readable() {
-            return Err(Refusal::Lent);
+            return Err(TargetRefusal::Lent);
         }
         if read_only {
-            return Err(Refusal::Constant);
+            return Err(TargetRefusal::Constant);
         }
         if !free {
-            return Err(Refusal::Lent);
+            return Err(TargetRefusal::Lent);
         }
         Ok(Target::of_entry(index, cell))
     }
@@ -109,7 +109,7 @@ impl<H: Host> Run<H> {
         steps: &mut Steps<L>,
         address: usize,
         name: u16,
-        refusal: Refusal,
+        refusal: TargetRefusal,
     ) -> Result<Progress, OutOfMemory>
         requires { name < length context.program.now.names }
         ensures { Raises self.old steps.old
@@ -118,10 +118,12 @@ impl<H: Host> Run<H> {
             result self.new steps.new }
     {
         match refusal {
-            Refusal::NoEntry(index) => Ok(self.slot_past_scope(context, steps, address, index)),
-            Refusal::Lent => self.data_race_of(context, steps, address, name),
-            Refusal::Constant => self.assignment_to_constant(context, steps, address, name),
-            Refusal::Unbound => Ok(self.unbound_this(context, steps, address)),
+            TargetRefusal::NoEntry(index) => Ok(self.slot_past_scope(
+                context, steps, address, index,
+            )),
+            TargetRefusal::Lent => self.data_race_of(context, steps, address, name),
+            TargetRefusal::Constant => self.assignment_to_constant(context, steps, address, name),
+            TargetRefusal::Unbound => Ok(self.unbound_this(context, steps, address)),
         }
     }
 

@@ -15,7 +15,7 @@ use crate::activations::Activation;
 use crate::assignments::Assignment;
 use crate::contexts::Context;
 use crate::runs::{Progress, Run};
-use crate::targets::{Refusal, Target};
+use crate::targets::{Target, TargetRefusal};
 use grain_fault::{EvalAltResult, Position};
 use grain_global::Steps;
 use grain_host::Host;
@@ -172,22 +172,22 @@ impl<H: Host> Run<H> {
     }
 
     // Where an assignment of the last operand to `this` writes, or why nothing is assigned.
-    fn target_this(&self) -> Result<Target, Refusal>
+    fn target_this(&self) -> Result<Target, TargetRefusal>
         requires operand { 0 < length self.now.stacks.operands }
         ensures { FindsThis self.now result }
     {
         if !self.is_readable() {
-            return Err(Refusal::Lent);
+            return Err(TargetRefusal::Lent);
         }
         let Some(held) = self.this() else {
-            return Err(Refusal::Unbound);
+            return Err(TargetRefusal::Unbound);
         };
         let cell = held.value.as_cell();
         if held.read_only | self.is_constant(cell) {
-            return Err(Refusal::Constant);
+            return Err(TargetRefusal::Constant);
         }
         if held.value.flat(&self.cells).is_none() {
-            return Err(Refusal::Lent);
+            return Err(TargetRefusal::Lent);
         }
         match cell {
             Some(cell) => Ok(Target::Cell(cell)),
@@ -203,21 +203,23 @@ impl<H: Host> Run<H> {
         context: Context<'_>,
         steps: &mut Steps<L>,
         address: usize,
-        refusal: Refusal,
+        refusal: TargetRefusal,
     ) -> Result<Progress, OutOfMemory>
         ensures { Raises self.old steps.old
             (refusal_fault context.entry.program.now (length self.old.scope) address [] refusal)
             result self.new steps.new }
     {
         match refusal {
-            Refusal::NoEntry(index) => Ok(self.slot_past_scope(context, steps, address, index)),
-            Refusal::Lent => self.data_race(context, steps, address, ""),
-            Refusal::Constant => {
+            TargetRefusal::NoEntry(index) => Ok(self.slot_past_scope(
+                context, steps, address, index,
+            )),
+            TargetRefusal::Lent => self.data_race(context, steps, address, ""),
+            TargetRefusal::Constant => {
                 let name = Text::new(self.alloc);
                 let fault = EvalAltResult::ErrorAssignmentToConstant(name, Position::NONE);
                 Ok(self.raise_at(context, steps, address, fault))
             }
-            Refusal::Unbound => Ok(self.unbound_this(context, steps, address)),
+            TargetRefusal::Unbound => Ok(self.unbound_this(context, steps, address)),
         }
     }
 

@@ -18,6 +18,23 @@ pub unreachable-requires-in-CallFnPtr : goal.unreachable-requires-in-CallFnPtr
 unreachable-requires-in-CallFnPtr g c =
     (rw c.in-CallFnPtr.is at c.requires.calls_nothing).1 c.in-CallFnPtr.field-0 refl
 
+pub unreachable-requires-in-CallFnPtrMethod : goal.unreachable-requires-in-CallFnPtrMethod
+unreachable-requires-in-CallFnPtrMethod g c =
+    (rw c.in-CallFnPtrMethod.is at c.requires.runs_no_method).1 c.in-CallFnPtrMethod.field-0 refl
+
+pub unreachable-requires-in-CallFnPtrOnLocal : goal.unreachable-requires-in-CallFnPtrOnLocal
+unreachable-requires-in-CallFnPtrOnLocal g c =
+    (rw c.in-CallFnPtrOnLocal.is at c.requires.runs_no_method).2 c.in-CallFnPtrOnLocal.field-0
+    c.in-CallFnPtrOnLocal.field-1 refl
+
+pub unreachable-requires-in-CallFnPtrOnThis : goal.unreachable-requires-in-CallFnPtrOnThis
+unreachable-requires-in-CallFnPtrOnThis g c =
+    (rw c.in-CallFnPtrOnThis.is at c.requires.runs_no_method).3 c.in-CallFnPtrOnThis.field-0 refl
+
+pub unreachable-requires-in-Chain : goal.unreachable-requires-in-Chain
+unreachable-requires-in-Chain g c =
+    (rw c.in-Chain.is at c.requires.runs_no_method).0 c.in-Chain.field-0 refl
+
 pub returns-in-LoadConst : goal.returns-in-LoadConst
 returns-in-LoadConst g c = record {
   stepped = arm c.in-LoadConst.is refl c.requires.stands c.requires.runs
