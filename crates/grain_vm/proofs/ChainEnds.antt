@@ -58,7 +58,7 @@ none_newest level (b ∷ bs) h none = none
 -- ---- a run that differs in a part
 
 -- what is kept from a run on that has the same stacks
-kept_over : {H : Type 0} (f f' : Activation) (s s1 s' : Run H) → s1.stacks ≡ s.stacks →
+pub kept_over : {H : Type 0} (f f' : Activation) (s s1 s' : Run H) → s1.stacks ≡ s.stacks →
     s1.saved ≡ s.saved → s1.level ≡ s.level → s1.count ≡ s.count →
     KeepsBound s.level s.receivers s1.receivers → KeepsFrame f s1 f' s' → KeepsFrame f s f' s'
 kept_over f f' s s1 s' stacks saved level count bound kept = record {

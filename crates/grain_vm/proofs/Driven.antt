@@ -17,7 +17,7 @@ use Rattle.grain_program.specs.declared.code.functions.Function.{Function}
 use Rattle.grain_global.specs.StepsView.{StepsView}
 use Rattle.grain_means.specs.Worlds.{Frame, Place, Setup}
 use Rattle.grain_means.specs.Places.{or_unit, along, find, put, put_held}
-use Rattle.grain_means.specs.Tasks.{Task, Well, Ill, Done}
+use Rattle.grain_means.specs.Tasks.{Task, WalkEnded, WalkFailed, Done}
 use Rattle.grain_means.specs.Simulation.{Binds, Computation, LocalState, Simulates, StopPersists, puts, stopped, world}
 use Rattle.grain_means.specs.lemmas.Spreading.{Rooted, rooted-put, spread}
 use Rattle.grain_means.specs.lemmas.PlaceLaws.{ok-along, get-after, find-put, put-twice}
@@ -273,7 +273,7 @@ module _ {H : Type 0} (m : Setup H) (s : Run H) (n : StepsView) (host : H) (w : 
       Driving m s s' n n' host host' w v a (answer.Ended value changed) →
       Simulates m (beside scope this s n host) (stands m k f seat done scope this seated s w a) false
       (beside scope this s' n' host')
-      (walk_seated k f seat done (Done (Well value true)) (v.trail.here ∷ []))
+      (walk_seated k f seat done (Done (WalkEnded value true)) (v.trail.here ∷ []))
   ends_well value changed blind was =
       compose (was.same k f seat done scope this seated root)
       (same (record {
@@ -291,7 +291,7 @@ module _ {H : Type 0} (m : Setup H) (s : Run H) (n : StepsView) (host : H) (w : 
       Driving m s s' n n' host host' w v a (answer.Faulted x step) →
       Simulates m (beside scope this s n host) (stands m k f seat done scope this seated s w a)
       (no_memory (problem_of x)) (beside scope this s' n' host')
-      (walk_seated k f seat done (Done (Ill step (problem_of x))) (v.trail.here ∷ []))
+      (walk_seated k f seat done (Done (WalkFailed step (problem_of x))) (v.trail.here ∷ []))
   ends_ill x step was = was.same k f seat done scope this seated root
 
 -- ---- the walk calls a function

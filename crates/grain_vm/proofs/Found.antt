@@ -27,7 +27,7 @@ use Rattle.grain_means.specs.Simulation.{Simulates, SimulatesExactly}
 use Rattle.grain_means.specs.Means.{setup}
 use Rattle.grain_means.specs.lemmas.Stretches.{same, compose}
 use Rattle.grain_global.specs.StepsView.{StepsView}
-use Rattle.grain_frame.specs.Abstraction.{abstraction, frame_in, is_out, continuation, KeepsFrame, ContinuesAt, Implements, Performs, Runs, StandsAt, Stepped, moment, this_of}
+use Rattle.grain_frame.specs.Abstraction.{ContinuesAt, Implements, KeepsFrame, Moment, Performs, Runs, StandsAt, Stepped, abstraction, continuation, frame_in, is_out, moment, this_of}
 use Rattle.grain_vm.specs.Attempts.{IsPending}
 use Rattle.grain_vm.specs.Finding.{Finds, FindsFunction, FindsHere, IsCall, found_of}
 use Rattle.grain_frame.specs.declared.activations.Activation.{Activation}
@@ -70,7 +70,7 @@ abbrev taking : Activation → Activation → Activation
 taking f g = record f { address = g.address; floor = g.floor; slot = g.slot }
 
 -- what is kept from a run on that differs in its operands alone
-kept_before : {H : Type 0} (f f2 : Activation) (s s1 s2 : Run H) →
+pub kept_before : {H : Type 0} (f f2 : Activation) (s s1 s2 : Run H) →
     s1 ≡ record s { stacks = record s.stacks { operands = s1.stacks.operands } } →
     KeepsFrame f s1 f2 s2 → KeepsFrame f s f2 s2
 kept_before {H = H} f f2 s s1 s2 others kept = record {
@@ -245,7 +245,7 @@ finds_of law p engine f f' s s' n n' o next host host' (Ok q) did = did
 finds_of law p engine f f' s s' n n' o next host host' (Err e) did = did
 
 -- the same of the instruction at which a frame stands
-done_here : {H : Type 0} (law : Law H) (p : View) (engine : Engine) (f f' : Activation)
+pub done_here : {H : Type 0} (law : Law H) (p : View) (engine : Engine) (f f' : Activation)
     (s s' : Run H) (n n' : StepsView) (host host' : H) (r : Result Progress OutOfMemory) →
     Stepped (setup law p engine) (moment f s n host) r (moment f' s' n' host') →
     FindsHere (setup law p engine) (moment f s n host) (found_of r) (moment f' s' n' host')
@@ -280,8 +280,7 @@ found_kept law p engine f f' s s' n n' o next host host' (Ok (found.Function num
 found_kept law p engine f f' s s' n n' o next host host' (Err e) did =
     (did.kept.chunk, did.kept.base)
 
--- The same where the instruction was given a copy of the frame, from which the frame takes the address,
--- the floor and the slot.
+-- the same where a copy of the frame was given, from which the frame takes what may have changed
 found_back : {H : Type 0} (law : Law H) (p : View) (engine : Engine) (f f' : Activation)
     (s s' : Run H) (n n' : StepsView) (o : Op) (next : ℕ) (host host' : H)
     (r : Result Found OutOfMemory) → Runs p f s → StandsAt p f s o next → IsCall o next →
@@ -317,16 +316,22 @@ pointer_found law p engine f f' s s' n n' count next host host' q r runs is wait
     (subst (λ (k : Pending). IsPending p f s k) is waits)
     (record { leads = refl; gives = refl; keeps = refl }) did
 
+-- the frame has its chunk and its base, whatever came of its instruction
+kept_here : {H : Type 0} (m : Setup H) (a b : Moment H) (r : Result Found OutOfMemory) →
+    FindsHere m a r b → (b.frame.chunk ≡ a.frame.chunk) × (b.frame.base ≡ a.frame.base)
+kept_here m a b (Ok (found.Done q)) did = (did.kept.chunk, did.kept.base)
+kept_here m a b (Ok (found.Function number next)) did = rw did.3.frame (refl, refl)
+kept_here m a b (Err e) did = (did.kept.chunk, did.kept.base)
+
 -- what any other comes to, on a copy of the frame
 pub other_found : {H : Type 0} (law : Law H) (p : View) (engine : Engine) (f f' : Activation)
-    (s s' : Run H) (n n' : StepsView) (host host' : H) (r : Result Progress OutOfMemory) →
-    Stepped (setup law p engine) (moment f s n host) r (moment f' s' n' host') →
-    FindsHere (setup law p engine) (moment f s n host) (found_of r)
-    (moment (taking f f') s' n' host')
+    (s s' : Run H) (n n' : StepsView) (host host' : H) (r : Result Found OutOfMemory) →
+    FindsHere (setup law p engine) (moment f s n host) r (moment f' s' n' host') →
+    FindsHere (setup law p engine) (moment f s n host) r (moment (taking f f') s' n' host')
 other_found law p engine f f' s s' n n' host host' r did =
-    subst (λ (a : Activation). FindsHere (setup law p engine) (moment f s n host) (found_of r)
-    (moment a s' n' host')) (taken_back f f' did.kept.chunk did.kept.base)
-    (done_here law p engine f f' s s' n n' host host' r did)
+    let kept = kept_here (setup law p engine) (moment f s n host) (moment f' s' n' host') r did in
+    subst (λ (a : Activation). FindsHere (setup law p engine) (moment f s n host) r
+    (moment a s' n' host')) (taken_back f f' kept.0 kept.1) did
 
 -- the function that was found
 pub is_function : {H : Type 0} (law : Law H) (p : View) (engine : Engine) (f f' : Activation)

@@ -44,7 +44,7 @@ values_joined : (xs ys : List Tree) →
     map value_of (xs ++ ys) ≡ map value_of xs ++ map value_of ys
 values_joined xs ys = map-append value_of xs ys
 
-given_curried : (f : FnPtr) (ts : List Tree) →
+pub given_curried : (f : FnPtr) (ts : List Tree) →
     curried_in f ++ given_to ts ≡ given_to (f.curry ++ ts)
 given_curried f ts = go f.curry where
   go : (cs : List Tree) →

@@ -38,3 +38,12 @@ mod Begins
 mod ChainEnds
 mod ChainLoops
 mod ChainAhead
+mod OnFrames
+mod ReceiverAhead
+mod OnReceivers
+mod OnCalls
+mod CallEnds
+mod Callees
+mod LentNatives
+mod OnNatives
+mod ForCells

@@ -31,7 +31,7 @@ use Rattle.grain_vm.proofs.MethodCalls.{may_stop}
 
 -- ---- the run
 
-is_no_memory : (y : Problem) → no_memory y ≡ true → y ≡ NoMemory
+pub is_no_memory : (y : Problem) → no_memory y ≡ true → y ≡ NoMemory
 is_no_memory NoMemory want = refl
 is_no_memory (Plain k p) want = absurd cc
 is_no_memory (InFunctionCall f s x p) want = absurd cc

@@ -28,7 +28,7 @@ use Rattle.grain_means.specs.lemmas.Spreading.{Rooted}
 use Rattle.grain_global.specs.StepsView.{StepsView}
 use Rattle.grain_chain.specs.Walking.{call_for, no_memory, outcome_of, is_want}
 use Rattle.grain_chain.specs.declared.requests.Request.{Request}
-use Rattle.grain_vm.specs.Driving.{beside, lent_from, name_in, RaisesOne, HearsHost, SameFlag}
+use Rattle.grain_vm.specs.Driving.{beside, lent_from, name_in, RaisesOne, AsksHost, HearsHost, SameFlag}
 use Rattle.grain_vm.specs.Seats.{Rests, Seat, Seated, first_held, walk_seated}
 use Rattle.grain_frame.specs.Natives.{Seeks}
 use Rattle.grain_frame.specs.declared.native_calls.Sought.TheVariants as sought
@@ -147,7 +147,7 @@ module _ {H : Type 0} (law : Law H) (lawful : IsLawful law) (m : Setup H) (own :
           (sym (given_from home r.receiver args)) ∙ is
 
       -- there is no such native, or it may not be called
-      pub performs_refused : (e : EvalAltResult) →
+      performs_refused : (e : EvalAltResult) →
           Seeks law host call.name (lent_from home r.receiver) args r.pos (sought.Fault e) →
           Performed (Err e) r.receiver (record n { passed = n.passed + 1 }) host
       performs_refused e (inl none) =
@@ -162,7 +162,7 @@ module _ {H : Type 0} (law : Law H) (lawful : IsLawful law) (m : Setup H) (own :
           (found (Some one.0) one.1) (flag one.0 true one.2))
 
       -- it was called
-      pub performs_called : (key : ℕ) (values : List Tree) (o : Result Dynamic EvalAltResult)
+      performs_called : (key : ℕ) (values : List Tree) (o : Result Dynamic EvalAltResult)
           (n' : StepsView) (host' : H) (left : Option Held) →
           Seeks law host call.name (lent_from home r.receiver) args r.pos
           (sought.Native key values) →
@@ -207,11 +207,25 @@ module _ {H : Type 0} (law : Law H) (lawful : IsLawful law) (m : Setup H) (own :
                 (hears_fault m k f seat done call go rs r.receiver rooted at ls seated args flat seeks.0
                 is writes did.0 did.1))
 
+      -- the host was asked
+      pub performs_asked : (o : Result Dynamic EvalAltResult) (n' : StepsView) (host' : H)
+          (left : Option Held) →
+          AsksHost law host call.name home r.receiver args r.pos n o n' host' left →
+          Performed o left n' host'
+      performs_asked (Ok v) n' host' left (inl wants) = absurd wants
+      performs_asked (Err e) n' host' left (inl wants) =
+          rw (wants.1, wants.2, wants.3) (performs_memory e wants.0)
+      performs_asked (Ok v) n' host' left (inr (inl refuses)) = absurd refuses
+      performs_asked (Err e) n' host' left (inr (inl refuses)) =
+          rw (refuses.1, refuses.2, refuses.3) (performs_refused e refuses.0)
+      performs_asked o n' host' left (inr (inr (key, values, seeks, heard))) =
+          performs_called key values o n' host' left seeks heard
+
 pub same_flag : (x : Option Held) → SameFlag x x
 same_flag None = tt
 same_flag (Some h) = refl
 
-written_flag : {H : Type 0} (law : Law H) (host : H) (key : ℕ) (values : List Tree) (h : Held) →
+pub written_flag : {H : Type 0} (law : Law H) (host : H) (key : ℕ) (values : List Tree) (h : Held) →
     (written law host key values h).read_only ≡ h.read_only
 written_flag law host key values h = at (law.writes host key) where
   at : (b : Bool) →

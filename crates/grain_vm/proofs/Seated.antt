@@ -112,7 +112,7 @@ module _ {S : Type 0} (m : Setup S) (k : ℕ) (f : Option Place → Frame) (seat
       (found_base seat place u.roots ls.this seated bound) t
       (record { roots = rs; passed = ls.passed }) rooted
 
-  -- a stretch of the walk by itself, of so many marks
+  -- a stretch of the walk by itself, of `marks` marks
   pub walks_on : (ls : LocalState S) (marks : ℕ) (t t' : Task) (rs rs' : List Held) (out : Bool) →
       Seated seat ls.this → Rooted (first_held seat).read_only rs →
       Rooted (first_held seat).read_only rs' →

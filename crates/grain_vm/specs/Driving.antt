@@ -9,22 +9,23 @@ use Rattle.grain_value.specs.declared.scopes.Entry.{Entry}
 use Rattle.grain_value.specs.declared.stores.Cell.{Cell}
 use Rattle.grain_fault.specs.declared.places.Position.{Position}
 use Rattle.grain_fault.specs.Positions.{at_position_if_none}
-use Rattle.grain_fault.specs.Problems.{Problem, NoMemory, problem_of}
+use Rattle.grain_fault.specs.Problems.{Problem, Plain, DataRace, NoMemory, problem_of}
 use Rattle.grain_fault.specs.declared.faults.EvalAltResult.{EvalAltResult}
 use Rattle.grain_host.specs.Law.{Law, receiver_after}
 use Rattle.grain_host.specs.Law as reply
 use Rattle.grain_means.specs.Worlds.{Answer, Frame, Place, Setup, World}
 use Rattle.grain_means.specs.Places.{look}
-use Rattle.grain_means.specs.Tasks.{Task, Walked, Well, Ill}
+use Rattle.grain_means.specs.Tasks.{Task, Walked, WalkEnded, WalkFailed}
 use Rattle.grain_means.specs.Rules.Homes.{Home}
 use Rattle.grain_means.specs.Rules.Natives.{Receiver}
 use Rattle.grain_means.specs.Rules.Chains.{chain_over}
 use Rattle.grain_means.specs.Driving.{all_given}
-use Rattle.grain_means.specs.Rules.{flat_all, kinds_in, trees_in, first_is_read_only}
+use Rattle.grain_means.specs.Rules.{flat_all, kinds_in, race_text, trees_in, first_is_read_only}
 use Rattle.grain_means.specs.Simulation.{LocalState, Binds, Simulates, puts}
 use Rattle.grain_means.specs.lemmas.Spreading.{Rooted}
 use Rattle.grain_global.specs.StepsView.{StepsView}
 use Rattle.grain_chain.specs.Walking.{is_want, no_memory, outcome_of, still}
+use Rattle.grain_chain.specs.declared.requests.Request.{Request}
 use Rattle.grain_chain.specs.declared.requests.What.{What}
 use Rattle.grain_chain.specs.declared.requests.What.TheVariants as what
 use Rattle.grain_chain.specs.declared.requests.WalkAnswer.{WalkAnswer}
@@ -32,7 +33,9 @@ use Rattle.grain_chain.specs.declared.requests.WalkAnswer.TheVariants as answer
 use Rattle.grain_chain.specs.declared.walks.Walk.{Walk}
 use Rattle.grain_program.specs.View.{View}
 use Rattle.grain_frame.specs.Abstraction.{abstraction}
+use Rattle.grain_frame.specs.Natives.{Seeks}
 use Rattle.grain_frame.specs.declared.native_calls.Arguments.{Arguments}
+use Rattle.grain_frame.specs.declared.native_calls.Sought.TheVariants as sought
 use Rattle.grain_vm.specs.Seats.{Rests, Seat, Seated, first_held, walk_seated}
 use Rattle.grain_vm.specs.declared.driving.WalkEnd.{WalkEnd}
 use Rattle.grain_vm.specs.declared.driving.WalkEnd.TheVariants as walk_end
@@ -83,6 +86,39 @@ HearsHost law host key x values p n (Err e) n' host' left =
     × (left ≡ receiver_after law host key x values)
     × (n' ≡ record n { passed = n.passed + 1 + 1 + 1 }))
 
+-- memory is out, and nothing has changed
+abbrev pub WantsMemory : {H : Type 0} → H → Option Held → StepsView → Result Dynamic EvalAltResult →
+    StepsView → H → Option Held → Type 0
+WantsMemory host x n (Ok v) n' host' left = ⊥
+WantsMemory host x n (Err e) n' host' left =
+    (problem_of e ≡ NoMemory) × (host' ≡ host) × (left ≡ x) × (n' ≡ n)
+
+-- the host has no native that may be called: that is a fault at a mark
+abbrev pub RefusesCall : {H : Type 0} → Law H → H → List ℕ → Home → Option Held → List Held →
+    Position → StepsView → Result Dynamic EvalAltResult → StepsView → H → Option Held → Type 0
+RefusesCall law host name home x args p n (Ok v) n' host' left = ⊥
+RefusesCall law host name home x args p n (Err e) n' host' left =
+    Seeks law host name (lent_from home x) args p (sought.Fault e)
+    × (host' ≡ host) × (left ≡ x) × (n' ≡ record n { passed = n.passed + 1 })
+
+-- The host was asked for its native of a name, for a receiver, if there is one, and arguments as they are
+-- read: memory is out, or there is none that may be called, or it was called.
+abbrev pub AsksHost : {H : Type 0} → Law H → H → List ℕ → Home → Option Held → List Held →
+    Position → StepsView → Result Dynamic EvalAltResult → StepsView → H → Option Held → Type 0
+AsksHost law host name home x args p n o n' host' left =
+    WantsMemory host x n o n' host' left
+    ⊎ RefusesCall law host name home x args p n o n' host' left
+    ⊎ ((key : ℕ) × (values : List Tree)
+    × Seeks law host name (lent_from home x) args p (sought.Native key values)
+    × HearsHost law host key x values p n o n' host' left)
+
+-- an argument is a cell whose content is lent: that is a fault
+abbrev pub MeetsRace : {H : Type 0} → H → Option Held → Position → StepsView →
+    Result Dynamic EvalAltResult → StepsView → H → Option Held → Type 0
+MeetsRace host x p n (Ok v) n' host' left = ⊥
+MeetsRace host x p n (Err e) n' host' left =
+    RaisesOne (Plain (DataRace (race_text [])) p) e n n' × (host' ≡ host) × (left ≡ x)
+
 -- the receiver is back, if one was lent, with the flag that it had
 abbrev pub SameFlag : Option Held → Option Held → Type 0
 SameFlag None None = Unit {0}
@@ -101,6 +137,16 @@ name_in (what.Native name) = name
 name_in (what.Compiled n) = []
 name_in (what.Pointer f) = []
 
+-- the request for a native was done: memory is out, or an argument cannot be read, or the host was asked
+abbrev pub DoesRequest : {H : Type 0} → Law H → Request → Home → List Cell → StepsView → H →
+    Result Dynamic EvalAltResult → StepsView → H → Option Held → Type 0
+DoesRequest law r home cells n host o n' host' left =
+    WantsMemory host r.receiver n o n' host' left
+    ⊎ ((flat_all cells (map read_write (map value_of r.arguments)) ≡ None)
+    × MeetsRace host r.receiver r.pos n o n' host' left)
+    ⊎ ((args : List Held) × (flat_all cells (map read_write (map value_of r.arguments)) ≡ Some args)
+    × AsksHost law host (name_in r.what) home r.receiver args r.pos n o n' host' left)
+
 -- A call that a walk needs was done, with this outcome, and this is what is left of what was lent to it.
 -- So it is in each walk that has the task, wherever the walk stands.
 abbrev pub Answers : {H : Type 0} → Setup H → (Option Place → (Answer → Task) → Task) →
@@ -118,12 +164,12 @@ Answers {H = H} m task lent s n host o left s' n' host' =
 abbrev pub IgnoresChange : {H : Type 0} → Rests H → Type 0
 IgnoresChange {H = H} done =
     (m : Setup H) (place : Option Place) (n : ℕ) (v : Dynamic) (b : Bool) (w : World H) →
-    done m place n (Well v b) w ≡ done m place n (Well v true) w
+    done m place n (WalkEnded v b) w ≡ done m place n (WalkEnded v true) w
 
 -- how a walk ended
 abbrev pub end_of : WalkEnd → Walked
-end_of (walk_end.Value v) = Well v true
-end_of (walk_end.Fault x n) = Ill n (problem_of x)
+end_of (walk_end.Value v) = WalkEnded v true
+end_of (walk_end.Fault x n) = WalkFailed n (problem_of x)
 
 abbrev pub end_is_out : WalkEnd → Bool
 end_is_out (walk_end.Value v) = false

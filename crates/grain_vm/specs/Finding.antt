@@ -12,8 +12,10 @@ use Rattle.grain_means.specs.Worlds.{Setup}
 use Rattle.grain_frame.specs.Abstraction.{Moment, Performs, StandsAt, Stepped, abstraction, frame_in}
 use Rattle.grain_vm.specs.declared.finding.Found.{Found}
 use Rattle.grain_vm.specs.declared.finding.Found.TheVariants as found
-use Rattle.grain_vm.specs.declared.stepping.DoneOrChain.{DoneOrChain}
-use Rattle.grain_vm.specs.declared.stepping.DoneOrChain.TheVariants as step
+use Rattle.grain_vm.specs.declared.receivers.Destination.{Destination}
+use Rattle.grain_vm.specs.declared.receivers.Destination.TheVariants as destination
+use Rattle.grain_vm.specs.declared.stepping.Turn.{Turn}
+use Rattle.grain_vm.specs.declared.stepping.Turn.TheVariants as turn
 use Rattle.grain_frame.specs.declared.runs.Progress.{Progress}
 
 -- The instruction calls the function of this number, which exists, on the last operands. The call
@@ -65,11 +67,19 @@ FindsHere m a (Ok (found.Function number next)) b =
     × FindsFunction m a o next number b
 FindsHere m a (Err e) b = Stepped m a (Err e) b
 
--- what came of the instruction at which the frame stands, where it calls no function of itself: it is
--- done, or it is a chain, and then nothing is done yet
-abbrev pub StepsHere : {H : Type 0} → Setup H → Moment H → Result DoneOrChain OutOfMemory →
+-- the instruction on n arguments whose receiver goes to this destination
+abbrev pub op_on : Destination → ℕ → Op
+op_on destination.Nowhere n = op.CallFnPtrMethod n
+op_on (destination.Slot slot) n = op.CallFnPtrOnLocal n slot
+op_on destination.This n = op.CallFnPtrOnThis n
+
+-- what came of the instruction at which the frame stands, where it is neither `call` nor `call_fn_ptr`:
+-- it is done, or it may run a method, and then nothing is done yet
+abbrev pub StepsHere : {H : Type 0} → Setup H → Moment H → Result Turn OutOfMemory →
     Moment H → Type 0
-StepsHere m a (Ok (step.Done p)) b = Stepped m a (Ok p) b
-StepsHere m a (Ok (step.Chain index next)) b =
+StepsHere m a (Ok (turn.Done p)) b = Stepped m a (Ok p) b
+StepsHere m a (Ok (turn.Chain index next)) b =
     StandsAt m.program a.frame a.run (op.Chain index) next × (b ≡ a)
+StepsHere m a (Ok (turn.Receiver d count next)) b =
+    StandsAt m.program a.frame a.run (op_on d count) next × (b ≡ a)
 StepsHere m a (Err e) b = Stepped m a (Err e) b

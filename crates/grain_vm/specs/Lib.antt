@@ -14,6 +14,7 @@ pub mod Driving
 pub mod Chains
 pub mod Methods
 pub mod Underway
+pub mod Receivers
 pub use Rattle.grain_global.specs.StepsView
 pub use Rattle.grain_means.specs.Worlds
 pub use Rattle.grain_means.specs.Rules

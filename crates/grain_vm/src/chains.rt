@@ -271,7 +271,7 @@ fn end_chain<H: Host, L: Ledger>(
 }
 
 // Whether a fault says that memory ran out.
-fn is_want(fault: &EvalAltResult) -> bool
+pub(crate) fn is_want(fault: &EvalAltResult) -> bool
     ensures { result ≡ no_memory (problem_of fault.now) }
 {
     matches!(fault, EvalAltResult::Memory)

@@ -14,10 +14,9 @@ ghost use Rattle.grain_means.specs.lemmas.Spreading.{Rooted};
 ghost use Rattle.grain_means.specs.Rules.Homes.{Home};
 ghost use Rattle.grain_means.specs.Rules.{race_text, trees_in};
 ghost use Rattle.grain_chain.specs.Walking.{call_for, CanCall, is_out, is_want, left_to_do, outcome_of, resumed, roots_at, roots_of, still, with_receiver, Did, Falls, Waits};
-ghost use Rattle.grain_program.specs.View.{View};
 ghost use Rattle.grain_frame.specs.Abstraction.{setup_of};
 ghost use Rattle.grain_frame.specs.Natives.{Seeks};
-ghost use Rattle.grain_vm.specs.Driving.{beside, left_of, name_in, Answers, DescribesAfter, IsNative, ReadsAll, lent_from, RaisesOne, HearsHost, SameFlag, IgnoresChange};
+ghost use Rattle.grain_vm.specs.Driving.{beside, left_of, name_in, Answers, DescribesAfter, IsNative, ReadsAll, lent_from, RaisesOne, AsksHost, DoesRequest, HearsHost, SameFlag, IgnoresChange};
 ghost use Rattle.grain_vm.specs.Methods.{ServesRequest};
 ghost use Rattle.grain_vm.specs.Seats.{Rests, Seat, Seated, first_held, walk_seated};
 ghost use Rattle.grain_vm.specs.Underway.{DrivesTo, RootedTo, WaitsFor, driven_is_out};
@@ -64,7 +63,22 @@ fn read_all(
 ) -> Result<Option<Arguments>, OutOfMemory>
     ensures { IfOk result (λ o. ReadsAll cells.now lent.now values.now o) }
 {
-    let mut arguments = begin_arguments(alloc, lent)?;
+    let begun = begin_arguments(alloc, lent)?;
+    read_on(alloc, cells, begun, values)
+}
+
+// A description that holds the receiver alone, if there is one, and that of the arguments after it, each
+// as it is read. Returns None if one of these is a lent cell.
+pub(crate) fn read_on(
+    alloc: Global,
+    cells: &Store,
+    begun: Arguments,
+    values: &Array,
+) -> Result<Option<Arguments>, OutOfMemory>
+    ensures { (x : Option Held) → DescribesAfter x begun [] →
+        IfOk result (λ o. ReadsAll cells.now x values.now o) }
+{
+    let mut arguments = begun;
     'values: for index in 0..values.len() {
         match values.at(index).flat(cells) {
             None => return Ok(None),
@@ -137,7 +151,7 @@ fn seek_lending<H: Host>(
 }
 
 // The name of the native that is asked for.
-fn name_asked(what: &What) -> &Text
+pub(crate) fn name_asked(what: &What) -> &Text
     requires native { IsNative what.now }
     ensures { result.now ≡ name_in what.now }
 {
@@ -150,7 +164,11 @@ fn name_asked(what: &What) -> &Text
 // Makes the fault that an argument is a lent cell.
 #[cold]
 #[inline(never)]
-fn raise_race<L: Ledger>(alloc: Global, steps: &mut Steps<L>, position: Position) -> EvalAltResult
+pub(crate) fn raise_race<L: Ledger>(
+    alloc: Global,
+    steps: &mut Steps<L>,
+    position: Position,
+) -> EvalAltResult
     ensures raised { RaisesOne (Plain (DataRace (race_text [])) position) result steps.old
         steps.new }
     ensures before { steps.new.before ≡ steps.old.before }
@@ -166,7 +184,7 @@ fn raise_race<L: Ledger>(alloc: Global, steps: &mut Steps<L>, position: Position
 
 // Calls the native that a walk needs. It gives the value or the fault of the call, and the receiver as
 // the call left it.
-fn perform_request<H: Host, L: Ledger>(
+pub(crate) fn perform_request<H: Host, L: Ledger>(
     run: &mut Run<H>,
     host: &mut H,
     steps: &mut Steps<L>,
@@ -176,6 +194,8 @@ fn perform_request<H: Host, L: Ledger>(
     ensures same { (m : Setup H) → m.law ≡ H.law → Answers m
         (λ q go. Need (call_for (name_in request.what) request q) go) request.receiver run.old
         steps.old host.old result.0 result.1 run.new steps.new host.new }
+    ensures does { (home : Home) → DoesRequest H.law request home run.old.cells steps.old host.old
+        result.0 steps.new host.new result.1 }
     ensures run { run.new ≡ run.old }
     ensures before { steps.new.before ≡ steps.old.before }
     ensures lent { SameFlag request.receiver result.1 }
@@ -195,7 +215,29 @@ fn perform_request<H: Host, L: Ledger>(
             Some(arguments) => arguments,
         },
     };
-    match seek_lending(run.alloc, host, name, &receiver, arguments, pos) {
+    ask_host(run, host, steps, name, receiver, arguments, pos)
+}
+
+// Asks the host for its native of a name, for a receiver, if there is one, and arguments that are
+// described, and calls it. It gives the value or the fault of the call, and the receiver as the call left
+// it.
+pub(crate) fn ask_host<H: Host, L: Ledger>(
+    run: &mut Run<H>,
+    host: &mut H,
+    steps: &mut Steps<L>,
+    name: &Text,
+    receiver: Option<Held>,
+    arguments: Arguments,
+    position: Position,
+) -> Outcome
+    ensures asked { (args : List Held) (home : Home) → DescribesAfter receiver arguments args →
+        AsksHost H.law host.old name.now home receiver args position steps.old result.0 steps.new
+        host.new result.1 }
+    ensures run { run.new ≡ run.old }
+    ensures before { steps.new.before ≡ steps.old.before }
+    ensures lent { SameFlag receiver result.1 }
+{
+    match seek_lending(run.alloc, host, name, &receiver, arguments, position) {
         Err(OutOfMemory) => (Err(EvalAltResult::Memory), receiver),
         Ok(sought) => match sought {
             Sought::Fault(fault) => {
@@ -203,7 +245,7 @@ fn perform_request<H: Host, L: Ledger>(
                 (Err(fault), receiver)
             }
             Sought::Native(key, values) => {
-                call_lending(run, host, steps, key, values, receiver, pos)
+                call_lending(run, host, steps, key, values, receiver, position)
             }
         },
     }

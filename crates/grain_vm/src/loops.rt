@@ -1,29 +1,24 @@
 //! The loop: how a frame runs, and how functions are called.
 
-ghost use Rattle.std.specs.Prelude.{◌≡◌, ◌≤◌, ◌+◌, ◌-◌, ◌∷◌, [], length, slice_get, None, Some};
+ghost use Rattle.std.specs.Prelude.{◌≡◌, ◌≤◌, ◌+◌, ◌-◌, ◌∷◌, [], length, None};
 ghost use Rattle.grain_program.specs.TypedAt.{IsTypedAt};
 ghost use Rattle.grain_means.specs.Worlds.{Go, InFrame};
 ghost use Rattle.grain_means.specs.Rules.{enter_function};
 ghost use Rattle.grain_means.specs.Simulation.{Simulates};
 ghost use Rattle.grain_vm.specs.Catching.{activation_at, stop_continuation, StopsSo};
-ghost use Rattle.grain_frame.specs.Abstraction.{abstraction, frame_in, is_out, continuation, KeepsFrame, ContinuesAt, PerformsBound, ReadyIn, Runs, Stepped, setup_of, moment};
+ghost use Rattle.grain_frame.specs.Abstraction.{abstraction, frame_in, is_out, continuation, KeepsFrame, ContinuesAt, Runs, Stepped, setup_of, moment};
 ghost use Rattle.grain_vm.specs.Calls.{LeavesAround, frame_over, entry_of};
-ghost use Rattle.grain_vm.specs.Attempts.{CallsNothing, IsPending};
-ghost use Rattle.grain_program.specs.declared.code.functions.Function.{Function};
-ghost use Rattle.grain_vm.specs.Driving.{SameFlag};
+ghost use Rattle.grain_vm.specs.Attempts.{IsPending};
 ghost use Rattle.grain_vm.specs.Finding.{FindsHere};
-ghost use Rattle.grain_vm.specs.Methods.{CallsMethod, HasFunction, MethodOver, NoneAbove};
-ghost use Rattle.grain_program.specs.Indices.{InPools, IsNamed};
-ghost use Rattle.grain_program.specs.declared.code.instruction_set.Op.TheVariants as op;
+ghost use Rattle.grain_vm.specs.Methods.{NoneAbove};
+ghost use Rattle.grain_program.specs.Indices.{IsNamed};
 
 use crate::attempts::{Attempt, Pending, quick};
 use crate::calls::{FrameEnd, enter_function, leave_by_fault, resume_caller};
 use crate::catching::catch;
-use crate::chains::{Begun, begin_chain, finish_chain};
-use crate::driving::{Driven, drive, go_on};
 use crate::finding::{Found, find_named, find_pointed};
-use crate::methods::{MethodCall, Outcome, enter_method, leave_method};
-use crate::stepping::{DoneOrChain, jump, step};
+use crate::method_runs::step_or_walk;
+use crate::stepping::jump;
 use grain_frame::{Activation, Context, Progress, Run};
 use grain_global::Steps;
 use grain_host::Host;
@@ -46,10 +41,11 @@ pub enum Stop {
 }
 
 // Calls a function on the last operands, in a frame of its own; afterwards the caller's frame goes on
-// at `next`. This is written in one place only, so that the loop around it is compiled once.
+// at `next`. It is built into the loop at one place, so that the loop around it is compiled once; who else
+// needs it calls `call_apart`.
 #[cycle(run)]
 #[inline(always)]
-fn call<H: Host, L: Ledger>(
+pub(crate) fn call<H: Host, L: Ledger>(
     run: &mut Run<H>,
     context: Context<'_>,
     host: &mut H,
@@ -133,36 +129,6 @@ fn do_or_find<H: Host, L: Ledger>(
     }
 }
 
-// Does the instruction at which the frame stands, which is neither `call` nor `call_fn_ptr`. It is not
-// part of the loop, so that what a chain needs costs the loop no register.
-#[cycle(run)]
-#[cold]
-#[inline(never)]
-fn step_or_walk<H: Host, L: Ledger>(
-    run: &mut Run<H>,
-    context: Context<'_>,
-    host: &mut H,
-    steps: &mut Steps<L>,
-    frame: &mut Activation,
-) -> Result<Progress, OutOfMemory>
-    requires runs { Runs context.program.now frame.old run.old }
-    requires none { NoneAbove run.old.level run.old.receivers }
-    requires calls_nothing { CallsNothing context.program.now frame.old }
-    ensures stepped { Stepped (setup_of H.law context.entry)
-        (moment frame.old run.old steps.old host.old) result
-        (moment frame.new run.new steps.new host.new) }
-{
-    match step(run, context, host, steps, frame) {
-        Err(e) => Err(e),
-        Ok(step) => match step {
-            DoneOrChain::Done(progress) => Ok(progress),
-            DoneOrChain::Chain { index, next } => {
-                walk_chain(run, context, host, steps, frame, index, next)
-            }
-        },
-    }
-}
-
 // Does the instruction at which the frame stands and that `quick` did not do.
 #[cycle(run)]
 #[inline(always)]
@@ -190,78 +156,6 @@ fn proceed<H: Host, L: Ledger>(
                 call(run, context, host, steps, frame, function, next)
             }
         },
-    }
-}
-
-// `chain`: walks the chain, and calls each function that the walk needs in a frame of its own.
-#[cycle(run)]
-#[cold]
-#[inline(never)]
-fn walk_chain<H: Host, L: Ledger>(
-    run: &mut Run<H>,
-    context: Context<'_>,
-    host: &mut H,
-    steps: &mut Steps<L>,
-    frame: &mut Activation,
-    index: u16,
-    next: usize,
-) -> Result<Progress, OutOfMemory>
-    requires ready { ReadyIn context.program.now frame.old run.old (op.Chain index) next }
-    requires pools { InPools context.program.now (op.Chain index) }
-    requires none { NoneAbove run.old.level run.old.receivers }
-    ensures performs { PerformsBound (setup_of H.law context.entry)
-        (moment frame.old run.old steps.old host.old) (op.Chain index) next result
-        (moment frame.new run.new steps.new host.new) }
-{
-    match begin_chain(run, context, steps, frame, index, next) {
-        Err(e) => Err(e),
-        Ok(Begun::Refused) => Ok(Progress::Failed),
-        Ok(Begun::Walks(walking, answer)) => {
-            let mut walking = walking;
-            let mut answer = answer;
-            'calls: loop {
-                let call = match drive(run, context, host, steps, &mut walking.walk, answer) {
-                    Driven::Over(end) => {
-                        return finish_chain(run, context, steps, frame, walking, end);
-                    }
-                    Driven::Calls(call) => call,
-                };
-                let (outcome, receiver) = call_method(run, context, host, steps, call);
-                answer = go_on(run, context, steps, &mut walking.walk, outcome, receiver);
-            }
-        }
-    }
-}
-
-// Calls a function that a walk needs, in a frame of its own. It gives the value or the fault of the
-// call, and the receiver as the call left it.
-#[cycle(run)]
-#[inline(always)]
-fn call_method<H: Host, L: Ledger>(
-    run: &mut Run<H>,
-    context: Context<'_>,
-    host: &mut H,
-    steps: &mut Steps<L>,
-    call: MethodCall,
-) -> Outcome
-    requires there { HasFunction context.program.now call }
-    requires none { NoneAbove run.old.level run.old.receivers }
-    ensures called { (g : Function) → slice_get context.entry.program.now.functions call.number ≡ Some g →
-        CallsMethod (setup_of H.law context.entry) call g run.old steps.old host.old result.0 result.1
-        run.new steps.new host.new }
-    ensures over { MethodOver run.old run.new }
-    ensures lent { SameFlag call.receiver result.1 }
-    ensures before { steps.new.before ≡ steps.old.before }
-{
-    let pos = call.pos;
-    let function = context.program.function_at(call.number);
-    match enter_method(run, context, host, steps, function, call) {
-        Err(refused) => refused,
-        Ok(back) => {
-            let chunk = &function.chunk;
-            let end = run_frame(run, context, host, steps, chunk, 0);
-            leave_method(run, context, steps, function, pos, end, back)
-        }
     }
 }
 

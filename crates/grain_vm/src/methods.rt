@@ -1,4 +1,5 @@
-//! Functions that a walk calls: how their frames are entered and left.
+//! Functions that a walk calls, or that a pointer names which is called with a receiver: how their frames
+//! are entered and left.
 
 ghost use Rattle.std.specs.Prelude.{◌≡◌, ◌<◌, ◌+◌, ◌++◌, ◌∷◌, [], length, is_some, IfErr, IfOk, OnOk, OnErr};
 ghost use Rattle.grain_program.specs.Indices.{IsNamed};
@@ -22,8 +23,8 @@ use grain_program::Function;
 use grain_value::{Array, Dynamic, Held, OutOfMemory};
 use std::sync::ledger::Ledger;
 
-/// A function that a walk calls: its number, the position of the call's faults, the value that is its
-/// `this`, if it has one, and its arguments.
+/// The call of a function by a walk or with a receiver: the function's number, the position of the call's
+/// faults, the value that is its `this`, if it has one, and its arguments.
 #[derive(Drop)]
 pub struct MethodCall {
     pub number: usize,
@@ -32,7 +33,7 @@ pub struct MethodCall {
     pub arguments: Array,
 }
 
-/// What a request of a walk calls. A pointer has become the function or the native that it names.
+/// What a walk or a pointer calls. A pointer has become the function or the native that it names.
 #[derive(Drop)]
 pub enum Needed {
     /// A native.
@@ -41,7 +42,7 @@ pub enum Needed {
     Function(MethodCall),
 }
 
-// The value or the fault of a call that a walk needs, and the receiver as the call left it.
+// The value or the fault of such a call, and the receiver as the call left it.
 pub(crate) type Outcome = (Result<Dynamic, EvalAltResult>, Option<Held>);
 
 // Copies of a pointer's values, followed by others.

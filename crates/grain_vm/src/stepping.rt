@@ -1,9 +1,10 @@
-//! One instruction of a frame that calls no function of itself.
+//! One instruction of a frame that is neither `call` nor `call_fn_ptr`.
 
 ghost use Rattle.grain_frame.specs.Abstraction.{Runs, Stepped, setup_of, moment};
 ghost use Rattle.grain_vm.specs.Attempts.{CallsNothing, StandsAtJump};
 ghost use Rattle.grain_vm.specs.Finding.{StepsHere};
 
+use crate::receivers::Destination;
 use grain_frame::{Activation, Context, Progress, Run};
 use grain_global::Steps;
 use grain_host::Host;
@@ -11,13 +12,23 @@ use grain_program::Op;
 use grain_value::OutOfMemory;
 use std::sync::ledger::Ledger;
 
-/// What came of an instruction that is neither `call` nor `call_fn_ptr`, before a chain is walked.
+/// What came of an instruction that is neither `call` nor `call_fn_ptr`, before it runs a method.
 #[derive(Clone, Copy, Debug, PartialEq, Eq)]
-pub enum DoneOrChain {
+pub enum Turn {
     /// It is done.
     Done(Progress),
     /// It walks the chain with this index; afterwards the frame goes on at the address `next`.
-    Chain { index: u16, next: usize },
+    Chain {
+        index: u16,
+        next: usize,
+    },
+    /// It calls a pointer on `count` arguments, perhaps with a receiver, which goes to the
+    /// destination; afterwards the frame goes on at the address `next`.
+    Receiver {
+        destination: Destination,
+        count: u8,
+        next: usize,
+    },
 }
 
 // Does the jump at which the frame stands.
@@ -40,7 +51,7 @@ pub(crate) fn jump<H: Host, L: Ledger>(
 }
 
 // Does the instruction at which the frame stands, which is neither `call` nor `call_fn_ptr`. If
-// it is a chain, it only says which.
+// it may run a method, it only says which.
 #[inline(always)]
 pub(crate) fn step<H: Host, L: Ledger>(
     run: &mut Run<H>,
@@ -48,7 +59,7 @@ pub(crate) fn step<H: Host, L: Ledger>(
     host: &mut H,
     steps: &mut Steps<L>,
     frame: &mut Activation,
-) -> Result<DoneOrChain, OutOfMemory>
+) -> Result<Turn, OutOfMemory>
     requires runs { Runs context.program.now frame.old run.old }
     requires calls_nothing { CallsNothing context.program.now frame.old }
     ensures steps { StepsHere (setup_of H.law context.entry)
@@ -58,13 +69,28 @@ pub(crate) fn step<H: Host, L: Ledger>(
     let address = frame.address;
     let depth = run.stacks.height();
     match context.program.fetch(frame.chunk, address, depth) {
-        (Op::Chain(index), width) => Ok(DoneOrChain::Chain {
+        (Op::Chain(index), width) => Ok(Turn::Chain {
             index,
+            next: address + width,
+        }),
+        (Op::CallFnPtrMethod(count), width) => Ok(Turn::Receiver {
+            destination: Destination::Nowhere,
+            count,
+            next: address + width,
+        }),
+        (Op::CallFnPtrOnLocal(count, slot), width) => Ok(Turn::Receiver {
+            destination: Destination::Slot(slot),
+            count,
+            next: address + width,
+        }),
+        (Op::CallFnPtrOnThis(count), width) => Ok(Turn::Receiver {
+            destination: Destination::This,
+            count,
             next: address + width,
         }),
         (op, width) => match run.perform(context, host, steps, frame, op, address + width) {
             Err(e) => Err(e),
-            Ok(progress) => Ok(DoneOrChain::Done(progress)),
+            Ok(progress) => Ok(Turn::Done(progress)),
         },
     }
 }

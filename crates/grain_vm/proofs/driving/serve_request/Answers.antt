@@ -10,7 +10,8 @@ returns-in-Native-clause-serves g c =
     serves_native m c.args.request c.args.run.now c.perform_request.new.run c.args.steps.now
     c.perform_request.new.steps c.args.host.now c.perform_request.new.host
     c.perform_request.result.0 c.perform_request.result.1 c.in-Native.request
-    (rw c.in-Native.is at c.in-Ok.ensures) (c.perform_request.ensures.same m refl) c.perform_request.ensures.lent
+    (rw c.in-Native.is at c.in-Ok.ensures) (c.perform_request.ensures.same m refl)
+    c.perform_request.ensures.lent
 
 pub returns-in-Err-clause-serves : goal.returns-in-Err-clause-serves
 returns-in-Err-clause-serves g c =

@@ -1,9 +1,10 @@
-use Rattle.std.proofs.Common.{◌∙◌, ℕ, Option, Ok, length, refl, subst}
+use Rattle.std.proofs.Common.{◌≡◌, ◌∙◌, ◌<◌, ◌-◌, arith, rules, ℕ, Option, Ok, length, refl, subst}
 use Rattle.grain_means.specs.Means.{setup}
 use Rattle.grain_frame.specs.Abstraction.{frame_in, this_of, moment}
-use Rattle.grain_vm.proofs.Found.{call_found, found_stepped, is_function, other_found, pointer_found}
+use Rattle.grain_vm.proofs.Found.{call_found, done_here, found_stepped, is_function, other_found, pointer_found}
 use Rattle.grain_vm.proofs.Calling.{call_ran, has_begun, not_begun, entered_with, kept_with, refused_here, refused_this, there_is, outer_is}
 use Rattle.grain_vm.proofs.ChainAhead.{chain_stepped}
+use Rattle.grain_vm.proofs.ReceiverAhead.{receiver_stepped}
 use Rattle.grain_vm.proofs.Running.{around_caught, around_on, caught_on, done_after, done_from, done_so, led, left_around, left_around_by_memory, runs_here, runs_on, stops_by_fault, stops_by_memory, stops_so, turn_falls}
 use Rattle.grain_vm.proofs.BoundFrames.{all_still, unbound_above}
 use Rattle.grain_vm.proofs.MethodOvers.{called_one, method_ran, method_refused}
@@ -16,15 +17,19 @@ use Rattle.grain_vm.specs.Chains.{walked_frame}
 use Rattle.grain_vm.specs.Seats.{first_held}
 use Rattle.grain_vm.specs.Underway.{after_chain}
 use Rattle.grain_vm.proofs.ChainLoops.{after_blind, walked_first, walked_on, walked_over}
-use Rattle.grain_vm.proofs.loops.+run.Goals as goal
+use Rattle.grain_vm.specs.Finding.{found_of, op_on}
+use Rattle.grain_vm.specs.Receivers.{called}
+use Rattle.grain_vm.proofs.OnFrames.{callee_out, callee_refused, finds_on_of, first_found, first_on, one_less, function_performed, on_function, pointed_on, target_found, two_there}
+use Rattle.grain_vm.proofs.OnCalls.{call_out, function_done, native_done}
+use Rattle.grain_vm.proofs.+run.Goals as goal
 
-pub call-returns-in-Err-clause-goes : goal.call-returns-in-Err-clause-goes
-call-returns-in-Err-clause-goes g t c =
+pub loops::call-returns-in-Err-clause-goes : goal.loops::call-returns-in-Err-clause-goes
+loops::call-returns-in-Err-clause-goes g t c =
     rw (refused_this c.args.run.now c.enter_function.new.run c.enter_function.new.steps
     c.enter_function.new.host c.in-Err.ensures.enters) at (same (c.in-Err.ensures.same c.args.next))
 
-pub call-returns-else-begun-clause-goes : goal.call-returns-else-begun-clause-goes
-call-returns-else-begun-clause-goes g t c =
+pub loops::call-returns-else-begun-clause-goes : goal.loops::call-returns-else-begun-clause-goes
+loops::call-returns-else-begun-clause-goes g t c =
     let function = c.args.function.now in
     let f = frame_in c.args.frame.now c.args.run.now in
     let kept = kept_with c.args.context.engine.now function c.args.run.now c.enter_function.new.run
@@ -34,8 +39,8 @@ call-returns-else-begun-clause-goes g t c =
     c.enter_function.new.run kept (not_begun c.in-Ok.begun c.args.run.now
     c.enter_function.new.run function f c.args.next c.if-begun.false (c.in-Ok.ensures.same c.args.next))))
 
-pub call-returns-then-begun-clause-goes : goal.call-returns-then-begun-clause-goes
-call-returns-then-begun-clause-goes g t c =
+pub loops::call-returns-then-begun-clause-goes : goal.loops::call-returns-then-begun-clause-goes
+loops::call-returns-then-begun-clause-goes g t c =
     let function = c.args.function.now in
     let f = frame_in c.args.frame.now c.args.run.now in
     let entered = entered_with c.args.context.engine.now function c.args.run.now
@@ -61,8 +66,8 @@ call-returns-then-begun-clause-goes g t c =
     c.args.next entered left.outer left.saved left.level refl)
     (c.resume_caller.ensures.same ran.new.host) c.resume_caller.ensures.persists
 
-pub proceed-returns-in-Function : goal.proceed-returns-in-Function
-proceed-returns-in-Function g t c =
+pub loops::proceed-returns-in-Function : goal.loops::proceed-returns-in-Function
+loops::proceed-returns-in-Function g t c =
     let p = c.args.context.program.now in
     let here = is_function g.H.Host.law p c.args.context.engine.now c.args.frame.now
     c.do_or_find.new.frame c.args.run.now c.do_or_find.new.run c.args.steps.now c.do_or_find.new.steps
@@ -78,18 +83,18 @@ proceed-returns-in-Function g t c =
           c.call.ensures.lands c.call.ensures.before;
     }
 
-pub run_from-turn-smaller-in-Done : goal.run_from-turn-smaller-in-Done
-run_from-turn-smaller-in-Done g t c =
+pub loops::run_from-turn-smaller-in-Done : goal.loops::run_from-turn-smaller-in-Done
+loops::run_from-turn-smaller-in-Done g t c =
     turn_falls c.turn.invariant (done_from c.turn.steps c.begin_instruction.ensures c.mark.ensures
     (c.in-Done.ensures c.turn.host))
 
-pub run_from-turn-preserved-in-Done : goal.run_from-turn-preserved-in-Done
-run_from-turn-preserved-in-Done g t c =
+pub loops::run_from-turn-preserved-in-Done : goal.loops::run_from-turn-preserved-in-Done
+loops::run_from-turn-preserved-in-Done g t c =
     runs_on c.turn.invariant (done_from c.turn.steps c.begin_instruction.ensures c.mark.ensures
     (c.in-Done.ensures c.turn.host))
 
-pub run_from-returns-in-Returned : goal.run_from-returns-in-Returned
-run_from-returns-in-Returned g t c =
+pub loops::run_from-returns-in-Returned : goal.loops::run_from-returns-in-Returned
+loops::run_from-returns-in-Returned g t c =
     let did = done_from c.turn.steps c.begin_instruction.ensures c.mark.ensures
     (c.in-Returned.ensures c.turn.host) in
     record {
@@ -98,8 +103,8 @@ run_from-returns-in-Returned g t c =
       around = left_around c.turn.invariant did;
     }
 
-pub run_from-returns-in-Err : goal.run_from-returns-in-Err
-run_from-returns-in-Err g t c =
+pub loops::run_from-returns-in-Err : goal.loops::run_from-returns-in-Err
+loops::run_from-returns-in-Err g t c =
     let did = done_after c.turn.steps c.begin_instruction.ensures c.mark.ensures c.in-Jump.ensures.0
     c.in-Err.ensures.stepped in
     let left = c.leave_by_fault in
@@ -109,14 +114,14 @@ run_from-returns-in-Err g t c =
       around = left_around_by_memory c.turn.invariant c.in-Err.e did left.new.run left.ensures;
     }
 
-pub run_from-turn-preserved-in-Continues : goal.run_from-turn-preserved-in-Continues
-run_from-turn-preserved-in-Continues g t c =
+pub loops::run_from-turn-preserved-in-Continues : goal.loops::run_from-turn-preserved-in-Continues
+loops::run_from-turn-preserved-in-Continues g t c =
     runs_on c.turn.invariant (done_so c.in-Continues.is
     (done_after c.turn.steps c.begin_instruction.ensures c.mark.ensures c.in-Jump.ensures.0
     c.in-Ok.ensures.stepped))
 
-pub run_from-returns-in-Returned-progress : goal.run_from-returns-in-Returned-progress
-run_from-returns-in-Returned-progress g t c =
+pub loops::run_from-returns-in-Returned-progress : goal.loops::run_from-returns-in-Returned-progress
+loops::run_from-returns-in-Returned-progress g t c =
     let did = done_so c.in-Returned-progress.is
     (done_after c.turn.steps c.begin_instruction.ensures c.mark.ensures c.in-Jump.ensures.0
     c.in-Ok.ensures.stepped) in
@@ -126,8 +131,8 @@ run_from-returns-in-Returned-progress g t c =
       around = left_around c.turn.invariant did;
     }
 
-pub run_from-returns-in-Failed : goal.run_from-returns-in-Failed
-run_from-returns-in-Failed g t c =
+pub loops::run_from-returns-in-Failed : goal.loops::run_from-returns-in-Failed
+loops::run_from-returns-in-Failed g t c =
     let did = done_so c.in-Failed.is
     (done_after c.turn.steps c.begin_instruction.ensures c.mark.ensures c.in-Jump.ensures.0
     c.in-Ok.ensures.stepped) in
@@ -137,8 +142,8 @@ run_from-returns-in-Failed g t c =
       around = left_around c.turn.invariant did;
     }
 
-pub run_from-returns-in-Err-proceed : goal.run_from-returns-in-Err-proceed
-run_from-returns-in-Err-proceed g t c =
+pub loops::run_from-returns-in-Err-proceed : goal.loops::run_from-returns-in-Err-proceed
+loops::run_from-returns-in-Err-proceed g t c =
     let did = done_after c.turn.steps c.begin_instruction.ensures c.mark.ensures c.in-Pending.ensures.0
     c.in-Err-proceed.ensures.stepped in
     let left = c.leave_by_fault-in-Err-proceed in
@@ -149,14 +154,14 @@ run_from-returns-in-Err-proceed g t c =
           left.ensures;
     }
 
-pub run_from-turn-preserved : goal.run_from-turn-preserved
-run_from-turn-preserved g t c =
+pub loops::run_from-turn-preserved : goal.loops::run_from-turn-preserved
+loops::run_from-turn-preserved g t c =
     runs_on c.turn.invariant (done_so c.in-Continues-progress.is
     (done_after c.turn.steps c.begin_instruction.ensures c.mark.ensures c.in-Pending.ensures.0
     c.in-Ok-proceed.ensures.stepped))
 
-pub run_from-returns-in-Returned-progress-2 : goal.run_from-returns-in-Returned-progress-2
-run_from-returns-in-Returned-progress-2 g t c =
+pub loops::run_from-returns-in-Returned-progress-2 : goal.loops::run_from-returns-in-Returned-progress-2
+loops::run_from-returns-in-Returned-progress-2 g t c =
     let did = done_so c.in-Returned-progress-2.is
     (done_after c.turn.steps c.begin_instruction.ensures c.mark.ensures c.in-Pending.ensures.0
     c.in-Ok-proceed.ensures.stepped) in
@@ -166,8 +171,8 @@ run_from-returns-in-Returned-progress-2 g t c =
       around = left_around c.turn.invariant did;
     }
 
-pub run_from-returns-in-Failed-progress : goal.run_from-returns-in-Failed-progress
-run_from-returns-in-Failed-progress g t c =
+pub loops::run_from-returns-in-Failed-progress : goal.loops::run_from-returns-in-Failed-progress
+loops::run_from-returns-in-Failed-progress g t c =
     let did = done_so c.in-Failed-progress.is
     (done_after c.turn.steps c.begin_instruction.ensures c.mark.ensures c.in-Pending.ensures.0
     c.in-Ok-proceed.ensures.stepped) in
@@ -177,29 +182,29 @@ run_from-returns-in-Failed-progress g t c =
       around = left_around c.turn.invariant did;
     }
 
-pub run_frame-returns-in-Err : goal.run_frame-returns-in-Err
-run_frame-returns-in-Err g t c = record {
+pub loops::run_frame-returns-in-Err : goal.loops::run_frame-returns-in-Err
+loops::run_frame-returns-in-Err g t c = record {
   goes = compose c.frame.invariant.goes c.in-Err.ensures.goes tt;
   around = around_on c.frame.invariant c.in-Err.ensures.around;
 }
 
-pub run_frame-returns-in-Value : goal.run_frame-returns-in-Value
-run_frame-returns-in-Value g t c = record {
+pub loops::run_frame-returns-in-Value : goal.loops::run_frame-returns-in-Value
+loops::run_frame-returns-in-Value g t c = record {
   goes = compose c.frame.invariant.goes
       (stopped_so c.args.chunk.now c.args.base c.run_from.new.run c.in-Value.is c.in-Ok.ensures.goes)
       tt;
   around = around_on c.frame.invariant c.in-Ok.ensures.around;
 }
 
-pub run_frame-catch-requires-clause-catches : goal.run_frame-catch-requires-clause-catches
-run_frame-catch-requires-clause-catches g t c = (
+pub loops::run_frame-catch-requires-clause-catches : goal.loops::run_frame-catch-requires-clause-catches
+loops::run_frame-catch-requires-clause-catches g t c = (
   activation_at c.args.chunk.now c.args.base c.in-Fault.at c.in-Fault.low c.in-Fault.slot,
   (subst (λ (q : Stop). StopsSo c.args.context.program.now c.args.chunk.now c.args.base
       c.run_from.new.run (Ok q)) c.in-Fault.is c.in-Ok.ensures.catches).1,
 )
 
-pub run_frame-returns-in-Err-catch : goal.run_frame-returns-in-Err-catch
-run_frame-returns-in-Err-catch g t c =
+pub loops::run_frame-returns-in-Err-catch : goal.loops::run_frame-returns-in-Err-catch
+loops::run_frame-returns-in-Err-catch g t c =
     let at = activation_at c.args.chunk.now c.args.base c.in-Fault.at c.in-Fault.low c.in-Fault.slot in
     record {
       goes = compose (compose c.frame.invariant.goes
@@ -209,8 +214,8 @@ run_frame-returns-in-Err-catch g t c =
           c.catch.ensures.before;
     }
 
-pub run_frame-returns-in-None : goal.run_frame-returns-in-None
-run_frame-returns-in-None g t c =
+pub loops::run_frame-returns-in-None : goal.loops::run_frame-returns-in-None
+loops::run_frame-returns-in-None g t c =
     let at = activation_at c.args.chunk.now c.args.base c.in-Fault.at c.in-Fault.low c.in-Fault.slot in
     let kept =
     subst (λ (o : Option ℕ). Caught c.args.context.engine.now c.run_from.new.run c.catch.new.run
@@ -224,8 +229,8 @@ run_frame-returns-in-None g t c =
       around = around_caught c.frame.invariant c.in-Ok.ensures.around kept c.catch.ensures.before;
     }
 
-pub run_frame-frame-preserved : goal.run_frame-frame-preserved
-run_frame-frame-preserved g t c =
+pub loops::run_frame-frame-preserved : goal.loops::run_frame-frame-preserved
+loops::run_frame-frame-preserved g t c =
     let ran = c.run_from.new in
     let caught = c.catch.new in
     let offers = c.in-Ok-catch.ensures in
@@ -236,8 +241,8 @@ run_frame-frame-preserved g t c =
     c.in-Ok.ensures.catches c.in-Ok.ensures.around c.in-Some.is (offers.goes at refl refl refl)
     offers.kept (offers.typed at) c.catch.ensures.before
 
-pub do_or_find-returns-in-Call : goal.do_or_find-returns-in-Call
-do_or_find-returns-in-Call g t c =
+pub loops::do_or_find-returns-in-Call : goal.loops::do_or_find-returns-in-Call
+loops::do_or_find-returns-in-Call g t c =
     let found = c.find_named in
     record {
       finds = call_found g.H.Host.law c.args.context.program.now c.args.context.engine.now
@@ -247,8 +252,8 @@ do_or_find-returns-in-Call g t c =
           found.ensures.finds;
     }
 
-pub do_or_find-returns-in-Pointer : goal.do_or_find-returns-in-Pointer
-do_or_find-returns-in-Pointer g t c =
+pub loops::do_or_find-returns-in-Pointer : goal.loops::do_or_find-returns-in-Pointer
+loops::do_or_find-returns-in-Pointer g t c =
     let found = c.find_pointed-found in
     record {
       finds = pointer_found g.H.Host.law c.args.context.program.now c.args.context.engine.now
@@ -258,38 +263,74 @@ do_or_find-returns-in-Pointer g t c =
           found.ensures.finds;
     }
 
-pub do_or_find-returns-in-Other : goal.do_or_find-returns-in-Other
-do_or_find-returns-in-Other g t c =
+pub loops::do_or_find-returns-in-Other : goal.loops::do_or_find-returns-in-Other
+loops::do_or_find-returns-in-Other g t c =
     let did = c.step_or_walk-progress in
     rw c.of.ensures (record {
       finds = other_found g.H.Host.law c.args.context.program.now c.args.context.engine.now
           c.args.frame.now did.new.frame c.args.run.now did.new.run c.args.steps.now did.new.steps
-          c.args.host.now did.new.host did.result did.ensures.stepped;
+          c.args.host.now did.new.host (found_of did.result)
+          (done_here g.H.Host.law c.args.context.program.now c.args.context.engine.now
+          c.args.frame.now did.new.frame c.args.run.now did.new.run c.args.steps.now did.new.steps
+          c.args.host.now did.new.host did.result did.ensures.stepped);
     })
 
-pub step_or_walk-returns-in-Chain : goal.step_or_walk-returns-in-Chain
-step_or_walk-returns-in-Chain g t c =
+pub method_runs::step_or_walk-returns-in-Chain : goal.method_runs::step_or_walk-returns-in-Chain
+method_runs::step_or_walk-returns-in-Chain g t c =
     let did = c.step.new in
     let walked = c.walk_chain in
     record {
       stepped = chain_stepped g.H.Host.law c.args.context.program.now c.args.context.engine.now
           (moment c.args.frame.now c.args.run.now c.args.steps.now c.args.host.now)
           (moment did.frame did.run did.steps did.host)
-          (moment walked.new.frame walked.new.run walked.new.steps walked.new.host) c.in-Ok.step
+          (moment walked.new.frame walked.new.run walked.new.steps walked.new.host) c.in-Ok.turn
           c.in-Chain.index c.in-Chain.next c.requires.runs c.in-Chain.is c.in-Ok.ensures.steps
           walked.ensures.performs;
     }
 
-pub run_frame-frame-init : goal.run_frame-frame-init
-run_frame-frame-init g t c = runs_here c.requires.runs c.requires.none
+pub method_runs::step_or_walk-returns-in-Receiver : goal.method_runs::step_or_walk-returns-in-Receiver
+method_runs::step_or_walk-returns-in-Receiver g t c =
+    let did = c.step.new in
+    let called = c.call_with in
+    record {
+      stepped = receiver_stepped g.H.Host.law c.args.context.program.now c.args.context.engine.now
+          (moment c.args.frame.now c.args.run.now c.args.steps.now c.args.host.now)
+          (moment did.frame did.run did.steps did.host)
+          (moment called.new.frame called.new.run called.new.steps called.new.host) c.in-Ok.turn
+          c.in-Receiver.destination c.in-Receiver.count c.in-Receiver.next called.result
+          c.requires.runs c.in-Receiver.is c.in-Ok.ensures.steps called.ensures.performs;
+    }
 
-pub run_from-turn-init : goal.run_from-turn-init
-run_from-turn-init g t c = runs_here c.requires.runs c.requires.none
+pub method_runs::call_with-returns-in-Function : goal.method_runs::call_with-returns-in-Function
+method_runs::call_with-returns-in-Function g t c =
+    let p = c.args.context.program.now in
+    let found = c.find_on in
+    let called = c.call_apart in
+    let finds = on_function (setup g.H.Host.law p c.args.context.engine.now)
+    (moment c.args.frame.now c.args.run.now c.args.steps.now c.args.host.now)
+    (moment found.new.frame found.new.run found.new.steps found.new.host)
+    (op_on c.args.destination c.args.count) c.args.next c.in-Ok.found c.in-Function.number
+    c.in-Function.next c.in-Function.is c.in-Ok.ensures.finds in
+    record {
+      performs = function_performed g.H.Host.law p c.args.context.engine.now c.args.frame.now
+          found.new.frame called.new.frame c.args.run.now found.new.run called.new.run
+          c.args.steps.now found.new.steps called.new.steps c.args.host.now found.new.host
+          called.new.host c.args.destination c.args.count c.args.next c.in-Function.number
+          c.function_at-function.result.now finds.1 c.function_at-function.ensures.value
+          (rw finds.0 at called.ensures.goes) called.ensures.kept (rw finds.0 at called.ensures.lands)
+          called.ensures.before;
+    }
+
+pub loops::run_frame-frame-init : goal.loops::run_frame-frame-init
+loops::run_frame-frame-init g t c = runs_here c.requires.runs c.requires.none
+
+pub loops::run_from-turn-init : goal.loops::run_from-turn-init
+loops::run_from-turn-init g t c = runs_here c.requires.runs c.requires.none
 
 -- ---- functions that a walk calls
 
-pub call_method-returns-in-Err : goal.call_method-returns-in-Err
-call_method-returns-in-Err g t c =
+pub method_runs::call_method-returns-in-Err : goal.method_runs::call_method-returns-in-Err
+method_runs::call_method-returns-in-Err g t c =
     let m = setup g.H.Host.law c.args.context.program.now c.args.context.engine.now in
     let found = c.function_at-function in
     let o = c.in-Err.refused in
@@ -305,8 +346,8 @@ call_method-returns-in-Err g t c =
       before = c.enter_method.ensures.before;
     }
 
-pub call_method-returns-in-Ok : goal.call_method-returns-in-Ok
-call_method-returns-in-Ok g t c =
+pub method_runs::call_method-returns-in-Ok : goal.method_runs::call_method-returns-in-Ok
+method_runs::call_method-returns-in-Ok g t c =
     let m = setup g.H.Host.law c.args.context.program.now c.args.context.engine.now in
     let found = c.function_at-function in
     let entered = c.enter_method.new in
@@ -328,17 +369,17 @@ call_method-returns-in-Ok g t c =
 
 -- ---- the walk of a chain
 
-pub walk_chain-returns-in-Err : goal.walk_chain-returns-in-Err
-walk_chain-returns-in-Err g t c =
+pub method_runs::walk_chain-returns-in-Err : goal.method_runs::walk_chain-returns-in-Err
+method_runs::walk_chain-returns-in-Err g t c =
     record { performs = c.in-Err.ensures.begins c.args.host.now }
 
-pub walk_chain-returns-in-Ok-Refused : goal.walk_chain-returns-in-Ok-Refused
-walk_chain-returns-in-Ok-Refused g t c = record {
+pub method_runs::walk_chain-returns-in-Ok-Refused : goal.method_runs::walk_chain-returns-in-Ok-Refused
+method_runs::walk_chain-returns-in-Ok-Refused g t c = record {
   performs = rw c.in-Ok-Refused.field-0-is at (c.in-Ok-Refused.ensures.begins c.args.host.now);
 }
 
-pub walk_chain-calls-init : goal.walk_chain-calls-init
-walk_chain-calls-init g t c =
+pub method_runs::walk_chain-calls-init : goal.method_runs::walk_chain-calls-init
+method_runs::walk_chain-calls-init g t c =
     walked_first (setup g.H.Host.law c.args.context.program.now c.args.context.engine.now)
     (moment c.args.frame.now c.args.run.now c.args.steps.now c.args.host.now) c.args.index c.args.next
     c.in-Ok-Walks.walking c.in-Ok-Walks.answer c.begin_chain.new.frame c.begin_chain.new.run
@@ -347,8 +388,8 @@ walk_chain-calls-init g t c =
     (rw c.in-Ok-Walks.field-0-is at c.in-Ok-Walks.ensures.waits) c.begin_chain.ensures.blames
     c.requires.none
 
-pub walk_chain-calls-preserved : goal.walk_chain-calls-preserved
-walk_chain-calls-preserved g t c =
+pub method_runs::walk_chain-calls-preserved : goal.method_runs::walk_chain-calls-preserved
+method_runs::walk_chain-calls-preserved g t c =
     let p = c.args.context.program.now in
     let f = c.args.frame.now in
     let k = c.args.index in
@@ -372,8 +413,8 @@ walk_chain-calls-preserved g t c =
     called.ensures.over went.ensures.did went.ensures.carries went.ensures.rooted went.ensures.marked
     drove.carries went.ensures.falls drove.before called.ensures.before
 
-pub walk_chain-returns-in-Over : goal.walk_chain-returns-in-Over
-walk_chain-returns-in-Over g t c =
+pub method_runs::walk_chain-returns-in-Over : goal.method_runs::walk_chain-returns-in-Over
+method_runs::walk_chain-returns-in-Over g t c =
     let p = c.args.context.program.now in
     let f = c.args.frame.now in
     let k = c.args.index in
@@ -393,4 +434,129 @@ walk_chain-returns-in-Over g t c =
           (after_blind k c.args.next w.home w.was_read_only frame)) drove.carries
           (drove.rooted (first_held was.way.seat).read_only was.rooted)
           (ended.ensures.finishes c.drive.new.host) ended.ensures.carries drove.before c.requires.ready;
+    }
+
+-- ---- calls with a receiver
+
+pub method_runs::find_on-returns-in-Err : goal.method_runs::find_on-returns-in-Err
+method_runs::find_on-returns-in-Err g t c =
+    let p = c.args.context.program.now in
+    let f = c.args.frame.now in
+    let s = c.args.run.now in
+    let found = c.find_callee in
+    record {
+      finds = callee_out g.H.Host.law p c.args.context.engine.now f s c.args.steps.now c.args.host.now
+          c.args.destination c.args.count c.args.next
+          (called p s.cells s.stacks.operands f.address c.args.count) refl c.in-Err.e found.new.run
+          found.new.steps c.requires.ready.inside (rw c.from-total.ensures at c.in-Err.ensures);
+    }
+
+pub method_runs::find_on-returns-in-Refused : goal.method_runs::find_on-returns-in-Refused
+method_runs::find_on-returns-in-Refused g t c =
+    let p = c.args.context.program.now in
+    let f = c.args.frame.now in
+    let s = c.args.run.now in
+    let found = c.find_callee in
+    record {
+      finds = callee_refused g.H.Host.law p c.args.context.engine.now f s c.args.steps.now
+          c.args.host.now c.args.destination c.args.count c.args.next
+          (called p s.cells s.stacks.operands f.address c.args.count) refl c.in-Ok.callee
+          c.in-Refused.is found.new.run found.new.steps c.requires.ready.inside
+          (rw c.from-total.ensures at c.in-Ok.ensures);
+    }
+
+pub method_runs::find_on-returns-in-Target : goal.method_runs::find_on-returns-in-Target
+method_runs::find_on-returns-in-Target g t c =
+    let p = c.args.context.program.now in
+    let f = c.args.frame.now in
+    let s = c.args.run.now in
+    let found = c.find_callee in
+    let pointed = c.find_pointed in
+    let there = target_found g.H.Host.law p c.args.context.engine.now f s c.args.steps.now
+    c.args.host.now c.args.destination c.args.count c.args.next
+    (called p s.cells s.stacks.operands f.address c.args.count) refl c.in-Ok.callee c.in-Target.is
+    found.new.run found.new.steps (rw c.from-total.ensures at c.in-Ok.ensures) in
+    record {
+      finds = pointed_on g.H.Host.law p c.args.context.engine.now f pointed.new.frame s
+          pointed.new.run c.args.steps.now pointed.new.steps c.args.host.now pointed.new.host
+          c.args.destination c.args.count c.args.next there.0 pointed.result
+          (rw (there.1, there.2) at pointed.ensures.finds);
+    }
+
+pub method_runs::find_on-returns-in-First : goal.method_runs::find_on-returns-in-First
+method_runs::find_on-returns-in-First g t c =
+    let p = c.args.context.program.now in
+    let f = c.args.frame.now in
+    let s = c.args.run.now in
+    let found = c.find_callee in
+    let called_on = c.call_on in
+    let m = setup g.H.Host.law p c.args.context.engine.now in
+    let there = first_found g.H.Host.law p c.args.context.engine.now f s c.args.steps.now
+    c.args.host.now c.args.destination c.args.count c.args.next
+    (called p s.cells s.stacks.operands f.address c.args.count) refl c.in-Ok.callee c.in-First.pointer
+    c.in-First.is found.new.run found.new.steps (rw c.from-total.ensures at c.in-Ok.ensures) in
+    rw c.of.ensures (record {
+      finds = finds_on_of (op_on c.args.destination c.args.count) c.args.next called_on.result
+          (first_on g.H.Host.law p c.args.context.engine.now f s c.args.steps.now c.args.host.now
+          c.args.destination c.args.count c.args.next c.in-First.pointer there.0 called_on.new.frame
+          called_on.new.run called_on.new.steps called_on.new.host called_on.result there.1 there.2
+          (rw (there.3, there.4, one_less there.2) at called_on.ensures.called));
+    })
+
+pub method_runs::find_on-call_on-requires : goal.method_runs::find_on-call_on-requires
+method_runs::find_on-call_on-requires g t c =
+    let p = c.args.context.program.now in
+    let s = c.args.run.now in
+    let found = c.find_callee in
+    let there = first_found g.H.Host.law p c.args.context.engine.now c.args.frame.now s
+    c.args.steps.now c.args.host.now c.args.destination c.args.count c.args.next
+    (called p s.cells s.stacks.operands c.args.frame.now.address c.args.count) refl c.in-Ok.callee
+    c.in-First.pointer c.in-First.is found.new.run found.new.steps
+    (rw c.from-total.ensures at c.in-Ok.ensures) in
+    let unchanged : found.new.run ≡ s = there.3 in
+    let some : 0 < c.args.count = omega (arith, there.2) in search rules
+
+pub method_runs::call_on-returns-in-Err : goal.method_runs::call_on-returns-in-Err
+method_runs::call_on-returns-in-Err g t c =
+    let taken = c.take_call in
+    record {
+      called = call_out g.H.Host.law c.args.context.program.now c.args.context.engine.now
+          c.args.frame.now c.args.run.now c.args.steps.now c.args.host.now c.args.destination
+          c.args.pointer (c.args.count - 1) c.args.next c.in-Err.e taken.new.run taken.new.steps
+          c.requires.ready.inside c.in-Err.ensures;
+    }
+
+pub method_runs::call_on-returns-in-Function : goal.method_runs::call_on-returns-in-Function
+method_runs::call_on-returns-in-Function g t c =
+    let taken = c.take_call in
+    let called = c.call_method-outcome in
+    let ended = c.end_on in
+    record {
+      called = function_done g.H.Host.law c.args.context.program.now c.args.context.engine.now
+          c.args.frame.now c.args.run.now taken.new.run called.new.run c.args.steps.now
+          taken.new.steps called.new.steps c.args.host.now called.new.host c.args.destination
+          c.args.pointer (c.args.count - 1) c.args.next called.result.0 called.result.1
+          ended.new.frame ended.new.run ended.new.steps ended.result c.in-Ok.needed c.in-Function.call
+          (two_there c.args.count (length c.args.run.now.stacks.operands) c.requires.some
+          c.requires.ready.operands) (rw c.from-total.ensures at c.in-Ok.ensures) c.in-Function.is
+          called.ensures.called called.ensures.over called.ensures.lent called.ensures.before
+          ended.ensures.implements ended.ensures.carries;
+    }
+
+pub method_runs::call_on-returns-in-Native : goal.method_runs::call_on-returns-in-Native
+method_runs::call_on-returns-in-Native g t c =
+    let m = setup g.H.Host.law c.args.context.program.now c.args.context.engine.now in
+    let taken = c.take_call in
+    let called = c.call_native_on-outcome in
+    let ended = c.end_on-in-Native in
+    record {
+      called = native_done g.H.Host.law c.args.context.program.now c.args.context.engine.now
+          c.args.frame.now c.args.run.now taken.new.run called.new.run c.args.steps.now
+          taken.new.steps called.new.steps c.args.host.now called.new.host c.args.destination
+          c.args.pointer (c.args.count - 1) c.args.next called.result.0 called.result.1
+          ended.new.frame ended.new.run ended.new.steps ended.result c.in-Ok.needed c.in-Native.request
+          (two_there c.args.count (length c.args.run.now.stacks.operands) c.requires.some
+          c.requires.ready.operands) (rw c.from-total.ensures at c.in-Ok.ensures) c.in-Native.is
+          (called.ensures.called m refl) called.ensures.run called.ensures.lent called.ensures.before
+          ended.ensures.implements ended.ensures.carries;
     }
