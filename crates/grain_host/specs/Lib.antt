@@ -1,11 +1,14 @@
 -- What the contracts of this crate cite: the faults of hosts, the law of hosts, what an answer is
--- by that law, the tables of the host in memory (`Stops`, `Registers`, `Tables`), and that it is lawful
--- (`Reaching`, `Clean`, `Lawful`).
+-- by that law, the host in memory (`Stops`, `Registers`, `Refusals`, `Pending`, `Mapping`, `Tables`), and
+-- that it is lawful (`Reaching`, `Clean`, `Lawful`).
 pub mod Faults
 pub mod Law
 pub mod Answers
 pub mod Stops
 pub mod Registers
+pub mod Refusals
+pub mod Pending
+pub mod Mapping
 pub mod Tables
 pub mod Reaching
 pub mod Clean

@@ -1,6 +1,5 @@
 -- The host in memory: what its calls answer, print and write, by its tables.
-use Rattle.std.specs.Prelude.{◌≡◌, ℕ, ℤ, ◌+◌, ◌-◌, ◌^◌, pos, Bool, ◌||◌, List, [], ◌∷◌, ◌++◌, Option, Some, None, codes, bytes_eq, ◌==◌, length, map, option_map, if◌then◌else◌}
-use Rattle.std.specs.Fmt.{decimal}
+use Rattle.std.specs.Prelude.{◌≡◌, ℕ, ℤ, ◌+◌, ◌-◌, ◌^◌, max, pos, Bool, false, ◌&&◌, ◌||◌, is_some, List, [], ◌∷◌, ◌++◌, Option, Some, None, codes, bytes_eq, ◌==◌, length, map, option_map, if◌then◌else◌}
 use Rattle.std.specs.Str.{chars}
 use Rattle.std.specs.List.{list_any}
 use Rattle.grain_value.specs.Tree.{Tree}
@@ -10,8 +9,13 @@ use Rattle.grain_value.specs.declared.values.Dynamic.{Dynamic}
 use Rattle.grain_value.specs.declared.values.Dynamic.TheVariants as dynamic
 use Rattle.grain_value.specs.declared.values.Held.{Held}
 use Rattle.grain_fault.specs.Places.{nowhere}
-use Rattle.grain_fault.specs.Problems.{Plain, Runtime, Exit, SystemError}
-use Rattle.grain_host.specs.Law.{Law, Reply, Done, Failed, Verdict, GoOn, Stop, receiver_after}
+use Rattle.grain_fault.specs.Problems.{Plain, Exit}
+use Rattle.grain_host.specs.Law.{Law, Reply, Done, Failed, Outcome, Verdict, GoOn, Stop, receiver_after}
+use Rattle.grain_host.specs.Refusals.{failure, refused, unknown}
+use Rattle.grain_host.specs.Pending.{place_of, waiting_bound, waiting_clean}
+use Rattle.grain_host.specs.Mapping.{call_at, first_asked, goes_on, gone, mapped, next_asked, outcome_reply, start_reply, started}
+use Rattle.grain_host.specs.declared.callbacks.Tokens.{Tokens}
+use Rattle.grain_host.specs.declared.pending_calls.PendingCall.{PendingCall}
 use Rattle.grain_host.specs.Answers.{reply_of}
 use Rattle.grain_host.specs.Registers.{cleared, access_reply, asked, left_by, register_key_of}
 use Rattle.grain_host.specs.Stops.{stop_at, stops_bound, stops_clean}
@@ -24,7 +28,14 @@ use Rattle.grain_host.specs.declared.tables.Turn.TheVariants as turns
 
 -- a host with empty tables and registers of 0, that has printed nothing
 abbrev pub blank : TableHost
-blank = record { printed = []; steps = 0; failing = []; stops = []; registers = cleared }
+blank = record {
+  printed = [];
+  steps = 0;
+  failing = [];
+  stops = [];
+  registers = cleared;
+  tokens = record { given = 0; pending = [] };
+}
 
 -- a further call that is to fail, by its number
 abbrev pub failing_at : ℕ → TableHost → TableHost
@@ -51,14 +62,6 @@ first_of_two [] = None
 first_of_two (v ∷ []) = None
 first_of_two (v ∷ u ∷ []) = Some v
 first_of_two (v ∷ u ∷ w ∷ vs) = None
-
--- the host's own failure, for this reason
-abbrev pub refused : List ℕ → Reply
-refused reason = Failed (SystemError [] reason)
-
--- the call of a key that has no native, or of one that has no form for these arguments
-abbrev pub unknown : Reply
-unknown = refused (codes "unknown to the table host")
 
 -- `print` of one value
 abbrev pub print_reply : Option Dynamic → Reply
@@ -140,7 +143,8 @@ abbrev pub received : ℕ → Option Held → List Tree → Option Held
 received key receiver values = if writing key then pushed_receiver receiver values else receiver
 
 -- the natives by their names and kinds: `print` and `exit` take one argument of any kind, `push` an
--- array and one of any kind, `len` a text, an array, a blob or a map; and those of the registers
+-- array and one of any kind, `map` an array and a pointer, `len` a text, an array, a blob or a map; and
+-- those of the registers
 abbrev pub for_one : ℕ → List ℕ → Option ℕ
 for_one key (k ∷ []) = Some key
 for_one key ks = None
@@ -148,6 +152,10 @@ for_one key ks = None
 abbrev pub for_array : ℕ → List ℕ → Option ℕ
 for_array key (k ∷ l ∷ []) = if k == 5 then Some key else None
 for_array key ks = None
+
+abbrev pub for_map : ℕ → List ℕ → Option ℕ
+for_map key (k ∷ l ∷ []) = if (k == 5) && (l == 8) then Some key else None
+for_map key ks = None
 
 abbrev pub has_entries : ℕ → Bool
 has_entries k = (k == 4) || (k == 5) || (k == 6) || (k == 7)
@@ -161,21 +169,28 @@ key_of name kinds =
     if bytes_eq name (codes "print") then for_one 1 kinds
     else (if bytes_eq name (codes "push") then for_array 2 kinds
     else (if bytes_eq name (codes "len") then for_entries 3 kinds
+    else (if bytes_eq name (codes "map") then for_map 4 kinds
     else (if bytes_eq name (codes "exit") then for_one 5 kinds
-    else register_key_of name kinds)))
+    else register_key_of name kinds))))
 
--- what comes of a call: the host can count no further call, or the call of this number is one that
--- is to fail, or it is done; calls are counted from 1
-abbrev pub turn : TableHost → Turn
-turn s =
-    if s.steps == 2 ^ 64 - 1 then turns.Full
+-- what comes of a step: the host can count no further step, or no further token if the step asks; or
+-- the step of this number is one that is to fail; or it is done. Steps are counted from 1, and each
+-- call is one, and each time that the host is resumed
+abbrev pub turn : Bool → TableHost → Turn
+turn asks s =
+    if (s.steps == 2 ^ 64 - 1) || (asks && (s.tokens.given == 2 ^ 64 - 1)) then turns.Full
     else (if list_any (λ n. n == s.steps + 1) s.failing then turns.Failing (s.steps + 1)
     else turns.Ready (s.steps + 1))
 
+-- so it is if the step is done
+abbrev pub IfReady : Turn → Type 0 → Type 0
+IfReady turns.Full P = Unit
+IfReady (turns.Failing n) P = Unit
+IfReady (turns.Ready n) P = P
+
 abbrev pub reply_at : Turn → List ℤ → ℕ → List Dynamic → Reply
 reply_at turns.Full rs key vs = refused (codes "table host is full")
-reply_at (turns.Failing n) rs key vs =
-    Failed (Plain (Runtime (dynamic.Text (codes "host failure " ++ decimal n))) nowhere)
+reply_at (turns.Failing n) rs key vs = failure n
 reply_at (turns.Ready n) rs key vs = native_reply rs key vs
 
 abbrev pub after_at : Turn → TableHost → ℕ → List Dynamic → TableHost
@@ -193,6 +208,48 @@ written_at turns.Full h values = h.value
 written_at (turns.Failing n) h values = h.value
 written_at (turns.Ready n) h values = pushed h.value (sole (map value_of values))
 
+-- the same for a step that is about tokens: what is answered where it is done, and what is then kept
+abbrev pub reply_in : Turn → Reply → Reply
+reply_in turns.Full r = refused (codes "table host is full")
+reply_in (turns.Failing n) r = failure n
+reply_in (turns.Ready n) r = r
+
+abbrev pub after_in : Turn → Tokens → TableHost → TableHost
+after_in turns.Full tokens s = s
+after_in (turns.Failing n) tokens s = record s { steps = n }
+after_in (turns.Ready n) tokens s = record s { steps = n; tokens = tokens }
+
+-- a call of `map`, if it is one
+abbrev pub map_reply : TableHost → Option PendingCall → Reply
+map_reply s call = reply_in (turn (is_some (first_asked call)) s) (start_reply call)
+
+abbrev pub map_after : TableHost → Option PendingCall → TableHost
+map_after s call = after_in (turn (is_some (first_asked call)) s) (started call s.tokens) s
+
+-- a call of a key: 4 is that of `map`
+abbrev pub call_reply : TableHost → ℕ → List Dynamic → Reply
+call_reply s key vs =
+    if key == 4 then map_reply s (mapped s.tokens.given vs)
+    else reply_at (turn false s) s.registers key vs
+
+abbrev pub call_after : TableHost → ℕ → List Dynamic → TableHost
+call_after s key vs =
+    if key == 4 then map_after s (mapped s.tokens.given vs)
+    else after_at (turn false s) s key vs
+
+-- the outcome of what was asked with the token of the call at this place
+abbrev pub resume_turn : TableHost → Option ℕ → Outcome → Turn
+resume_turn s place outcome = turn (is_some (next_asked (call_at s.tokens place) outcome)) s
+
+abbrev pub resume_reply : TableHost → Option ℕ → Outcome → Reply
+resume_reply s place outcome =
+    reply_in (resume_turn s place outcome)
+    (outcome_reply s.tokens.given (call_at s.tokens place) outcome)
+
+abbrev pub resume_after : TableHost → Option ℕ → Outcome → TableHost
+resume_after s place outcome =
+    after_in (resume_turn s place outcome) (goes_on place outcome s.tokens) s
+
 abbrev pub verdict : Option Dynamic → Verdict
 verdict None = GoOn
 verdict (Some v) = Stop v
@@ -201,19 +258,33 @@ abbrev pub table_law : Law TableHost
 table_law = record {
   resolves = λ s name kinds. key_of name kinds;
   writes = λ s key. writing key;
-  call_reply = λ s key receiver values.
-      reply_at (turn s) s.registers key (arguments receiver values);
-  call_after = λ s key receiver values. after_at (turn s) s key (arguments receiver values);
-  call_written = λ s key h values. written_at (turn s) h values;
+  call_reply = λ s key receiver values. call_reply s key (arguments receiver values);
+  call_after = λ s key receiver values. call_after s key (arguments receiver values);
+  call_written = λ s key h values. written_at (turn false s) h values;
+  resume_reply = λ s token outcome receiver.
+      resume_reply s (place_of token s.tokens.pending) outcome;
+  resume_after = λ s token outcome receiver.
+      resume_after s (place_of token s.tokens.pending) outcome;
+  resume_written = λ s token outcome h. h.value;
+  token_writes = λ s token. false;
+  forget_after = λ s token.
+      record s { tokens = gone (place_of token s.tokens.pending) s.tokens };
   progress_reply = λ s count. verdict (stop_at count s.stops);
   progress_after = λ s count. s;
-  reach = λ s. stops_bound s.stops;
+  reach = λ s. max (stops_bound s.stops) (waiting_bound s.tokens.pending);
   holds_clean = λ s. stops_clean s.stops;
+  waits_clean = λ s. waiting_clean s.tokens.pending;
 }
 
--- one call was counted, and then it failed or was done
+-- one step was counted, and then it failed or was done: a call, or the outcome of what was asked with
+-- a token
 abbrev pub IsStep : TableHost → ℕ → Args → HostAnswer → TableHost → Args → Type 0
 IsStep s key args a t left =
     (reply_of a ≡ Some (table_law.call_reply s key args.receiver args.values))
     × (t ≡ table_law.call_after s key args.receiver args.values)
     × (left.receiver ≡ receiver_after table_law s key args.receiver args.values)
+
+abbrev pub IsResumed : TableHost → ℕ → Outcome → HostAnswer → TableHost → Type 0
+IsResumed s token outcome a t =
+    (reply_of a ≡ Some (resume_reply s (place_of token s.tokens.pending) outcome))
+    × (t ≡ resume_after s (place_of token s.tokens.pending) outcome)

@@ -1,7 +1,7 @@
 //! What a host is given, and what it answers.
 
 use crate::host_faults::HostFault;
-use grain_value::{Array, Dynamic, Held};
+use grain_value::{Array, Dynamic, FnPtr, Held};
 
 /// The arguments of a call. The first argument is the receiver if there is one, and else the first
 /// of the values.
@@ -13,13 +13,23 @@ pub struct Args {
     pub values: Array,
 }
 
-/// What a host answers to a call.
+/// What a host answers to a call, or where it is resumed.
 #[derive(Drop)]
 pub enum HostAnswer {
     /// The call's value.
     Done(Dynamic),
     /// The call failed.
     Failed(HostFault),
+    /// The host asks for a call of a function of the script. It is then resumed by the token, or it
+    /// is told to forget the token.
+    Ask {
+        /// By what the host knows what it asked for.
+        token: u64,
+        /// The pointer to the function.
+        pointer: FnPtr,
+        /// The arguments, which stand behind the pointer's own values.
+        arguments: Array,
+    },
     /// There was no memory. The host and the receiver are as they were.
     Memory,
 }

@@ -1,9 +1,11 @@
 //! The host: what a machine asks of the program around it, and a host that lives in memory.
 #![tactic(auto)]
 
+mod callbacks;
 mod host_answers;
 mod host_faults;
 mod hosts;
+mod pending_calls;
 mod register_natives;
 mod registers;
 mod signatures;

@@ -256,8 +256,8 @@ fn asked_by_three(key: u64, first: &Dynamic, second: &Dynamic, third: &Dynamic) 
     }
 }
 
-// How many arguments there are. A receiver is one of them.
-fn count(args: &Args) -> usize
+/// How many arguments there are. A receiver is one of them.
+pub(crate) fn count(args: &Args) -> usize
     ensures { result ≡ length (arguments args.now.receiver args.now.values) }
 {
     match args.receiver {
@@ -266,8 +266,8 @@ fn count(args: &Args) -> usize
     }
 }
 
-// The argument at the index. A receiver is the first.
-fn argument(args: &Args, index: usize) -> Option<&Dynamic>
+/// The argument at the index. A receiver is the first.
+pub(crate) fn argument(args: &Args, index: usize) -> Option<&Dynamic>
     ensures { option_copied result
         ≡ slice_get (arguments args.now.receiver args.now.values) index }
 {

@@ -1,16 +1,13 @@
 //! The natives of the host in memory.
 
 ghost use Rattle.std.specs.Prelude.{◌≡◌, ◌++◌, Some, IfOk, is_ok, if◌then◌else◌, codes, map, option_copied, ◌∷◌, ◌<◌, ◌^◌, IfSome};
-ghost use Rattle.std.specs.Fmt.{decimal};
 ghost use Rattle.grain_value.specs.View.{value_of};
-ghost use Rattle.grain_value.specs.declared.values.Dynamic.TheVariants as dynamic;
-ghost use Rattle.grain_fault.specs.Places.{nowhere};
-ghost use Rattle.grain_fault.specs.Problems.{Plain, Runtime};
-ghost use Rattle.grain_host.specs.Law.{Failed};
 ghost use Rattle.grain_host.specs.Answers.{reply_of};
 ghost use Rattle.grain_host.specs.Registers.{asked, left_by};
-ghost use Rattle.grain_host.specs.Tables.{arguments, sole, first_of_two, refused, unknown, print_reply, line_of, push_reply, pushed, pushed_receiver, len_reply, entries_in, exit_reply, register_reply, native_reply, printed_by, received, registers_after, key_of, for_one, for_array, for_entries, has_entries};
+ghost use Rattle.grain_host.specs.Refusals.{failure, refused, unknown};
+ghost use Rattle.grain_host.specs.Tables.{arguments, sole, first_of_two, print_reply, line_of, push_reply, pushed, pushed_receiver, len_reply, entries_in, exit_reply, register_reply, native_reply, printed_by, received, registers_after, key_of, for_one, for_array, for_map, for_entries, has_entries};
 
+use crate::callbacks;
 use crate::host_answers::{Args, HostAnswer};
 use crate::host_faults::HostFault;
 use crate::register_natives::{self, asked};
@@ -37,6 +34,8 @@ const BLOB: u32 = 6;
 
 const MAP: u32 = 7;
 
+const POINTER: u32 = 8;
+
 /// The key of the native of this name for arguments of these kinds.
 pub(crate) fn key_of(name: &str, kinds: &[u32]) -> Option<u64>
     ensures { result ≡ key_of name.now kinds.now }
@@ -45,6 +44,7 @@ pub(crate) fn key_of(name: &str, kinds: &[u32]) -> Option<u64>
         "print" => for_one(PRINT, kinds),
         "push" => for_array(PUSH, kinds),
         "len" => for_entries(LEN, kinds),
+        "map" => for_map(callbacks::MAP, kinds),
         "exit" => for_one(EXIT, kinds),
         _ => register_natives::key_of(name, kinds),
     }
@@ -66,6 +66,16 @@ fn for_array(key: u64, kinds: &[u32]) -> Option<u64>
 {
     match kinds {
         [first, _] if *first == ARRAY => Some(key),
+        _ => None,
+    }
+}
+
+// The key, if there are two arguments, an array and a pointer.
+fn for_map(key: u64, kinds: &[u32]) -> Option<u64>
+    ensures { result ≡ for_map key kinds.now }
+{
+    match kinds {
+        [ARRAY, POINTER] => Some(key),
         _ => None,
     }
 }
@@ -98,9 +108,7 @@ pub(crate) fn refused(alloc: Global, reason: &str) -> Result<HostAnswer, OutOfMe
 
 /// The call of this number fails.
 pub(crate) fn failure(alloc: Global, number: u64) -> Result<HostAnswer, OutOfMemory>
-    ensures { IfOk result (λ a. reply_of a
-        ≡ Some (Failed (Plain (Runtime (dynamic.Text (codes "host failure " ++ decimal number)))
-        nowhere))) }
+    ensures { IfOk result (λ a. reply_of a ≡ Some (failure number)) }
 {
     let mut text = Text::copy_of(alloc, "host failure ")?;
     text.push_number(number)?;
@@ -108,8 +116,9 @@ pub(crate) fn failure(alloc: Global, number: u64) -> Result<HostAnswer, OutOfMem
     Ok(HostAnswer::Failed(HostFault::passing(fault)))
 }
 
-// No native has this key, or this one has no form for these arguments.
-fn unknown(alloc: Global) -> Result<HostAnswer, OutOfMemory>
+/// No native has this key, or this one has no form for these arguments; or no token is pending that
+/// is resumed.
+pub(crate) fn unknown(alloc: Global) -> Result<HostAnswer, OutOfMemory>
     ensures { IfOk result (λ a. reply_of a ≡ Some unknown) }
 {
     refused(alloc, "unknown to the table host")

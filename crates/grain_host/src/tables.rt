@@ -1,35 +1,44 @@
 //! A host that lives in memory.
 
-ghost use Rattle.std.specs.Prelude.{◌≡◌, IfOk, IfErr, is_ok, true, if◌then◌else◌};
+ghost use Rattle.std.specs.Prelude.{◌≡◌, IfOk, IfErr, Some, is_ok, true, if◌then◌else◌};
 ghost use Rattle.grain_value.specs.Cells.{cell_bound, is_clean};
 ghost use Rattle.grain_value.specs.View.{tree};
-ghost use Rattle.grain_host.specs.Tables.{table_law, blank, failing_at, stopping_at, turn, IsStep};
+ghost use Rattle.grain_host.specs.Answers.{outcome_of, reply_of};
+ghost use Rattle.grain_host.specs.Mapping.{HasRoom};
+ghost use Rattle.grain_host.specs.Pending.{waiting_bound};
+ghost use Rattle.grain_host.specs.Refusals.{failure};
+ghost use Rattle.grain_host.specs.Tables.{table_law, blank, failing_at, map_after, map_reply, stopping_at, turn, IfReady, IsResumed, IsStep};
 ghost use Rattle.grain_host.specs.Lawful.{table_lawful};
 
+use crate::callbacks::{self, Tokens, asks_first, mapped};
 use crate::host_answers::{Args, HostAnswer, ProgressAnswer};
+use crate::host_faults::HostFault;
 use crate::hosts::Host;
+use crate::pending_calls::PendingCall;
 use crate::registers::Registers;
 use crate::stop_lines::StopLines;
 use crate::table_natives::{self, key_of, perform};
 use grain_value::{Dynamic, Kinds, List, Native, OutOfMemory, Text};
 use std::alloc::Global;
 
-// What comes of a call: no further one can be counted, or the call of this number is to fail, or it
-// is done.
+// What comes of a step: no further one can be counted, or no further token given; or the step of this
+// number is to fail; or it is done.
 enum Turn {
     Full,
     Failing(u64),
     Ready(u64),
 }
 
-/// A host that lives in memory. It has the natives `print`, `push`, `len` and `exit`, and 256
-/// registers, which hold integers and begin at 0. `register(n)` gives the register of that number
+/// A host that lives in memory. It has the natives `print`, `push`, `len` and `exit`. `map(array, f)`
+/// calls the pointer with each element in order, and gives the array of what came of them; a fault is
+/// passed on. It has 256 registers, which hold integers and begin at 0. `register(n)` gives the register of that number
 /// as a value of kind 16, which `get$value` reads and `set$value` writes. `bank(n)` gives a value
 /// of kind 17 with any number that is not negative; `index$get$` reads, and `index$set$` writes, the
 /// register of an index, whatever the bank's number is. `write_bank(n)` gives a value of kind 18,
 /// for which there is `index$set$` alone. Where there is no register, or no such value, the call
-/// fails with `ErrorIndexNotFound`. Calls are counted, and calls of given numbers fail. Runs end at
-/// given numbers of operations, with tokens that are clean and name no cell.
+/// fails with `ErrorIndexNotFound`. Its steps are counted, the calls and each time that it is resumed,
+/// and steps of given numbers fail: such a step does nothing, and a token stays pending. Tokens are
+/// numbered from 0, and none is given twice. Runs end at given numbers of operations, with tokens that are clean and name no cell.
 #[derive(Drop)]
 pub struct TableHost {
     printed: Text,
@@ -37,6 +46,7 @@ pub struct TableHost {
     failing: List<u64>,
     stops: StopLines,
     registers: Registers,
+    tokens: Tokens,
 }
 
 impl TableHost {
@@ -50,6 +60,7 @@ impl TableHost {
             failing: List::new(alloc),
             stops: StopLines::new(alloc),
             registers: Registers::new(),
+            tokens: Tokens::new(alloc),
         }
     }
 
@@ -60,7 +71,7 @@ impl TableHost {
         &self.printed
     }
 
-    /// The call of this number, counted from 1, is to fail. After want of memory the host is as it
+    /// The step of this number, counted from 1, is to fail. After want of memory the host is as it
     /// was.
     pub fn fail(&mut self, n: u64) -> Result<(), OutOfMemory>
         ensures { self.new ≡ (if is_ok result then failing_at n self.old else self.old) }
@@ -79,11 +90,12 @@ impl TableHost {
         self.stops.push(n, value)
     }
 
-    // What comes of the next call.
-    fn turn(&self) -> Turn
-        ensures { result ≡ turn self.now }
+    // What comes of the next step, which asks for a call or does not.
+    fn turn(&self, asks: bool) -> Turn
+        ensures turn { result ≡ turn asks self.now }
+        ensures room { IfReady result (HasRoom asks self.now.tokens) }
     {
-        if self.steps == u64::MAX {
+        if self.steps == u64::MAX || (asks && self.tokens.given == u64::MAX) {
             return Turn::Full;
         }
         let number = self.steps + 1;
@@ -94,21 +106,75 @@ impl TableHost {
         }
     }
 
+    // The step of this number fails. After want of memory nothing changed.
+    fn fail_step(&mut self, alloc: Global, number: u64) -> Result<HostAnswer, OutOfMemory>
+        ensures reply { IfOk result (λ a. reply_of a ≡ Some (failure number)) }
+        ensures state { self.new
+            ≡ (if is_ok result then record self.old { steps = number } else self.old) }
+    {
+        let answer = table_natives::failure(alloc, number)?;
+        self.steps = number;
+        Ok(answer)
+    }
+
     // One call. After want of memory nothing changed.
     fn step(&mut self, alloc: Global, key: u64, args: &mut Args) -> Result<HostAnswer, OutOfMemory>
         ensures done { IfOk result (λ a. IsStep self.old key args.old a self.new args.new) }
         ensures unchanged { IfErr result (λ _.
             (self.new ≡ self.old) × (args.new.receiver ≡ args.old.receiver)) }
     {
-        match self.turn() {
+        if key == callbacks::MAP {
+            let call = mapped(alloc, self.tokens.given, args)?;
+            return self.map(alloc, call);
+        }
+        match self.turn(false) {
             Turn::Full => table_natives::refused(alloc, "table host is full"),
-            Turn::Failing(number) => {
-                let answer = table_natives::failure(alloc, number)?;
+            Turn::Failing(number) => self.fail_step(alloc, number),
+            Turn::Ready(number) => {
+                let answer = perform(alloc, key, args, &mut self.printed, &mut self.registers)?;
                 self.steps = number;
                 Ok(answer)
             }
+        }
+    }
+
+    // A call of `map`. After want of memory nothing changed.
+    fn map(
+        &mut self,
+        alloc: Global,
+        call: Option<PendingCall>,
+    ) -> Result<HostAnswer, OutOfMemory>
+        ensures reply { IfOk result (λ a. reply_of a ≡ Some (map_reply self.old call)) }
+        ensures state { self.new ≡ (if is_ok result then map_after self.old call else self.old) }
+    {
+        match self.turn(asks_first(&call)) {
+            Turn::Full => table_natives::refused(alloc, "table host is full"),
+            Turn::Failing(number) => self.fail_step(alloc, number),
             Turn::Ready(number) => {
-                let answer = perform(alloc, key, args, &mut self.printed, &mut self.registers)?;
+                let answer = self.tokens.begin(alloc, call)?;
+                self.steps = number;
+                Ok(answer)
+            }
+        }
+    }
+
+    // The call with this token goes on with an outcome. After want of memory nothing changed.
+    fn resume_step(
+        &mut self,
+        alloc: Global,
+        token: u64,
+        outcome: Result<Dynamic, HostFault>,
+    ) -> Result<HostAnswer, OutOfMemory>
+        ensures done { IfOk result (λ a.
+            IsResumed self.old token (outcome_of outcome) a self.new) }
+        ensures unchanged { IfErr result (λ _. self.new ≡ self.old) }
+    {
+        let place = self.tokens.pending.place(token);
+        match self.turn(self.tokens.asks_next(place, &outcome)) {
+            Turn::Full => table_natives::refused(alloc, "table host is full"),
+            Turn::Failing(number) => self.fail_step(alloc, number),
+            Turn::Ready(number) => {
+                let answer = self.tokens.go_on(alloc, place, outcome)?;
                 self.steps = number;
                 Ok(answer)
             }
@@ -134,6 +200,23 @@ impl Host for TableHost {
         }
     }
 
+    fn resume(
+        &mut self,
+        alloc: Global,
+        token: u64,
+        outcome: Result<Dynamic, HostFault>,
+        _args: &mut Args,
+    ) -> HostAnswer {
+        match self.resume_step(alloc, token, outcome) {
+            Ok(answer) => answer,
+            Err(OutOfMemory) => HostAnswer::Memory,
+        }
+    }
+
+    fn forget(&mut self, token: u64) {
+        self.tokens.forget(token);
+    }
+
     fn progress(&mut self, alloc: Global, count: u64) -> ProgressAnswer {
         match self.stops.token(count) {
             None => ProgressAnswer::GoOn,
@@ -144,11 +227,11 @@ impl Host for TableHost {
         }
     }
 
-    /// It does nothing. Its clauses say what is so of every such host: its tokens are clean, and it
-    /// has no cell to hand over.
+    /// It does nothing. Its clauses say what is so of every such host: what it hands over unasked is
+    /// clean, and no cell can be handed over but those that are kept for calls that wait.
     fn vouch(&self)
         ensures clean { table_law.holds_clean self.now ≡ true }
-        ensures reach { table_law.reach self.now ≡ 0 }
+        ensures reach { table_law.reach self.now ≡ waiting_bound self.now.tokens.pending }
     {
         self.stops.vouch();
     }
