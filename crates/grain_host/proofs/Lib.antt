@@ -1,3 +1,4 @@
 mod Given
 mod PlainStops
 mod Signing
+mod Waiting
