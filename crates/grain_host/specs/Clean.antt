@@ -35,7 +35,7 @@ both_true true b h k = k
 both_true false b h k = absurd cc
 
 -- values as a native is given them
-abbrev values_plain : List Dynamic → Bool
+abbrev pub values_plain : List Dynamic → Bool
 values_plain [] = true
 values_plain (v ∷ vs) = is_plain (tree v) && values_plain vs
 
@@ -52,7 +52,7 @@ values_same (t ∷ ts) h =
 
 module _ (s : TableHost) (receiver : Option Held) (values : List Tree)
     (clean : call_is_clean table_law s receiver values ≡ true) where
-  stops : stops_clean s.stops ≡ true
+  pub stops : stops_clean s.stops ≡ true
   stops =
       first_true (stops_clean s.stops) (receiver_is_plain receiver && list_all is_plain values) clean
 
@@ -65,7 +65,7 @@ module _ (s : TableHost) (receiver : Option Held) (values : List Tree)
   others =
       values_same values (second_true (receiver_is_plain receiver) (list_all is_plain values) given)
 
-given_plain : (s : TableHost) (receiver : Option Held) (values : List Tree) →
+pub given_plain : (s : TableHost) (receiver : Option Held) (values : List Tree) →
     call_is_clean table_law s receiver values ≡ true →
     values_plain (arguments receiver values) ≡ true
 given_plain s None values clean = others s None values clean
@@ -80,7 +80,7 @@ sole_plain [] h = refl
 sole_plain (v ∷ []) h = first_true (is_plain (tree v)) true h
 sole_plain (v ∷ u ∷ vs) h = refl
 
-either : (b : Bool) (x y : Reply) → reply_is_clean x ≡ true → reply_is_clean y ≡ true →
+pub either : (b : Bool) (x y : Reply) → reply_is_clean x ≡ true → reply_is_clean y ≡ true →
     reply_is_clean (if b then x else y) ≡ true
 either true x y p q = p
 either false x y p q = q
@@ -141,21 +141,14 @@ native_clean rs key vs h =
     (either (key == 5) _ _ (exit_clean (sole vs) (sole_plain vs h))
     (access_clean rs (asked key vs)))))
 
-reply_clean : (t : Turn) (rs : List ℤ) (key : ℕ) (vs : List Dynamic) → values_plain vs ≡ true →
+pub reply_clean : (t : Turn) (rs : List ℤ) (key : ℕ) (vs : List Dynamic) → values_plain vs ≡ true →
     reply_is_clean (reply_at t rs key vs) ≡ true
 reply_clean turns.Full rs key vs h = refl
 reply_clean (turns.Failing k) rs key vs h = refl
 reply_clean (turns.Ready k) rs key vs h = native_clean rs key vs h
 
-pub table_replies_clean : (s : TableHost) (key : ℕ) (receiver : Option Held)
-    (values : List Tree) → call_is_clean table_law s receiver values ≡ true →
-    reply_is_clean (table_law.call_reply s key receiver values) ≡ true
-table_replies_clean s key receiver values clean =
-    reply_clean (turn s) s.registers key (arguments receiver values)
-    (given_plain s receiver values clean)
-
 -- an array with one more value, which is no cell
-longer_clean : (ts : List Tree) (t : Tree) → is_clean (array (pack ts)) ≡ true → is_plain t ≡ true →
+pub longer_clean : (ts : List Tree) (t : Tree) → is_clean (array (pack ts)) ≡ true → is_plain t ≡ true →
     is_clean (array (pack (ts ++ t ∷ []))) ≡ true
 longer_clean [] t p q =
     both_true (not (is_cell t)) (is_clean t && true)
@@ -186,24 +179,11 @@ pub table_writes_clean : (s : TableHost) (key : ℕ) (h : Held) (values : List T
     call_is_clean table_law s (Some h) values ≡ true →
     is_clean (tree (table_law.call_written s key h values)) ≡ true
 table_writes_clean s key h values clean =
-    written_clean (turn s) h values
+    written_clean (turn false s) h values
     (first_true (is_clean (tree h.value)) (not (is_cell (tree h.value)))
     (first_true (is_plain (tree h.value)) (list_all is_plain values)
     (given s (Some h) values clean)))
     (others s (Some h) values clean)
-
--- no call changes the lines
-stops_same : (t : Turn) (s : TableHost) (key : ℕ) (vs : List Dynamic) →
-    (after_at t s key vs).stops ≡ s.stops
-stops_same turns.Full s key vs = refl
-stops_same (turns.Failing k) s key vs = refl
-stops_same (turns.Ready k) s key vs = refl
-
-pub table_stays_clean : (s : TableHost) (key : ℕ) (receiver : Option Held)
-    (values : List Tree) → call_is_clean table_law s receiver values ≡ true →
-    table_law.holds_clean (table_law.call_after s key receiver values) ≡ true
-table_stays_clean s key receiver values clean =
-    rw (stops_same (turn s) s key (arguments receiver values)) (stops s receiver values clean)
 
 stop_clean : (b : Bool) (x : Dynamic) (o : Option Dynamic) → is_clean (tree x) ≡ true →
     verdict_is_clean (verdict o) ≡ true →

@@ -10,7 +10,9 @@ pub mod Refusals
 pub mod Pending
 pub mod Mapping
 pub mod Tables
+pub mod MapReaching
 pub mod Reaching
 pub mod Clean
+pub mod MapClean
 pub mod Lawful
 pub mod Signatures

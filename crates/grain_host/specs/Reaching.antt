@@ -1,5 +1,5 @@
 -- The host in memory hands over no cells but those that it was given, or that its own lines hold.
-use Rattle.std.specs.Prelude.{ℕ, ℤ, ◌≡◌, ◌==◌, ◌≤◌, max, Bool, true, false, List, [], ◌∷◌, ◌++◌, Option, Some, None, map, refl, slice_get, option_and_then, if◌then◌else◌}
+use Rattle.std.specs.Prelude.{ℕ, ℤ, ◌≡◌, ◌==◌, ◌≤◌, max, Bool, true, false, is_some, List, [], ◌∷◌, ◌++◌, Option, Some, None, map, refl, slice_get, option_and_then, if◌then◌else◌}
 use Rattle.std.proofs.Common.{arith}
 use Rattle.std.proofs.Math.Nat.{le-max_left, le-max_right, max-le}
 use Rattle.grain_value.specs.Tree.{Tree, array, pack}
@@ -10,7 +10,7 @@ use Rattle.grain_value.specs.laws.Same.{tree-value_of}
 use Rattle.grain_value.specs.declared.values.Dynamic.{Dynamic}
 use Rattle.grain_value.specs.declared.values.Dynamic.TheVariants as dynamic
 use Rattle.grain_value.specs.declared.values.Held.{Held}
-use Rattle.grain_host.specs.Law.{Reply, call_bound, receiver_bound, reply_bound, verdict_bound}
+use Rattle.grain_host.specs.Law.{Reply, Outcome, call_bound, outcome_bound, receiver_bound, reply_bound, resume_bound, verdict_bound}
 use Rattle.grain_host.specs.declared.tables.TableHost.{TableHost}
 use Rattle.grain_host.specs.declared.stop_lines.StopLine.{StopLine}
 use Rattle.grain_host.specs.declared.register_natives.Access.{Access}
@@ -20,17 +20,18 @@ use Rattle.grain_host.specs.declared.register_natives.Place.TheVariants as place
 use Rattle.grain_host.specs.declared.tables.Turn.{Turn}
 use Rattle.grain_host.specs.declared.tables.Turn.TheVariants as turns
 use Rattle.grain_host.specs.Stops.{stop_at, stops_bound}
+use Rattle.grain_host.specs.Pending.{place_of, waiting_bound}
+use Rattle.grain_host.specs.Mapping.{call_at, first_asked, goes_on, gone, mapped, outcome_reply, start_reply, started}
+use Rattle.grain_host.specs.MapReaching.{arguments_bound, at_within, first_below, goes_within, gone_within, longer_within, mapped_within, outcome_within, second_below, start_within, started_within}
+use Rattle.grain_host.specs.declared.callbacks.Tokens.{Tokens}
+use Rattle.grain_host.specs.declared.pending_calls.PendingCall.{PendingCall}
 use Rattle.grain_host.specs.Registers.{register_of, number_of, register_at, named_by, own_reply, read_reply, write_reply, asked}
-use Rattle.grain_host.specs.Tables.{print_reply, push_reply, counted, entries_in, len_reply, exit_reply, register_reply, native_reply, sole, first_of_two, reply_at, after_at, written_at, pushed, verdict, turn, arguments, table_law}
+use Rattle.grain_host.specs.Tables.{print_reply, push_reply, counted, entries_in, len_reply, exit_reply, register_reply, native_reply, sole, first_of_two, reply_at, after_at, reply_in, after_in, map_reply, map_after, call_reply, call_after, resume_turn, resume_reply, resume_after, written_at, pushed, verdict, turn, arguments, table_law}
 
--- one more than the greatest cell of an argument, if there is one, and of arguments
+-- one more than the greatest cell of an argument, if there is one
 abbrev pub argument_bound : Option Dynamic → ℕ
 argument_bound None = 0
 argument_bound (Some v) = cell_bound (tree v)
-
-abbrev pub arguments_bound : List Dynamic → ℕ
-arguments_bound [] = 0
-arguments_bound (v ∷ vs) = max (cell_bound (tree v)) (arguments_bound vs)
 
 values_same : (ts : List Tree) → arguments_bound (map value_of ts) ≤ cell_bound (array (pack ts))
 values_same [] = omega arith
@@ -130,22 +131,26 @@ reply_within turns.Full rs key vs n le = omega arith
 reply_within (turns.Failing k) rs key vs n le = omega arith
 reply_within (turns.Ready k) rs key vs n le = native_within rs key vs n le
 
+in_within : (t : Turn) (r : Reply) (n : ℕ) → reply_bound r ≤ n → reply_bound (reply_in t r) ≤ n
+in_within turns.Full r n h = omega arith
+in_within (turns.Failing k) r n h = omega arith
+in_within (turns.Ready k) r n h = h
+
+call_within : (s : TableHost) (key : ℕ) (vs : List Dynamic) (n : ℕ) → arguments_bound vs ≤ n →
+    reply_bound (call_reply s key vs) ≤ n
+call_within s key vs n h =
+    let call = mapped s.tokens.given vs in
+    either (key == 4) (map_reply s call) (reply_at (turn false s) s.registers key vs) n
+    (in_within (turn (is_some (first_asked call)) s) (start_reply call) n
+    (start_within n call (mapped_within n s.tokens.given vs h)))
+    (reply_within (turn false s) s.registers key vs n h)
+
 pub table_replies : (s : TableHost) (key : ℕ) (receiver : Option Held) (values : List Tree) →
     reply_bound (table_law.call_reply s key receiver values)
     ≤ call_bound table_law s receiver values
 table_replies s key receiver values =
-    reply_within (turn s) s.registers key (arguments receiver values)
-    (call_bound table_law s receiver values) (given_within s receiver values)
-
--- an array with one more value names what the two name
-longer_within : (ts : List Tree) (t : Tree) (n : ℕ) → items_bound (pack ts) ≤ n →
-    cell_bound t ≤ n → items_bound (pack (ts ++ t ∷ [])) ≤ n
-longer_within [] t n p q = max-le {a = cell_bound t} {b = 0} q (omega arith)
-longer_within (u ∷ us) t n p q =
-    max-le {a = cell_bound u} {b = items_bound (pack (us ++ t ∷ []))}
-    (omega (arith, p, le-max_left (cell_bound u) (items_bound (pack us))))
-    (longer_within us t n
-    (omega (arith, p, le-max_right (cell_bound u) (items_bound (pack us)))) q)
+    call_within s key (arguments receiver values) (call_bound table_law s receiver values)
+    (given_within s receiver values)
 
 pushed_within : (d : Dynamic) (v : Option Dynamic) (n : ℕ) → cell_bound (tree d) ≤ n →
     argument_bound v ≤ n → cell_bound (tree (pushed d v)) ≤ n
@@ -168,7 +173,7 @@ table_writes s key h values =
     let reach : ℕ = table_law.reach s in
     let own : ℕ = cell_bound (tree h.value) in
     let given : ℕ = cell_bound (array (pack values)) in
-    written_within (turn s) h values (call_bound table_law s (Some h) values)
+    written_within (turn false s) h values (call_bound table_law s (Some h) values)
     (omega (arith, le-max_left own given, le-max_right reach (max own given)))
     (omega (
       arith,
@@ -192,22 +197,110 @@ content_at (turns.Ready n) h values plain =
 
 pub table_contents : (s : TableHost) (key : ℕ) (h : Held) (values : List Tree) →
     cell_of h.value ≡ None → cell_of (table_law.call_written s key h values) ≡ None
-table_contents s key h values plain = content_at (turn s) h values plain
+table_contents s key h values plain = content_at (turn false s) h values plain
 
--- no call changes the lines
-stops_stay : (t : Turn) (s : TableHost) (key : ℕ) (vs : List Dynamic) →
-    (after_at t s key vs).stops ≡ s.stops
-stops_stay turns.Full s key vs = refl
-stops_stay (turns.Failing k) s key vs = refl
-stops_stay (turns.Ready k) s key vs = refl
+-- what is kept for calls that wait, and the lines, which no step changes
+abbrev Within : ℕ → TableHost → Type 0
+Within n s = table_law.reach s ≤ n
+
+lines_within : (s : TableHost) (n : ℕ) → Within n s → stops_bound s.stops ≤ n
+lines_within s n h = first_below (stops_bound s.stops) (waiting_bound s.tokens.pending) n h
+
+waiting_within : (s : TableHost) (n : ℕ) → Within n s → waiting_bound s.tokens.pending ≤ n
+waiting_within s n h = second_below (stops_bound s.stops) (waiting_bound s.tokens.pending) n h
+
+after_within : (t : Turn) (s : TableHost) (key : ℕ) (vs : List Dynamic) (n : ℕ) → Within n s →
+    Within n (after_at t s key vs)
+after_within turns.Full s key vs n h = h
+after_within (turns.Failing k) s key vs n h = h
+after_within (turns.Ready k) s key vs n h = h
+
+kept_within : (t : Turn) (tokens : Tokens) (s : TableHost) (n : ℕ) → Within n s →
+    waiting_bound tokens.pending ≤ n → Within n (after_in t tokens s)
+kept_within turns.Full tokens s n h k = h
+kept_within (turns.Failing j) tokens s n h k = h
+kept_within (turns.Ready j) tokens s n h k =
+    max-le {a = stops_bound s.stops} {b = waiting_bound tokens.pending} (lines_within s n h) k
+
+either_state : (b : Bool) (x y : TableHost) (n : ℕ) → Within n x → Within n y →
+    Within n (if b then x else y)
+either_state true x y n p q = p
+either_state false x y n p q = q
+
+left_within : (s : TableHost) (key : ℕ) (vs : List Dynamic) (n : ℕ) → Within n s →
+    arguments_bound vs ≤ n → Within n (call_after s key vs)
+left_within s key vs n h k =
+    let call = mapped s.tokens.given vs in
+    either_state (key == 4) (map_after s call) (after_at (turn false s) s key vs) n
+    (kept_within (turn (is_some (first_asked call)) s) (started call s.tokens) s n h
+    (started_within n call s.tokens (waiting_within s n h) (mapped_within n s.tokens.given vs k)))
+    (after_within (turn false s) s key vs n h)
 
 pub table_stays : (s : TableHost) (key : ℕ) (receiver : Option Held) (values : List Tree) →
     table_law.reach (table_law.call_after s key receiver values)
     ≤ call_bound table_law s receiver values
 table_stays s key receiver values =
+    left_within s key (arguments receiver values) (call_bound table_law s receiver values)
+    (le-max_left (table_law.reach s)
+    (max (receiver_bound receiver) (cell_bound (array (pack values)))))
+    (given_within s receiver values)
+
+-- where the host hears of an outcome
+reached : (s : TableHost) (outcome : Outcome) (receiver : Option Held) →
+    Within (resume_bound table_law s outcome receiver) s
+reached s outcome receiver =
+    le-max_left (table_law.reach s) (max (receiver_bound receiver) (outcome_bound outcome))
+
+heard_within : (s : TableHost) (outcome : Outcome) (receiver : Option Held) →
+    outcome_bound outcome ≤ resume_bound table_law s outcome receiver
+heard_within s outcome receiver =
     let reach : ℕ = table_law.reach s in
-    rw (stops_stay (turn s) s key (arguments receiver values))
-    (le-max_left reach (max (receiver_bound receiver) (cell_bound (array (pack values)))))
+    let own : ℕ = receiver_bound receiver in
+    let came : ℕ = outcome_bound outcome in
+    omega (arith, le-max_right own came, le-max_right reach (max own came))
+
+pub table_resumes : (s : TableHost) (token : ℕ) (outcome : Outcome) (receiver : Option Held) →
+    reply_bound (table_law.resume_reply s token outcome receiver)
+    ≤ resume_bound table_law s outcome receiver
+table_resumes s token outcome receiver =
+    let place = place_of token s.tokens.pending in
+    let n = resume_bound table_law s outcome receiver in
+    let call = call_at s.tokens place in
+    in_within (resume_turn s place outcome) (outcome_reply s.tokens.given call outcome) n
+    (outcome_within n s.tokens.given call outcome
+    (at_within n s.tokens place (waiting_within s n (reached s outcome receiver)))
+    (heard_within s outcome receiver))
+
+pub table_stays_resumed : (s : TableHost) (token : ℕ) (outcome : Outcome)
+    (receiver : Option Held) →
+    table_law.reach (table_law.resume_after s token outcome receiver)
+    ≤ resume_bound table_law s outcome receiver
+table_stays_resumed s token outcome receiver =
+    let place = place_of token s.tokens.pending in
+    let n = resume_bound table_law s outcome receiver in
+    kept_within (resume_turn s place outcome) (goes_on place outcome s.tokens) s n
+    (reached s outcome receiver)
+    (goes_within n place outcome s.tokens (waiting_within s n (reached s outcome receiver))
+    (heard_within s outcome receiver))
+
+-- what is left in a receiver is what was there
+pub table_rewrites : (s : TableHost) (token : ℕ) (outcome : Outcome) (h : Held) →
+    cell_bound (tree (table_law.resume_written s token outcome h))
+    ≤ resume_bound table_law s outcome (Some h)
+table_rewrites s token outcome h =
+    let reach : ℕ = table_law.reach s in
+    let own : ℕ = cell_bound (tree h.value) in
+    let came : ℕ = outcome_bound outcome in
+    omega (arith, le-max_left own came, le-max_right reach (max own came))
+
+pub table_forgets : (s : TableHost) (token : ℕ) →
+    table_law.reach (table_law.forget_after s token) ≤ table_law.reach s
+table_forgets s token =
+    let n = table_law.reach s in
+    let place = place_of token s.tokens.pending in
+    max-le {a = stops_bound s.stops} {b = waiting_bound (gone place s.tokens).pending}
+    (lines_within s n (omega arith))
+    (gone_within n place s.tokens (waiting_within s n (omega arith)))
 
 stop_within : (b : Bool) (x : Dynamic) (o : Option Dynamic) (n : ℕ) → cell_bound (tree x) ≤ n →
     verdict_bound (verdict o) ≤ n → verdict_bound (verdict (if b then Some x else o)) ≤ n
@@ -225,4 +318,9 @@ stops_within count (l ∷ ls) =
 
 pub table_stops : (s : TableHost) (count : ℕ) →
     verdict_bound (table_law.progress_reply s count) ≤ table_law.reach s
-table_stops s count = stops_within count s.stops
+table_stops s count =
+    omega (
+      arith,
+      stops_within count s.stops,
+      le-max_left (stops_bound s.stops) (waiting_bound s.tokens.pending),
+    )
