@@ -1,7 +1,6 @@
 -- The calls that wait, of which one is changed or gone.
 use Rattle.std.proofs.Common.{◌≡◌, ◌<◌, ℕ, zero, suc, Bool, true, false, List, [], ◌∷◌, Option, Some, None, option_map, length, refl, sym, ap, ◌∙◌, arith, subst, if◌then◌else◌}
 use Rattle.std.specs.Prelude.{remove, slice_get, slice_index_or, slice_set}
-use Rattle.grain_value.specs.Tree.{Tree}
 use Rattle.grain_value.specs.declared.values.Dynamic.{Dynamic}
 use Rattle.grain_host.specs.Pending.{answered, renewed}
 use Rattle.grain_host.specs.declared.pending_calls.PendingCall.{PendingCall}

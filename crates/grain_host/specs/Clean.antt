@@ -20,7 +20,7 @@ use Rattle.grain_host.specs.declared.tables.Turn.{Turn}
 use Rattle.grain_host.specs.declared.tables.Turn.TheVariants as turns
 use Rattle.grain_host.specs.Stops.{stop_at, stops_clean}
 use Rattle.grain_host.specs.Registers.{register_of, number_of, register_at, named_by, own_reply, read_reply, write_reply, asked}
-use Rattle.grain_host.specs.Tables.{print_reply, push_reply, counted, entries_in, len_reply, exit_reply, register_reply, native_reply, sole, first_of_two, reply_at, after_at, written_at, pushed, verdict, turn, arguments, table_law}
+use Rattle.grain_host.specs.Tables.{print_reply, push_reply, counted, entries_in, len_reply, exit_reply, register_reply, native_reply, sole, first_of_two, reply_at, written_at, pushed, verdict, turn, arguments, table_law}
 
 pub first_true : (a b : Bool) → a && b ≡ true → a ≡ true
 first_true true b h = refl

@@ -12,7 +12,7 @@ use Rattle.grain_host.specs.Clean.{both_true, either, first_true, given_plain, l
 use Rattle.grain_host.specs.Pending.{answered, next_of, pending_clean, place_of, renewed, waiting_clean}
 use Rattle.grain_host.specs.Mapping.{asks_next, call_at, first_asked, goes_on, gone, keeps_call, mapped, mapped_by, next_asked, next_reply, outcome_reply, start_reply, started}
 use Rattle.grain_host.specs.Stops.{stops_clean}
-use Rattle.grain_host.specs.Tables.{after_at, after_in, arguments, call_after, call_reply, map_after, map_reply, reply_at, reply_in, resume_reply, resume_turn, table_law, turn}
+use Rattle.grain_host.specs.Tables.{after_at, after_in, arguments, map_after, map_reply, reply_at, reply_in, resume_turn, table_law, turn}
 use Rattle.grain_host.specs.declared.callbacks.Tokens.{Tokens}
 use Rattle.grain_host.specs.declared.pending_calls.PendingCall.{PendingCall}
 use Rattle.grain_host.specs.declared.tables.TableHost.{TableHost}

@@ -1,5 +1,5 @@
 -- What `map` asks, answers and keeps names no cells but those that it was given.
-use Rattle.std.specs.Prelude.{ℕ, ◌≤◌, zero, suc, max, Bool, List, [], ◌∷◌, ◌++◌, Option, Some, None, remove, slice_get}
+use Rattle.std.specs.Prelude.{ℕ, ◌≤◌, zero, suc, max, List, [], ◌∷◌, ◌++◌, Option, Some, None, remove, slice_get}
 use Rattle.std.proofs.Common.{arith}
 use Rattle.std.proofs.Math.Nat.{le-max_left, le-max_right, max-le}
 use Rattle.grain_value.specs.Tree.{Tree, array, pack}
@@ -7,7 +7,7 @@ use Rattle.grain_value.specs.View.{tree}
 use Rattle.grain_value.specs.Cells.{cell_bound, items_bound}
 use Rattle.grain_value.specs.declared.values.Dynamic.{Dynamic}
 use Rattle.grain_value.specs.declared.values.Dynamic.TheVariants as dynamic
-use Rattle.grain_host.specs.Law.{Reply, Outcome, Value, Fault, outcome_bound, reply_bound}
+use Rattle.grain_host.specs.Law.{Outcome, Value, Fault, outcome_bound, reply_bound}
 use Rattle.grain_host.specs.Pending.{answered, next_of, pending_bound, renewed, waiting_bound}
 use Rattle.grain_host.specs.Mapping.{asks_next, call_at, goes_on, gone, keeps_call, mapped, mapped_by, next_asked, next_reply, outcome_reply, start_reply, started}
 use Rattle.grain_host.specs.declared.callbacks.Tokens.{Tokens}

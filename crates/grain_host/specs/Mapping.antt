@@ -1,10 +1,10 @@
 -- `map`: what it asks, answers and keeps.
-use Rattle.std.specs.Prelude.{◌≡◌, ◌==◌, ◌&&◌, ◌^◌, ◌-◌, ℕ, ◌+◌, ◌++◌, Bool, false, List, [], ◌∷◌, Option, Some, None, is_some, remove, slice_get, option_and_then, option_map}
+use Rattle.std.specs.Prelude.{◌≡◌, ◌==◌, ◌&&◌, ◌^◌, ◌-◌, ℕ, ◌+◌, ◌++◌, Bool, false, List, [], ◌∷◌, Option, Some, None, remove, slice_get, option_and_then}
 use Rattle.grain_value.specs.Tree.{Tree}
 use Rattle.grain_value.specs.declared.values.Dynamic.{Dynamic}
 use Rattle.grain_value.specs.declared.values.Dynamic.TheVariants as dynamic
 use Rattle.grain_host.specs.Law.{Reply, Done, Failed, Ask, Outcome, Value, Fault}
-use Rattle.grain_host.specs.Pending.{begun, answered, next_of, place_of, renewed}
+use Rattle.grain_host.specs.Pending.{begun, answered, next_of, renewed}
 use Rattle.grain_host.specs.Refusals.{unknown}
 use Rattle.grain_host.specs.declared.callbacks.Tokens.{Tokens}
 use Rattle.grain_host.specs.declared.pending_calls.PendingCall.{PendingCall}

@@ -1,5 +1,5 @@
 -- The host in memory hands over no cells but those that it was given, or that its own lines hold.
-use Rattle.std.specs.Prelude.{ℕ, ℤ, ◌≡◌, ◌==◌, ◌≤◌, max, Bool, true, false, is_some, List, [], ◌∷◌, ◌++◌, Option, Some, None, map, refl, slice_get, option_and_then, if◌then◌else◌}
+use Rattle.std.specs.Prelude.{ℕ, ℤ, ◌≡◌, ◌==◌, ◌≤◌, max, Bool, true, false, is_some, List, [], ◌∷◌, Option, Some, None, map, refl, slice_get, option_and_then, if◌then◌else◌}
 use Rattle.std.proofs.Common.{arith}
 use Rattle.std.proofs.Math.Nat.{le-max_left, le-max_right, max-le}
 use Rattle.grain_value.specs.Tree.{Tree, array, pack}
@@ -24,9 +24,8 @@ use Rattle.grain_host.specs.Pending.{place_of, waiting_bound}
 use Rattle.grain_host.specs.Mapping.{call_at, first_asked, goes_on, gone, mapped, outcome_reply, start_reply, started}
 use Rattle.grain_host.specs.MapReaching.{arguments_bound, at_within, first_below, goes_within, gone_within, longer_within, mapped_within, outcome_within, second_below, start_within, started_within}
 use Rattle.grain_host.specs.declared.callbacks.Tokens.{Tokens}
-use Rattle.grain_host.specs.declared.pending_calls.PendingCall.{PendingCall}
 use Rattle.grain_host.specs.Registers.{register_of, number_of, register_at, named_by, own_reply, read_reply, write_reply, asked}
-use Rattle.grain_host.specs.Tables.{print_reply, push_reply, counted, entries_in, len_reply, exit_reply, register_reply, native_reply, sole, first_of_two, reply_at, after_at, reply_in, after_in, map_reply, map_after, call_reply, call_after, resume_turn, resume_reply, resume_after, written_at, pushed, verdict, turn, arguments, table_law}
+use Rattle.grain_host.specs.Tables.{print_reply, push_reply, counted, entries_in, len_reply, exit_reply, register_reply, native_reply, sole, first_of_two, reply_at, after_at, reply_in, after_in, map_reply, map_after, call_reply, call_after, resume_turn, written_at, pushed, verdict, turn, arguments, table_law}
 
 -- one more than the greatest cell of an argument, if there is one
 abbrev pub argument_bound : Option Dynamic → ℕ

@@ -139,11 +139,7 @@ impl TableHost {
     }
 
     // A call of `map`. After want of memory nothing changed.
-    fn map(
-        &mut self,
-        alloc: Global,
-        call: Option<PendingCall>,
-    ) -> Result<HostAnswer, OutOfMemory>
+    fn map(&mut self, alloc: Global, call: Option<PendingCall>) -> Result<HostAnswer, OutOfMemory>
         ensures reply { IfOk result (λ a. reply_of a ≡ Some (map_reply self.old call)) }
         ensures state { self.new ≡ (if is_ok result then map_after self.old call else self.old) }
     {

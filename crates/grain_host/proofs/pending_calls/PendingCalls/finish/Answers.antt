@@ -1,5 +1,4 @@
-use Rattle.std.proofs.Common.{◌≡◌}
-use Rattle.grain_host.specs.Pending.{answered, renewed}
+use Rattle.grain_host.specs.Pending.{answered}
 use Rattle.grain_host.proofs.Waiting.{gone_there, last_there, still_there}
 use Rattle.grain_host.proofs.pending_calls.PendingCalls.finish.Goals as goal
 
