@@ -1,23 +1,42 @@
 //! The host in memory, with enough memory, and the faults that a host may answer.
 
+mod maps;
 mod registers;
 
 use crate::made::{array, check_text, quoted, text_of, value_of};
 use crate::raised::{Broken, Kind, OfText, OfTexts, OfValue, Plain, Raised, fault_of, named_text};
 use grain_fault::EvalAltResult;
 use grain_host::{Args, Host, HostAnswer, HostFault, ProgressAnswer, TableHost};
-use grain_value::{Array, Dynamic, Held, Kinds, Native, Text};
+use grain_value::{Array, Dynamic, FnPtr, Held, Kinds, Native, Text};
 use std::alloc::Global;
 use std::process::Abort;
 
-/// The call's value as a listing has it, an exit's value behind the word, or the name and the text
-/// of a fault.
+/// The call's value as a listing has it, an exit's value behind the word, the name and the text of a
+/// fault, or what is asked.
 fn answered(rt: &impl Abort, alloc: Global, answer: HostAnswer) -> Text {
     match answer {
         HostAnswer::Done(value) => quoted(rt, alloc, &value),
         HostAnswer::Failed(fault) => failed(rt, alloc, fault.into_fault()),
+        HostAnswer::Ask {
+            token,
+            pointer,
+            arguments,
+        } => asked(rt, alloc, token, pointer, arguments),
         HostAnswer::Memory => panic!(rt; "memory"),
     }
+}
+
+/// The word, the token, the pointer and the array of the arguments.
+fn asked(rt: &impl Abort, alloc: Global, token: u64, pointer: FnPtr, arguments: Array) -> Text {
+    let mut text = text_of(rt, alloc, "ask ");
+    text.push_number(token).expect(rt, "memory");
+    text.push_str(" ").expect(rt, "memory");
+    let pointer = Dynamic::Pointer(pointer);
+    pointer.write_quoted(&mut text).expect(rt, "memory");
+    text.push_str(" ").expect(rt, "memory");
+    let arguments = Dynamic::Array(arguments);
+    arguments.write_quoted(&mut text).expect(rt, "memory");
+    text
 }
 
 fn failed(rt: &impl Abort, alloc: Global, fault: EvalAltResult) -> Text {
@@ -197,7 +216,15 @@ const EXIT: Native = Native {
     writes: false,
 };
 
-const RESOLVED: [Resolved; 11] = [
+const MAP: Native = Native {
+    key: 4,
+    writes: false,
+};
+
+const RESOLVED: [Resolved; 14] = [
+    ("map", &[5, 8], Some(MAP)),
+    ("map", &[8, 5], None),
+    ("map", &[5], None),
     ("print", &[8], Some(PRINT)),
     ("push", &[5, 2], Some(PUSH)),
     ("exit", &[0], Some(EXIT)),
