@@ -16,8 +16,9 @@ use Rattle.grain_host.specs.declared.register_natives.Access.TheVariants as acce
 use Rattle.grain_host.specs.declared.tables.Turn.{Turn}
 use Rattle.grain_host.specs.declared.tables.Turn.TheVariants as turns
 use Rattle.grain_host.specs.Clean.{table_writes_clean, table_stops_clean}
-use Rattle.grain_host.specs.MapClean.{table_replies_clean, table_resumes_clean, table_rewrites_clean, table_stays_clean, table_stays_resumed_clean, table_waits_called, table_waits_forgotten, table_waits_resumed}
-use Rattle.grain_host.specs.Reaching.{table_contents, table_forgets, table_replies, table_resumes, table_rewrites, table_stays, table_stays_resumed, table_stops, table_writes}
+use Rattle.grain_host.specs.MapClean.{table_replies_clean, table_resumes_clean, table_stays_clean, table_stays_resumed_clean, table_waits_called, table_waits_forgotten, table_waits_resumed}
+use Rattle.grain_host.specs.Reaching.{table_contents, table_forgets, table_replies, table_resumes, table_stays, table_stays_resumed, table_stops, table_writes}
+use Rattle.grain_host.specs.Resuming.{receiver_clean, receiver_within}
 use Rattle.grain_host.specs.Registers.{register_of, number_of, register_at, named_by, own_reply, read_reply, write_reply, asked}
 use Rattle.grain_host.specs.Tables.{print_reply, push_reply, counted, entries_in, len_reply, exit_reply, register_reply, native_reply, sole, first_of_two, reply_at, reply_in, call_reply, map_reply, resume_turn, turn, writing, arguments, table_law}
 
@@ -165,7 +166,7 @@ table_lawful = record {
   writes_content = table_contents;
   stays_within = table_stays;
   resume_replies_within = table_resumes;
-  resume_writes_within = table_rewrites;
+  resume_writes_within = λ s token outcome h. receiver_within table_law s outcome h;
   resume_writes_content = λ s token outcome h plain. plain;
   resume_stays_within = table_stays_resumed;
   forgets_within = table_forgets;
@@ -176,7 +177,7 @@ table_lawful = record {
   stays_clean = table_stays_clean;
   waits_after_call = table_waits_called;
   resume_replies_clean = table_resumes_clean;
-  resume_writes_clean = table_rewrites_clean;
+  resume_writes_clean = λ s token outcome h clean. receiver_clean table_law s outcome h clean;
   resume_stays_clean = table_stays_resumed_clean;
   waits_after_resume = table_waits_resumed;
   forgets_clean = λ s token clean. clean;

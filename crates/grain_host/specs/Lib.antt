@@ -1,6 +1,6 @@
 -- What the contracts of this crate cite: the faults of hosts, the law of hosts, what an answer is
 -- by that law, the host in memory (`Stops`, `Registers`, `Refusals`, `Pending`, `Mapping`, `Tables`), and
--- that it is lawful (`Reaching`, `Clean`, `Lawful`).
+-- that it is lawful (`MapReaching`, `Reaching`, `Clean`, `MapClean`, `Lawful`). `Resuming` is for each host.
 pub mod Faults
 pub mod Law
 pub mod Answers
@@ -10,6 +10,7 @@ pub mod Refusals
 pub mod Pending
 pub mod Mapping
 pub mod Tables
+pub mod Resuming
 pub mod MapReaching
 pub mod Reaching
 pub mod Clean

@@ -7,11 +7,11 @@ use Rattle.grain_value.specs.Cells.{is_cell, is_clean}
 use Rattle.grain_value.specs.declared.values.Dynamic.{Dynamic}
 use Rattle.grain_value.specs.declared.values.Dynamic.TheVariants as dynamic
 use Rattle.grain_value.specs.declared.values.Held.{Held}
-use Rattle.grain_host.specs.Law.{Reply, Outcome, Value, Fault, call_is_clean, is_plain, outcome_is_plain, receiver_is_plain, reply_is_clean, resume_is_clean}
+use Rattle.grain_host.specs.Law.{Reply, Outcome, Value, Fault, call_is_clean, is_plain, outcome_is_plain, reply_is_clean, resume_is_clean}
 use Rattle.grain_host.specs.Clean.{both_true, either, first_true, given_plain, longer_clean, reply_clean, second_true, stops, values_plain}
+use Rattle.grain_host.specs.Resuming.{holds_clean, outcome_plain, waits_clean}
 use Rattle.grain_host.specs.Pending.{answered, next_of, pending_clean, place_of, renewed, waiting_clean}
 use Rattle.grain_host.specs.Mapping.{asks_next, call_at, first_asked, goes_on, gone, keeps_call, mapped, mapped_by, next_asked, next_reply, outcome_reply, start_reply, started}
-use Rattle.grain_host.specs.Stops.{stops_clean}
 use Rattle.grain_host.specs.Tables.{after_at, after_in, arguments, map_after, map_reply, reply_at, reply_in, resume_turn, table_law, turn}
 use Rattle.grain_host.specs.declared.callbacks.Tokens.{Tokens}
 use Rattle.grain_host.specs.declared.pending_calls.PendingCall.{PendingCall}
@@ -238,25 +238,6 @@ table_waits_called s key receiver values clean waits =
     (waits_at (turn false s) s key vs waits)
 
 -- where the host hears of an outcome
-module _ (s : TableHost) (outcome : Outcome) (receiver : Option Held)
-    (clean : resume_is_clean table_law s outcome receiver ≡ true) where
-  kept : table_law.holds_clean s && table_law.waits_clean s ≡ true
-  kept =
-      first_true (table_law.holds_clean s && table_law.waits_clean s)
-      (receiver_is_plain receiver && outcome_is_plain outcome) clean
-
-  lines_kept : stops_clean s.stops ≡ true
-  lines_kept = first_true (stops_clean s.stops) (waiting_clean s.tokens.pending) kept
-
-  waiting_kept : waiting_clean s.tokens.pending ≡ true
-  waiting_kept = second_true (stops_clean s.stops) (waiting_clean s.tokens.pending) kept
-
-  heard_plain : outcome_is_plain outcome ≡ true
-  heard_plain =
-      second_true (receiver_is_plain receiver) (outcome_is_plain outcome)
-      (second_true (table_law.holds_clean s && table_law.waits_clean s)
-      (receiver_is_plain receiver && outcome_is_plain outcome) clean)
-
 pub table_resumes_clean : (s : TableHost) (token : ℕ) (outcome : Outcome)
     (receiver : Option Held) → resume_is_clean table_law s outcome receiver ≡ true →
     reply_is_clean (table_law.resume_reply s token outcome receiver) ≡ true
@@ -265,8 +246,8 @@ table_resumes_clean s token outcome receiver clean =
     let call = call_at s.tokens place in
     in_clean (resume_turn s place outcome) (outcome_reply s.tokens.given call outcome)
     (outcome_clean s.tokens.given call outcome
-    (at_clean s.tokens place (waiting_kept s outcome receiver clean))
-    (heard_plain s outcome receiver clean))
+    (at_clean s.tokens place (waits_clean table_law s outcome receiver clean))
+    (outcome_plain table_law s outcome receiver clean))
 
 pub table_waits_resumed : (s : TableHost) (token : ℕ) (outcome : Outcome)
     (receiver : Option Held) → resume_is_clean table_law s outcome receiver ≡ true →
@@ -274,24 +255,14 @@ pub table_waits_resumed : (s : TableHost) (token : ℕ) (outcome : Outcome)
 table_waits_resumed s token outcome receiver clean =
     let place = place_of token s.tokens.pending in
     waits_in (resume_turn s place outcome) (goes_on place outcome s.tokens) s
-    (waiting_kept s outcome receiver clean)
-    (goes_clean place outcome s.tokens (waiting_kept s outcome receiver clean)
-    (heard_plain s outcome receiver clean))
+    (waits_clean table_law s outcome receiver clean)
+    (goes_clean place outcome s.tokens (waits_clean table_law s outcome receiver clean)
+    (outcome_plain table_law s outcome receiver clean))
 
 pub table_waits_forgotten : (s : TableHost) (token : ℕ) → table_law.waits_clean s ≡ true →
     table_law.waits_clean (table_law.forget_after s token) ≡ true
 table_waits_forgotten s token waits =
     gone_clean (place_of token s.tokens.pending) s.tokens waits
-
--- what is left in a receiver is what was there
-pub table_rewrites_clean : (s : TableHost) (token : ℕ) (outcome : Outcome) (h : Held) →
-    resume_is_clean table_law s outcome (Some h) ≡ true →
-    is_clean (tree (table_law.resume_written s token outcome h)) ≡ true
-table_rewrites_clean s token outcome h clean =
-    clean_of h.value
-    (first_true (is_plain (tree h.value)) (outcome_is_plain outcome)
-    (second_true (table_law.holds_clean s && table_law.waits_clean s)
-    (is_plain (tree h.value) && outcome_is_plain outcome) clean))
 
 -- no step changes the lines
 lines_in : (t : Turn) (tokens : Tokens) (s : TableHost) → (after_in t tokens s).stops ≡ s.stops
@@ -326,4 +297,4 @@ pub table_stays_resumed_clean : (s : TableHost) (token : ℕ) (outcome : Outcome
 table_stays_resumed_clean s token outcome receiver clean =
     let place = place_of token s.tokens.pending in
     rw (lines_in (resume_turn s place outcome) (goes_on place outcome s.tokens) s)
-    (lines_kept s outcome receiver clean)
+    (holds_clean table_law s outcome receiver clean)

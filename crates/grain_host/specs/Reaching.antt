@@ -10,7 +10,7 @@ use Rattle.grain_value.specs.laws.Same.{tree-value_of}
 use Rattle.grain_value.specs.declared.values.Dynamic.{Dynamic}
 use Rattle.grain_value.specs.declared.values.Dynamic.TheVariants as dynamic
 use Rattle.grain_value.specs.declared.values.Held.{Held}
-use Rattle.grain_host.specs.Law.{Reply, Outcome, call_bound, outcome_bound, receiver_bound, reply_bound, resume_bound, verdict_bound}
+use Rattle.grain_host.specs.Law.{Reply, Outcome, call_bound, receiver_bound, reply_bound, resume_bound, verdict_bound}
 use Rattle.grain_host.specs.declared.tables.TableHost.{TableHost}
 use Rattle.grain_host.specs.declared.stop_lines.StopLine.{StopLine}
 use Rattle.grain_host.specs.declared.register_natives.Access.{Access}
@@ -19,6 +19,7 @@ use Rattle.grain_host.specs.declared.register_natives.Place.{Place}
 use Rattle.grain_host.specs.declared.register_natives.Place.TheVariants as place
 use Rattle.grain_host.specs.declared.tables.Turn.{Turn}
 use Rattle.grain_host.specs.declared.tables.Turn.TheVariants as turns
+use Rattle.grain_host.specs.Resuming.{reach_within, outcome_within as came_within}
 use Rattle.grain_host.specs.Stops.{stop_at, stops_bound}
 use Rattle.grain_host.specs.Pending.{place_of, waiting_bound}
 use Rattle.grain_host.specs.Mapping.{call_at, first_asked, goes_on, gone, mapped, outcome_reply, start_reply, started}
@@ -245,19 +246,6 @@ table_stays s key receiver values =
     (given_within s receiver values)
 
 -- where the host hears of an outcome
-reached : (s : TableHost) (outcome : Outcome) (receiver : Option Held) →
-    Within (resume_bound table_law s outcome receiver) s
-reached s outcome receiver =
-    le-max_left (table_law.reach s) (max (receiver_bound receiver) (outcome_bound outcome))
-
-heard_within : (s : TableHost) (outcome : Outcome) (receiver : Option Held) →
-    outcome_bound outcome ≤ resume_bound table_law s outcome receiver
-heard_within s outcome receiver =
-    let reach : ℕ = table_law.reach s in
-    let own : ℕ = receiver_bound receiver in
-    let came : ℕ = outcome_bound outcome in
-    omega (arith, le-max_right own came, le-max_right reach (max own came))
-
 pub table_resumes : (s : TableHost) (token : ℕ) (outcome : Outcome) (receiver : Option Held) →
     reply_bound (table_law.resume_reply s token outcome receiver)
     ≤ resume_bound table_law s outcome receiver
@@ -267,8 +255,8 @@ table_resumes s token outcome receiver =
     let call = call_at s.tokens place in
     in_within (resume_turn s place outcome) (outcome_reply s.tokens.given call outcome) n
     (outcome_within n s.tokens.given call outcome
-    (at_within n s.tokens place (waiting_within s n (reached s outcome receiver)))
-    (heard_within s outcome receiver))
+    (at_within n s.tokens place (waiting_within s n (reach_within table_law s outcome receiver)))
+    (came_within table_law s outcome receiver))
 
 pub table_stays_resumed : (s : TableHost) (token : ℕ) (outcome : Outcome)
     (receiver : Option Held) →
@@ -278,19 +266,9 @@ table_stays_resumed s token outcome receiver =
     let place = place_of token s.tokens.pending in
     let n = resume_bound table_law s outcome receiver in
     kept_within (resume_turn s place outcome) (goes_on place outcome s.tokens) s n
-    (reached s outcome receiver)
-    (goes_within n place outcome s.tokens (waiting_within s n (reached s outcome receiver))
-    (heard_within s outcome receiver))
-
--- what is left in a receiver is what was there
-pub table_rewrites : (s : TableHost) (token : ℕ) (outcome : Outcome) (h : Held) →
-    cell_bound (tree (table_law.resume_written s token outcome h))
-    ≤ resume_bound table_law s outcome (Some h)
-table_rewrites s token outcome h =
-    let reach : ℕ = table_law.reach s in
-    let own : ℕ = cell_bound (tree h.value) in
-    let came : ℕ = outcome_bound outcome in
-    omega (arith, le-max_left own came, le-max_right reach (max own came))
+    (reach_within table_law s outcome receiver)
+    (goes_within n place outcome s.tokens (waiting_within s n (reach_within table_law s outcome receiver))
+    (came_within table_law s outcome receiver))
 
 pub table_forgets : (s : TableHost) (token : ℕ) →
     table_law.reach (table_law.forget_after s token) ≤ table_law.reach s
