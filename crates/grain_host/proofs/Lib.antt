@@ -1,4 +1,5 @@
 mod Given
+mod Numbers
 mod PlainStops
 mod Signing
 mod Waiting

@@ -23,49 +23,49 @@ use Rattle.grain_host.specs.Registers.{register_of, number_of, register_at, name
 use Rattle.grain_host.specs.Tables.{print_reply, push_reply, counted, entries_in, len_reply, exit_reply, register_reply, native_reply, sole, first_of_two, reply_at, reply_in, call_reply, map_reply, resume_turn, turn, writing, arguments, table_law}
 
 -- the reply asks for nothing, and a fault in it is one that a host may answer
-abbrev Answers : Reply → Type 0
-Answers (Done v) = Unit
-Answers (Failed x) = handed_back x ≡ false
-Answers (Ask token pointer arguments) = ⊥
+abbrev pub AsksNothing : Reply → Type 0
+AsksNothing (Done v) = Unit
+AsksNothing (Failed x) = handed_back x ≡ false
+AsksNothing (Ask token pointer arguments) = ⊥
 
-either : (b : Bool) (x y : Reply) → Answers x → Answers y →
-    Answers (if b then x else y)
+either : (b : Bool) (x y : Reply) → AsksNothing x → AsksNothing y →
+    AsksNothing (if b then x else y)
 either true x y p q = p
 either false x y p q = q
 
-may_print : (t : Option Dynamic) → Answers (print_reply t)
+may_print : (t : Option Dynamic) → AsksNothing (print_reply t)
 may_print None = refl
 may_print (Some t) = tt
 
-may_push : (t : Option Dynamic) → Answers (push_reply t)
+may_push : (t : Option Dynamic) → AsksNothing (push_reply t)
 may_push (Some (dynamic.Array ts)) = tt
 may_push _ = refl
 
-may_count : (n : Option ℕ) → Answers (counted n)
+may_count : (n : Option ℕ) → AsksNothing (counted n)
 may_count None = refl
 may_count (Some n) = tt
 
-may_len : (t : Option Dynamic) → Answers (len_reply t)
+may_len : (t : Option Dynamic) → AsksNothing (len_reply t)
 may_len None = refl
 may_len (Some t) = may_count (entries_in t)
 
-may_exit : (t : Option Dynamic) → Answers (exit_reply t)
+may_exit : (t : Option Dynamic) → AsksNothing (exit_reply t)
 may_exit None = refl
 may_exit (Some t) = refl
 
-may_own : (kind : ℕ) (n : Option ℕ) (v : Dynamic) → Answers (own_reply kind n v)
+may_own : (kind : ℕ) (n : Option ℕ) (v : Dynamic) → AsksNothing (own_reply kind n v)
 may_own kind None v = refl
 may_own kind (Some n) v = tt
 
-may_read : (x : Option ℤ) (v : Dynamic) → Answers (read_reply x v)
+may_read : (x : Option ℤ) (v : Dynamic) → AsksNothing (read_reply x v)
 may_read None v = refl
 may_read (Some x) v = tt
 
-may_write : (n : Option ℕ) (v : Dynamic) → Answers (write_reply n v)
+may_write : (n : Option ℕ) (v : Dynamic) → AsksNothing (write_reply n v)
 may_write None v = refl
 may_write (Some n) v = tt
 
-may_access : (rs : List ℤ) (a : Option Access) → Answers (register_reply rs a)
+may_access : (rs : List ℤ) (a : Option Access) → AsksNothing (register_reply rs a)
 may_access rs None = refl
 may_access rs (Some (access.Register n)) = may_own 16 (register_of n) (dynamic.Int n)
 may_access rs (Some (access.Bank n)) = may_own 17 (number_of n) (dynamic.Int n)
@@ -74,21 +74,21 @@ may_access rs (Some (access.Read p)) =
     may_read (option_and_then (slice_get rs) (register_at p)) (named_by p)
 may_access rs (Some (access.Write p x)) = may_write (register_at p) (named_by p)
 
-may_native : (rs : List ℤ) (key : ℕ) (vs : List Dynamic) → Answers (native_reply rs key vs)
+may_native : (rs : List ℤ) (key : ℕ) (vs : List Dynamic) → AsksNothing (native_reply rs key vs)
 may_native rs key vs =
     either (key == 1) _ _ (may_print (sole vs))
     (either (key == 2) _ _ (may_push (first_of_two vs))
     (either (key == 3) _ _ (may_len (sole vs))
     (either (key == 5) _ _ (may_exit (sole vs)) (may_access rs (asked key vs)))))
 
-may_reply : (t : Turn) (rs : List ℤ) (key : ℕ) (vs : List Dynamic) →
-    Answers (reply_at t rs key vs)
+pub may_reply : (t : Turn) (rs : List ℤ) (key : ℕ) (vs : List Dynamic) →
+    AsksNothing (reply_at t rs key vs)
 may_reply turns.Full rs key vs = refl
 may_reply (turns.Failing n) rs key vs = refl
 may_reply (turns.Ready n) rs key vs = may_native rs key vs
 
 -- such a reply may be answered, also where another one asks
-may_be : (b : Bool) (x y : Reply) → MayBeAnswered x → Answers y →
+may_be : (b : Bool) (x y : Reply) → MayBeAnswered x → AsksNothing y →
     MayBeAnswered (if b then x else y)
 may_be true x y p q = p
 may_be false x (Done v) p q = tt
@@ -123,7 +123,7 @@ may_call s key vs =
     (may_reply (turn false s) s.registers key vs)
 
 -- `map` alone asks, and it does not write
-asks_as : (b writes : Bool) (x y : Reply) (s : TableHost) → (b ≡ true → writes ≡ false) → Answers y →
+asks_as : (b writes : Bool) (x y : Reply) (s : TableHost) → (b ≡ true → writes ≡ false) → AsksNothing y →
     AsksAs table_law s writes (if b then x else y)
 asks_as true writes (Done v) y s h q = tt
 asks_as true writes (Failed f) y s h q = tt

@@ -16,4 +16,5 @@ pub mod Reaching
 pub mod Clean
 pub mod MapClean
 pub mod Lawful
+pub mod Numbering
 pub mod Signatures
