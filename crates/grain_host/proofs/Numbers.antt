@@ -6,7 +6,8 @@ use Rattle.grain_value.specs.declared.values.Dynamic.{Dynamic}
 use Rattle.grain_value.specs.declared.values.Dynamic.TheVariants as dynamic
 use Rattle.grain_fault.specs.Problems.{Problem}
 use Rattle.grain_host.specs.Law.{Reply, Done, Failed, Ask, Outcome, Value, Fault}
-use Rattle.grain_host.specs.Lawful.{AsksNothing, may_reply}
+use Rattle.grain_host.specs.Lawful.{may_reply}
+use Rattle.grain_host.specs.Resuming.{AsksNothing}
 use Rattle.grain_host.specs.Numbering.{AreGiven, AreNumbered, AreOthers, Gives, GivesOnce}
 use Rattle.grain_host.specs.Pending.{answered, next_of, place_of, renewed}
 use Rattle.grain_host.specs.Mapping.{asks_next, call_at, first_asked, goes_on, gone, keeps_call, mapped, mapped_by, next_asked, next_reply, outcome_reply, start_reply, started}

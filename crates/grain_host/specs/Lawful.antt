@@ -5,7 +5,6 @@ use Rattle.std.proofs.lemmas.Bool.{eqb-true}
 use Rattle.grain_value.specs.Tree.{Tree}
 use Rattle.grain_value.specs.declared.values.Dynamic.{Dynamic}
 use Rattle.grain_value.specs.declared.values.Dynamic.TheVariants as dynamic
-use Rattle.grain_host.specs.Faults.{handed_back}
 use Rattle.grain_host.specs.Law.{Reply, Done, Failed, Ask, Outcome, Value, Fault, AsksAs, MayBeAnswered, MayBeHeard, IsLawful}
 use Rattle.grain_host.specs.Pending.{answered, next_of, place_of}
 use Rattle.grain_host.specs.Mapping.{call_at, first_asked, mapped, next_reply, outcome_reply, start_reply}
@@ -18,15 +17,9 @@ use Rattle.grain_host.specs.declared.tables.Turn.TheVariants as turns
 use Rattle.grain_host.specs.Clean.{table_writes_clean, table_stops_clean}
 use Rattle.grain_host.specs.MapClean.{table_replies_clean, table_resumes_clean, table_stays_clean, table_stays_resumed_clean, table_waits_called, table_waits_forgotten, table_waits_resumed}
 use Rattle.grain_host.specs.Reaching.{table_contents, table_forgets, table_replies, table_resumes, table_stays, table_stays_resumed, table_stops, table_writes}
-use Rattle.grain_host.specs.Resuming.{receiver_clean, receiver_within}
+use Rattle.grain_host.specs.Resuming.{AsksNothing, may_be_answered, nothing_asked, receiver_clean, receiver_within}
 use Rattle.grain_host.specs.Registers.{register_of, number_of, register_at, named_by, own_reply, read_reply, write_reply, asked}
 use Rattle.grain_host.specs.Tables.{print_reply, push_reply, counted, entries_in, len_reply, exit_reply, register_reply, native_reply, sole, first_of_two, reply_at, reply_in, call_reply, map_reply, resume_turn, turn, writing, arguments, table_law}
-
--- the reply asks for nothing, and a fault in it is one that a host may answer
-abbrev pub AsksNothing : Reply → Type 0
-AsksNothing (Done v) = Unit
-AsksNothing (Failed x) = handed_back x ≡ false
-AsksNothing (Ask token pointer arguments) = ⊥
 
 either : (b : Bool) (x y : Reply) → AsksNothing x → AsksNothing y →
     AsksNothing (if b then x else y)
@@ -91,9 +84,7 @@ may_reply (turns.Ready n) rs key vs = may_native rs key vs
 may_be : (b : Bool) (x y : Reply) → MayBeAnswered x → AsksNothing y →
     MayBeAnswered (if b then x else y)
 may_be true x y p q = p
-may_be false x (Done v) p q = tt
-may_be false x (Failed f) p q = q
-may_be false x (Ask token pointer arguments) p q = tt
+may_be false x y p q = may_be_answered y q
 
 may_next : (token : ℕ) (p : PendingCall) (o : Option Tree) →
     MayBeAnswered (next_reply token p o)
@@ -128,9 +119,7 @@ asks_as : (b writes : Bool) (x y : Reply) (s : TableHost) → (b ≡ true → wr
 asks_as true writes (Done v) y s h q = tt
 asks_as true writes (Failed f) y s h q = tt
 asks_as true writes (Ask token pointer arguments) y s h q = sym (h refl)
-asks_as false writes x (Done v) s h q = tt
-asks_as false writes x (Failed f) s h q = tt
-asks_as false writes x (Ask token pointer arguments) s h q = absurd q
+asks_as false writes x y s h q = nothing_asked table_law s writes y q
 
 map_key : (key : ℕ) → (key == 4) ≡ true → writing key ≡ false
 map_key key is = ap writing (eqb-true key 4 is)

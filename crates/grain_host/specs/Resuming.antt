@@ -1,13 +1,14 @@
 -- What any host may count on where it hears of an outcome; and a host that asks for nothing, which
 -- passes each outcome on.
-use Rattle.std.specs.Prelude.{ℕ, ◌≡◌, ◌≤◌, max, Bool, true, ◌&&◌, not, Option, Some}
+use Rattle.std.specs.Prelude.{ℕ, ◌≡◌, ◌≤◌, max, Bool, true, false, ◌&&◌, not, Option, Some}
 use Rattle.std.proofs.Common.{arith}
 use Rattle.std.proofs.Math.Nat.{le-max_left, le-max_right}
 use Rattle.grain_value.specs.Cells.{cell_bound, is_cell, is_clean}
 use Rattle.grain_value.specs.View.{tree}
 use Rattle.grain_value.specs.declared.values.Held.{Held}
 use Rattle.grain_host.specs.Clean.{first_true, second_true}
-use Rattle.grain_host.specs.Law.{Law, Reply, Done, Failed, Outcome, Value, Fault, AsksAs, MayBeAnswered, MayBeHeard, outcome_bound, outcome_is_plain, receiver_bound, receiver_is_plain, reply_bound, reply_is_clean, resume_bound, resume_is_clean}
+use Rattle.grain_host.specs.Faults.{handed_back}
+use Rattle.grain_host.specs.Law.{Law, Reply, Done, Failed, Ask, Outcome, Value, Fault, AsksAs, MayBeAnswered, MayBeHeard, outcome_bound, outcome_is_plain, receiver_bound, receiver_is_plain, reply_bound, reply_is_clean, resume_bound, resume_is_clean}
 
 -- the answer of a host that passes an outcome on
 abbrev pub passed_on : Outcome → Reply
@@ -61,6 +62,23 @@ module _ {S : Type 0} (law : Law S) (s : S) (outcome : Outcome) where
   receiver_clean h clean =
       first_true (is_clean (tree h.value)) (not (is_cell (tree h.value)))
       (receiver_plain (Some h) clean)
+
+-- the reply asks for nothing, and a fault in it is one that a host may answer
+abbrev pub AsksNothing : Reply → Type 0
+AsksNothing (Done v) = Unit
+AsksNothing (Failed x) = handed_back x ≡ false
+AsksNothing (Ask token pointer arguments) = ⊥
+
+pub may_be_answered : (r : Reply) → AsksNothing r → MayBeAnswered r
+may_be_answered (Done v) h = tt
+may_be_answered (Failed x) h = h
+may_be_answered (Ask token pointer arguments) h = tt
+
+pub nothing_asked : {S : Type 0} (law : Law S) (s : S) (writes : Bool) (r : Reply) →
+    AsksNothing r → AsksAs law s writes r
+nothing_asked law s writes (Done v) h = tt
+nothing_asked law s writes (Failed x) h = tt
+nothing_asked law s writes (Ask token pointer arguments) h = absurd h
 
 -- an outcome that is passed on
 pub passed_may : (outcome : Outcome) → MayBeHeard outcome → MayBeAnswered (passed_on outcome)
