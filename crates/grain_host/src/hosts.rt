@@ -26,8 +26,8 @@ pub trait Host {
         ensures { Answers law self.old key args.old result self.new args.new };
 
     /// Hears what came of what it asked for with this token, and goes on. The receiver is as the host
-    /// left it, and there are no values. It stays in the arguments with its flag, and its value stays
-    /// too unless the native that asked writes.
+    /// left it, and there are no values. A receiver stays in the arguments with its flag, and its value
+    /// stays too unless the native that asked writes.
     fn resume(
         &mut self,
         alloc: Global,
