@@ -1,15 +1,15 @@
 -- The host in memory hands over what is clean, where its lines hold such values only and it is given
 -- such values, none of which is a cell.
 use Rattle.std.specs.Prelude.{ℕ, ℤ, ◌≡◌, ◌==◌, Bool, true, false, ◌&&◌, not, List, [], ◌∷◌, ◌++◌, Option, Some, None, map, refl, slice_get, option_and_then, if◌then◌else◌}
-use Rattle.std.specs.List.{list_all}
 use Rattle.grain_value.specs.Tree.{Tree, array, pack}
 use Rattle.grain_value.specs.View.{tree, value_of}
 use Rattle.grain_value.specs.Cells.{is_cell, is_clean}
-use Rattle.grain_value.specs.laws.Same.{tree-value_of}
 use Rattle.grain_value.specs.declared.values.Dynamic.{Dynamic}
 use Rattle.grain_value.specs.declared.values.Dynamic.TheVariants as dynamic
 use Rattle.grain_value.specs.declared.values.Held.{Held}
-use Rattle.grain_host.specs.Law.{Reply, call_is_clean, is_plain, receiver_is_plain, reply_is_clean, verdict_is_clean}
+pub use Rattle.grain_host.specs.Truths.{both_true, first_true, second_true}
+use Rattle.grain_host.specs.Calling.{receiver_clean, values_given, values_plain}
+use Rattle.grain_host.specs.Law.{Reply, call_is_clean, is_plain, reply_is_clean, verdict_is_clean}
 use Rattle.grain_host.specs.declared.register_natives.Access.{Access}
 use Rattle.grain_host.specs.declared.register_natives.Access.TheVariants as access
 use Rattle.grain_host.specs.declared.register_natives.Place.{Place}
@@ -20,60 +20,11 @@ use Rattle.grain_host.specs.declared.tables.Turn.{Turn}
 use Rattle.grain_host.specs.declared.tables.Turn.TheVariants as turns
 use Rattle.grain_host.specs.Stops.{stop_at, stops_clean}
 use Rattle.grain_host.specs.Registers.{register_of, number_of, register_at, named_by, own_reply, read_reply, write_reply, asked}
-use Rattle.grain_host.specs.Tables.{print_reply, push_reply, counted, entries_in, len_reply, exit_reply, register_reply, native_reply, sole, first_of_two, reply_at, written_at, pushed, verdict, turn, arguments, table_law}
-
-pub first_true : (a b : Bool) → a && b ≡ true → a ≡ true
-first_true true b h = refl
-first_true false b h = absurd cc
-
-pub second_true : (a b : Bool) → a && b ≡ true → b ≡ true
-second_true true b h = h
-second_true false b h = absurd cc
-
-pub both_true : (a b : Bool) → a ≡ true → b ≡ true → a && b ≡ true
-both_true true b h k = k
-both_true false b h k = absurd cc
-
--- values as a native is given them
-abbrev pub values_plain : List Dynamic → Bool
-values_plain [] = true
-values_plain (v ∷ vs) = is_plain (tree v) && values_plain vs
+use Rattle.grain_host.specs.Tables.{print_reply, push_reply, counted, entries_in, len_reply, exit_reply, register_reply, native_reply, sole, first_of_two, reply_at, written_at, pushed, verdict, turn, table_law}
 
 abbrev argument_plain : Option Dynamic → Bool
 argument_plain None = true
 argument_plain (Some v) = is_plain (tree v)
-
-values_same : (ts : List Tree) → list_all is_plain ts ≡ true → values_plain (map value_of ts) ≡ true
-values_same [] h = refl
-values_same (t ∷ ts) h =
-    both_true (is_plain (tree (value_of t))) (values_plain (map value_of ts))
-    (rw (tree-value_of t) (first_true (is_plain t) (list_all is_plain ts) h))
-    (values_same ts (second_true (is_plain t) (list_all is_plain ts) h))
-
-module _ (s : TableHost) (receiver : Option Held) (values : List Tree)
-    (clean : call_is_clean table_law s receiver values ≡ true) where
-  pub stops : stops_clean s.stops ≡ true
-  stops =
-      first_true (stops_clean s.stops) (receiver_is_plain receiver && list_all is_plain values) clean
-
-  given : receiver_is_plain receiver && list_all is_plain values ≡ true
-  given =
-      second_true (stops_clean s.stops) (receiver_is_plain receiver && list_all is_plain values)
-      clean
-
-  others : values_plain (map value_of values) ≡ true
-  others =
-      values_same values (second_true (receiver_is_plain receiver) (list_all is_plain values) given)
-
-pub given_plain : (s : TableHost) (receiver : Option Held) (values : List Tree) →
-    call_is_clean table_law s receiver values ≡ true →
-    values_plain (arguments receiver values) ≡ true
-given_plain s None values clean = others s None values clean
-given_plain s (Some h) values clean =
-    both_true (is_plain (tree h.value)) (values_plain (map value_of values))
-    (first_true (is_plain (tree h.value)) (list_all is_plain values)
-    (given s (Some h) values clean))
-    (others s (Some h) values clean)
 
 sole_plain : (vs : List Dynamic) → values_plain vs ≡ true → argument_plain (sole vs) ≡ true
 sole_plain [] h = refl
@@ -179,11 +130,8 @@ pub table_writes_clean : (s : TableHost) (key : ℕ) (h : Held) (values : List T
     call_is_clean table_law s (Some h) values ≡ true →
     is_clean (tree (table_law.call_written s key h values)) ≡ true
 table_writes_clean s key h values clean =
-    written_clean (turn false s) h values
-    (first_true (is_clean (tree h.value)) (not (is_cell (tree h.value)))
-    (first_true (is_plain (tree h.value)) (list_all is_plain values)
-    (given s (Some h) values clean)))
-    (others s (Some h) values clean)
+    written_clean (turn false s) h values (receiver_clean table_law s h values clean)
+    (values_given table_law s (Some h) values clean)
 
 stop_clean : (b : Bool) (x : Dynamic) (o : Option Dynamic) → is_clean (tree x) ≡ true →
     verdict_is_clean (verdict o) ≡ true →

@@ -8,7 +8,9 @@ use Rattle.grain_value.specs.declared.values.Dynamic.{Dynamic}
 use Rattle.grain_value.specs.declared.values.Dynamic.TheVariants as dynamic
 use Rattle.grain_value.specs.declared.values.Held.{Held}
 use Rattle.grain_host.specs.Law.{Reply, Outcome, Value, Fault, call_is_clean, is_plain, outcome_is_plain, reply_is_clean, resume_is_clean}
-use Rattle.grain_host.specs.Clean.{both_true, either, first_true, given_plain, longer_clean, reply_clean, second_true, stops, values_plain}
+use Rattle.grain_host.specs.Calling.{given_plain, holds_clean as held_clean, values_plain}
+use Rattle.grain_host.specs.Clean.{either, longer_clean, reply_clean}
+use Rattle.grain_host.specs.Truths.{both_true, first_true, second_true}
 use Rattle.grain_host.specs.Resuming.{holds_clean, outcome_plain, waits_clean}
 use Rattle.grain_host.specs.Pending.{answered, next_of, pending_clean, place_of, renewed, waiting_clean}
 use Rattle.grain_host.specs.Mapping.{asks_next, call_at, first_asked, goes_on, gone, keeps_call, mapped, mapped_by, next_asked, next_reply, outcome_reply, start_reply, started}
@@ -202,8 +204,8 @@ table_replies_clean s key receiver values clean =
     let call = mapped s.tokens.given vs in
     either (key == 4) (map_reply s call) (reply_at (turn false s) s.registers key vs)
     (in_clean (turn (is_some (first_asked call)) s) (start_reply call)
-    (start_clean call (mapped_clean s.tokens.given vs (given_plain s receiver values clean))))
-    (reply_clean (turn false s) s.registers key vs (given_plain s receiver values clean))
+    (start_clean call (mapped_clean s.tokens.given vs (given_plain table_law s receiver values clean))))
+    (reply_clean (turn false s) s.registers key vs (given_plain table_law s receiver values clean))
 
 -- what is kept for calls that wait
 abbrev Waits : TableHost → Type 0
@@ -234,7 +236,7 @@ table_waits_called s key receiver values clean waits =
     either_waits (key == 4) (map_after s call) (after_at (turn false s) s key vs)
     (waits_in (turn (is_some (first_asked call)) s) (started call s.tokens) s waits
     (started_clean call s.tokens waits
-    (mapped_clean s.tokens.given vs (given_plain s receiver values clean))))
+    (mapped_clean s.tokens.given vs (given_plain table_law s receiver values clean))))
     (waits_at (turn false s) s key vs waits)
 
 -- where the host hears of an outcome
@@ -289,7 +291,7 @@ table_stays_clean s key receiver values clean =
     let call = mapped s.tokens.given vs in
     rw (either_lines (key == 4) (map_after s call) (after_at (turn false s) s key vs) s
     (lines_in (turn (is_some (first_asked call)) s) (started call s.tokens) s)
-    (lines_at (turn false s) s key vs)) (stops s receiver values clean)
+    (lines_at (turn false s) s key vs)) (held_clean table_law s receiver values clean)
 
 pub table_stays_resumed_clean : (s : TableHost) (token : ℕ) (outcome : Outcome)
     (receiver : Option Held) → resume_is_clean table_law s outcome receiver ≡ true →

@@ -7,16 +7,12 @@ use Rattle.grain_value.specs.View.{tree}
 use Rattle.grain_value.specs.Cells.{cell_bound, items_bound}
 use Rattle.grain_value.specs.declared.values.Dynamic.{Dynamic}
 use Rattle.grain_value.specs.declared.values.Dynamic.TheVariants as dynamic
+use Rattle.grain_host.specs.Calling.{arguments_bound}
 use Rattle.grain_host.specs.Law.{Outcome, Value, Fault, outcome_bound, reply_bound}
 use Rattle.grain_host.specs.Pending.{answered, next_of, pending_bound, renewed, waiting_bound}
 use Rattle.grain_host.specs.Mapping.{asks_next, call_at, goes_on, gone, keeps_call, mapped, mapped_by, next_asked, next_reply, outcome_reply, start_reply, started}
 use Rattle.grain_host.specs.declared.callbacks.Tokens.{Tokens}
 use Rattle.grain_host.specs.declared.pending_calls.PendingCall.{PendingCall}
-
--- one more than the greatest cell of arguments
-abbrev pub arguments_bound : List Dynamic → ℕ
-arguments_bound [] = 0
-arguments_bound (v ∷ vs) = max (cell_bound (tree v)) (arguments_bound vs)
 
 -- an array with one more value names what the two name
 pub longer_within : (ts : List Tree) (t : Tree) (n : ℕ) → items_bound (pack ts) ≤ n →

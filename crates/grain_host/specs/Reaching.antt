@@ -4,9 +4,8 @@ use Rattle.std.proofs.Common.{arith}
 use Rattle.std.proofs.Math.Nat.{le-max_left, le-max_right, max-le}
 use Rattle.grain_value.specs.Tree.{Tree, array, pack}
 use Rattle.grain_value.specs.View.{tree, value_of}
-use Rattle.grain_value.specs.Cells.{cell_bound, items_bound}
+use Rattle.grain_value.specs.Cells.{cell_bound}
 use Rattle.grain_value.specs.Looking.{cell_of}
-use Rattle.grain_value.specs.laws.Same.{tree-value_of}
 use Rattle.grain_value.specs.declared.values.Dynamic.{Dynamic}
 use Rattle.grain_value.specs.declared.values.Dynamic.TheVariants as dynamic
 use Rattle.grain_value.specs.declared.values.Held.{Held}
@@ -19,11 +18,12 @@ use Rattle.grain_host.specs.declared.register_natives.Place.{Place}
 use Rattle.grain_host.specs.declared.register_natives.Place.TheVariants as place
 use Rattle.grain_host.specs.declared.tables.Turn.{Turn}
 use Rattle.grain_host.specs.declared.tables.Turn.TheVariants as turns
+use Rattle.grain_host.specs.Calling.{arguments_bound, given_within, values_within}
 use Rattle.grain_host.specs.Resuming.{reach_within, outcome_within as came_within}
 use Rattle.grain_host.specs.Stops.{stop_at, stops_bound}
 use Rattle.grain_host.specs.Pending.{place_of, waiting_bound}
 use Rattle.grain_host.specs.Mapping.{call_at, first_asked, goes_on, gone, mapped, outcome_reply, start_reply, started}
-use Rattle.grain_host.specs.MapReaching.{arguments_bound, at_within, first_below, goes_within, gone_within, longer_within, mapped_within, outcome_within, second_below, start_within, started_within}
+use Rattle.grain_host.specs.MapReaching.{at_within, first_below, goes_within, gone_within, longer_within, mapped_within, outcome_within, second_below, start_within, started_within}
 use Rattle.grain_host.specs.declared.callbacks.Tokens.{Tokens}
 use Rattle.grain_host.specs.Registers.{register_of, number_of, register_at, named_by, own_reply, read_reply, write_reply, asked}
 use Rattle.grain_host.specs.Tables.{print_reply, push_reply, counted, entries_in, len_reply, exit_reply, register_reply, native_reply, sole, first_of_two, reply_at, after_at, reply_in, after_in, map_reply, map_after, call_reply, call_after, resume_turn, written_at, pushed, verdict, turn, arguments, table_law}
@@ -32,33 +32,6 @@ use Rattle.grain_host.specs.Tables.{print_reply, push_reply, counted, entries_in
 abbrev pub argument_bound : Option Dynamic → ℕ
 argument_bound None = 0
 argument_bound (Some v) = cell_bound (tree v)
-
-values_same : (ts : List Tree) → arguments_bound (map value_of ts) ≤ cell_bound (array (pack ts))
-values_same [] = omega arith
-values_same (t ∷ ts) =
-    max-le {a = cell_bound (tree (value_of t))} {b = arguments_bound (map value_of ts)}
-    (rw (tree-value_of t) (le-max_left (cell_bound t) (items_bound (pack ts))))
-    (omega (arith, values_same ts, le-max_right (cell_bound t) (items_bound (pack ts))))
-
--- the arguments of a call name what the call is given
-given_within : (s : TableHost) (receiver : Option Held) (values : List Tree) →
-    arguments_bound (arguments receiver values) ≤ call_bound table_law s receiver values
-given_within s None values =
-    let reach : ℕ = table_law.reach s in
-    let given : ℕ = cell_bound (array (pack values)) in
-    omega (arith, values_same values, le-max_right 0 given, le-max_right reach (max 0 given))
-given_within s (Some h) values =
-    let reach : ℕ = table_law.reach s in
-    let own : ℕ = cell_bound (tree h.value) in
-    let given : ℕ = cell_bound (array (pack values)) in
-    max-le {a = own} {b = arguments_bound (map value_of values)}
-    (omega (arith, le-max_left own given, le-max_right reach (max own given)))
-    (omega (
-      arith,
-      values_same values,
-      le-max_right own given,
-      le-max_right reach (max own given),
-    ))
 
 sole_within : (vs : List Dynamic) → argument_bound (sole vs) ≤ arguments_bound vs
 sole_within [] = omega arith
@@ -150,7 +123,7 @@ pub table_replies : (s : TableHost) (key : ℕ) (receiver : Option Held) (values
     ≤ call_bound table_law s receiver values
 table_replies s key receiver values =
     call_within s key (arguments receiver values) (call_bound table_law s receiver values)
-    (given_within s receiver values)
+    (given_within table_law s receiver values)
 
 pushed_within : (d : Dynamic) (v : Option Dynamic) (n : ℕ) → cell_bound (tree d) ≤ n →
     argument_bound v ≤ n → cell_bound (tree (pushed d v)) ≤ n
@@ -177,7 +150,7 @@ table_writes s key h values =
     (omega (arith, le-max_left own given, le-max_right reach (max own given)))
     (omega (
       arith,
-      values_same values,
+      values_within values,
       le-max_right own given,
       le-max_right reach (max own given),
     ))
@@ -243,7 +216,7 @@ table_stays s key receiver values =
     left_within s key (arguments receiver values) (call_bound table_law s receiver values)
     (le-max_left (table_law.reach s)
     (max (receiver_bound receiver) (cell_bound (array (pack values)))))
-    (given_within s receiver values)
+    (given_within table_law s receiver values)
 
 -- where the host hears of an outcome
 pub table_resumes : (s : TableHost) (token : ℕ) (outcome : Outcome) (receiver : Option Held) →

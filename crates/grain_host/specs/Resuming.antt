@@ -6,7 +6,7 @@ use Rattle.std.proofs.Math.Nat.{le-max_left, le-max_right}
 use Rattle.grain_value.specs.Cells.{cell_bound, is_cell, is_clean}
 use Rattle.grain_value.specs.View.{tree}
 use Rattle.grain_value.specs.declared.values.Held.{Held}
-use Rattle.grain_host.specs.Clean.{first_true, second_true}
+use Rattle.grain_host.specs.Truths.{first_true, second_true}
 use Rattle.grain_host.specs.Faults.{handed_back}
 use Rattle.grain_host.specs.Law.{Law, Reply, Done, Failed, Ask, Outcome, Value, Fault, AsksAs, MayBeAnswered, MayBeHeard, outcome_bound, outcome_is_plain, receiver_bound, receiver_is_plain, reply_bound, reply_is_clean, resume_bound, resume_is_clean}
 
