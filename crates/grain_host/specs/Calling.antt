@@ -1,6 +1,6 @@
 -- What any host may count on where it is called: of the arguments in order, and of a receiver that
 -- stays.
-use Rattle.std.specs.Prelude.{ℕ, ◌≡◌, ◌≤◌, max, Bool, true, ◌&&◌, not, List, [], ◌∷◌, Option, Some, None, map, refl}
+use Rattle.std.specs.Prelude.{ℕ, zero, suc, slice_get, ◌≡◌, ◌≤◌, max, Bool, true, ◌&&◌, not, List, [], ◌∷◌, Option, Some, None, map, refl}
 use Rattle.std.specs.List.{list_all}
 use Rattle.std.proofs.Common.{arith}
 use Rattle.std.proofs.Math.Nat.{le-max_left, le-max_right, max-le}
@@ -31,6 +31,33 @@ values_within (t ∷ ts) =
     max-le {a = cell_bound (tree (value_of t))} {b = arguments_bound (map value_of ts)}
     (rw (tree-value_of t) (le-max_left (cell_bound t) (items_bound (pack ts))))
     (omega (arith, values_within ts, le-max_right (cell_bound t) (items_bound (pack ts))))
+
+-- the argument at a place, if there is one
+abbrev pub ValueWithin : ℕ → Option Dynamic → Type 0
+ValueWithin n None = Unit
+ValueWithin n (Some v) = cell_bound (tree v) ≤ n
+
+pub argument_within : (n : ℕ) (vs : List Dynamic) (i : ℕ) → arguments_bound vs ≤ n →
+    ValueWithin n (slice_get vs i)
+argument_within n [] i h = tt
+argument_within n (v ∷ vs) zero h =
+    omega (arith, h, le-max_left (cell_bound (tree v)) (arguments_bound vs))
+argument_within n (v ∷ vs) (suc i) h =
+    argument_within n vs i
+    (omega (arith, h, le-max_right (cell_bound (tree v)) (arguments_bound vs)))
+
+abbrev pub ValueClean : Option Dynamic → Type 0
+ValueClean None = Unit
+ValueClean (Some v) = is_clean (tree v) ≡ true
+
+pub argument_clean : (vs : List Dynamic) (i : ℕ) → values_plain vs ≡ true →
+    ValueClean (slice_get vs i)
+argument_clean [] i h = tt
+argument_clean (v ∷ vs) zero h =
+    first_true (is_clean (tree v)) (not (is_cell (tree v)))
+    (first_true (is_plain (tree v)) (values_plain vs) h)
+argument_clean (v ∷ vs) (suc i) h =
+    argument_clean vs i (second_true (is_plain (tree v)) (values_plain vs) h)
 
 values_same : (ts : List Tree) → list_all is_plain ts ≡ true → values_plain (map value_of ts) ≡ true
 values_same [] h = refl
