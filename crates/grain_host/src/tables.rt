@@ -29,16 +29,17 @@ enum Turn {
     Ready(u64),
 }
 
-/// A host that lives in memory. It has the natives `print`, `push`, `len` and `exit`. `map(array, f)`
-/// calls the pointer with each element in order, and gives the array of what came of them; a fault is
-/// passed on. It has 256 registers, which hold integers and begin at 0. `register(n)` gives the register of that number
-/// as a value of kind 16, which `get$value` reads and `set$value` writes. `bank(n)` gives a value
-/// of kind 17 with any number that is not negative; `index$get$` reads, and `index$set$` writes, the
-/// register of an index, whatever the bank's number is. `write_bank(n)` gives a value of kind 18,
-/// for which there is `index$set$` alone. Where there is no register, or no such value, the call
-/// fails with `ErrorIndexNotFound`. Its steps are counted, the calls and each time that it is resumed,
-/// and steps of given numbers fail: such a step does nothing, and a token stays pending. Tokens are
-/// numbered from 0, and none is given twice. Runs end at given numbers of operations, with tokens that are clean and name no cell.
+/// A host that lives in memory. It has the natives `print`, `push`, `len` and `exit`, and
+/// `map(array, f)`, which calls the pointer with each element in order and gives the array of what
+/// came of them; a fault is passed on. It has 256 registers, which hold integers and begin at 0.
+/// `register(n)` gives the register of that number as a value of kind 16, which `get$value` reads and
+/// `set$value` writes. `bank(n)` gives a value of kind 17 with any number that is not negative;
+/// `index$get$` reads, and `index$set$` writes, the register of an index, whatever the bank's number
+/// is. `write_bank(n)` gives a value of kind 18, for which there is `index$set$` alone. Where there is
+/// no register, or no such value, the call fails with `ErrorIndexNotFound`. Calls are counted, and so
+/// is each time that it is resumed; of these steps those of given numbers fail, and do nothing else.
+/// Tokens are numbered from 0, and none is given twice. Runs end at given numbers of operations, with
+/// values that are clean and name no cell.
 #[derive(Drop)]
 pub struct TableHost {
     printed: Text,
