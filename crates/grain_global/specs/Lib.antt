@@ -1,2 +1,3 @@
--- What contracts cite: the counts of a run, which take no bytes.
+-- What contracts cite: the counts of a run, which take no bytes, and what an engine says of callbacks.
+pub mod Engines
 pub mod StepsView

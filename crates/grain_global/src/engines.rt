@@ -1,6 +1,7 @@
 //! What stays the same in a run: limits and flags.
 
 ghost use Rattle.std.specs.Prelude.{◌≡◌, ◌<◌, true, false, IfOk};
+ghost use Rattle.grain_global.specs.Engines.{with_callbacks};
 
 use crate::states::GlobalRuntimeState;
 use grain_value::{Limits, OutOfMemory};
@@ -16,22 +17,37 @@ pub struct Engine {
     /// Whether a chain fails that comes to a key that a map does not have, but for the last step of an
     /// assignment. Without this such a key has unit.
     pub strict_properties: bool,
+    callbacks: bool,
 }
 
 impl Engine {
-    /// An engine with these limits, under which operators are fast, and properties are not strict. At
-    /// least one operation is allowed.
+    /// An engine with these limits, under which operators are fast, properties are not strict, and natives
+    /// may call functions of the program back. At least one operation is allowed.
     pub fn new(alloc: Global, limits: Limits) -> Engine
         requires { 0 < limits.operations }
         ensures limits { result.limits ≡ limits }
         ensures operators { result.fast_operators ≡ true }
         ensures properties { result.strict_properties ≡ false }
+        ensures callbacks { result.callbacks ≡ true }
     {
         let _alloc = alloc;
         Engine {
             limits,
             fast_operators: true,
             strict_properties: false,
+            callbacks: true,
+        }
+    }
+
+    /// The same limits and flags, where natives may call functions of the program back or not.
+    pub fn with_callbacks(&self, callbacks: bool) -> Engine
+        ensures { result ≡ with_callbacks callbacks self }
+    {
+        Engine {
+            limits: self.limits,
+            fast_operators: self.fast_operators,
+            strict_properties: self.strict_properties,
+            callbacks,
         }
     }
 

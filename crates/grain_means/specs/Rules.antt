@@ -15,6 +15,7 @@ pub mod Calls
 pub mod Pointers
 pub mod This
 pub mod InWorld
+pub mod Callbacks
 pub mod Chains
 pub mod Receivers
 pub use Rattle.grain_means.specs.Rules.Frames.{stepped, without, frame_at, held_at, is_full, name_at, flag_of_cell, only_read, is_read_only, held_or}
@@ -25,13 +26,14 @@ pub use Rattle.grain_means.specs.Rules.Going.{onward, jumped, pushed}
 pub use Rattle.grain_means.specs.Rules.Reads.{flat_before, flat_all, flat_or_race, flattened, all_or_race, flattened_all}
 pub use Rattle.grain_means.specs.Rules.Transfers.{agrees, branched, not_a_bool, tested, jump_if, skip, unwind}
 pub use Rattle.grain_means.specs.Rules.Entries.{cell_written, written_at, assigned_at, slot_past_scope, at_entry, at_slot, load_local, load_shared, shared, share, declare, assignment_to_constant, write_entry, operand_for, store_local, assign}
-pub use Rattle.grain_means.specs.Rules.Homes.{Home, InScope, InCell, AtPlace, in_entry, at_place_of, back_in_scope, back_in_cells, back_in_roots, content_at, content_now}
-pub use Rattle.grain_means.specs.Rules.Natives.{kinds_in, trees_in, first_is_read_only, Receiver, lent_held, given, given_back, cells_given_back, roots_given_back, answered, host_called_or, native_called_or, native_found_or, native_or, host_called, native_called, native_found, native}
+pub use Rattle.grain_means.specs.Rules.Homes.{Home, InScope, InCell, AtPlace, in_entry, at_place_of, back_in_scope, back_in_cells, back_in_roots, lent_in_cells, content_at, content_now}
+pub use Rattle.grain_means.specs.Rules.Natives.{kinds_in, trees_in, first_is_read_only, Receiver, lent_held, given, given_back, cells_given_back, roots_given_back, receiver_left, cells_lent, with_token, unheard, native_over, answered, host_called_or, native_called_or, native_found_or, native_or, host_called, native_called, native_found, native}
 pub use Rattle.grain_means.specs.Rules.Operators.{if_fast, operated, op_assigned, operator_at, op_assign_failed_at, native_assigned_at, outcome_at, entry_of_slot, operator_assigned, op_assign_failed, native_assigned, store_outcome, assign_op, push_outcome}
 pub use Rattle.grain_means.specs.Rules.Calls.{bound, function_numbered, function_found, function_by_name, body_failed, body_entered, body_called, propagate, resume_caller, function_entered, enter_function, call_function}
 pub use Rattle.grain_means.specs.Rules.Pointers.{curried_in, spread, operand_under, not_a_pointer, curried, curry, pointer_called, call_pointer}
 pub use Rattle.grain_means.specs.Rules.This.{at_place, at_this, load_this, load_this_shared, require_this, unless_read_only, assign_this, assign_this_op}
 pub use Rattle.grain_means.specs.Rules.InWorld.{world_place, placed, at_step, lent_at, failed_so, pointed_native, needed, performed, body_over, function_under, copy_dropped, function_on, function_called, pointed_called, numbered_called, invoked, walks}
+pub use Rattle.grain_means.specs.Rules.Callbacks.{is_told, without_token, receiver_rewritten, scope_with, cells_with, roots_with, arguments_back, function_back, ended_so, given_up, went_on, answered_again, told, value_told, called_back_over, native_back_over, native_back, native_called_back, callee_called_back, calling_back}
 pub use Rattle.grain_means.specs.Rules.Chains.{root_name, root_operands, steps_operands, assigned_operand, operator_of, new_root, asks_root, lent_cell, root_position, at_root, assigned_value, course_of, chain_over, walk_from, walk_at, back_from, walk_cell, walk_held, walk_root, unless_constant, chain_in, chain}
 pub use Rattle.grain_means.specs.Rules.Receivers.{Destination, Nowhere, ToSlot, ToThis, root_at, call_over, over_without_entry, over_in_entry, over_in_this, over_at, receiver_over, root_over, native_lent, cell_given_back, native_lent_cell, native_on, native_on_read, callee_on, receiver_called, first_called, target_called, method_call}
 use Rattle.std.specs.Prelude.{ℕ, ◌+◌, is_some, List, [], Option, Some, None, Bool, true, false, if◌then◌else◌, length}
@@ -47,7 +49,7 @@ use Rattle.grain_program.specs.declared.code.instruction_set.Op.{Op}
 use Rattle.grain_program.specs.declared.code.instruction_set.Op.TheVariants as op
 use Rattle.grain_program.specs.View.{const_of, name_of, assign_op_of}
 use Rattle.grain_program.specs.Decoding.{op_at}
-use Rattle.grain_means.specs.Worlds.{Answer, Came, Failed, Place, Frame, World, Todo, InFrame, InCatch, Act, Go, End, Then, Setup}
+use Rattle.grain_means.specs.Worlds.{Answer, Came, Failed, Place, Frame, World, Todo, InFrame, InCatch, InHost, Act, Go, End, Then, Setup}
 
 -- where no instruction stands, which no valid program has, a frame ends as by a return
 abbrev pub or_return : Option (Op × ℕ) → Op × ℕ
@@ -127,6 +129,7 @@ module _ {S : Type 0} (m : Setup S) where
   next (InFrame f) w = start_instruction (or_return (op_at m.program.code f.address)) f
       (record w { ran = w.ran + 1 })
   next (InCatch f h x) w = caught m f h x w
+  next (InHost c) w = calling_back m c w
 
   -- a mark outside of all frames
   abbrev pub passing : World S → (World S → Act S) → Act S

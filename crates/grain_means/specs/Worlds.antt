@@ -1,7 +1,9 @@
 -- What a run stands on: worlds, frames, and what is still to be done.
 use Rattle.std.specs.Prelude.{ℕ, Bool, false, nat_eq, List, Option, Some, None}
 use Rattle.grain_value.specs.declared.values.Dynamic.{Dynamic}
+use Rattle.grain_value.specs.declared.values.FnPtr.{FnPtr}
 use Rattle.grain_value.specs.declared.values.Held.{Held}
+use Rattle.grain_value.specs.Tree.{Tree}
 use Rattle.grain_value.specs.declared.scopes.Entry.{Entry}
 use Rattle.grain_value.specs.declared.stores.Cell.{Cell}
 use Rattle.grain_value.specs.declared.values.paths.PathStep.{PathStep}
@@ -21,6 +23,18 @@ pub data Answer : Type 0 where
 pub record Place : Type 0 where
   pub root : ℕ
   pub path : List PathStep
+
+-- where a value is held that is lent or written: in the entry of the scope at this index, in the cell of
+-- this number, or at a place among the roots
+pub data Home : Type 0 where
+  InScope : ℕ → Home
+  InCell : ℕ → Home
+  AtPlace : Place → Home
+
+-- what a native is lent: what is held, and where it stands
+pub record Receiver : Type 0 where
+  pub home : Home
+  pub held : Held
 
 -- A handler of a frame: where the frame goes on after a catch, the index of the name of its
 -- variable, if it has one, how many operands and how many entries of the scope there were where it
@@ -62,9 +76,19 @@ pub record World (S : Type 0) : Type 0 where
   pub ran : ℕ
   -- how many marks were passed: at each of them memory may be out
   pub passed : ℕ
-  -- the tokens that the host gave and that were not taken back; none, once one was taken that it
-  -- had not given
+  -- the tokens that the host gave and that were not taken back, the last one first; none, once one was
+  -- taken that is not the first
   pub tokens : Option (List ℕ)
+
+-- A call that a native asked for: what the native was lent, the frame whose instruction or step called
+-- the native, the token by which the host is resumed, and the pointer that is called, with the values that
+-- go after its own.
+pub record Callback : Type 0 where
+  pub receiver : Option Receiver
+  pub frame : Frame
+  pub token : ℕ
+  pub pointer : FnPtr
+  pub values : List Tree
 
 -- what a run can stand at
 pub data Todo : Type 0 where
@@ -72,6 +96,8 @@ pub data Todo : Type 0 where
   InFrame : Frame → Todo
   -- a fault in a frame, which this armed handler catches; the frame has the handlers around it
   InCatch : Frame → Handler → Problem → Todo
+  -- a call that a native asked for
+  InHost : Callback → Todo
 
 -- a run: go on with something, end, or do one run and then another with its answer
 pub data Act (S : Type 0) : Type 0 where

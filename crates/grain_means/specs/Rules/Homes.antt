@@ -1,20 +1,16 @@
 -- Where a value is held that is lent or written.
 use Rattle.std.specs.Prelude.{ℕ, slice_get, slice_set, List, Option, Some, None}
-use Rattle.grain_value.specs.Cells.{idle, standing}
+use Rattle.grain_value.specs.Cells.{idle, lent, standing}
 use Rattle.grain_value.specs.Scopes.{set_held}
 use Rattle.grain_value.specs.declared.scopes.Entry.{Entry}
 use Rattle.grain_value.specs.declared.stores.Cell.{Cell}
 use Rattle.grain_value.specs.declared.values.Dynamic.{Dynamic}
 use Rattle.grain_value.specs.declared.values.Held.{Held}
-use Rattle.grain_means.specs.Worlds.{Place, World}
+use Rattle.grain_means.specs.Worlds.{Place, Home, InScope, InCell, AtPlace, World}
 use Rattle.grain_means.specs.Places.{look, put}
 use Rattle.grain_means.specs.Rules.Frames.{held_at, held_or}
 
--- in the entry of the scope at this index, in the cell of this number, or at a place among the roots
-pub data Home : Type 0 where
-  InScope : ℕ → Home
-  InCell : ℕ → Home
-  AtPlace : Place → Home
+pub use Rattle.grain_means.specs.Worlds.{Home, InScope, InCell, AtPlace}
 
 -- in the entry at an index, or, if the entry is a cell, in that cell
 abbrev pub in_entry : ℕ → Option ℕ → Home
@@ -41,6 +37,12 @@ abbrev pub back_in_roots : Home → Held → List Held → List Held
 back_in_roots (InScope i) h roots = roots
 back_in_roots (InCell n) h roots = roots
 back_in_roots (AtPlace p) h roots = put roots p h.value
+
+-- the cells while a native has what is held in one of them
+abbrev pub lent_in_cells : Home → Held → List Cell → List Cell
+lent_in_cells (InScope i) h cells = cells
+lent_in_cells (InCell n) h cells = slice_set cells n (lent h)
+lent_in_cells (AtPlace p) h cells = cells
 
 -- the value that is now where this was held
 abbrev pub content_at : Home → Held → List Entry → List Cell → List Held → Dynamic
