@@ -9,6 +9,7 @@ ghost use Rattle.grain_means.specs.Causes.{Caused};
 ghost use Rattle.grain_means.specs.Causes.Spots.{ChainWalk, ComesTo, Falls, InsteadFails, NativeFails, OwnRow, PointedFails, WalkRow};
 ghost use Rattle.grain_fault.specs.Problems.{Problem};
 ghost use Rattle.grain_fault.specs.declared.places.Position.{Position};
+ghost use Rattle.grain_fault.specs.declared.traces.Fault.{Fault};
 ghost use Rattle.grain_means.specs.Comes.{CatchPoint, Comes, ComesToCatch, Stands};
 ghost use Rattle.grain_means.specs.Ends.{Ends};
 ghost use Rattle.grain_means.specs.Leavings.{names, Keeps, Cuts};
@@ -128,9 +129,10 @@ pub fn walk_ends()
 /// and the others after all roots of the world.
 pub fn both_readings<S>()
     ensures { (m : Setup S) (k : ℕ) (f : Frame) (p : Place) (g : Held)
-        (done : Walked → World S → Act S) (w : World S) → find w.roots p ≡ Some g → (t : Task)
-        (s : Own) → Rooted g.read_only s.roots → walks m k f p (length w.roots) t done (laid w p s)
-        ≡ played m k f p done w (play m.stop w.cells t s) }
+        (missed : Option (List Fault)) (done : Walked → World S → Act S) (w : World S) →
+        find w.roots p ≡ Some g → (t : Task) (s : Own) → Rooted g.read_only s.roots →
+        walks m k f p (length w.roots) missed t done (laid w p s)
+        ≡ played m k f p missed done w (play m.stop w.cells t s) }
 {}
 
 /// A chain that assigns nothing, and whose steps lead along elements of arrays and keys of maps alone,
@@ -190,8 +192,8 @@ pub fn stays_written<S>()
     ensures falls { (m : Setup S) (c : ChainWalk S) (i : Invocation) (go : Answer → Task)
         (w : World S) (x : Problem) → ComesTo m c (Invoke i go) w → Falls i.step x (go (Failed x)) }
     ensures survives { (m : Setup S) (k next n : ℕ) (f : Frame) (back : Held → World S → World S)
-        (w u : World S) (x : Problem) (t : Task) → Falls n x t →
-        walks m k f (new_root w.roots) (length w.roots + 1) t (λ o v. chain_over m k next f o
+        (w u : World S) (x : Problem) (missed : Option (List Fault)) (t : Task) → Falls n x t →
+        walks m k f (new_root w.roots) (length w.roots + 1) missed t (λ o v. chain_over m k next f o
         (back (look v.roots (new_root w.roots)) (record v { roots = take (length w.roots) v.roots })))
         u ≡ chain_over m k next f (WalkFailed n x)
         (back (look u.roots (new_root w.roots)) (record u { roots = take (length w.roots) u.roots })) }

@@ -106,9 +106,11 @@ module _ {S : Type 0} (m : Setup S) where
   }
 
   -- The walk of the chain of index k is over, in a frame without the chain's operands: its value is
-  -- pushed, or its fault is raised, for which the step is blamed.
+  -- pushed, and nothing is left of faults that the walk passed over; or its fault is raised, for which the
+  -- step is blamed.
   abbrev pub chain_over : ℕ → ℕ → Frame → Walked → World S → Act S
-  chain_over k next f (WalkEnded v changed) w = pushed m f next f.operands v w
+  chain_over k next f (WalkEnded v changed) w =
+      pushed m f next f.operands v (record w { trace = [] })
   chain_over k next f (WalkFailed n x) w =
       raised m (record f { slot = Some (slot_of m.program k n) }) x w
 
@@ -116,7 +118,7 @@ module _ {S : Type 0} (m : Setup S) where
   -- ends, `back` takes the root to where it was held.
   abbrev pub walk_from : ℕ → Task → ℕ → Frame → Held → (Held → World S → World S) → World S → Act S
   walk_from k task next f h back w =
-      walks m k f (new_root w.roots) (length w.roots + 1) task
+      walks m k f (new_root w.roots) (length w.roots + 1) None task
       (λ o w1. chain_over k next f o
       (back (look w1.roots (new_root w.roots)) (record w1 { roots = take (length w.roots) w1.roots })))
       (record w { roots = w.roots ++ h ∷ [] })
@@ -124,7 +126,7 @@ module _ {S : Type 0} (m : Setup S) where
   -- The walk of the chain of index k from where a `this` stands, which stays there.
   abbrev pub walk_at : ℕ → Task → ℕ → Frame → Place → World S → Act S
   walk_at k task next f p w =
-      walks m k f p (length w.roots) task (λ o w1. chain_over k next f o w1) w
+      walks m k f p (length w.roots) None task (λ o w1. chain_over k next f o w1) w
 
   -- The walk from what the cell of number n holds. That is lent: it is added as a root, which can only be
   -- read if the flag says so, and after the walk it goes back to the cell. If it is lent already, or the

@@ -1,6 +1,8 @@
 -- A walk in the world: its first root stands at a place, and its other roots are the last ones of the
 -- world.
 use Rattle.std.specs.Prelude.{ℕ, zero, suc, ◌+◌, List, [], ◌∷◌, ◌++◌, Option, Some, None, length, take, map, option_map, if◌then◌else◌}
+use Rattle.grain_fault.specs.Absences.{is_dot_expr, is_indexing_type}
+use Rattle.grain_fault.specs.declared.traces.Fault.{Fault}
 use Rattle.grain_value.specs.Cells.{flat}
 use Rattle.grain_value.specs.Operands.{read_write}
 use Rattle.grain_value.specs.View.{value_of}
@@ -47,6 +49,18 @@ lent_at roots (Some p) = Some (record { home = AtPlace p; held = look roots p })
 -- or, if memory is out at the mark, from want of memory.
 abbrev pub failed_so : {S : Type 0} → Setup S → (Answer → World S → Act S) → Problem → World S → Act S
 failed_so m heard x w = marked_or m (heard (Failed NoMemory)) w (heard (Failed x))
+
+-- The trace of the fault with which a call that a walk needs ended, if the fault says that there is no such
+-- property: an indexer is called then, and if there is none, that fault is the walk's.
+abbrev pub missed_by : Answer → List Fault → Option (List Fault)
+missed_by (Came v) trace = None
+missed_by (Failed x) trace = if is_dot_expr x then Some trace else None
+
+-- the trace after a call that ended so, where the one before missed a property and left this trace
+abbrev pub trace_of : Option (List Fault) → Answer → List Fault → List Fault
+trace_of None a trace = trace
+trace_of (Some before) (Came v) trace = trace
+trace_of (Some before) (Failed x) trace = if is_indexing_type x then before else trace
 
 -- the native that a walk calls where a pointer names no function
 abbrev pub pointed_native : Invocation → FnPtr → Call
@@ -135,21 +149,26 @@ module _ {S : Type 0} (m : Setup S) (k : ℕ) (f : Frame) where
       (function_by_name m.program r.name (length r.curry + length i.values)) w
 
   -- A task of a walk that began at the place p of a world with n roots, and then what follows from how the
-  -- walk ends.
-  abbrev pub walks : Place → ℕ → Task → (Walked → World S → Act S) → World S → Act S
-  walks p n (Done o) done w = done o w
-  walks p n (Mark out go) done w =
-      if is_stop m.stop w.passed then walks p n out done w
-      else walks p n go done (record w { passed = w.passed + 1 })
-  walks p n (Look q go) done w = walks p n (go (look w.roots (placed p n q))) done w
-  walks p n (Flatten v go) done w = walks p n (go (flat w.cells v)) done w
-  walks p n (Write q v t) done w =
-      walks p n t done (record w { roots = put w.roots (placed p n q) v })
-  walks p n (Root h t) done w = walks p n t done (record w { roots = w.roots ++ h ∷ [] })
-  walks p n (Drop i go) done w =
-      walks p n (go (look w.roots (record { root = n + i; path = [] }))) done
+  -- walk ends. A call begins without a trace. If the call before missed a property, `missed` is the trace
+  -- that it left.
+  abbrev pub walks : Place → ℕ → Option (List Fault) → Task → (Walked → World S → Act S) → World S →
+      Act S
+  walks p n missed (Done o) done w = done o w
+  walks p n missed (Mark out go) done w =
+      if is_stop m.stop w.passed then walks p n missed out done w
+      else walks p n missed go done (record w { passed = w.passed + 1 })
+  walks p n missed (Look q go) done w = walks p n missed (go (look w.roots (placed p n q))) done w
+  walks p n missed (Flatten v go) done w = walks p n missed (go (flat w.cells v)) done w
+  walks p n missed (Write q v t) done w =
+      walks p n missed t done (record w { roots = put w.roots (placed p n q) v })
+  walks p n missed (Root h t) done w = walks p n missed t done (record w { roots = w.roots ++ h ∷ [] })
+  walks p n missed (Drop i go) done w =
+      walks p n missed (go (look w.roots (record { root = n + i; path = [] }))) done
       (record w { roots = take (n + i) w.roots })
-  walks p n (Need c go) done w =
-      performed c (option_map (placed p n) c.receiver) (λ a w1. walks p n (go a) done w1) w
-  walks p n (Invoke i go) done w =
-      invoked i (option_map (placed p n) i.this) (λ a w1. walks p n (go a) done w1) i.method w
+  walks p n missed (Need c go) done w =
+      performed c (option_map (placed p n) c.receiver) (λ a w1.
+      walks p n (missed_by a w1.trace) (go a) done (record w1 { trace = trace_of missed a w1.trace }))
+      (record w { trace = [] })
+  walks p n missed (Invoke i go) done w =
+      invoked i (option_map (placed p n) i.this) (λ a w1. walks p n None (go a) done w1) i.method
+      (record w { trace = [] })

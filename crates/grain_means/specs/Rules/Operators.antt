@@ -45,14 +45,14 @@ module _ {S : Type 0} (m : Setup S) where
       (λ r w1. flattened m (read_write r) name f w1 (λ q.
       assigned_at m a (record h { value = q }) name next f w1)) (raised m f)
 
-  -- the fault of the host's op-assignment; where there is none of its name, its operator is asked,
-  -- on what stands there then
+  -- The fault of the host's op-assignment. Where there is none of its name, its operator is asked, on what
+  -- stands there then, and the trace of that fault is gone.
   abbrev pub op_assign_failed_at : Home → List ℕ → AssignOp → Held → Held → ℕ → Frame → Problem →
       World S → Act S
   op_assign_failed_at a name o h v next f x w =
       if says_missing (name_of m.program o.op_assign_name) x then
       operator_at a name (name_of m.program o.op_name) h
-      (record h { value = content_now a h w }) v next f w
+      (record h { value = content_now a h w }) v next f (record w { trace = [] })
       else raised m f x w
 
   -- the host's op-assignment, to which what is written is lent

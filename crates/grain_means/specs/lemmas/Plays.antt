@@ -1,33 +1,36 @@
 -- A walk in the world does what it does by itself: the one proof about all walks, by one case for each
 -- kind of task.
-use Rattle.std.proofs.Common.{◌≡◌, ℕ, suc, ◌+◌, List, [], ◌∷◌, ◌++◌, Option, Some, Bool, true, false, length, take, refl, ap, ◌∙◌, option_map}
+use Rattle.std.proofs.Common.{◌≡◌, ℕ, suc, ◌+◌, List, [], ◌∷◌, ◌++◌, Option, Some, None, Bool, true, false, length, take, refl, ap, ◌∙◌, option_map}
 use Rattle.std.specs.Prelude.{if◌then◌else◌}
 use Rattle.grain_value.specs.Cells.{flat}
 use Rattle.grain_value.specs.declared.values.Held.{Held}
+use Rattle.grain_fault.specs.declared.traces.Fault.{Fault}
 use Rattle.grain_means.specs.Worlds.{is_stop, Place, Frame, Act, World, Setup}
 use Rattle.grain_means.specs.Places.{or_unit, find, look, put}
 use Rattle.grain_means.specs.Tasks.{Task, Done, Mark, Look, Flatten, Write, Root, Drop, Need, Invoke, Walked, Own, Play, Over, Asks, Calls, play, root_after}
-use Rattle.grain_means.specs.Rules.InWorld.{placed, performed, invoked, walks}
+use Rattle.grain_means.specs.Rules.InWorld.{missed_by, trace_of, placed, performed, invoked, walks}
 use Rattle.grain_means.specs.lemmas.Spreading.{spread, Rooted, find-spread, put-spread, drop-spread, add-spread, rooted-put, rooted-add, rooted-take}
 
 -- a world with a walk's roots
 abbrev pub laid : {S : Type 0} → World S → Place → Own → World S
 laid w p s = record w { roots = spread w.roots p s.roots; passed = s.passed }
 
-module _ {S : Type 0} (m : Setup S) (k : ℕ) (f : Frame) (p : Place)
+module _ {S : Type 0} (m : Setup S) (k : ℕ) (f : Frame) (p : Place) (missed : Option (List Fault))
     (done : Walked → World S → Act S) (w : World S) where
   -- the world's run goes on from where the walk by itself stands still
   abbrev pub played : Play → Act S
   played (Over o s) = done o (laid w p s)
   played (Asks c go s) =
       performed m k f c (option_map (placed p (length w.roots)) c.receiver)
-      (λ a w1. walks m k f p (length w.roots) (go a) done w1) (laid w p s)
+      (λ a w1. walks m k f p (length w.roots) (missed_by a w1.trace) (go a) done
+      (record w1 { trace = trace_of missed a w1.trace })) (record (laid w p s) { trace = [] })
   played (Calls i go s) =
       invoked m k f i (option_map (placed p (length w.roots)) i.this)
-      (λ a w1. walks m k f p (length w.roots) (go a) done w1) i.method (laid w p s)
+      (λ a w1. walks m k f p (length w.roots) None (go a) done w1) i.method
+      (record (laid w p s) { trace = [] })
 
   abbrev in_world : Task → World S → Act S
-  in_world t v = walks m k f p (length w.roots) t done v
+  in_world t v = walks m k f p (length w.roots) missed t done v
 
   module _ (g : Held) (e : find w.roots p ≡ Some g) where
     by_mark : (b : Bool) (x y : Act S) (s t : Play) → x ≡ played s → y ≡ played t →
