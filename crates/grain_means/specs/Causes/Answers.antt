@@ -12,11 +12,13 @@ use Rattle.grain_host.specs.Law as reply
 use Rattle.grain_host.specs.Signatures.{not_found}
 use Rattle.grain_program.specs.declared.code.functions.Function.{Function}
 use Rattle.grain_program.specs.View.{View}
-use Rattle.grain_means.specs.Worlds.{End, is_stop, Answer, Came, Failed, Place, Setup, World}
+use Rattle.grain_value.specs.Tree.{Tree}
+use Rattle.grain_means.specs.Worlds.{Callback, End, Frame, Go, InHost, is_stop, Answer, Came, Failed, Place, Setup, World}
 use Rattle.grain_means.specs.Ends.{Ends}
-use Rattle.grain_means.specs.Rules.{Receiver, cells_given_back, curried_in, function_by_name, function_called, function_numbered, pointed_native, first_is_read_only, flat_all, given, given_back, lent_at, lent_held, race_text, roots_given_back, trees_in}
+use Rattle.grain_means.specs.Rules.{Receiver, cells_given_back, cells_lent, no_memory, position, receiver_left, with_token, curried_in, function_by_name, function_called, function_numbered, pointed_native, first_is_read_only, flat_all, given, given_back, lent_at, lent_held, race_text, roots_given_back, trees_in}
 use Rattle.grain_means.specs.Tasks.{Call, Invocation, Method, Numbered, Pointed}
-use Rattle.grain_means.specs.Causes.Natives.{IsCalled, Question, native_asked, reply_to}
+use Rattle.grain_means.specs.Causes.Questions.{IsCalled, Question, native_asked, reply_to}
+use Rattle.grain_means.specs.Causes.Callbacks.{HostFails, LeavesBack, first_asked}
 
 -- a mark is passed
 abbrev pub past : {S : Type 0} → World S → World S
@@ -42,10 +44,49 @@ answered_world m key r args w = record w {
   passed = w.passed + 1 + 1;
 }
 
+-- the world once the host has answered a native of this key, and asked for a call with this token
+abbrev pub asking_world : {S : Type 0} → Setup S → ℕ → Option Receiver → List Held → ℕ → World S →
+    World S
+asking_world m key r args token w =
+    let v = answered_world m key r args w in
+    record v {
+      cells = cells_lent (receiver_left m.law w.host key (trees_in args) r) v.cells;
+      tokens = with_token token v.tokens;
+    }
+
+-- A native that a walk calls asks for calls first: this is the first of them, with these arguments, in this
+-- world.
+pub record CallAsks {S : Type 0} (m : Setup S) (c : Call) (r : Option Receiver) (w : World S) : Type 0
+  where
+    pub args : List Held
+    pub reads : flat_all w.cells (map read_write c.values) ≡ Some args
+    pub native : Native
+    pub found : native_asked m (question_of c r w args) ≡ Some native
+    pub called : IsCalled (question_of c r w args) native
+    pub clear : Passes m w
+    pub clear_again : Passes m (past w)
+    pub token : ℕ
+    pub pointer : FnPtr
+    pub values : List Tree
+    pub asks : reply_to m (question_of c r w args) native.key ≡ reply.Ask token pointer values
+    -- the frame of the chain, at the call's position
+    pub frame : Frame
+    pub position : position m frame ≡ c.position
+
+abbrev pub call_asked : {S : Type 0} {m : Setup S} {c : Call} {r : Option Receiver} {w : World S} →
+    CallAsks m c r w → Callback
+call_asked {m = m} {c = c} {r = r} {w = w} a =
+    first_asked m (question_of c r w a.args) a.native a.frame a.token a.pointer a.values
+
+abbrev pub call_start : {S : Type 0} {m : Setup S} {c : Call} {r : Option Receiver} {w : World S} →
+    CallAsks m c r w → World S
+call_start {m = m} {r = r} {w = w} a = asking_world m a.native.key r a.args a.token w
+
 -- How a call of a native by a walk ends where memory is not out, and the world then. It ends with a
 -- fault if an argument is a cell whose content is lent, if there is no such native, or if the native
 -- writes its first argument and that can only be read. Else the host answers with a value, or with a
--- fault, which gets the call's position if the host gave it none.
+-- fault, which gets the call's position if the host gave it none; or it asks for calls first, and the run of
+-- these ends so.
 pub data CallEnds {S : Type 0} (m : Setup S) (c : Call) (r : Option Receiver) (w : World S) :
     Answer → World S → Type 0 where
   lent : flat_all w.cells (map read_write c.values) ≡ None → Passes m w →
@@ -68,6 +109,25 @@ pub data CallEnds {S : Type 0} (m : Setup S) (c : Call) (r : Option Receiver) (w
       reply_to m (question_of c r w args) n.key ≡ reply.Failed x → Passes m (past (past w)) →
       CallEnds m c r w (Failed (at_position_if_none c.position x))
       (past (answered_world m n.key r args w))
+  asked_gave : (a : CallAsks m c r w) (v : Dynamic) {u : World S} →
+      Ends m (Go (InHost (call_asked a)) (call_start a)) (Came v) u → CallEnds m c r w (Came v) u
+  asked_failed : (a : CallAsks m c r w) (x : Problem) {u : World S} →
+      Ends m (Go (InHost (call_asked a)) (call_start a)) (Failed x) u → no_memory x ≡ false →
+      Passes m u → CallEnds m c r w (Failed x) (past u)
+
+-- The calls that a native asked for first are the reason why it ended so, and not only the body of a
+-- function that it called back.
+abbrev pub IsReason : {S : Type 0} {m : Setup S} {c : Call} {r : Option Receiver} {w u : World S}
+    {a : Answer} → CallEnds m c r w a u → Type 0
+IsReason {m = m} (asked_failed a x ends some clear) = HostFails m (call_asked a) (call_start a) x
+IsReason ends = Unit {0}
+
+-- The body of a function that a native called back ended with a fault that no script may catch, and so the
+-- native ended.
+abbrev pub IsLeft : {S : Type 0} {m : Setup S} {c : Call} {r : Option Receiver} {w u : World S}
+    {a : Answer} → CallEnds m c r w a u → Type 0
+IsLeft {m = m} (asked_failed a x ends some clear) = LeavesBack m (call_asked a) (call_start a) x
+IsLeft ends = ⊥
 
 -- the function that a walk calls, and its arguments, if the program has it
 abbrev pub on_values : List Held → Option Function → Option (Function × List Held)

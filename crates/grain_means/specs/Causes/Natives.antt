@@ -1,5 +1,6 @@
 -- What an instruction asks the host for, and what it is answered.
-use Rattle.std.specs.Prelude.{◌≡◌, ◌⊎◌, ◌&&◌, ◌+◌, ℕ, suc, List, [], ◌∷◌, ◌++◌, Option, Some, None, true, false, slice_get, slice_set}
+pub use Rattle.grain_means.specs.Causes.Questions.{Question, all_args, native_asked, reply_to, IsCalled}
+use Rattle.std.specs.Prelude.{◌≡◌, ◌⊎◌, ◌+◌, ℕ, suc, List, [], ◌∷◌, ◌++◌, Option, Some, None, true, false, slice_get, slice_set}
 use Rattle.grain_value.specs.declared.values.Dynamic.{Dynamic}
 use Rattle.grain_value.specs.declared.values.Held.{Held}
 use Rattle.grain_value.specs.declared.scopes.Entry.{Entry}
@@ -15,14 +16,15 @@ use Rattle.grain_program.specs.declared.code.instruction_set.Op.TheVariants as o
 use Rattle.grain_program.specs.declared.code.parts.AssignOp.{AssignOp}
 use Rattle.grain_program.specs.View.{View, name_of, assign_op_of}
 use Rattle.grain_ops.specs.Outcomes.{NotBuiltIn}
-use Rattle.grain_means.specs.Worlds.{World, Setup, Frame, Place}
+use Rattle.grain_means.specs.Worlds.{Go, Failed, InHost, World, Setup, Frame, Place}
 use Rattle.grain_means.specs.Places.{look}
 use Rattle.grain_host.specs.Signatures.{missing_kind, not_found, says_missing}
-use Rattle.grain_host.specs.Law.{Reply, native_of}
 use Rattle.grain_host.specs.Law as reply
 use Rattle.grain_value.specs.declared.natives.Native.{Native}
 use Rattle.grain_means.specs.Rules.{Home, Receiver, flat_all, lent_at, new_root, at_place_of, content_at, in_entry, is_read_only, lent_held, given, given_back, cells_given_back, roots_given_back, kinds_in, trees_in, first_is_read_only, position, op_assigned}
 use Rattle.grain_means.specs.Comes.{ProgramPoint}
+use Rattle.grain_means.specs.Ends.{Ends}
+use Rattle.grain_means.specs.Causes.Callbacks.{AsksFirst, HostFails, asked_by}
 use Rattle.grain_means.specs.Causes.Instructions.{Holds, Misses, HasNoBuiltIn}
 use Rattle.grain_means.specs.Causes.Pointers.{IsMethodCall, PointsFirst, receiver, args_beside, function_beside}
 
@@ -46,46 +48,25 @@ pub record AssignsByHost {S : Type 0} (m : Setup S) (a : AssignOp) (i : Home) (h
   pub flag : v.read_only ≡ (top f.operands).read_only
   pub none : op_assigned m.engine a u v.value ≡ NotBuiltIn
 
--- what an instruction asks the host for: a native of this name, on what is lent and on these
--- arguments, where the host stands so
-pub record Question (S : Type 0) : Type 0 where
-  pub host : S
-  -- the cells of the store then
-  pub cells : List Cell
-  pub name : List ℕ
-  pub lent : Option Receiver
-  pub args : List Held
-
-abbrev pub all_args : {S : Type 0} → Question S → List Held
-all_args q = given q.lent q.args
-
--- the native that is asked for, if it is there
-abbrev pub native_asked : {S : Type 0} → Setup S → Question S → Option Native
-native_asked m q = native_of m.law q.host q.name (kinds_in (all_args q))
-
--- the host's answer where the native of this key is asked for
-abbrev pub reply_to : {S : Type 0} → Setup S → Question S → ℕ → Reply
-reply_to m q key = m.law.call_reply q.host key (lent_held q.lent) (trees_in q.args)
-
--- the native of this key is called: it does not write its first argument, or that can be written
-abbrev pub IsCalled : {S : Type 0} → Question S → Native → Type 0
-IsCalled q n = n.writes && first_is_read_only (all_args q) ≡ false
-
 -- the question ended with this fault in a frame: there is no native, or the host answered it to the
--- call; and this is then the host, and this the scope, the cells and the roots
+-- call, or the calls that it asked for first ended with it; and this is then the host, and this the scope,
+-- the cells and the roots
 abbrev pub EndsWith : {S : Type 0} → Setup S → Frame → World S → Question S → Problem → S →
     List Entry → List Cell → List Held → Type 0
-EndsWith m f w q x host left cells roots =
+EndsWith {S = S} m f w q x host left cells roots =
     ((native_asked m q ≡ None) ×
     (x ≡ not_found q.name (values_in (all_args q)) (position m f)) × (host ≡ q.host) ×
     (left ≡ w.scope) × (cells ≡ w.cells) × (roots ≡ w.roots))
     ⊎ ((n : Native) × (native_asked m q ≡ Some n) × IsCalled q n ×
-    ((y : Problem) × (reply_to m q n.key ≡ reply.Failed y) ×
+    (((y : Problem) × (reply_to m q n.key ≡ reply.Failed y) ×
     (x ≡ at_position_if_none (position m f) y) ×
     (host ≡ m.law.call_after q.host n.key (lent_held q.lent) (trees_in q.args)) ×
     (left ≡ given_back m.law q.host n.key (trees_in q.args) q.lent w.scope) ×
     (cells ≡ cells_given_back m.law q.host n.key (trees_in q.args) q.lent w.cells) ×
-    (roots ≡ roots_given_back m.law q.host n.key (trees_in q.args) q.lent w.roots)))
+    (roots ≡ roots_given_back m.law q.host n.key (trees_in q.args) q.lent w.roots))
+    ⊎ ((a : AsksFirst m q n f w) × (v : World S) ×
+    Ends m (Go (InHost (asked_by m a)) a.start) (Failed x) v × (host ≡ v.host) × (left ≡ v.scope) ×
+    (cells ≡ v.cells) × (roots ≡ v.roots))))
 
 -- an op-assignment asks for the host's op-assignment, to which what it writes is lent
 abbrev pub asks_first : {S : Type 0} → Setup S → AssignOp → Home → Held → Dynamic → Held → World S →
@@ -203,9 +184,11 @@ abbrev pub WritesConstant : {S : Type 0} → Setup S → List ℕ → ProgramPoi
 WritesConstant m name at = (n : Native) × (c : FindsNative m name n at)
     × (n.writes ≡ true) × (first_is_read_only (all_args c.question) ≡ true)
 
--- the host answers this fault to the call of a native, and after the fault, which has the frame's
--- position if it has none, no other native is asked for
+-- the host answers this fault to the call of a native, or asks for calls first, from which the fault comes;
+-- and after the fault, which has the frame's position if it has none, no other native is asked for
 abbrev pub HostAnswers : {S : Type 0} → Setup S → Problem → ProgramPoint S → Type 0
 HostAnswers m y at = (name : List ℕ) × (n : Native) × (c : FindsNative m name n at)
-    × IsCalled c.question n × (reply_to m c.question n.key ≡ reply.Failed y)
+    × IsCalled c.question n
+    × ((reply_to m c.question n.key ≡ reply.Failed y)
+    ⊎ ((a : AsksFirst m c.question n at.frame at.world) × HostFails m (asked_by m a) a.start y))
     × AsksLast m (at_position_if_none (position m at.frame) y) c.question at

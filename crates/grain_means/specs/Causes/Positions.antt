@@ -21,8 +21,9 @@ use Rattle.grain_means.specs.Rules.{throws_unit, bound, frame_at, lent_cell, new
 use Rattle.grain_means.specs.Comes.{ProgramPoint, CatchPoint, Comes, ComesToCatch, Meets}
 use Rattle.grain_means.specs.Ends.{Ends}
 use Rattle.grain_means.specs.Causes.Instructions.{CallsOn, CallsUnder, Throws, receiver}
+pub use Rattle.grain_means.specs.Causes.Callbacks.{body_begins}
 use Rattle.grain_means.specs.Causes.Natives.{HostAnswers}
-use Rattle.grain_means.specs.Causes.Spots.{InvocationEnds, Invokes, under_for}
+use Rattle.grain_means.specs.Causes.Spots.{InvocationEnds, Invokes, under_for, untraced}
 use Rattle.grain_means.specs.Causes.Chains.{ChainReads, RaisedByChain, RootLends, begun_at, walk_of}
 
 -- the `this` of a function that a walk calls on what stands at a place: it stands there, or is a copy of
@@ -60,6 +61,7 @@ pub record ChainCalls {S : Type 0} (m : Setup S) (g : Function) (args : List Hel
   pub position : q ≡ invokes.call.position
   pub starts : let c = chain_of m.program index in
       w ≡ record invokes.world {
+        trace = [];
         roots = roots_for invokes.world.roots (under_for m
             (walk_of m c at so_far.value (lent_cell m.program c.steps so_far.held) root cells)
             invokes.call);
@@ -86,18 +88,6 @@ CallsWith m g args this q w at = (CallsOn m.program g args at.instruction at.fra
     × (this ≡ None) × (q ≡ position m at.frame) × (w ≡ begun_at at))
     ⊎ (ChainCalls m g args this q w at
     ⊎ (ReceiverCalls m g args this w at × (q ≡ position m at.frame)))
-
--- The world in which the body of a function on these arguments begins, where the function is called in
--- the world w: an operation is counted, of which the host has heard, and the scope is the function's own,
--- one level up.
-abbrev pub body_begins : {S : Type 0} → Setup S → Function → List Held → World S → World S
-body_begins m g args w = record w {
-  passed = w.passed + 1 + 1 + 1 + 1;
-  count = w.count + 1;
-  host = m.law.progress_after w.host (w.count + 1);
-  scope = bound m.program g.params args;
-  level = w.level + 1;
-}
 
 -- the instruction at the point calls this function, at this position; its run comes to where the
 -- function's body begins, and of the run of the body this holds
@@ -146,7 +136,8 @@ ChainCallFails {S = S} {m = m} {at = at} k x =
     let cell = lent_cell m.program c.steps k.so_far.held in
     let i = k.invokes in
     (v : World S) × InvocationEnds m i.call
-    (under_for m (walk_of m c at k.so_far.value cell k.root k.cells) i.call) i.world (Failed x) v
+    (under_for m (walk_of m c at k.so_far.value cell k.root k.cells) i.call) (untraced i.world)
+    (Failed x) v
 
 -- what a call of this function, at this position, ends with where the body ended with this fault: it is
 -- wrapped if a script may catch it, and else it goes on at the position

@@ -1,5 +1,5 @@
 -- The spots to which the walk of a chain comes, and what it finds there where it ends in a fault.
-pub use Rattle.grain_means.specs.Causes.Answers.{past, Passes, question_of, answered_world, CallEnds, lent, missing, refused, gave, failed, on_values, resolved, InvocationEnds, by_function, by_native, by_nothing}
+pub use Rattle.grain_means.specs.Causes.Answers.{past, Passes, question_of, answered_world, CallAsks, call_asked, call_start, CallEnds, lent, missing, refused, gave, failed, asked_gave, asked_failed, IsReason, IsLeft, asking_world, on_values, resolved, InvocationEnds, by_function, by_native, by_nothing}
 use Rattle.std.specs.Prelude.{◌≡◌, ◌⊎◌, ◌+◌, ◌<◌, ◌≤◌, codes, length, ℕ, ℤ, List, [], ◌∷◌, ◌++◌, Option, Some, None, Bool, true, false, Err, drop, map, option_map, take}
 use Rattle.grain_value.specs.Cells.{flat}
 use Rattle.grain_value.specs.Locating.{locate}
@@ -17,7 +17,7 @@ use Rattle.grain_value.specs.declared.values.value_faults.ValueFault.TheVariants
 use Rattle.grain_fault.specs.Absences.{is_dot_expr, is_indexing_type}
 use Rattle.grain_fault.specs.Problems.{FaultKind, Problem, Plain, InFunctionCall, InModule, SystemError, NoMemory, Arithmetic, ArrayBounds, BitFieldBounds, DataRace, DataTooLarge, MismatchDataType, PropertyNotFound, StackOverflow, StringBounds, Terminated, TooManyOperations, TooManyVariables}
 use Rattle.grain_fault.specs.declared.places.Position.{Position}
-use Rattle.grain_host.specs.Law.{Stop}
+use Rattle.grain_fault.specs.declared.traces.Fault.{Fault}
 use Rattle.grain_ops.specs.Outcomes.{ArithmeticFault, TooLarge}
 use Rattle.grain_program.specs.declared.code.functions.Function.{Function}
 use Rattle.grain_program.specs.View.{name_of}
@@ -30,7 +30,7 @@ use Rattle.grain_means.specs.Places.{look, put}
 use Rattle.grain_means.specs.Rules.{Receiver, pointed_native, lent_at, op_assigned, placed, race_text}
 use Rattle.grain_means.specs.Tasks.{Call, Invocation, Pointed, Task, Done, Mark, Look, Flatten, Write, Root, Drop, Need, Invoke, WalkFailed}
 use Rattle.grain_means.specs.Walks.{Course, OfPart, Rest, assigning, flattening, index_type, key_of, operand, operands_from, operating, out_of_bounds, role_before, set_back, taken, walked, whole_walk}
-use Rattle.grain_means.specs.Causes.Instructions.{IsCharged}
+use Rattle.grain_means.specs.Causes.Callbacks.{IsKeptOut}
 
 -- A walk of a chain in the world. `course` is what the chain took from the operands, and `steps` are
 -- its steps. `start` is the world in which the walk begins, and `place` is where the walk's first root
@@ -42,6 +42,10 @@ pub record ChainWalk (S : Type 0) : Type 0 where
   pub place : Place
   pub others : ℕ
   pub start : World S
+
+-- a world without a trace
+abbrev pub untraced : {S : Type 0} → World S → World S
+untraced w = record w { trace = [] }
 
 -- what is left of the walk does nothing but drop roots, and then ends with the fault x of step n
 abbrev pub Falls : ℕ → Problem → Task → Type 0
@@ -93,11 +97,12 @@ module _ {S : Type 0} (m : Setup S) (c : ChainWalk S) where
     dropped : {i : ℕ} {go : Held → Task} {w : World S} →
         WalksTo t v (go (look w.roots (record { root = c.others + i; path = [] })))
         (record w { roots = take (c.others + i) w.roots }) → WalksTo t v (Drop i go) w
-    heard : {call : Call} {go : Answer → Task} {w u : World S} {a : Answer} →
-        CallEnds m call (lent_for call w) w a u → WalksTo t v (go a) u →
-        WalksTo t v (Need call go) w
+    -- a call begins without a trace, and of the one that it leaves nothing is said here
+    heard : {call : Call} {go : Answer → Task} {w u : World S} {a : Answer} (trace : List Fault) →
+        CallEnds m call (lent_for call w) (untraced w) a u →
+        WalksTo t v (go a) (record u { trace = trace }) → WalksTo t v (Need call go) w
     returned : {i : Invocation} {go : Answer → Task} {w u : World S} {a : Answer} →
-        InvocationEnds m i (under_for i) w a u → WalksTo t v (go a) u →
+        InvocationEnds m i (under_for i) (untraced w) a u → WalksTo t v (go a) u →
         WalksTo t v (Invoke i go) w
 
   -- the walk comes to this in this world
@@ -228,7 +233,37 @@ module _ {S : Type 0} (m : Setup S) (c : ChainWalk S) where
     pub comes : ComesTo (Need call go) world
     pub step : call.step ≡ n
     pub after : World S
-    pub ends : CallEnds m call (lent_for call world) world (Failed x) after
+    pub ends : CallEnds m call (lent_for call world) (untraced world) (Failed x) after
+    pub reason : IsReason ends
+
+  -- The body of a function that a native called back, which the walk called, ended with a fault that no
+  -- script may catch, and with that fault the walk ends.
+  pub record BackFails (n : ℕ) (x : Problem) : Type 0 where
+    pub call : Call
+    pub go : Answer → Task
+    pub world : World S
+    pub comes : ComesTo (Need call go) world
+    pub step : call.step ≡ n
+    pub after : World S
+    pub ends : CallEnds m call (lent_for call world) (untraced world) (Failed x) after
+    pub left : IsLeft ends
+    pub last : Falls n x (go (Failed x))
+
+  -- the same of a native that is called where a pointer names no function
+  pub record PointedLeft (n : ℕ) (x : Problem) : Type 0 where
+    pub call : Invocation
+    pub go : Answer → Task
+    pub world : World S
+    pub comes : ComesTo (Invoke call go) world
+    pub step : call.step ≡ n
+    pub pointer : FnPtr
+    pub is : call.method ≡ Pointed pointer
+    pub none : resolved m.program call call.method ≡ None
+    pub after : World S
+    pub ends : CallEnds m (pointed_native call pointer) (lent_at world.roots (under_for call))
+        (untraced world) (Failed x) after
+    pub left : IsLeft ends
+    pub last : Falls n x (go (Failed x))
 
   -- a call of the walk ends with that fault, and with it the walk ends
   pub record NativeFails (n : ℕ) (x : Problem) : Type 0 where
@@ -263,14 +298,7 @@ module _ {S : Type 0} (m : Setup S) (c : ChainWalk S) where
   -- the function has too many parameters. With that fault the walk ends.
   pub record IsNotEntered (n : ℕ) (x : Problem) : Type 0 where
     pub invokes : Invokes n
-    pub why : let q = invokes.call.position in let w = invokes.world in
-        ((m.engine.limits.operations ≤ w.count) × (x ≡ Plain TooManyOperations q))
-        ⊎ (((v : Dynamic) × (w.count < m.engine.limits.operations)
-        × (m.law.progress_reply w.host (w.count + 1) ≡ Stop v) × (x ≡ Plain (Terminated v) q))
-        ⊎ ((IsCharged m w × (m.engine.limits.levels ≤ w.level) × (x ≡ Plain StackOverflow q))
-        ⊎ (IsCharged m w × (w.level < m.engine.limits.levels)
-        × (m.engine.limits.variables < length invokes.function.params)
-        × (x ≡ Plain TooManyVariables q))))
+    pub why : IsKeptOut m invokes.call.position (length invokes.function.params) invokes.world x
     pub last : Falls n x (invokes.go (Failed x))
 
   -- where a pointer names no function, the walk calls a native, and with its fault the walk ends
@@ -284,8 +312,9 @@ module _ {S : Type 0} (m : Setup S) (c : ChainWalk S) where
     pub is : call.method ≡ Pointed pointer
     pub none : resolved m.program call call.method ≡ None
     pub after : World S
-    pub ends : CallEnds m (pointed_native call pointer) (lent_at world.roots (under_for call)) world
-        (Failed x) after
+    pub ends : CallEnds m (pointed_native call pointer) (lent_at world.roots (under_for call))
+        (untraced world) (Failed x) after
+    pub reason : IsReason ends
     pub last : Falls n x (go (Failed x))
 
   -- A value that is to be a pointer is none: what stands at the place, or the first argument of `call`

@@ -128,35 +128,41 @@ module _ {S : Type 0} (m : Setup S) where
   called_back_over c (Failed x) w =
       if is_told x then told c (Fault x) w else given_up c (Failed x) w
 
-  -- a native that was called back is over: the level is again this
-  abbrev pub native_back_over : Callback → ℕ → Answer → World S → Act S
-  native_back_over c level a w = called_back_over c a (record w { level = level })
+  -- a native that was called back is over, and the level is again this
+  abbrev pub native_back_over : (Answer → World S → Act S) → ℕ → Answer → World S → Act S
+  native_back_over heard level a w = heard a (record w { level = level })
 
   -- the native of the pointer's name is called on its arguments as they are read, if none of them is a
   -- lent cell
-  abbrev pub native_back : Callback → ℕ → Option (List Held) → World S → Act S
-  native_back c level None w =
-      failed_so m (native_back_over c level) (Plain (DataRace (race_text [])) (position m c.frame)) w
-  native_back c level (Some args) w =
-      native_or m (native_back_over c level (Failed NoMemory)) c.pointer.name None args c.frame w
-      (λ v w1. native_back_over c level (Came v) w1) (failed_so m (native_back_over c level))
+  abbrev pub native_back : (Answer → World S → Act S) → Callback → Option (List Held) → World S → Act S
+  native_back heard c None w =
+      failed_so m heard (Plain (DataRace (race_text [])) (position m c.frame)) w
+  native_back heard c (Some args) w =
+      native_or m (heard (Failed NoMemory)) c.pointer.name None args c.frame w
+      (λ v w1. heard (Came v) w1) (failed_so m heard)
 
   -- a native that is called back costs an operation, as a function does, and runs one level up
-  abbrev pub native_called_back : Callback → World S → Act S
-  native_called_back c w =
-      operation_taken m (called_back_over c (Failed NoMemory)) (position m c.frame)
-      (λ x. called_back_over c (Failed x)) w (λ w1.
+  abbrev pub native_called_back : (Answer → World S → Act S) → Callback → World S → Act S
+  native_called_back heard c w =
+      operation_taken m (heard (Failed NoMemory)) (position m c.frame) (λ x. heard (Failed x)) w
+      (λ w1.
       if nat_le m.engine.limits.levels w1.level
-      then failed_so m (called_back_over c) (Plain StackOverflow (position m c.frame)) w1
-      else native_back c w1.level (flat_all w1.cells (arguments_back c))
+      then failed_so m heard (Plain StackOverflow (position m c.frame)) w1
+      else native_back (native_back_over heard w1.level) c (flat_all w1.cells (arguments_back c))
       (record w1 { level = w1.level + 1 }))
 
   -- a function that is called back runs as any that is called, and without a `this`
-  abbrev pub callee_called_back : Callback → Option Function → World S → Act S
-  callee_called_back c None w = native_called_back c w
-  callee_called_back c (Some g) w =
-      function_under m (position m c.frame) g (arguments_back c) (called_back_over c) None w
+  abbrev pub callee_called_back : (Answer → World S → Act S) → Callback → Option Function → World S →
+      Act S
+  callee_called_back heard c None w = native_called_back heard c w
+  callee_called_back heard c (Some g) w =
+      function_under m (position m c.frame) g (arguments_back c) heard None w
 
-  -- a call that a native asked for
+  -- the call that was asked for, and then what follows from its answer
+  abbrev pub called_back : (Answer → World S → Act S) → Callback → World S → Act S
+  called_back heard c w =
+      callee_called_back heard c (function_back m.program m.engine.callbacks c) w
+
+  -- what a native asked for is done, and the host hears what came of it
   abbrev pub calling_back : Callback → World S → Act S
-  calling_back c w = callee_called_back c (function_back m.program m.engine.callbacks c) w
+  calling_back c w = called_back (called_back_over c) c w

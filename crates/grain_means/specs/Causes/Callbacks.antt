@@ -1,0 +1,222 @@
+-- The calls that a native asks for: how they end, what the host hears of them, and why a native ends in a
+-- fault that asked for calls.
+use Rattle.std.specs.Prelude.{◌≡◌, ◌⊎◌, ◌<◌, ◌≤◌, ◌+◌, ℕ, List, [], Option, Some, None, true, false, length}
+use Rattle.grain_value.specs.Cells.{flat}
+use Rattle.grain_value.specs.Tree.{Tree}
+use Rattle.grain_value.specs.declared.natives.Native.{Native}
+use Rattle.grain_value.specs.declared.values.Dynamic.{Dynamic}
+use Rattle.grain_value.specs.declared.values.FnPtr.{FnPtr}
+use Rattle.grain_value.specs.declared.values.Held.{Held}
+use Rattle.grain_fault.specs.Classes.{catchable}
+use Rattle.grain_fault.specs.Positions.{at_position, at_position_if_none}
+use Rattle.grain_fault.specs.declared.places.Position.{Position}
+use Rattle.grain_fault.specs.Problems.{Problem, Plain, DataRace, StackOverflow, Terminated, TooManyOperations, TooManyVariables}
+use Rattle.grain_host.specs.Law.{Reply, Outcome, Value, Fault, Stop}
+use Rattle.grain_host.specs.Law as reply
+use Rattle.grain_program.specs.View.{View}
+use Rattle.grain_program.specs.declared.code.functions.Function.{Function}
+use Rattle.grain_means.specs.Worlds.{Act, Go, End, Answer, Came, Failed, Receiver, Callback, Frame, InFrame, InHost, World, Setup}
+use Rattle.grain_means.specs.Comes.{Comes}
+use Rattle.grain_means.specs.Ends.{Ends}
+use Rattle.grain_means.specs.Rules.{bound, cells_lent, flat_all, frame_at, is_stop, lent_held, position, race_text, receiver_left, receiver_rewritten, scope_with, roots_with, trees_in, with_token, without_token, is_told, arguments_back, function_back, called_back}
+use Rattle.grain_means.specs.Causes.Instructions.{IsCharged}
+use Rattle.grain_means.specs.Causes.Questions.{IsCalled, Question, native_asked, reply_to}
+
+-- the number of parameters of a function, if there is one
+abbrev pub parameters : Option Function → ℕ
+parameters None = 0
+parameters (Some g) = length g.params
+
+-- A call in this world fails before anything of it is done, with this fault at this position: no operation
+-- is left, or the host ends the run; or no level is left; or there are too many parameters.
+abbrev pub IsKeptOut : {S : Type 0} → Setup S → Position → ℕ → World S → Problem → Type 0
+IsKeptOut m q params w x =
+    ((m.engine.limits.operations ≤ w.count) × (x ≡ Plain TooManyOperations q))
+    ⊎ (((v : Dynamic) × (w.count < m.engine.limits.operations)
+    × (m.law.progress_reply w.host (w.count + 1) ≡ Stop v) × (x ≡ Plain (Terminated v) q))
+    ⊎ ((IsCharged m w × (m.engine.limits.levels ≤ w.level) × (x ≡ Plain StackOverflow q))
+    ⊎ (IsCharged m w × (w.level < m.engine.limits.levels) × (m.engine.limits.variables < params)
+    × (x ≡ Plain TooManyVariables q))))
+
+-- The world in which the body of a function on these arguments begins, where the function is called in
+-- the world w: an operation is counted, of which the host has heard, and the scope is the function's own,
+-- one level up.
+abbrev pub body_begins : {S : Type 0} → Setup S → Function → List Held → World S → World S
+body_begins m g args w = record w {
+  passed = w.passed + 1 + 1 + 1 + 1;
+  count = w.count + 1;
+  host = m.law.progress_after w.host (w.count + 1);
+  scope = bound m.program g.params args;
+  level = w.level + 1;
+}
+
+-- the call that the host asked for where it answered a native's call
+abbrev pub first_asked : {S : Type 0} → Setup S → Question S → Native → Frame → ℕ → FnPtr →
+    List Tree → Callback
+first_asked m q n f token p values = record {
+  receiver = receiver_left m.law q.host n.key (trees_in q.args) q.lent;
+  frame = f;
+  token = token;
+  pointer = p;
+  values = values;
+}
+
+module _ {S : Type 0} (m : Setup S) where
+  -- the call that was asked for ended so, and left this world
+  abbrev pub BackEnds : Callback → World S → Answer → World S → Type 0
+  BackEnds c w a u = Ends m (called_back m End c w) a u
+
+  -- What the host hears of the call, and the world then: the value as it is read, or the fault that it is a
+  -- lent cell, or the call's own fault.
+  pub data HearsOf (c : Callback) (w : World S) : Outcome → World S → Type 0 where
+    of_value : {u : World S} (r v : Dynamic) → BackEnds c w (Came r) u → flat u.cells r ≡ Some v →
+        HearsOf c w (Value v) u
+    of_lent : {u : World S} (r : Dynamic) → BackEnds c w (Came r) u → flat u.cells r ≡ None →
+        is_stop m.stop u.passed ≡ false →
+        HearsOf c w (Fault (Plain (DataRace (race_text [])) (position m c.frame)))
+        (record u { passed = u.passed + 1 })
+    of_fault : {u : World S} (x : Problem) → BackEnds c w (Failed x) u → is_told x ≡ true →
+        HearsOf c w (Fault x) u
+
+  -- what the host then answers
+  abbrev pub reply_again : Callback → Outcome → World S → Reply
+  reply_again c o u = m.law.resume_reply u.host c.token o (lent_held c.receiver)
+
+  -- the world once it has answered, after two marks
+  abbrev pub answered_again_world : Callback → Outcome → World S → World S
+  answered_again_world c o u =
+      let r = receiver_rewritten m.law u.host c.token o c.receiver in record u {
+        host = m.law.resume_after u.host c.token o (lent_held c.receiver);
+        scope = scope_with r u.scope;
+        roots = roots_with r u.roots;
+        tokens = without_token c.token u.tokens;
+        passed = u.passed + 1 + 1;
+      }
+
+  -- the next call that the host asks for
+  abbrev pub next_asked : Callback → Outcome → World S → ℕ → FnPtr → List Tree → Callback
+  next_asked c o u token p values = record c {
+    receiver = receiver_rewritten m.law u.host c.token o c.receiver;
+    token = token;
+    pointer = p;
+    values = values;
+  }
+
+  abbrev pub next_asked_world : Callback → Outcome → World S → ℕ → World S
+  next_asked_world c o u token =
+      let v = answered_again_world c o u in
+      record v { tokens = with_token token v.tokens; trace = [] }
+
+  -- the world in which a native that is called back is asked for
+  abbrev pub native_begins : World S → World S
+  native_begins w = record w {
+    passed = w.passed + 1 + 1 + 1;
+    count = w.count + 1;
+    host = m.law.progress_after w.host (w.count + 1);
+    level = w.level + 1;
+  }
+
+  -- A native is called back: the program has no function of the pointer's name, or natives may not call
+  -- it. It is asked for on these arguments, and is there.
+  pub record NativeBack (c : Callback) (w : World S) : Type 0 where
+    pub none : function_back m.program m.engine.callbacks c ≡ None
+    pub charged : IsCharged m w
+    pub level : w.level < m.engine.limits.levels
+    pub args : List Held
+    pub reads : flat_all w.cells (arguments_back c) ≡ Some args
+    pub native : Native
+
+  abbrev pub question_back : {c : Callback} {w : World S} → NativeBack c w → Question S
+  question_back {c = c} {w = w} b = record {
+    host = m.law.progress_after w.host (w.count + 1);
+    cells = w.cells;
+    name = c.pointer.name;
+    lent = None;
+    args = b.args;
+  }
+
+  abbrev pub IsCalledBack : {c : Callback} {w : World S} → NativeBack c w → Type 0
+  IsCalledBack b = (native_asked m (question_back b) ≡ Some b.native)
+      × IsCalled (question_back b) b.native
+
+  -- the world once the host has answered it and asked for a call
+  abbrev pub native_asked_world : {c : Callback} {w : World S} → NativeBack c w → ℕ → World S
+  native_asked_world {c = c} {w = w} b token =
+      let v = native_begins w in record v {
+        passed = v.passed + 1 + 1;
+        host = m.law.call_after v.host b.native.key None (trees_in b.args);
+        tokens = with_token token v.tokens;
+      }
+
+  -- From a call that a native asked for in a world, these come to that call in that world: the same; the
+  -- one that the host asks for where it hears of a call; and the one that a native asks for which is called
+  -- back.
+  pub data AsksOn (first : Callback) (start : World S) : Callback → World S → Type 0 where
+    at_first : AsksOn first start first start
+    again : {c : Callback} {w u : World S} {o : Outcome} {token : ℕ} {p : FnPtr}
+        {values : List Tree} → AsksOn first start c w → HearsOf c w o u →
+        reply_again c o u ≡ reply.Ask token p values → is_stop m.stop u.passed ≡ false →
+        is_stop m.stop (u.passed + 1) ≡ false →
+        AsksOn first start (next_asked c o u token p values) (next_asked_world c o u token)
+    inside : {c : Callback} {w : World S} {token : ℕ} {p : FnPtr} {values : List Tree} →
+        AsksOn first start c w → (b : NativeBack c w) → IsCalledBack b →
+        reply_to m (question_back b) b.native.key ≡ reply.Ask token p values →
+        AsksOn first start
+        (first_asked m (question_back b) b.native c.frame token p values)
+        (native_asked_world b token)
+
+  -- Why a native that asked for calls ended in this fault. One of the calls failed before anything of it
+  -- was done; or the host answered the fault where it heard of a call; or the host answered it to a native
+  -- that was called back, and the host is not told of such a fault.
+  pub record HostFails (first : Callback) (start : World S) (x : Problem) : Type 0 where
+    pub callback : Callback
+    pub world : World S
+    pub on : AsksOn first start callback world
+    pub why : IsKeptOut m (position m callback.frame)
+        (parameters (function_back m.program m.engine.callbacks callback)) world x
+        ⊎ (((o : Outcome) × (u : World S) × (y : Problem) × HearsOf callback world o u
+        × (reply_again callback o u ≡ reply.Failed y)
+        × (x ≡ at_position_if_none (position m callback.frame) y))
+        ⊎ ((b : NativeBack callback world) × (y : Problem) × IsCalledBack b
+        × (reply_to m (question_back b) b.native.key ≡ reply.Failed y) × (is_told x ≡ false)
+        × (x ≡ at_position_if_none (position m callback.frame) y)))
+
+  -- A native that asked for calls called this function back, and the function's body ran so.
+  pub record RunsBack (first : Callback) (start : World S) : Type 0 where
+    pub callback : Callback
+    pub world : World S
+    pub on : AsksOn first start callback world
+    pub function : Function
+    pub is : function_back m.program m.engine.callbacks callback ≡ Some function
+
+  abbrev pub body_back : {first : Callback} {start : World S} → RunsBack first start → Act S
+  body_back r = Go (InFrame (frame_at r.function.chunk 0 None))
+      (body_begins m r.function (arguments_back r.callback) r.world)
+
+  -- The body of a function that was called back ended with a fault that no script may catch, and with that
+  -- fault, at the native's position, the native ended.
+  pub record LeavesBack (first : Callback) (start : World S) (x : Problem) : Type 0 where
+    pub runs : RunsBack first start
+    pub inner : Problem
+    pub after : World S
+    pub ends : Ends m (body_back runs) (Failed inner) after
+    pub passes : catchable inner ≡ false
+    pub is : x ≡ at_position (position m runs.callback.frame) inner
+
+  -- The question is asked in a frame in this world, and the host answers by asking for a call first. `asked`
+  -- is the frame as it then stands, at the same instruction and position.
+  pub record AsksFirst (q : Question S) (n : Native) (f : Frame) (w : World S) : Type 0 where
+    pub token : ℕ
+    pub pointer : FnPtr
+    pub values : List Tree
+    pub asks : reply_to m q n.key ≡ reply.Ask token pointer values
+    pub asked : Frame
+    pub address : asked.address ≡ f.address
+    pub position : position m asked ≡ position m f
+    pub start : World S
+    pub comes : Comes m (InHost (first_asked m q n asked token pointer values)) start
+        (Go (InFrame f) w)
+
+  abbrev pub asked_by : {q : Question S} {n : Native} {f : Frame} {w : World S} → AsksFirst q n f w →
+      Callback
+  asked_by {q = q} {n = n} a = first_asked m q n a.asked a.token a.pointer a.values
