@@ -41,7 +41,7 @@ impl Engine {
 
     /// The same limits and flags, where natives may call functions of the program back or not.
     pub fn with_callbacks(&self, callbacks: bool) -> Engine
-        ensures { result ≡ with_callbacks callbacks self }
+        ensures { result ≡ with_callbacks callbacks self.now }
     {
         Engine {
             limits: self.limits,

@@ -10,15 +10,15 @@ use Rattle.grain_program.specs.declared.code.instruction_set.Op.TheVariants as o
 use Rattle.grain_means.specs.Worlds.{Frame, Setup, World}
 use Rattle.grain_means.specs.Rules.{throws_unit}
 use Rattle.grain_means.specs.Comes.{ProgramPoint}
-use Rattle.grain_means.specs.Causes.Chains.{ChainRow}
+use Rattle.grain_means.specs.Causes.Chains.{ChainRow, LeavesNative}
 use Rattle.grain_means.specs.Causes.Positions.{BodyFails, IsNoChain}
 
 -- The chain of index k, which is the instruction at the point, ends in this fault, and its step of this
 -- number is blamed: by a row of the chain, or because the body of a function that the step called ended
--- with a fault.
+-- with a fault, or that of one that a native called back which the step called.
 abbrev pub FailsAtStep : {S : Type 0} → Setup S → ℕ → ProgramPoint S → ℕ → Problem → Type 0
 FailsAtStep m k at n x = ChainRow m (chain_of m.program k) at n x
-    ⊎ BodyFails m at n x
+    ⊎ (BodyFails m at n x ⊎ LeavesNative m (chain_of m.program k) at n x)
 
 -- The slot by which a trace names what this fault, which was raised at the point, blames: none if the
 -- instruction is no chain, and else that of the chain's step that is blamed.

@@ -2,22 +2,26 @@
 -- frame and the world then have.
 pub mod Pointers
 pub mod Instructions
+pub mod Questions
+pub mod Callbacks
 pub mod Natives
 pub mod Answers
 pub mod Positions
 pub mod Spots
 pub mod Chains
 pub use Rattle.grain_means.specs.Causes.Instructions.{truth_read, truth_on_top, Points, PointsNowhere, PointsFirst, HasReceiver, IsMethodCall, receiver, args_beside, function_beside, CallsPointed, CallsUnder, MissesPointed, AsksEither, PointedReadsLent, FirstReadsLent, MethodReadsLent, CallsOn, CallsFunction, Calls, Charges, IsCharged, HasTooMany, ReadsTop, Overfills, UsesEntry, Unwinds, Tests, AsksPointer, Throws, Holds, AssignsConstant, Misses, Operates, HasNoBuiltIn, Mistypes, IsLent, AssignsLent, HoldsThis, AsksThis, AssignsLentThis, StoresLent, ReadsLent}
+pub use Rattle.grain_means.specs.Causes.Callbacks.{parameters, IsKeptOut, first_asked, BackEnds, HearsOf, reply_again, answered_again_world, next_asked, next_asked_world, native_begins, NativeBack, question_back, IsCalledBack, native_asked_world, AsksOn, at_first, again, inside, HostFails, RunsBack, body_back, LeavesBack, AsksFirst, asked_by}
 pub use Rattle.grain_means.specs.Causes.Natives.{AssignsTo, AssignsByHost, Question, all_args, native_asked, reply_to, IsCalled, EndsWith, asks_first, AsksAgain, AsksSecond, AsksToAssign, AsksOnCopies, LendsReceiver, lent_last, AsksOnReceiver, AsksOnce, AsksNative, AsksLast, FindsNone, FindsNative, WritesConstant, HostAnswers}
-pub use Rattle.grain_means.specs.Causes.Spots.{ChainWalk, CallEnds, InvocationEnds, Invokes, WalksTo, AtStep, Falls, WalkRow}
-pub use Rattle.grain_means.specs.Causes.Chains.{ChainReads, ChainRow, RaisedByChain, FromHostOrChain}
+pub use Rattle.grain_means.specs.Causes.Spots.{untraced, ChainWalk, CallAsks, call_asked, call_start, IsReason, IsLeft, CallEnds, InvocationEnds, Invokes, WalksTo, AtStep, Falls, WalkRow}
+pub use Rattle.grain_means.specs.Causes.Chains.{ChainReads, ChainRow, LeavesNative, RaisedByChain, FromHostOrChain}
 pub use Rattle.grain_means.specs.Causes.Positions.{CallsWith, ReceiverCalls, this_for, roots_for, ChainCalls, ChainCallFails, body_begins, out_of_body, Enters, LeftCall, BodyFails, LeftByChain, HasPosition, AnsweredSo, IsNoChain, TellsHere, ThrowsUnitAt, ThrowsUnit, HaveCaughtUnit, FirstIsArmed, ThrownAnew, Tells}
-use Rattle.std.specs.Prelude.{◌≡◌, ◌⊎◌, ◌<◌, ◌≤◌, ◌+◌, ℕ, List, [], Some, None, true, length, Result, Ok, Err}
+use Rattle.std.specs.Prelude.{◌≡◌, ◌⊎◌, ◌<◌, ◌≤◌, ◌+◌, ℕ, List, [], Some, None, true, false, length, Result, Ok, Err}
 use Rattle.grain_value.specs.declared.values.Dynamic.{Dynamic}
 use Rattle.grain_value.specs.declared.values.Held.{Held}
 use Rattle.grain_value.specs.Cells.{flat}
 use Rattle.grain_value.specs.Operands.{top}
 use Rattle.grain_fault.specs.Classes.{catchable}
+use Rattle.grain_fault.specs.Positions.{at_position}
 use Rattle.grain_fault.specs.declared.places.Position.{Position}
 use Rattle.grain_fault.specs.declared.faults.MalformedKind.TheVariants as kind
 use Rattle.grain_fault.specs.declared.faults.EvalAltResult.{EvalAltResult}
@@ -29,13 +33,14 @@ use Rattle.grain_program.specs.declared.code.functions.Function.{Function}
 use Rattle.grain_program.specs.View.{View, name_of, position_of, source_text}
 use Rattle.grain_global.specs.declared.engines.Engine.{Engine}
 use Rattle.grain_ops.specs.Outcomes.{ArithmeticFault, TooLarge}
-use Rattle.grain_means.specs.Worlds.{Act, Answer, Came, Failed, World, Setup}
+use Rattle.grain_means.specs.Worlds.{Act, Go, Answer, Came, Failed, Callback, InFrame, InHost, World, Setup}
 use Rattle.grain_host.specs.Law.{Law, Stop}
 use Rattle.grain_host.specs.Law as reply
 use Rattle.grain_value.specs.declared.natives.Native.{Native}
-use Rattle.grain_means.specs.Rules.{race_text, is_stop, main}
+use Rattle.grain_means.specs.Rules.{position, race_text, is_stop, main}
 use Rattle.grain_means.specs.Means.{Begin, setup, first_world}
-use Rattle.grain_means.specs.Comes.{ProgramPoint, CatchPoint, ComesToCatch, Meets}
+use Rattle.grain_means.specs.Comes.{ProgramPoint, CatchPoint, Comes, ComesToCatch, Meets}
+use Rattle.grain_means.specs.Ends.{Ends}
 
 -- it costs an operation, of which the host hears, and the host says with this value that the run is
 -- to stop
@@ -60,7 +65,7 @@ AssignsNamed program name (op.AssignThisOp k) = name ≡ []
 AssignsNamed program name o = ⊥
 
 -- the host answers the operator of an op-assignment to the variable of this name with a cell whose
--- content is lent
+-- content is lent, at once or after the calls that it asks for first
 pub record AnswersLent {S : Type 0} (m : Setup S) (name : List ℕ) (at : ProgramPoint S) : Type 0
   where
     pub named : AssignsNamed m.program name at.instruction
@@ -70,8 +75,11 @@ pub record AnswersLent {S : Type 0} (m : Setup S) (name : List ℕ) (at : Progra
     pub found : native_asked m question ≡ Some native
     pub called : IsCalled question native
     pub answer : Dynamic
-    pub answers : reply_to m question native.key ≡ reply.Done answer
-    pub lent : flat question.cells answer ≡ None
+    pub answers : ((reply_to m question native.key ≡ reply.Done answer)
+        × (flat question.cells answer ≡ None))
+        ⊎ ((a : AsksFirst m question native at.frame at.world) × (v : World S)
+        × Ends m (Go (InHost (asked_by m a)) a.start) (Came answer) v
+        × (flat v.cells answer ≡ None))
 
 -- where a fault says that the content of a cell is lent
 abbrev pub Races : {S : Type 0} → Setup S → List ℕ → ProgramPoint S → Type 0
@@ -177,9 +185,32 @@ pub record RaisedByCatch {S : Type 0} (m : Setup S) (act : Act S) (level : ℕ) 
       × HasPosition (position_of m.program (raised_at x point)) x)
       ⊎ ((p : Position) × LeftCall m act level (ComesToCatch m point) p × HasPosition p x)
 
+-- The run of an act comes to an instruction whose native, or a native that its chain calls, asks for calls,
+-- and a function is called back.
+pub record CallsBack {S : Type 0} (m : Setup S) (act : Act S) : Type 0 where
+  pub point : ProgramPoint S
+  pub met : Meets m point act
+  pub first : Callback
+  pub start : World S
+  pub comes : Comes m (InHost first) start (Go (InFrame point.frame) point.world)
+  pub address : first.frame.address ≡ point.frame.address
+  pub runs : RunsBack m first start
+
 -- why the run of an act, of this level, ends in this fault
-abbrev pub Cause : {S : Type 0} → Setup S → Act S → ℕ → Problem → Type 0
-Cause m act level x = Raised m act level x (Why m x) ⊎ RaisedByCatch m act level x
+pub data Cause {S : Type 0} (m : Setup S) : Act S → ℕ → Problem → Type 0 where
+  -- an instruction raised it
+  raised : {act : Act S} {level : ℕ} {x : Problem} → Raised m act level x (Why m x) →
+      Cause m act level x
+  -- it was raised where a handler caught another fault
+  by_catch : {act : Act S} {level : ℕ} {x : Problem} → RaisedByCatch m act level x →
+      Cause m act level x
+  -- It left the body of a function that a native called back. No script may catch it, and it has the
+  -- position of the native's call, if that is in a frame of this level, or else that of the call there
+  -- which it left.
+  from_native : {act : Act S} {level : ℕ} {y : Problem} (c : CallsBack m act) → catchable y ≡ false →
+      Cause m (body_back m c.runs) (c.runs.world.level + 1) y → (p : Position) →
+      ((c.point.world.level ≡ level) × (p ≡ position m c.runs.callback.frame))
+      ⊎ LeftCall m act level (Meets m c.point) p → Cause m act level (at_position p y)
 
 -- why a run ends so: memory is out only where it is stopped, and any other fault has its cause
 abbrev pub Caused : {S : Type 0} → Setup S → Act S → ℕ → Answer → World S → Type 0

@@ -38,14 +38,15 @@ pub record CellNames (clean : Bool) (n : ℕ) (c : Cell) : Type 0 where
   pub flat : cell_of c.held.value ≡ None
   pub names : HeldNames clean n c.held
 
--- a scope and a store of n cells, whose values are clean if the flag says so, and a host that reaches
--- no further
+-- a scope and a store of n cells, whose values are clean if the flag says so, as is what the host keeps for
+-- tokens, and a host that reaches no further
 pub record WithinStore {S : Type 0} (law : Law S) (clean : Bool) (n : ℕ) (scope : List Entry)
     (cells : List Cell) (host : S) : Type 0 where
   pub size : length cells ≡ n
   pub entries : AllByRecursion (EntryNames clean n) scope
   pub contents : AllByRecursion (CellNames clean n) cells
   pub reaches : law.reach host ≤ n
+  pub waits : clean ≡ true → law.waits_clean host ≡ true
 
 -- the same, and a host that hands over what is clean
 pub record Contained {S : Type 0} (law : Law S) (clean : Bool) (n : ℕ) (scope : List Entry)
@@ -54,6 +55,7 @@ pub record Contained {S : Type 0} (law : Law S) (clean : Bool) (n : ℕ) (scope 
   pub entries : AllByRecursion (EntryNames clean n) scope
   pub contents : AllByRecursion (CellNames clean n) cells
   pub reaches : law.reach host ≤ n
+  pub waits : clean ≡ true → law.waits_clean host ≡ true
   pub hands : clean ≡ true → law.holds_clean host ≡ true
 
 -- what is held as a root names cells below this number only; a root may be a cell
@@ -76,8 +78,9 @@ ConstantsName clean n p = (c : ℕ) → Names clean n (const_of p c)
 
 -- A call keeps to its store: where what it is given names cells of the store only, none of which is
 -- lent and none of which holds a cell, so does what it leaves, its result too. No cell is gone. And
--- where the scope, the contents of the cells and the constants are clean, so is what it leaves: a host
--- hands over what is clean, and nothing has to be said of it but how far it reaches.
+-- where the scope, the contents of the cells, the constants and what the host keeps for tokens are clean,
+-- so is what it leaves: a host hands over what is clean, and nothing more has to be said of it but how far
+-- it reaches.
 abbrev pub KeepsToStore : {S : Type 0} → Law S → View → Begin S →
     Result Dynamic EvalAltResult → List Entry → List Cell → S → Type 0
 KeepsToStore law p b result scope cells host =

@@ -22,7 +22,7 @@ use Rattle.grain_means.specs.Worlds.{Frame, Place, Setup, World}
 use Rattle.grain_means.specs.Places.{look}
 use Rattle.grain_means.specs.Rules.{assigned_operand, course_of, held_at, is_read_only, lent_cell, new_root, position, race_text, root_name, root_position}
 use Rattle.grain_means.specs.Causes.Natives.{HostAnswers}
-use Rattle.grain_means.specs.Causes.Spots.{ChainWalk, WalkRow}
+use Rattle.grain_means.specs.Causes.Spots.{BackFails, ChainWalk, PointedLeft, WalkRow}
 
 -- what a chain's root holds
 abbrev pub RootHolds : {S : Type 0} → Root → Frame → World S → Held → Type 0
@@ -113,6 +113,17 @@ pub data ChainRow {S : Type 0} (m : Setup S) (c : Chain) (at : ProgramPoint S) :
       RootLends (lent_cell m.program c.steps so_far.held) so_far.held at.world r cells →
       WalkRow m (walk_of m c at so_far.value (lent_cell m.program c.steps so_far.held) r cells) n x →
       ChainRow m c at n x
+
+-- The walk of a chain calls a native in its step of this number, and a function that the native calls back
+-- is left by a fault that no script may catch; with that fault the walk ends.
+pub record LeavesNative {S : Type 0} (m : Setup S) (c : Chain) (at : ProgramPoint S) (n : ℕ)
+    (x : Problem) : Type 0 where
+  pub so_far : ChainReads m c at
+  pub root : Held
+  pub cells : List Cell
+  pub lends : RootLends (lent_cell m.program c.steps so_far.held) so_far.held at.world root cells
+  pub fails : let walk = walk_of m c at so_far.value (lent_cell m.program c.steps so_far.held) root cells
+      in BackFails m walk n x ⊎ PointedLeft m walk n x
 
 -- the instruction at the point is a chain, which ends in this fault
 abbrev pub RaisedByChain : {S : Type 0} → Setup S → Problem → ProgramPoint S → Type 0

@@ -1,6 +1,6 @@
 -- Calls that natives ask for. A function of the program is called back, or a native, and then the host
 -- hears what came of it: it answers the native's call at last, or asks again.
-use Rattle.std.specs.Prelude.{ℕ, ◌+◌, List, [], ◌∷◌, ◌++◌, Option, Some, None, Bool, not, ◌&&◌, if◌then◌else◌, nat_eq, nat_le, length, map, option_map}
+use Rattle.std.specs.Prelude.{ℕ, ◌+◌, List, [], ◌∷◌, ◌++◌, Option, Some, None, Bool, not, ◌&&◌, if◌then◌else◌, nat_eq, nat_le, length, map}
 use Rattle.grain_value.specs.Cells.{flat}
 use Rattle.grain_value.specs.Operands.{read_write}
 use Rattle.grain_value.specs.View.{value_of}
@@ -45,8 +45,9 @@ without_token token tokens = taken_from token tokens
 -- what was lent, as the host left it where it heard of an outcome
 abbrev pub receiver_rewritten : {S : Type 0} → Law S → S → ℕ → Outcome → Option Receiver →
     Option Receiver
-receiver_rewritten law s token o r =
-    option_map (λ q. record q { held = reply.rewritten law s token o q.held }) r
+receiver_rewritten law s token o None = None
+receiver_rewritten law s token o (Some r) =
+    Some (record r { held = reply.rewritten law s token o r.held })
 
 -- the scope with this where it was lent from
 abbrev pub scope_with : Option Receiver → List Entry → List Entry

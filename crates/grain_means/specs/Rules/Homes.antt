@@ -1,4 +1,5 @@
 -- Where a value is held that is lent or written.
+pub use Rattle.grain_means.specs.Worlds.{Home, InScope, InCell, AtPlace}
 use Rattle.std.specs.Prelude.{ℕ, slice_get, slice_set, List, Option, Some, None}
 use Rattle.grain_value.specs.Cells.{idle, lent, standing}
 use Rattle.grain_value.specs.Scopes.{set_held}
@@ -9,8 +10,6 @@ use Rattle.grain_value.specs.declared.values.Held.{Held}
 use Rattle.grain_means.specs.Worlds.{Place, Home, InScope, InCell, AtPlace, World}
 use Rattle.grain_means.specs.Places.{look, put}
 use Rattle.grain_means.specs.Rules.Frames.{held_at, held_or}
-
-pub use Rattle.grain_means.specs.Worlds.{Home, InScope, InCell, AtPlace}
 
 -- in the entry at an index, or, if the entry is a cell, in that cell
 abbrev pub in_entry : ℕ → Option ℕ → Home

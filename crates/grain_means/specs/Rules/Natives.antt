@@ -1,5 +1,6 @@
 -- Natives that the host is asked for. One that asks for a call of a function goes on by the rules of
 -- `Callbacks`.
+pub use Rattle.grain_means.specs.Worlds.{Receiver}
 use Rattle.std.specs.Prelude.{ℕ, List, [], ◌∷◌, Option, Some, None, Bool, false, if◌then◌else◌, ◌&&◌, map, option_map}
 use Rattle.grain_value.specs.declared.values.Dynamic.{Dynamic}
 use Rattle.grain_value.specs.declared.values.Held.{Held}
@@ -30,8 +31,6 @@ trees_in hs = map (λ h. tree h.value) hs
 abbrev pub first_is_read_only : List Held → Bool
 first_is_read_only [] = false
 first_is_read_only (h ∷ hs) = h.read_only
-
-pub use Rattle.grain_means.specs.Worlds.{Receiver}
 
 abbrev pub lent_held : Option Receiver → Option Held
 lent_held r = option_map (λ q. q.held) r
@@ -65,8 +64,9 @@ roots_given_back law s key values (Some r) roots =
 -- what was lent, as the native left it
 abbrev pub receiver_left : {S : Type 0} → Law S → S → ℕ → List Tree → Option Receiver →
     Option Receiver
-receiver_left law s key values r =
-    option_map (λ q. record q { held = reply.written law s key values q.held }) r
+receiver_left law s key values None = None
+receiver_left law s key values (Some r) =
+    Some (record r { held = reply.written law s key values r.held })
 
 -- the cells while a native has what it was lent
 abbrev pub cells_lent : Option Receiver → List Cell → List Cell

@@ -11,5 +11,5 @@ pub returns-clause-falls : goal.returns-clause-falls
 returns-clause-falls g c = λ m walk i go w x comes. falls_on m walk i go w comes x
 
 pub returns-clause-survives : goal.returns-clause-survives
-returns-clause-survives g c = λ m k next n f back w u x t falls.
-    goes_back m k next n f back w x t falls u
+returns-clause-survives g c = λ m k next n f back w u x missed t falls.
+    goes_back m k next n f back w x missed t falls u
