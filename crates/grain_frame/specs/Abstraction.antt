@@ -323,6 +323,12 @@ RunsNoMethod o = ((index : ℕ) → o ≡ op.Chain index → ⊥)
     × ((count slot : ℕ) → o ≡ op.CallFnPtrOnLocal count slot → ⊥)
     × ((count : ℕ) → o ≡ op.CallFnPtrOnThis count → ⊥)
 
+-- the instruction asks the host for no native
+abbrev pub AsksNothing : Op → Type 0
+AsksNothing o = ((slot name k : ℕ) → o ≡ op.AssignLocalOp slot name k → ⊥)
+    × ((k : ℕ) → o ≡ op.AssignThisOp k → ⊥)
+    × ((name count token : ℕ) → o ≡ op.CallOp name count token → ⊥)
+
 -- the frame at another address
 abbrev pub moved : Activation → ℕ → Activation
 moved f address = record f { address = address }

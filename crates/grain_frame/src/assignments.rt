@@ -19,6 +19,7 @@ use crate::contexts::Context;
 use crate::operated::{assign_entry, quick_assigned};
 use crate::runs::{Progress, Run};
 use crate::targets::Target;
+use crate::waiting::Performed;
 use grain_global::Steps;
 use grain_host::Host;
 use grain_ops::{AssignAnswer, assign};
@@ -84,7 +85,7 @@ impl<H: Host> Run<H> {
 
     // `assign_local_op`: an op-assignment to an entry.
     #[inline(never)]
-    pub(crate) fn assign_local_op<L: Ledger>(
+    pub fn assign_local_op<L: Ledger>(
         &mut self,
         context: Context<'_>,
         host: &mut H,
@@ -94,7 +95,7 @@ impl<H: Host> Run<H> {
         name: u16,
         assign_op: u16,
         next: usize,
-    ) -> Result<Progress, OutOfMemory>
+    ) -> Result<Performed, OutOfMemory>
         requires ready { Ready frame.old self.old (op.AssignLocalOp slot name assign_op) next }
         requires pools { InPools context.program.now (op.AssignLocalOp slot name assign_op) }
         ensures performs { PerformsBound (setup_of H.law context.entry)
@@ -103,7 +104,9 @@ impl<H: Host> Run<H> {
     {
         let target = match self.target_at(frame, slot) {
             Ok(target) => target,
-            Err(refusal) => return self.refuse(context, steps, frame.address, name, refusal),
+            Err(refusal) => {
+                return Performed::of(self.refuse(context, steps, frame.address, name, refusal));
+            }
         };
         let kept = self.kept_operand()?;
         let assignment = Assignment {
@@ -113,7 +116,7 @@ impl<H: Host> Run<H> {
             kept,
             next,
         };
-        self.op_assign_target(context, host, steps, frame, &assignment)
+        self.op_assign_target(context, host, steps, frame, assignment)
     }
 
     // A copy of what the last operand's cell holds, if it is a cell. So the operand is read once,
@@ -140,8 +143,8 @@ impl<H: Host> Run<H> {
         host: &mut H,
         steps: &mut Steps<L>,
         frame: &mut Activation,
-        assignment: &Assignment,
-    ) -> Result<Progress, OutOfMemory>
+        assignment: Assignment,
+    ) -> Result<Performed, OutOfMemory>
         requires can { CanAssign context.program.now frame.old self.old assignment.now }
         requires writable { HoldsWritable self.old assignment.now.target }
         ensures implements { (h : Held) → h.read_only ≡ false →
@@ -165,10 +168,10 @@ impl<H: Host> Run<H> {
                 steps.mark();
                 frame.address = assignment.next;
                 steps.mark();
-                Ok(Progress::Continues)
+                Ok(Performed::Leads(Progress::Continues))
             }
             AssignAnswer::Failed(fault) => {
-                self.operator_failed(context, steps, frame.address, fault)
+                Performed::of(self.operator_failed(context, steps, frame.address, fault))
             }
             AssignAnswer::NotBuiltIn => {
                 self.native_assigned(context, host, steps, frame, assignment)

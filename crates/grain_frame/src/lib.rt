@@ -21,13 +21,15 @@ mod stepping;
 mod targets;
 mod this;
 mod transfers;
+mod waiting;
 
 pub use activations::Activation;
 pub use contexts::Context;
-pub use native_calls::{Arguments, NativeEnd, Sought, served};
+pub use native_calls::{Arguments, Asked, NativeEnd, Sought, served};
 pub use operated::{quick_assigned, quick_assigned_with};
 pub use pointers::Under;
 pub use receivers::Receivers;
 pub use runs::{Progress, Run};
 pub use saved::SavedScopes;
 pub use transfers::agrees;
+pub use waiting::{Lent, Performed, Rest, Waiting};

@@ -24,6 +24,7 @@ use crate::contexts::Context;
 use crate::native_calls::{Arguments, NativeEnd, Sought, seek, served};
 use crate::runs::{Progress, Run};
 use crate::targets::Target;
+use crate::waiting::{Lent, Performed, Rest, Waiting};
 use grain_fault::{EvalAltResult, Position};
 use grain_global::Steps;
 use grain_host::{Args, Host, not_found, says_missing};
@@ -165,8 +166,8 @@ impl<H: Host> Run<H> {
         host: &mut H,
         steps: &mut Steps<L>,
         frame: &mut Activation,
-        assignment: &Assignment,
-    ) -> Result<Progress, OutOfMemory>
+        assignment: Assignment,
+    ) -> Result<Performed, OutOfMemory>
         requires can { CanAssign context.program.now frame.old self.old assignment.now }
         requires writable { HoldsWritable self.old assignment.now.target }
         ensures implements { (h : Held) → h.read_only ≡ false →
@@ -188,13 +189,71 @@ impl<H: Host> Run<H> {
         let sought = seek_lent(self.alloc, host, name, lent, value, position)?;
         match self.call_lent(host, steps, sought, target, position)? {
             NativeEnd::Value(_) => {
-                let _value = self.stacks.pop();
-                frame.address = assignment.next;
-                steps.mark();
-                Ok(Progress::Continues)
+                Ok(Performed::Leads(self.assigned(steps, frame, assignment.next)))
             }
             NativeEnd::Fault(fault) => {
                 self.op_assign_failed(context, host, steps, frame, assignment, fault)
+            }
+            NativeEnd::Asks(asked) => {
+                let lent = self.keep_lent(target);
+                Ok(Performed::Waits(Waiting {
+                    asked,
+                    lent,
+                    rest: Rest::Assign(assignment),
+                }))
+            }
+        }
+    }
+
+    // An op-assignment is done by the host's: the operand is used up, and the frame goes on.
+    fn assigned<L: Ledger>(
+        &mut self,
+        steps: &mut Steps<L>,
+        frame: &mut Activation,
+        next: usize,
+    ) -> Progress {
+        let _value = self.stacks.pop();
+        frame.address = next;
+        steps.mark();
+        Progress::Continues
+    }
+
+    // What follows once the native is over for which an instruction waited: what the instruction does
+    // with the value or with the fault. It may ask the host for another native, and wait for that.
+    pub fn native_over<L: Ledger>(
+        &mut self,
+        context: Context<'_>,
+        host: &mut H,
+        steps: &mut Steps<L>,
+        frame: &mut Activation,
+        rest: Rest,
+        outcome: Result<Dynamic, EvalAltResult>,
+    ) -> Result<Performed, OutOfMemory> {
+        match outcome {
+            Ok(value) => Performed::of(self.value_came(context, steps, frame, rest, value)),
+            Err(fault) => match rest {
+                Rest::Assign(assignment) => {
+                    self.op_assign_failed(context, host, steps, frame, assignment, fault)
+                }
+                _ => Ok(Performed::Leads(self.raise(steps, fault))),
+            },
+        }
+    }
+
+    // What an instruction does with the value of the native for which it waited.
+    fn value_came<L: Ledger>(
+        &mut self,
+        context: Context<'_>,
+        steps: &mut Steps<L>,
+        frame: &mut Activation,
+        rest: Rest,
+        value: Dynamic,
+    ) -> Result<Progress, OutOfMemory> {
+        match rest {
+            Rest::Push { count, next } => Ok(self.push_answer(steps, frame, value, count, next)),
+            Rest::Assign(assignment) => Ok(self.assigned(steps, frame, assignment.next)),
+            Rest::Operate(assignment) => {
+                self.assign_answer(context, steps, frame, &assignment, value)
             }
         }
     }
@@ -207,9 +266,9 @@ impl<H: Host> Run<H> {
         host: &mut H,
         steps: &mut Steps<L>,
         frame: &mut Activation,
-        assignment: &Assignment,
+        assignment: Assignment,
         fault: EvalAltResult,
-    ) -> Result<Progress, OutOfMemory>
+    ) -> Result<Performed, OutOfMemory>
         requires can { CanAssign context.program.now frame.old self.old assignment.now }
         ensures implements { (h : Held) → h.read_only ≡ false →
             ImplementsBound (setup_of H.law context.entry)
@@ -223,9 +282,10 @@ impl<H: Host> Run<H> {
     {
         let name = context.program.name(assignment.operator.op_assign_name);
         if says_missing(name, &fault) {
+            self.stacks.cut_trace(0);
             self.operator_assigned(context, host, steps, frame, assignment)
         } else {
-            Ok(self.raise(steps, fault))
+            Ok(Performed::Leads(self.raise(steps, fault)))
         }
     }
 
@@ -237,8 +297,8 @@ impl<H: Host> Run<H> {
         host: &mut H,
         steps: &mut Steps<L>,
         frame: &mut Activation,
-        assignment: &Assignment,
-    ) -> Result<Progress, OutOfMemory>
+        assignment: Assignment,
+    ) -> Result<Performed, OutOfMemory>
         requires can { CanAssign context.program.now frame.old self.old assignment.now }
         ensures implements { (h : Held) → h.read_only ≡ false →
             ImplementsBound (setup_of H.law context.entry)
@@ -260,8 +320,15 @@ impl<H: Host> Run<H> {
         let position = context.program.position(frame.address);
         let sought = seek(self.alloc, host, name, arguments, position)?;
         match self.call_native(host, steps, sought, position)? {
-            NativeEnd::Value(value) => self.assign_answer(context, steps, frame, assignment, value),
-            NativeEnd::Fault(fault) => Ok(self.raise(steps, fault)),
+            NativeEnd::Value(value) => {
+                Performed::of(self.assign_answer(context, steps, frame, &assignment, value))
+            }
+            NativeEnd::Fault(fault) => Ok(Performed::Leads(self.raise(steps, fault))),
+            NativeEnd::Asks(asked) => Ok(Performed::Waits(Waiting {
+                asked,
+                lent: Lent::Nothing,
+                rest: Rest::Operate(assignment),
+            })),
         }
     }
 
@@ -296,8 +363,8 @@ impl<H: Host> Run<H> {
         Ok(Progress::Continues)
     }
 
-    // A value as it is read: of a cell a copy of what it holds, and nothing if that is lent.
-    fn read_of(&self, value: Dynamic) -> Result<Option<Dynamic>, OutOfMemory>
+    /// A value as it is read: of a cell a copy of what it holds, and nothing if that is lent.
+    pub fn read_of(&self, value: Dynamic) -> Result<Option<Dynamic>, OutOfMemory>
         ensures { IfOk result (λ x. x ≡ flat self.now.cells value) }
     {
         match value.as_cell() {

@@ -15,12 +15,24 @@ ghost use Rattle.grain_host.specs.Answers.{reply_of};
 use crate::activations::Activation;
 use crate::contexts::Context;
 use crate::runs::{Progress, Run};
+use crate::waiting::{Lent, Performed, Rest, Waiting};
 use grain_fault::{EvalAltResult, Position};
 use grain_global::Steps;
 use grain_host::{Args, Host, HostAnswer, not_found};
-use grain_value::{Array, Dynamic, Held, Kinds, OutOfMemory, Store, Text};
+use grain_value::{Array, Dynamic, FnPtr, Held, Kinds, OutOfMemory, Store, Text};
 use std::alloc::Global;
 use std::sync::ledger::Ledger;
+
+/// What a native asks for: the call of a function of the program.
+#[derive(Drop)]
+pub struct Asked {
+    /// By what the host knows what it asked for.
+    pub token: u64,
+    /// The pointer that is called.
+    pub pointer: FnPtr,
+    /// What the pointer is given after its own values.
+    pub values: Array,
+}
 
 /// What came of the call of a native.
 #[derive(Drop)]
@@ -29,6 +41,8 @@ pub enum NativeEnd {
     Value(Dynamic),
     /// This fault, which is not raised yet.
     Fault(EvalAltResult),
+    /// It is not over: the host asks for this call first.
+    Asks(Asked),
 }
 
 /// Arguments as a host is given them: their kinds, copies of their values, and whether the first
@@ -159,6 +173,19 @@ pub fn served<L: Ledger>(
             steps.mark();
             Ok(NativeEnd::Fault(failure.into_fault().fill_position(position)))
         }
+        HostAnswer::Ask {
+            token,
+            pointer,
+            arguments,
+        } => {
+            steps.mark();
+            steps.mark();
+            Ok(NativeEnd::Asks(Asked {
+                token,
+                pointer,
+                values: arguments,
+            }))
+        }
         HostAnswer::Memory => Err(OutOfMemory),
     }
 }
@@ -226,7 +253,7 @@ impl<H: Host> Run<H> {
         name: &Text,
         count: usize,
         next: usize,
-    ) -> Result<Progress, OutOfMemory>
+    ) -> Result<Performed, OutOfMemory>
         requires inside { frame.old.base ≤ length self.old.scope }
         requires operands { count ≤ length self.old.stacks.operands }
         requires readable { is_some
@@ -249,45 +276,32 @@ impl<H: Host> Run<H> {
         let sought = seek(self.alloc, host, name, arguments, position)?;
         match self.call_native(host, steps, sought, position)? {
             NativeEnd::Value(value) => {
-                self.stacks.cut(self.stacks.height() - count);
-                Ok(self.push_on(steps, frame, value, next))
+                Ok(Performed::Leads(self.push_answer(steps, frame, value, count, next)))
             }
-            NativeEnd::Fault(fault) => Ok(self.raise(steps, fault)),
+            NativeEnd::Fault(fault) => Ok(Performed::Leads(self.raise(steps, fault))),
+            NativeEnd::Asks(asked) => Ok(Performed::Waits(Waiting {
+                asked,
+                lent: Lent::Nothing,
+                rest: Rest::Push { count, next },
+            })),
         }
     }
 
-    /// What follows where no function has the name: the native, or the fault that an operand is a lent
-    /// cell. It is done on a copy of the frame, so that the loop can hold its own in registers.
-    #[inline(always)]
-    pub fn native_by_name_on_copy<L: Ledger>(
+    // A native's value stands in the place of the last `count` operands, and the frame goes on.
+    pub(crate) fn push_answer<L: Ledger>(
         &mut self,
-        context: Context<'_>,
-        host: &mut H,
         steps: &mut Steps<L>,
         frame: &mut Activation,
-        name: &Text,
+        value: Dynamic,
         count: usize,
         next: usize,
-    ) -> Result<Progress, OutOfMemory>
-        requires inside { frame.old.base ≤ length self.old.scope }
-        requires operands { count ≤ length self.old.stacks.operands }
-        requires room { length self.old.stacks.operands - count < self.old.stacks.room }
-        requires ahead { frame.old.address < next }
-        ensures implements { Implements (setup_of H.law context.entry)
-            (moment frame.old self.old steps.old host.old)
-            (λ m place w. call_function m None name.now count (frame_in frame.old self.old place)
-            next w) (next ∷ []) count 1 self.old.stacks.handlers result
-            (moment frame.new self.new steps.new host.new) }
-    {
-        let mut copy = *frame;
-        let progress = self.native_by_name(context, host, steps, &mut copy, name, count, next);
-        frame.address = copy.address;
-        frame.floor = copy.floor;
-        frame.slot = copy.slot;
-        progress
+    ) -> Progress {
+        self.stacks.cut(self.stacks.height() - count);
+        self.push_on(steps, frame, value, next)
     }
 
-    /// The same on the frame itself.
+    /// What follows where no function has the name: the native, or the fault that an operand is a lent
+    /// cell.
     #[cold]
     #[inline(never)]
     pub fn native_by_name<L: Ledger>(
@@ -299,7 +313,7 @@ impl<H: Host> Run<H> {
         name: &Text,
         count: usize,
         next: usize,
-    ) -> Result<Progress, OutOfMemory>
+    ) -> Result<Performed, OutOfMemory>
         requires inside { frame.old.base ≤ length self.old.scope }
         requires operands { count ≤ length self.old.stacks.operands }
         requires room { length self.old.stacks.operands - count < self.old.stacks.room }
@@ -311,7 +325,7 @@ impl<H: Host> Run<H> {
             (moment frame.new self.new steps.new host.new) }
     {
         if !self.are_readable(count) {
-            return self.data_race(context, steps, frame.address, "");
+            return Performed::of(self.data_race(context, steps, frame.address, ""));
         }
         self.native_on(context, host, steps, frame, name, count, next)
     }

@@ -17,6 +17,7 @@ use crate::contexts::Context;
 use crate::native_calls::are_readable;
 use crate::operated::operate;
 use crate::runs::{Progress, Run};
+use crate::waiting::Performed;
 use grain_global::Steps;
 use grain_host::Host;
 use grain_ops::OpAnswer;
@@ -110,7 +111,7 @@ impl<H: Host> Run<H> {
 
     // `call_op`: an operator on the last `count` operands.
     #[inline(always)]
-    pub(crate) fn call_op<L: Ledger>(
+    pub fn call_op<L: Ledger>(
         &mut self,
         context: Context<'_>,
         host: &mut H,
@@ -120,7 +121,7 @@ impl<H: Host> Run<H> {
         count: u8,
         token: u16,
         next: usize,
-    ) -> Result<Progress, OutOfMemory>
+    ) -> Result<Performed, OutOfMemory>
         requires ready { Ready frame.old self.old (op.CallOp name count token) next }
         requires pools { InPools context.program.now (op.CallOp name count token) }
         ensures performs { Performs (setup_of H.law context.entry)
@@ -129,14 +130,16 @@ impl<H: Host> Run<H> {
     {
         let arguments = usize::from(count);
         if !self.are_readable(arguments) {
-            return self.data_race(context, steps, frame.address, "");
+            return Performed::of(self.data_race(context, steps, frame.address, ""));
         }
         match self.operate(context, token, arguments) {
             OpAnswer::Done(value) => {
                 self.stacks.cut(self.stacks.height() - arguments);
-                Ok(self.push_on(steps, frame, value, next))
+                Ok(Performed::Leads(self.push_on(steps, frame, value, next)))
             }
-            OpAnswer::Failed(fault) => self.operator_failed(context, steps, frame.address, fault),
+            OpAnswer::Failed(fault) => {
+                Performed::of(self.operator_failed(context, steps, frame.address, fault))
+            }
             OpAnswer::NotBuiltIn => {
                 let name = context.program.name(u32::from(name));
                 self.native_on(context, host, steps, frame, name, arguments, next)

@@ -1,7 +1,7 @@
-//! One instruction of a frame that calls no function, walks along no place and has no receiver.
+//! One instruction of a frame that calls neither a function nor a native, and walks along no place.
 
 ghost use Rattle.grain_program.specs.Indices.{InPools};
-ghost use Rattle.grain_frame.specs.Abstraction.{Runs, ReadyIn, StandsAt, Stepped, IsNoCall, RunsNoMethod, setup_of, moment};
+ghost use Rattle.grain_frame.specs.Abstraction.{Runs, ReadyIn, StandsAt, Stepped, IsNoCall, RunsNoMethod, AsksNothing, setup_of, moment};
 
 use crate::activations::Activation;
 use crate::contexts::Context;
@@ -14,7 +14,7 @@ use std::sync::ledger::Ledger;
 
 impl<H: Host> Run<H> {
     /// Does this instruction, at which the frame stands, and after which the address `next` comes. It is
-    /// none that calls a function, walks along a place, or calls a pointer with a receiver.
+    /// none that may call a function or a native, or that walks along a place.
     #[inline(always)]
     pub fn perform<L: Ledger>(
         &mut self,
@@ -31,6 +31,7 @@ impl<H: Host> Run<H> {
         requires pools { InPools context.program.now op }
         requires calls_nothing { IsNoCall op }
         requires runs_no_method { RunsNoMethod op }
+        requires asks_nothing { AsksNothing op }
         ensures stepped { Stepped (setup_of H.law context.entry)
             (moment frame.old self.old steps.old host.old) result
             (moment frame.new self.new steps.new host.new) }
@@ -52,14 +53,12 @@ impl<H: Host> Run<H> {
             Op::AssignLocal(slot, name) => {
                 self.assign_local(context, steps, frame, slot, name, next)
             }
-            Op::AssignLocalOp(slot, name, op) => {
-                self.assign_local_op(context, host, steps, frame, slot, name, op, next)
-            }
+            Op::AssignLocalOp(_, _, _) => unreachable!(),
             Op::LoadThis => self.load_this(context, steps, frame, next),
             Op::LoadThisShared => self.load_this_shared(context, steps, frame, next),
             Op::RequireThis => Ok(self.require_this(context, steps, frame, next)),
             Op::AssignThis => self.assign_this(context, steps, frame, next),
-            Op::AssignThisOp(op) => self.assign_this_op(context, host, steps, frame, op, next),
+            Op::AssignThisOp(_) => unreachable!(),
             Op::LoadShared(slot) => self.load_shared(context, steps, frame, slot, next),
             Op::Share(slot) => self.share(context, steps, frame, slot, next),
             Op::IsShared => Ok(self.is_shared(steps, frame, next)),
@@ -74,9 +73,7 @@ impl<H: Host> Run<H> {
                 self.skip_if_not_unit(context, host, steps, frame, target, next)
             }
             Op::Call(_, _) => unreachable!(),
-            Op::CallOp(name, count, token) => {
-                self.call_op(context, host, steps, frame, name, count, token, next)
-            }
+            Op::CallOp(_, _, _) => unreachable!(),
             Op::MakeClosure(name) => self.make_closure(context, steps, frame, name, next),
             Op::Curry(count) => self.curry(context, steps, frame, count, next),
             Op::CallFnPtr(_) => unreachable!(),

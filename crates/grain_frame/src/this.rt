@@ -16,6 +16,7 @@ use crate::assignments::Assignment;
 use crate::contexts::Context;
 use crate::runs::{Progress, Run};
 use crate::targets::{Target, TargetRefusal};
+use crate::waiting::Performed;
 use grain_fault::{EvalAltResult, Position};
 use grain_global::Steps;
 use grain_host::Host;
@@ -141,7 +142,7 @@ impl<H: Host> Run<H> {
 
     // `assign_this_op`: assigns the last operand to `this` by an op-assignment.
     #[inline(never)]
-    pub(crate) fn assign_this_op<L: Ledger>(
+    pub fn assign_this_op<L: Ledger>(
         &mut self,
         context: Context<'_>,
         host: &mut H,
@@ -149,7 +150,7 @@ impl<H: Host> Run<H> {
         frame: &mut Activation,
         assign_op: u16,
         next: usize,
-    ) -> Result<Progress, OutOfMemory>
+    ) -> Result<Performed, OutOfMemory>
         requires ready { Ready frame.old self.old (op.AssignThisOp assign_op) next }
         requires pools { InPools context.program.now (op.AssignThisOp assign_op) }
         ensures performs { PerformsBound (setup_of H.law context.entry)
@@ -158,7 +159,9 @@ impl<H: Host> Run<H> {
     {
         let target = match self.target_this() {
             Ok(target) => target,
-            Err(refusal) => return self.refuse_this(context, steps, frame.address, refusal),
+            Err(refusal) => {
+                return Performed::of(self.refuse_this(context, steps, frame.address, refusal));
+            }
         };
         let kept = self.kept_operand()?;
         let assignment = Assignment {
@@ -168,7 +171,7 @@ impl<H: Host> Run<H> {
             kept,
             next,
         };
-        self.op_assign_target(context, host, steps, frame, &assignment)
+        self.op_assign_target(context, host, steps, frame, assignment)
     }
 
     // Where an assignment of the last operand to `this` writes, or why nothing is assigned.

@@ -51,6 +51,13 @@ impl Engine {
         }
     }
 
+    /// Whether natives may call functions of the program back.
+    pub fn callbacks(&self) -> bool
+        ensures { result ≡ self.now.callbacks }
+    {
+        self.callbacks
+    }
+
     /// A state in which nothing was run.
     pub fn new_global_runtime_state(&self, alloc: Global) -> Result<GlobalRuntimeState, OutOfMemory>
         ensures { IfOk result (λ g. (g.num_operations ≡ 0) × (g.level ≡ 0)) }

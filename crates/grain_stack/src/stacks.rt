@@ -270,6 +270,22 @@ impl Stacks {
         self.trace.truncate(n);
     }
 
+    /// Replaces the trace. If memory runs out, there is none.
+    pub fn put_trace(&mut self, trace: &[Fault]) -> Result<(), OutOfMemory>
+        ensures put { OnOk result (self.new ≡ record self.old { trace = trace.now }) }
+        ensures none { OnErr result (self.new ≡ record self.old { trace = [] }) }
+    {
+        self.trace.truncate(0);
+        self.trace.reserve(self.outer.len() + trace.len())?;
+        'entries: for entry in trace {
+            match self.trace.push(*entry) {
+                Ok(()) => {}
+                Err(_) => unreachable!(),
+            }
+        }
+        Ok(())
+    }
+
     /// How often a frame was entered since `new`, at most `u64::MAX`.
     pub fn entered(&self) -> u64
         ensures { result ≡ self.now.entered }

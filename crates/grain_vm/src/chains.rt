@@ -256,6 +256,7 @@ fn end_chain<H: Host, L: Ledger>(
 {
     match end {
         WalkEnd::Value(value) => {
+            run.stacks.cut_trace(0);
             frame.slot = blamed;
             Ok(run.push_on(steps, frame, value, next))
         }

@@ -24,12 +24,29 @@ ghost use Rattle.grain_vm.specs.Underway.{DrivesTo, RootedTo, WaitsFor, driven_i
 use crate::methods::{MethodCall, Needed, Outcome, resolve_request};
 use grain_chain::{Request, Walk, WalkAnswer, What};
 use grain_fault::{EvalAltResult, Position};
-use grain_frame::{Arguments, Context, NativeEnd, Run, Sought, served};
+use grain_frame::{Arguments, Asked, Context, Lent, NativeEnd, Run, Sought, served};
 use grain_global::Steps;
 use grain_host::{Args, Host, not_found};
 use grain_value::{Array, Dynamic, Held, OutOfMemory, Store, Text};
 use std::alloc::Global;
 use std::sync::ledger::Ledger;
+
+/// A native that asks for a call first: what it asks for, what it was lent, and the position of its faults.
+#[derive(Drop)]
+pub struct AskingNative {
+    pub asked: Asked,
+    pub lent: Lent,
+    pub pos: Position,
+}
+
+/// What came of the call of a native.
+#[derive(Drop)]
+pub enum Answered {
+    /// It is over: its value or its fault, and the receiver as the call left it.
+    Over(Outcome),
+    /// It asks for a call first.
+    Asks(AskingNative),
+}
 
 /// How a walk ended.
 #[derive(Drop)]
@@ -189,7 +206,7 @@ pub(crate) fn perform_request<H: Host, L: Ledger>(
     host: &mut H,
     steps: &mut Steps<L>,
     request: Request,
-) -> (Result<Dynamic, EvalAltResult>, Option<Held>)
+) -> Answered
     requires native { IsNative request.what }
     ensures same { (m : Setup H) → m.law ≡ H.law → Answers m
         (λ q go. Need (call_for (name_in request.what) request q) go) request.receiver run.old
@@ -209,9 +226,9 @@ pub(crate) fn perform_request<H: Host, L: Ledger>(
     } = request;
     let name = name_asked(&what);
     let arguments = match read_all(run.alloc, &run.cells, &receiver, &arguments) {
-        Err(OutOfMemory) => return (Err(EvalAltResult::Memory), receiver),
+        Err(OutOfMemory) => return Answered::Over((Err(EvalAltResult::Memory), receiver)),
         Ok(read) => match read {
-            None => return (Err(raise_race(run.alloc, steps, pos)), receiver),
+            None => return Answered::Over((Err(raise_race(run.alloc, steps, pos)), receiver)),
             Some(arguments) => arguments,
         },
     };
@@ -229,7 +246,7 @@ pub(crate) fn ask_host<H: Host, L: Ledger>(
     receiver: Option<Held>,
     arguments: Arguments,
     position: Position,
-) -> Outcome
+) -> Answered
     ensures asked { (args : List Held) (home : Home) → DescribesAfter receiver arguments args →
         AsksHost H.law host.old name.now home receiver args position steps.old result.0 steps.new
         host.new result.1 }
@@ -238,11 +255,11 @@ pub(crate) fn ask_host<H: Host, L: Ledger>(
     ensures lent { SameFlag receiver result.1 }
 {
     match seek_lending(run.alloc, host, name, &receiver, arguments, position) {
-        Err(OutOfMemory) => (Err(EvalAltResult::Memory), receiver),
+        Err(OutOfMemory) => Answered::Over((Err(EvalAltResult::Memory), receiver)),
         Ok(sought) => match sought {
             Sought::Fault(fault) => {
                 steps.mark();
-                (Err(fault), receiver)
+                Answered::Over((Err(fault), receiver))
             }
             Sought::Native(key, values) => {
                 call_lending(run, host, steps, key, values, receiver, position)
@@ -260,7 +277,7 @@ fn call_lending<H: Host, L: Ledger>(
     values: Array,
     receiver: Option<Held>,
     position: Position,
-) -> (Result<Dynamic, EvalAltResult>, Option<Held>)
+) -> Answered
     ensures heard { HearsHost H.law host.old key receiver values position steps.old result.0
         steps.new host.new result.1 }
     ensures run { run.new ≡ run.old }
@@ -270,13 +287,18 @@ fn call_lending<H: Host, L: Ledger>(
     let answer = host.call(run.alloc, key, &mut args);
     let Args { receiver, .. } = args;
     match served(steps, answer, position) {
-        Err(OutOfMemory) => (Err(EvalAltResult::Memory), receiver),
+        Err(OutOfMemory) => Answered::Over((Err(EvalAltResult::Memory), receiver)),
         Ok(end) => match end {
-            NativeEnd::Value(value) => (Ok(value), receiver),
+            NativeEnd::Value(value) => Answered::Over((Ok(value), receiver)),
             NativeEnd::Fault(fault) => {
                 steps.mark();
-                (Err(fault), receiver)
+                Answered::Over((Err(fault), receiver))
             }
+            NativeEnd::Asks(asked) => Answered::Asks(AskingNative {
+                asked,
+                lent: Lent::of(receiver),
+                pos: position,
+            }),
         },
     }
 }
@@ -290,7 +312,7 @@ fn serve_request<H: Host, L: Ledger>(
     host: &mut H,
     steps: &mut Steps<L>,
     request: Request,
-) -> Result<Outcome, MethodCall>
+) -> Result<Answered, MethodCall>
     requires there { CanCall context.program.now request.what (length request.arguments) }
     ensures serves { ServesRequest (setup_of H.law context.entry) request run.old steps.old host.old
         result run.new steps.new host.new }
@@ -302,7 +324,7 @@ fn serve_request<H: Host, L: Ledger>(
             Needed::Function(call) => Err(call),
             Needed::Native(request) => Ok(perform_request(run, host, steps, request)),
         },
-        Err(request) => Ok((Err(EvalAltResult::Memory), request.receiver)),
+        Err(request) => Ok(Answered::Over((Err(EvalAltResult::Memory), request.receiver))),
     }
 }
 
@@ -313,6 +335,8 @@ pub enum Driven {
     Over(WalkEnd),
     /// To the call of a function.
     Calls(MethodCall),
+    /// To the call of a native, which asks for a call first.
+    Asks(AskingNative),
 }
 
 // Drives a walk on from an answer, to its end or to the next call of a function of the program.
@@ -322,6 +346,7 @@ pub(crate) fn drive<H: Host, L: Ledger>(
     host: &mut H,
     steps: &mut Steps<L>,
     walk: &mut Walk,
+    missed: &mut bool,
     answer: WalkAnswer,
 ) -> Driven
     requires waits { (n : ℕ) × Falls context.program.now walk.old answer n }
@@ -348,7 +373,9 @@ pub(crate) fn drive<H: Host, L: Ledger>(
             WalkAnswer::Need(request) => {
                 match serve_request(run, context, host, steps, request) {
                     Err(call) => return Driven::Calls(call),
-                    Ok((outcome, receiver)) => {
+                    Ok(Answered::Asks(native)) => return Driven::Asks(native),
+                    Ok(Answered::Over((outcome, receiver))) => {
+                        keep_missed(run, missed, &outcome);
                         answer = go_on(run, context, steps, walk, outcome, receiver);
                     }
                 }
@@ -358,6 +385,35 @@ pub(crate) fn drive<H: Host, L: Ledger>(
                 return Driven::Over(WalkEnd::Fault { fault, step });
             }
         }
+    }
+}
+
+// After the call of a native that left no frames. If a property was missed before, and there is no indexer
+// either, the trace of that fault stays; else there is none. Notes whether a property is missed now.
+fn keep_missed<H: Host>(
+    run: &mut Run<H>,
+    missed: &mut bool,
+    outcome: &Result<Dynamic, EvalAltResult>,
+) {
+    if !(*missed && lacks_indexer(outcome)) {
+        run.stacks.cut_trace(0);
+    }
+    *missed = misses_property(outcome);
+}
+
+// Whether a call ended with the fault that there is no such property.
+pub(crate) fn misses_property(outcome: &Result<Dynamic, EvalAltResult>) -> bool {
+    match outcome {
+        Ok(_) => false,
+        Err(fault) => fault.is_dot_expr(),
+    }
+}
+
+// Whether a call ended with the fault that there is no such indexer.
+pub(crate) fn lacks_indexer(outcome: &Result<Dynamic, EvalAltResult>) -> bool {
+    match outcome {
+        Ok(_) => false,
+        Err(fault) => fault.is_indexing_type(),
     }
 }
 

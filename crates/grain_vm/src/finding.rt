@@ -6,6 +6,7 @@ ghost use Rattle.grain_frame.specs.Abstraction.{Ready, setup_of, moment};
 ghost use Rattle.grain_vm.specs.Finding.{Finds, found_of};
 ghost use Rattle.grain_program.specs.declared.code.instruction_set.Op.TheVariants as op;
 
+use crate::asks::{call_native_by_name, native_by_name};
 use grain_frame::{Activation, Context, Progress, Run, Under};
 use grain_global::Steps;
 use grain_host::Host;
@@ -34,6 +35,7 @@ impl Found {
 
 // `call`: finds the function of a name with `count` parameters. If there is none, the native of
 // that name is called on the last `count` operands.
+#[cycle(run)]
 #[inline(always)]
 pub(crate) fn find_named<H: Host, L: Ledger>(
     run: &mut Run<H>,
@@ -56,7 +58,7 @@ pub(crate) fn find_named<H: Host, L: Ledger>(
         Some(number) => Ok(Found::Function { number, next }),
         None => {
             let name = context.program.name(u32::from(name));
-            Found::of(run.native_by_name_on_copy(context, host, steps, frame, name, count, next))
+            Found::of(call_native_by_name(run, context, host, steps, frame, name, count, next))
         }
     }
 }
@@ -90,7 +92,8 @@ pub(crate) fn find_pointed<H: Host, L: Ledger>(
             run.stacks.spread(run.alloc, count, curry.into_vec())?;
             match context.program.function_named(name.as_str(), total) {
                 Some(number) => Ok(Found::Function { number, next }),
-                None => Found::of(run.native_by_name(
+                None => Found::of(native_by_name(
+                    run,
                     context, host, steps, frame, &name, total, next,
                 )),
             }

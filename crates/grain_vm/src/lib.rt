@@ -2,6 +2,7 @@
 //! chains are walked, and how main is run.
 #![tactic(auto)]
 
+mod asks;
 mod attempts;
 mod branches;
 mod calls;

@@ -75,7 +75,8 @@ impl<'e> Machine<'e> {
     /// Runs a program's main on a scope. The operations that are charged count on from the state's,
     /// and the entries that main declares stay after a value; a fault cuts the scope back to the
     /// length that it had, or that it had at main's last `checkpoint`. If memory runs out, the run is
-    /// the same up to some point, and ends there with the fault `Memory`. The scope's entries keep
+    /// the same up to some point, and ends there with the fault `Memory`. `callbacks` says whether natives
+    /// may call functions of the program back: if not, what they ask for is sought among natives alone. The scope's entries keep
     /// their names and order, whatever the end is. If scope, cells, constants and host name only
     /// cells of the store, so do the results afterwards, and no cell stays lent. If the scope, the
     /// cells and the constants are clean, which means that no cell stands directly inside an array or
@@ -88,21 +89,22 @@ impl<'e> Machine<'e> {
         global: &mut GlobalRuntimeState,
         scope: &mut Scope,
         program: &Program,
+        callbacks: bool,
         steps: &mut Steps<L>,
     ) -> RhaiResult
         requires positive { 0 < self.old.engine.limits.operations }
         ensures evaluates { (ran : ℕ) ×
-            (Evaluates H.law program.now self.old.engine
+            (Evaluates H.law program.now (with_callbacks callbacks self.old.engine)
             (begin scope.old cells.old host.old global.old) result
             (finish self.new.stacks.trace scope.new cells.new host.new global.new) ran ×
             (instructions steps.new ≡ instructions steps.old + ran)) }
-        ensures causes { HasCause H.law program.now self.old.engine
+        ensures causes { HasCause H.law program.now (with_callbacks callbacks self.old.engine)
             (begin scope.old cells.old host.old global.old) result }
-        ensures provided { Provided H.law program.now self.old.engine
+        ensures provided { Provided H.law program.now (with_callbacks callbacks self.old.engine)
             (begin scope.old cells.old host.old global.old) }
-        ensures catches { CatchesRightly H.law program.now self.old.engine
+        ensures catches { CatchesRightly H.law program.now (with_callbacks callbacks self.old.engine)
             (begin scope.old cells.old host.old global.old) }
-        ensures leaves { Leaves H.law program.now self.old.engine
+        ensures leaves { Leaves H.law program.now (with_callbacks callbacks self.old.engine)
             (begin scope.old cells.old host.old global.old) result
             (finish self.new.stacks.trace scope.new cells.new host.new global.new) }
         ensures store { KeepsToStore H.law program.now
@@ -114,8 +116,9 @@ impl<'e> Machine<'e> {
         host.vouch();
         steps.start();
         self.stacks.cut_trace(0);
+        let engine = self.engine.with_callbacks(callbacks);
         let context = Context {
-            engine: self.engine,
+            engine: &engine,
             program,
         };
         let mut run = Run {

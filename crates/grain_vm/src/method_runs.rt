@@ -15,12 +15,12 @@ ghost use Rattle.grain_vm.specs.Receivers.{CalledOn, FindsOn};
 ghost use Rattle.grain_program.specs.Indices.{InPools, IsNamed};
 ghost use Rattle.grain_program.specs.declared.code.instruction_set.Op.TheVariants as op;
 
+use crate::asks::{native_in_walk, native_on, wait_for_native};
 use crate::chains::{Begun, begin_chain, finish_chain};
 use crate::driving::{Driven, drive, go_on};
 use crate::finding::{Found, find_pointed};
 use crate::loops::{call, run_frame};
 use crate::methods::{MethodCall, Needed, Outcome, enter_method, leave_method};
-use crate::natives::call_native_on;
 use crate::receiver_ends::end_on;
 use crate::receivers::{Callee, Destination, find_callee, take_call};
 use crate::stepping::{Turn, step};
@@ -54,6 +54,7 @@ pub(crate) fn step_or_walk<H: Host, L: Ledger>(
         Err(e) => Err(e),
         Ok(turn) => match turn {
             Turn::Done(progress) => Ok(progress),
+            Turn::Waits(waiting) => wait_for_native(run, context, host, steps, frame, waiting),
             Turn::Chain { index, next } => {
                 walk_chain(run, context, host, steps, frame, index, next)
             }
@@ -92,14 +93,22 @@ fn walk_chain<H: Host, L: Ledger>(
         Ok(Begun::Walks(walking, answer)) => {
             let mut walking = walking;
             let mut answer = answer;
+            let mut missed = false;
             'calls: loop {
-                let call = match drive(run, context, host, steps, &mut walking.walk, answer) {
-                    Driven::Over(end) => {
-                        return finish_chain(run, context, steps, frame, walking, end);
-                    }
-                    Driven::Calls(call) => call,
-                };
-                let (outcome, receiver) = call_method(run, context, host, steps, call);
+                let (outcome, receiver) =
+                    match drive(run, context, host, steps, &mut walking.walk, &mut missed, answer) {
+                        Driven::Over(end) => {
+                            return finish_chain(run, context, steps, frame, walking, end);
+                        }
+                        Driven::Calls(call) => {
+                            run.stacks.cut_trace(0);
+                            missed = false;
+                            call_method(run, context, host, steps, call)
+                        }
+                        Driven::Asks(native) => {
+                            native_in_walk(run, context, host, steps, &mut missed, native)
+                        }
+                    };
                 answer = go_on(run, context, steps, &mut walking.walk, outcome, receiver);
             }
         }
@@ -221,7 +230,7 @@ fn call_on<H: Host, L: Ledger>(
                 )
             }
             Needed::Native(request) => {
-                let (outcome, receiver) = call_native_on(run, host, steps, request);
+                let (outcome, receiver) = native_on(run, context, host, steps, request);
                 end_on(
                     run,
                     context,
@@ -277,7 +286,7 @@ fn call_apart<H: Host, L: Ledger>(
 #[cycle(run)]
 #[cold]
 #[inline(never)]
-fn call_method<H: Host, L: Ledger>(
+pub(crate) fn call_method<H: Host, L: Ledger>(
     run: &mut Run<H>,
     context: Context<'_>,
     host: &mut H,

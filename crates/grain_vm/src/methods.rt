@@ -46,7 +46,7 @@ pub enum Needed {
 pub(crate) type Outcome = (Result<Dynamic, EvalAltResult>, Option<Held>);
 
 // Copies of a pointer's values, followed by others.
-fn with_curried(
+pub(crate) fn with_curried(
     alloc: std::alloc::Global,
     curry: &Array,
     others: &Array,

@@ -6,7 +6,7 @@ ghost use Rattle.grain_means.specs.Worlds.{Setup};
 ghost use Rattle.grain_vm.specs.Driving.{IsNative, SameFlag, name_in};
 ghost use Rattle.grain_vm.specs.Receivers.{LendsCell, NativeCalled, ReadsForCell};
 
-use crate::driving::{ask_host, name_asked, perform_request, raise_race, read_on};
+use crate::driving::{Answered, AskingNative, ask_host, name_asked, perform_request, raise_race, read_on};
 use crate::methods::Outcome;
 use grain_chain::{Request, What};
 use grain_fault::{EvalAltResult, Position};
@@ -17,14 +17,33 @@ use grain_value::{Array, Dynamic, Held, OutOfMemory, Store};
 use std::alloc::Global;
 use std::sync::ledger::Ledger;
 
+/// What came of a native that is called on a receiver.
+#[derive(Drop)]
+pub enum OnReceiver {
+    /// It is over: its value or its fault, and the receiver as the call left it.
+    Over(Outcome),
+    /// It asks for a call first. If the receiver is a cell, this is the receiver, the number of the cell,
+    /// and whether what the cell holds can only be read: that is lent.
+    Asks(AskingNative, Option<LentCell>),
+}
+
+/// A receiver that is a cell, which is lent to a native.
+#[derive(Drop)]
+pub struct LentCell {
+    pub receiver: Held,
+    pub cell: usize,
+    pub read_only: bool,
+}
+
 // Calls a native on a receiver, which it is lent; if the receiver is a cell, it is lent what the cell
-// holds. It gives the value or the fault of the call, and the receiver as the call left it.
+// holds. It gives the value or the fault of the call, and the receiver as the call left it; or what the
+// native asks for first.
 pub(crate) fn call_native_on<H: Host, L: Ledger>(
     run: &mut Run<H>,
     host: &mut H,
     steps: &mut Steps<L>,
     request: Request,
-) -> Outcome
+) -> OnReceiver
     requires native { IsNative request.what }
     requires receiver { is_some request.receiver ≡ true }
     ensures called { (m : Setup H) → m.law ≡ H.law → NativeCalled m request run.old steps.old host.old
@@ -42,31 +61,20 @@ pub(crate) fn call_native_on<H: Host, L: Ledger>(
     } = request;
     let Some(held) = receiver else { unreachable!() };
     match held.value.as_cell() {
-        None => perform_request(
-            run,
-            host,
-            steps,
-            Request {
+        None => {
+            let request = Request {
                 step,
                 pos,
                 what,
                 receiver: Some(held),
                 arguments,
-            },
-        ),
-        Some(cell) => {
-            let outcome = call_on_cell(
-                run,
-                host,
-                steps,
-                what,
-                pos,
-                arguments,
-                cell,
-                held.read_only,
-            );
-            (outcome, Some(held))
+            };
+            match perform_request(run, host, steps, request) {
+                Answered::Over(outcome) => OnReceiver::Over(outcome),
+                Answered::Asks(native) => OnReceiver::Asks(native, None),
+            }
         }
+        Some(cell) => call_on_cell(run, host, steps, what, pos, arguments, cell, held),
     }
 }
 
@@ -90,7 +98,7 @@ fn read_for_cell(
     read_on(alloc, cells, arguments, values)
 }
 
-// Calls a native that is lent what a cell holds, which can only be read if the flag says so.
+// Calls a native that is lent what a cell holds, which can only be read if the receiver can.
 fn call_on_cell<H: Host, L: Ledger>(
     run: &mut Run<H>,
     host: &mut H,
@@ -99,38 +107,64 @@ fn call_on_cell<H: Host, L: Ledger>(
     pos: Position,
     arguments: Array,
     cell: usize,
-    read_only: bool,
-) -> Result<Dynamic, EvalAltResult>
+    held: Held,
+) -> OnReceiver
     requires native { IsNative what }
     ensures called { (m : Setup H) → m.law ≡ H.law → LendsCell m (name_in what) pos arguments cell
-        read_only run.old steps.old host.old result run.new steps.new host.new }
+        held.read_only run.old steps.old host.old result run.new steps.new host.new }
     ensures run { run.new ≡ record run.old { cells = run.new.cells } }
     ensures before { steps.new.before ≡ steps.old.before }
 {
-    let arguments = match read_for_cell(run.alloc, &run.cells, cell, read_only, &arguments) {
-        Err(OutOfMemory) => return Err(EvalAltResult::Memory),
+    let read = read_for_cell(run.alloc, &run.cells, cell, held.read_only, &arguments);
+    let arguments = match read {
+        Err(OutOfMemory) => return OnReceiver::Over((Err(EvalAltResult::Memory), Some(held))),
         Ok(read) => match read {
-            None => return Err(raise_race(run.alloc, steps, pos)),
+            None => {
+                let fault = raise_race(run.alloc, steps, pos);
+                return OnReceiver::Over((Err(fault), Some(held)));
+            }
             Some(arguments) => arguments,
         },
     };
     let Ok(content) = run.cells.lend(cell) else {
         unreachable!()
     };
-    let was_read_only = content.read_only;
+    let back = LentCell {
+        cell,
+        read_only: content.read_only,
+        receiver: held,
+    };
     let receiver = Some(Held {
         value: content.value,
-        read_only,
+        read_only: back.receiver.read_only,
     });
     let name = name_asked(&what);
-    let (outcome, left) = ask_host(run, host, steps, name, receiver, arguments, pos);
+    match ask_host(run, host, steps, name, receiver, arguments, pos) {
+        Answered::Over((outcome, left)) => {
+            OnReceiver::Over((outcome, give_back_to_cell(run, back, left)))
+        }
+        Answered::Asks(native) => OnReceiver::Asks(native, Some(back)),
+    }
+}
+
+// What a native was lent of a cell goes back to it. Gives the receiver, which is that cell.
+pub(crate) fn give_back_to_cell<H: Host>(
+    run: &mut Run<H>,
+    back: LentCell,
+    left: Option<Held>,
+) -> Option<Held> {
+    let LentCell {
+        receiver,
+        cell,
+        read_only,
+    } = back;
     let Some(left) = left else { unreachable!() };
     run.cells.give_back(
         cell,
         Held {
             value: left.value,
-            read_only: was_read_only,
+            read_only,
         },
     );
-    outcome
+    Some(receiver)
 }

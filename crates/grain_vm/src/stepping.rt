@@ -5,7 +5,7 @@ ghost use Rattle.grain_vm.specs.Attempts.{CallsNothing, StandsAtJump};
 ghost use Rattle.grain_vm.specs.Finding.{StepsHere};
 
 use crate::receivers::Destination;
-use grain_frame::{Activation, Context, Progress, Run};
+use grain_frame::{Activation, Context, Performed, Progress, Run, Waiting};
 use grain_global::Steps;
 use grain_host::Host;
 use grain_program::Op;
@@ -13,10 +13,12 @@ use grain_value::OutOfMemory;
 use std::sync::ledger::Ledger;
 
 /// What came of an instruction that is neither `call` nor `call_fn_ptr`, before it runs a method.
-#[derive(Clone, Copy, Debug, PartialEq, Eq)]
+#[derive(Drop)]
 pub enum Turn {
     /// It is done.
     Done(Progress),
+    /// It waits for a native.
+    Waits(Waiting),
     /// It walks the chain with this index; afterwards the frame goes on at the address `next`.
     Chain {
         index: u16,
@@ -29,6 +31,16 @@ pub enum Turn {
         count: u8,
         next: usize,
     },
+}
+
+impl Turn {
+    // An instruction that is done or waits, unless memory ran out.
+    fn of(performed: Result<Performed, OutOfMemory>) -> Result<Turn, OutOfMemory> {
+        match performed? {
+            Performed::Leads(progress) => Ok(Turn::Done(progress)),
+            Performed::Waits(waiting) => Ok(Turn::Waits(waiting)),
+        }
+    }
 }
 
 // Does the jump at which the frame stands.
@@ -88,6 +100,29 @@ pub(crate) fn step<H: Host, L: Ledger>(
             count,
             next: address + width,
         }),
+        (Op::CallOp(name, count, token), width) => Turn::of(run.call_op(
+            context,
+            host,
+            steps,
+            frame,
+            name,
+            count,
+            token,
+            address + width,
+        )),
+        (Op::AssignLocalOp(slot, name, op), width) => Turn::of(run.assign_local_op(
+            context,
+            host,
+            steps,
+            frame,
+            slot,
+            name,
+            op,
+            address + width,
+        )),
+        (Op::AssignThisOp(op), width) => {
+            Turn::of(run.assign_this_op(context, host, steps, frame, op, address + width))
+        }
         (op, width) => match run.perform(context, host, steps, frame, op, address + width) {
             Err(e) => Err(e),
             Ok(progress) => Ok(Turn::Done(progress)),

@@ -143,6 +143,15 @@ impl<'e> Vm<'e> {
         ensures level { self.new.global.level ≡ self.old.global.level }
         ensures engine { self.new.engine ≡ self.old.engine }
     {
-        self.machine.run_main(alloc, host, cells, &mut self.global, scope, program, steps)
+        self.machine.run_main(
+            alloc,
+            host,
+            cells,
+            &mut self.global,
+            scope,
+            program,
+            true,
+            steps,
+        )
     }
 }

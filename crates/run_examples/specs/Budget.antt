@@ -10,7 +10,8 @@ use Rattle.grain_value.specs.Cells.{cell_bound, is_cell, is_clean}
 use Rattle.grain_value.specs.declared.values.Dynamic.TheVariants as dynamic
 use Rattle.grain_fault.specs.Problems.{SystemError}
 use Rattle.grain_host.specs.Clean.{first_true}
-use Rattle.grain_host.specs.Law.{Law, Reply, Done, Failed, Verdict, GoOn, Stop, MayBeAnswered, IsLawful, call_bound, is_plain, reply_bound, reply_is_clean, verdict_bound, verdict_is_clean}
+use Rattle.grain_host.specs.Law.{Law, Reply, Done, Failed, Verdict, GoOn, Stop, IsLawful, call_bound, is_plain, reply_bound, reply_is_clean, verdict_bound, verdict_is_clean}
+use Rattle.grain_host.specs.Resuming.{AsksNothing, may_be_answered, nothing_asked, passed_asks, passed_clean, passed_may, passed_on, passed_within, reach_within, receiver_clean, receiver_within}
 use Rattle.run_examples.specs.declared.budget.Budget.{Budget}
 
 -- this many operations
@@ -61,16 +62,22 @@ budget_law = record {
   call_reply = λ s key receiver values. reply s key;
   call_after = λ s key receiver values. left_after s key;
   call_written = λ s key h values. h.value;
+  resume_reply = λ s token outcome receiver. passed_on outcome;
+  resume_after = λ s token outcome receiver. s;
+  resume_written = λ s token outcome h. h.value;
+  token_writes = λ s token. false;
+  forget_after = λ s token. s;
   progress_reply = λ s count. verdict s.left;
   progress_after = λ s count. taken 1 s;
   reach = λ s. 0;
   holds_clean = λ s. true;
+  waits_clean = λ s. true;
 }
 
 -- the budget is a lawful host
-may_reply : (b : Bool) (s : Budget) → MayBeAnswered (answered b s)
-may_reply true s = tt
-may_reply false s = refl
+asks_nothing : (b : Bool) (s : Budget) → AsksNothing (answered b s)
+asks_nothing true s = tt
+asks_nothing false s = refl
 
 reply_within : (b : Bool) (s : Budget) (n : ℕ) → reply_bound (answered b s) ≤ n
 reply_within true s n = omega arith
@@ -90,9 +97,17 @@ stop_clean false = refl
 
 pub budget_lawful : IsLawful budget_law
 budget_lawful = record {
-  call_keeps = λ s key receiver values. (λ name kinds. refl, λ key. refl);
-  progress_keeps = λ s count. (λ name kinds. refl, λ key. refl);
-  faults = λ s key receiver values. may_reply (is_work key) s;
+  call_keeps = λ s key receiver values. (λ name kinds. refl, λ key. refl, λ token. refl);
+  progress_keeps = λ s count. (λ name kinds. refl, λ key. refl, λ token. refl);
+  resume_keeps = λ s token outcome receiver.
+      (λ name kinds. refl, λ key. refl, λ token. refl);
+  forget_keeps = λ s token. (λ name kinds. refl, λ key. refl, λ token. refl);
+  asks = λ s key receiver values.
+      nothing_asked budget_law (budget_law.call_after s key receiver values) false
+      (answered (is_work key) s) (asks_nothing (is_work key) s);
+  asks_again = λ s token outcome receiver. passed_asks budget_law s false outcome;
+  faults = λ s key receiver values.
+      may_be_answered (answered (is_work key) s) (asks_nothing (is_work key) s);
   replies_within = λ s key receiver values.
       reply_within (is_work key) s (call_bound budget_law s receiver values);
   writes_within = λ s key h values. omega (
@@ -102,6 +117,12 @@ budget_lawful = record {
   );
   writes_content = λ s key h values plain. plain;
   stays_within = λ s key receiver values. omega arith;
+  resume_faults = λ s token outcome receiver heard. passed_may outcome heard;
+  resume_replies_within = λ s token outcome receiver. passed_within budget_law s outcome receiver;
+  resume_writes_within = λ s token outcome h. receiver_within budget_law s outcome h;
+  resume_writes_content = λ s token outcome h plain. plain;
+  resume_stays_within = λ s token outcome receiver. reach_within budget_law s outcome receiver;
+  forgets_within = λ s token. omega arith;
   stops_within = λ s count. stop_within (s.left == 0) 0;
   hears_within = λ s count. omega arith;
   replies_clean = λ s key receiver values clean. reply_clean (is_work key) s;
@@ -109,6 +130,15 @@ budget_lawful = record {
       first_true (is_clean (tree h.value)) (not (is_cell (tree h.value)))
       (first_true (is_plain (tree h.value)) (list_all is_plain values) clean);
   stays_clean = λ s key receiver values clean. refl;
+  waits_after_call = λ s key receiver values clean waits. refl;
+  resume_replies_clean = λ s token outcome receiver clean.
+      passed_clean budget_law s outcome receiver clean;
+  resume_writes_clean = λ s token outcome h clean. receiver_clean budget_law s outcome h clean;
+  resume_stays_clean = λ s token outcome receiver clean. refl;
+  waits_after_resume = λ s token outcome receiver clean. refl;
+  forgets_clean = λ s token clean. refl;
+  waits_after_forget = λ s token waits. refl;
   stops_clean = λ s count clean. stop_clean (s.left == 0);
   hears_clean = λ s count clean. refl;
+  waits_after_progress = λ s count waits. refl;
 }

@@ -1,18 +1,21 @@
 -- A price list: what its natives answer, and what they leave.
-use Rattle.std.specs.Prelude.{ℕ, max, ◌≤◌, ◌^◌, ℤ, pos, negsuc, ◌+ℤ◌, ◌-ℤ◌, ◌*ℤ◌, int_lt, int_div, false, true, not, ◌≡◌, ◌&&◌, ◌||◌, List, [], ◌∷◌, ◌++◌, Option, Some, None, Result, Ok, Err, refl, codes, bytes_eq, ◌==◌, slice_get, option_and_then, if◌then◌else◌}
+use Rattle.std.specs.Prelude.{ℕ, max, ◌≤◌, ◌^◌, ℤ, pos, negsuc, ◌+ℤ◌, ◌-ℤ◌, ◌*ℤ◌, int_lt, int_div, Bool, false, true, not, ◌≡◌, ◌&&◌, ◌||◌, List, [], ◌∷◌, ◌++◌, Option, Some, None, Result, Ok, Err, refl, codes, bytes_eq, ◌==◌, slice_get, option_and_then, if◌then◌else◌}
 use Rattle.std.specs.List.{list_all}
 use Rattle.std.proofs.Common.{arith}
-use Rattle.std.proofs.Math.Nat.{le-max_left, le-max_right}
-use Rattle.grain_value.specs.Tree.{array, pack}
+use Rattle.std.proofs.Math.Nat.{le-max_left, le-max_right, max-le}
+use Rattle.grain_value.specs.Tree.{array, integer, pack}
 use Rattle.grain_value.specs.View.{tree}
 use Rattle.grain_value.specs.Cells.{cell_bound, is_cell, is_clean}
-use Rattle.grain_value.specs.Looking.{integer_of, text_of}
+use Rattle.grain_value.specs.Looking.{integer_of, pointer_of, text_of}
 use Rattle.grain_value.specs.declared.values.Dynamic.{Dynamic}
 use Rattle.grain_value.specs.declared.values.Dynamic.TheVariants as dynamic
+use Rattle.grain_value.specs.declared.values.FnPtr.{FnPtr}
 use Rattle.grain_fault.specs.Places.{nowhere}
 use Rattle.grain_fault.specs.Problems.{Problem, Plain, Runtime, SystemError}
-use Rattle.grain_host.specs.Clean.{first_true}
-use Rattle.grain_host.specs.Law.{Law, Reply, Done, Failed, GoOn, MayBeAnswered, IsLawful, call_bound, is_plain, reply_bound, reply_is_clean}
+use Rattle.grain_host.specs.Calling.{ValueClean, ValueWithin, argument_clean, argument_within, given_plain, given_within}
+use Rattle.grain_host.specs.Clean.{both_true, first_true}
+use Rattle.grain_host.specs.Law.{Law, Reply, Done, Failed, Ask, GoOn, AsksAs, MayBeAnswered, IsLawful, call_bound, is_plain, reply_bound, reply_is_clean}
+use Rattle.grain_host.specs.Resuming.{passed_asks, passed_clean, passed_may, passed_on, passed_within, reach_within, receiver_clean, receiver_within}
 use Rattle.grain_host.specs.Tables.{arguments}
 use Rattle.run_examples.specs.declared.prices.Line.{Line}
 use Rattle.run_examples.specs.declared.prices.PriceList.{PriceList}
@@ -59,6 +62,9 @@ integer_at vs i = option_and_then integer_of (slice_get vs i)
 abbrev pub text_at : List Dynamic → ℕ → Option (List ℕ)
 text_at vs i = option_and_then text_of (slice_get vs i)
 
+abbrev pub pointer_at : List Dynamic → ℕ → Option FnPtr
+pointer_at vs i = option_and_then pointer_of (slice_get vs i)
+
 -- what `discount` gives for its two arguments
 abbrev pub discounted : List Dynamic → Result ℤ Reason
 discounted vs = given (integer_at vs 0) (λ amount. given (integer_at vs 1) (discount amount))
@@ -102,7 +108,8 @@ key_of name kinds =
     else (if bytes_eq name (codes "charge") && bytes_eq kinds (2 ∷ []) then Some 3
     else (if bytes_eq name (codes "index$get$") && bytes_eq kinds (4 ∷ 4 ∷ []) then Some 4
     else (if bytes_eq name (codes "index$set$") && bytes_eq kinds (4 ∷ 4 ∷ 2 ∷ []) then Some 5
-    else None))))
+    else (if bytes_eq name (codes "adjust") && bytes_eq kinds (4 ∷ 8 ∷ []) then Some 6
+    else None)))))
 
 -- the fault of a call that has no value
 abbrev pub reason_text : Reason → List ℕ
@@ -119,19 +126,40 @@ abbrev pub reply : Result ℤ Reason → Reply
 reply (Ok n) = Done (dynamic.Int n)
 reply (Err r) = Failed (problem r)
 
+-- `adjust` asks a function with the price of an article; what comes of it is the answer
+abbrev pub asked_with : Result ℤ Reason → FnPtr → Reply
+asked_with (Ok n) f = Ask 0 f (integer n ∷ [])
+asked_with (Err r) f = Failed (problem r)
+
+abbrev pub adjusts : List Line → Option (List ℕ) → Option FnPtr → Reply
+adjusts lines None f = Failed (problem reason.Unknown)
+adjusts lines (Some article) None = Failed (problem reason.Unknown)
+adjusts lines (Some article) (Some f) = asked_with (price article lines) f
+
+-- the answer to a call of a key: 6 is that of `adjust`
+abbrev pub reply_to : PriceList → ℕ → List Dynamic → Reply
+reply_to s key vs =
+    if key == 6 then adjusts s.lines (text_at vs 0) (pointer_at vs 1) else reply (gives s key vs)
+
 -- No native writes its first argument, and a run always goes on. The list has no cells, and no arrays
 -- or maps.
 abbrev pub price_law : Law PriceList
 price_law = record {
   resolves = λ s name kinds. key_of name kinds;
   writes = λ s key. false;
-  call_reply = λ s key receiver values. reply (gives s key (arguments receiver values));
+  call_reply = λ s key receiver values. reply_to s key (arguments receiver values);
   call_after = λ s key receiver values. leaves s key (arguments receiver values);
   call_written = λ s key h values. h.value;
+  resume_reply = λ s token outcome receiver. passed_on outcome;
+  resume_after = λ s token outcome receiver. s;
+  resume_written = λ s token outcome h. h.value;
+  token_writes = λ s token. false;
+  forget_after = λ s token. s;
   progress_reply = λ s count. GoOn;
   progress_after = λ s count. s;
   reach = λ s. 0;
   holds_clean = λ s. true;
+  waits_clean = λ s. true;
 }
 
 -- the list is a lawful host
@@ -140,6 +168,84 @@ may_reply (Ok n) = tt
 may_reply (Err reason.Unknown) = refl
 may_reply (Err reason.NoSuchArticle) = refl
 may_reply (Err reason.OutOfRange) = refl
+
+may_ask : (r : Result ℤ Reason) (f : FnPtr) → MayBeAnswered (asked_with r f)
+may_ask (Ok n) f = tt
+may_ask (Err reason.Unknown) f = refl
+may_ask (Err reason.NoSuchArticle) f = refl
+may_ask (Err reason.OutOfRange) f = refl
+
+may_adjust : (lines : List Line) (article : Option (List ℕ)) (f : Option FnPtr) →
+    MayBeAnswered (adjusts lines article f)
+may_adjust lines None f = refl
+may_adjust lines (Some article) None = refl
+may_adjust lines (Some article) (Some f) = may_ask (price article lines) f
+
+may_either : (b : Bool) (x y : Reply) → MayBeAnswered x → MayBeAnswered y →
+    MayBeAnswered (if b then x else y)
+may_either true x y p q = p
+may_either false x y p q = q
+
+asks_as : (s : PriceList) (r : Reply) → AsksAs price_law s false r
+asks_as s (Done v) = tt
+asks_as s (Failed x) = tt
+asks_as s (Ask token f values) = refl
+
+-- what is asked names the cells that the pointer names, and is clean if the pointer is
+abbrev PointerWithin : ℕ → Option FnPtr → Type 0
+PointerWithin n None = Unit
+PointerWithin n (Some f) = cell_bound (tree (dynamic.Pointer f)) ≤ n
+
+pointer_within : (n : ℕ) (v : Option Dynamic) → ValueWithin n v →
+    PointerWithin n (option_and_then pointer_of v)
+pointer_within n None h = tt
+pointer_within n (Some (dynamic.Pointer f)) h = h
+pointer_within n (Some v) h = tt
+
+ask_within : (r : Result ℤ Reason) (f : FnPtr) (n : ℕ) →
+    cell_bound (tree (dynamic.Pointer f)) ≤ n → reply_bound (asked_with r f) ≤ n
+ask_within (Ok k) f n h = max-le {a = cell_bound (tree (dynamic.Pointer f))} {b = 0} h (omega arith)
+ask_within (Err reason.Unknown) f n h = omega arith
+ask_within (Err reason.NoSuchArticle) f n h = omega arith
+ask_within (Err reason.OutOfRange) f n h = omega arith
+
+adjust_within : (lines : List Line) (article : Option (List ℕ)) (f : Option FnPtr) (n : ℕ) →
+    PointerWithin n f → reply_bound (adjusts lines article f) ≤ n
+adjust_within lines None f n h = omega arith
+adjust_within lines (Some article) None n h = omega arith
+adjust_within lines (Some article) (Some f) n h = ask_within (price article lines) f n h
+
+within_either : (b : Bool) (x y : Reply) (n : ℕ) → reply_bound x ≤ n → reply_bound y ≤ n →
+    reply_bound (if b then x else y) ≤ n
+within_either true x y n p q = p
+within_either false x y n p q = q
+
+abbrev PointerClean : Option FnPtr → Type 0
+PointerClean None = Unit
+PointerClean (Some f) = is_clean (tree (dynamic.Pointer f)) ≡ true
+
+pointer_clean : (v : Option Dynamic) → ValueClean v → PointerClean (option_and_then pointer_of v)
+pointer_clean None h = tt
+pointer_clean (Some (dynamic.Pointer f)) h = h
+pointer_clean (Some v) h = tt
+
+ask_clean : (r : Result ℤ Reason) (f : FnPtr) → is_clean (tree (dynamic.Pointer f)) ≡ true →
+    reply_is_clean (asked_with r f) ≡ true
+ask_clean (Ok k) f h = both_true (is_clean (tree (dynamic.Pointer f))) true h refl
+ask_clean (Err reason.Unknown) f h = refl
+ask_clean (Err reason.NoSuchArticle) f h = refl
+ask_clean (Err reason.OutOfRange) f h = refl
+
+adjust_clean : (lines : List Line) (article : Option (List ℕ)) (f : Option FnPtr) →
+    PointerClean f → reply_is_clean (adjusts lines article f) ≡ true
+adjust_clean lines None f h = refl
+adjust_clean lines (Some article) None h = refl
+adjust_clean lines (Some article) (Some f) h = ask_clean (price article lines) f h
+
+clean_either : (b : Bool) (x y : Reply) → reply_is_clean x ≡ true → reply_is_clean y ≡ true →
+    reply_is_clean (if b then x else y) ≡ true
+clean_either true x y p q = p
+clean_either false x y p q = q
 
 reply_within : (r : Result ℤ Reason) (n : ℕ) → reply_bound (reply r) ≤ n
 reply_within (Ok k) n = omega arith
@@ -155,11 +261,29 @@ reply_clean (Err reason.OutOfRange) = refl
 
 pub price_lawful : IsLawful price_law
 price_lawful = record {
-  call_keeps = λ s key receiver values. (λ name kinds. refl, λ key. refl);
-  progress_keeps = λ s count. (λ name kinds. refl, λ key. refl);
-  faults = λ s key receiver values. may_reply (gives s key (arguments receiver values));
+  call_keeps = λ s key receiver values. (λ name kinds. refl, λ key. refl, λ token. refl);
+  progress_keeps = λ s count. (λ name kinds. refl, λ key. refl, λ token. refl);
+  resume_keeps = λ s token outcome receiver.
+      (λ name kinds. refl, λ key. refl, λ token. refl);
+  forget_keeps = λ s token. (λ name kinds. refl, λ key. refl, λ token. refl);
+  asks = λ s key receiver values.
+      asks_as (price_law.call_after s key receiver values)
+      (price_law.call_reply s key receiver values);
+  asks_again = λ s token outcome receiver. passed_asks price_law s false outcome;
+  faults = λ s key receiver values.
+      let vs = arguments receiver values in
+      may_either (key == 6) (adjusts s.lines (text_at vs 0) (pointer_at vs 1))
+      (reply (gives s key vs)) (may_adjust s.lines (text_at vs 0) (pointer_at vs 1))
+      (may_reply (gives s key vs));
   replies_within = λ s key receiver values.
-      reply_within (gives s key (arguments receiver values)) (call_bound price_law s receiver values);
+      let vs = arguments receiver values in
+      let n = call_bound price_law s receiver values in
+      within_either (key == 6) (adjusts s.lines (text_at vs 0) (pointer_at vs 1))
+      (reply (gives s key vs)) n
+      (adjust_within s.lines (text_at vs 0) (pointer_at vs 1) n
+      (pointer_within n (slice_get vs 1)
+      (argument_within n vs 1 (given_within price_law s receiver values))))
+      (reply_within (gives s key vs) n);
   writes_within = λ s key h values. omega (
     arith,
     le-max_left (cell_bound (tree h.value)) (cell_bound (array (pack values))),
@@ -167,14 +291,35 @@ price_lawful = record {
   );
   writes_content = λ s key h values plain. plain;
   stays_within = λ s key receiver values. omega arith;
+  resume_faults = λ s token outcome receiver heard. passed_may outcome heard;
+  resume_replies_within = λ s token outcome receiver. passed_within price_law s outcome receiver;
+  resume_writes_within = λ s token outcome h. receiver_within price_law s outcome h;
+  resume_writes_content = λ s token outcome h plain. plain;
+  resume_stays_within = λ s token outcome receiver. reach_within price_law s outcome receiver;
+  forgets_within = λ s token. omega arith;
   stops_within = λ s count. omega arith;
   hears_within = λ s count. omega arith;
   replies_clean = λ s key receiver values clean.
-      reply_clean (gives s key (arguments receiver values));
+      let vs = arguments receiver values in
+      clean_either (key == 6) (adjusts s.lines (text_at vs 0) (pointer_at vs 1))
+      (reply (gives s key vs))
+      (adjust_clean s.lines (text_at vs 0) (pointer_at vs 1)
+      (pointer_clean (slice_get vs 1)
+      (argument_clean vs 1 (given_plain price_law s receiver values clean))))
+      (reply_clean (gives s key vs));
   writes_clean = λ s key h values clean.
       first_true (is_clean (tree h.value)) (not (is_cell (tree h.value)))
       (first_true (is_plain (tree h.value)) (list_all is_plain values) clean);
   stays_clean = λ s key receiver values clean. refl;
+  waits_after_call = λ s key receiver values clean waits. refl;
+  resume_replies_clean = λ s token outcome receiver clean.
+      passed_clean price_law s outcome receiver clean;
+  resume_writes_clean = λ s token outcome h clean. receiver_clean price_law s outcome h clean;
+  resume_stays_clean = λ s token outcome receiver clean. refl;
+  waits_after_resume = λ s token outcome receiver clean. refl;
+  forgets_clean = λ s token clean. refl;
+  waits_after_forget = λ s token waits. refl;
   stops_clean = λ s count clean. refl;
   hears_clean = λ s count clean. refl;
+  waits_after_progress = λ s count waits. refl;
 }

@@ -97,6 +97,21 @@ impl Host for Budget {
         self.perform(alloc, key).unwrap_or(HostAnswer::Memory)
     }
 
+    fn resume(
+        &mut self,
+        _alloc: Global,
+        _token: u64,
+        outcome: Result<Dynamic, HostFault>,
+        _args: &mut Args,
+    ) -> HostAnswer {
+        match outcome {
+            Ok(value) => HostAnswer::Done(value),
+            Err(fault) => HostAnswer::Failed(fault),
+        }
+    }
+
+    fn forget(&mut self, _token: u64) {}
+
     /// One operation more. It ends the run exactly if none is left, and else takes one.
     fn progress(&mut self, _alloc: Global, count: u64) -> ProgressAnswer
         ensures hears { Hears budget_law self.old count result self.new }

@@ -1,14 +1,15 @@
 //! A host with natives of its own: a price list, and what scripts charge.
 
-ghost use Rattle.std.specs.Prelude.{◌≡◌, ◌+ℤ◌, Some, IfOk, is_ok, if◌then◌else◌, option_copied, slice_get};
+ghost use Rattle.std.specs.Prelude.{◌≡◌, ◌∷◌, [], ◌+ℤ◌, Some, IfOk, is_ok, if◌then◌else◌, option_copied, slice_get};
 ghost use Rattle.grain_host.specs.Answers.{reply_of};
-ghost use Rattle.grain_host.specs.Law.{Failed};
+ghost use Rattle.grain_value.specs.Tree.{integer};
+ghost use Rattle.grain_host.specs.Law.{Ask, Failed};
 ghost use Rattle.grain_host.specs.Tables.{arguments};
-ghost use Rattle.run_examples.specs.Prices.{empty, listed, price, fitting, discount, integer_at, text_at, property, assigned, gives, charged, leaves, reason_text, problem, price_law, price_lawful};
+ghost use Rattle.run_examples.specs.Prices.{empty, listed, price, fitting, discount, integer_at, text_at, pointer_at, adjusts, property, assigned, gives, charged, leaves, reason_text, problem, price_law, price_lawful};
 
 use grain_fault::{EvalAltResult, Position};
 use grain_host::{Args, Host, HostAnswer, HostFault, ProgressAnswer};
-use grain_value::{Dynamic, Kinds, List, Native, OutOfMemory, Text};
+use grain_value::{Array, Dynamic, FnPtr, Kinds, List, Native, OutOfMemory, Text};
 use std::alloc::Global;
 
 // The keys of the natives.
@@ -22,10 +23,14 @@ const GET_PROPERTY: u64 = 4;
 
 const SET_PROPERTY: u64 = 5;
 
+const ADJUST: u64 = 6;
+
 // The kinds of values that they take.
 const INTEGER: u32 = 2;
 
 const TEXT: u32 = 4;
+
+const POINTER: u32 = 8;
 
 /// An article and its price.
 #[derive(Drop)]
@@ -35,7 +40,8 @@ struct Line {
 }
 
 /// A price list, and the total that scripts have charged. Scripts call `price(article)`,
-/// `discount(amount, percent)` and `charge(amount)`, and an article has the properties `price`, which
+/// `discount(amount, percent)` and `charge(amount)`, and `adjust(article, f)`, which calls their
+/// function with the article's price and has its value. An article has the properties `price`, which
 /// they read, and `charged`, to which they assign an amount that is charged.
 #[derive(Drop)]
 pub struct PriceList {
@@ -137,6 +143,21 @@ impl PriceList {
         }
     }
 
+    // The native `adjust`: it asks a function with the price of an article, and has its value.
+    fn adjust(&self, alloc: Global, args: &Args) -> Result<HostAnswer, OutOfMemory>
+        ensures { let vs = arguments args.now.receiver args.now.values in
+            IfOk result (λ answer. reply_of answer
+            ≡ Some (adjusts self.now.lines (text_at vs 0) (pointer_at vs 1))) }
+    {
+        match (text(args, 0), pointer(args, 1)) {
+            (Some(article), Some(rule)) => match self.price(article) {
+                Ok(price) => ask(alloc, rule, price),
+                Err(reason) => failed(alloc, reason),
+            },
+            _ => failed(alloc, Reason::Unknown),
+        }
+    }
+
     // Does what the native of this key does.
     fn perform(&mut self, key: u64, args: &Args) -> Result<i64, Reason>
         ensures value { result ≡ gives self.old key (arguments args.now.receiver args.now.values) }
@@ -204,6 +225,30 @@ fn text(args: &Args, index: usize) -> Option<&str>
     Some(argument(args, index)?.as_text()?.as_str())
 }
 
+// The argument at the index, if it is a pointer to a function.
+fn pointer(args: &Args, index: usize) -> Option<&FnPtr>
+    ensures { option_copied result
+        ≡ pointer_at (arguments args.now.receiver args.now.values) index }
+{
+    argument(args, index)?.as_pointer()
+}
+
+// A call of the function with this price is asked for. Only one is asked for at a time, so each has
+// the token 0.
+fn ask(alloc: Global, rule: &FnPtr, price: i64) -> Result<HostAnswer, OutOfMemory>
+    ensures { IfOk result (λ answer. reply_of answer
+        ≡ Some (Ask 0 rule.now (integer price ∷ []))) }
+{
+    let pointer = rule.copy(alloc)?;
+    let mut arguments = Array::new(alloc);
+    arguments.push(Dynamic::Int(price))?;
+    Ok(HostAnswer::Ask {
+        token: 0,
+        pointer,
+        arguments,
+    })
+}
+
 // The answer to a call that has no value.
 fn failed(alloc: Global, reason: Reason) -> Result<HostAnswer, OutOfMemory>
     ensures { IfOk result (λ answer. reply_of answer ≡ Some (Failed (problem reason))) }
@@ -229,6 +274,7 @@ impl Host for PriceList {
             ("price", [TEXT]) => PRICE,
             ("discount", [INTEGER, INTEGER]) => DISCOUNT,
             ("charge", [INTEGER]) => CHARGE,
+            ("adjust", [TEXT, POINTER]) => ADJUST,
             ("index$get$", [TEXT, TEXT]) => GET_PROPERTY,
             ("index$set$", [TEXT, TEXT, INTEGER]) => SET_PROPERTY,
             _ => return None,
@@ -237,11 +283,29 @@ impl Host for PriceList {
     }
 
     fn call(&mut self, alloc: Global, key: u64, args: &mut Args) -> HostAnswer {
+        if key == ADJUST {
+            return self.adjust(alloc, args).unwrap_or(HostAnswer::Memory);
+        }
         match self.perform(key, args) {
             Ok(value) => HostAnswer::Done(Dynamic::Int(value)),
             Err(reason) => failed(alloc, reason).unwrap_or(HostAnswer::Memory),
         }
     }
+
+    fn resume(
+        &mut self,
+        _alloc: Global,
+        _token: u64,
+        outcome: Result<Dynamic, HostFault>,
+        _args: &mut Args,
+    ) -> HostAnswer {
+        match outcome {
+            Ok(value) => HostAnswer::Done(value),
+            Err(fault) => HostAnswer::Failed(fault),
+        }
+    }
+
+    fn forget(&mut self, _token: u64) {}
 
     fn progress(&mut self, _alloc: Global, _count: u64) -> ProgressAnswer {
         ProgressAnswer::GoOn

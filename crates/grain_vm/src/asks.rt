@@ -1,0 +1,376 @@
+//! Natives that ask for calls: what they ask for is done, and the host hears what came of it, until the
+//! native is over.
+
+use crate::chains::is_want;
+use crate::driving::{
+    Answered, AskingNative, lacks_indexer, misses_property, perform_request, raise_race,
+};
+use crate::method_runs::call_method;
+use crate::methods::{Needed, Outcome, resolve_request, with_curried};
+use crate::natives::{OnReceiver, call_native_on, give_back_to_cell};
+use crate::calls::deeper;
+use grain_chain::{Request, What};
+use grain_fault::{EvalAltResult, Fault, Position};
+use grain_frame::{Activation, Asked, Context, Lent, NativeEnd, Performed, Progress, Run, Waiting};
+use grain_global::Steps;
+use grain_host::{Host, HostFault};
+use grain_value::{Array, Dynamic, FnPtr, Held, OutOfMemory, Text};
+use std::alloc::Global;
+use std::sync::ledger::Ledger;
+
+// Goes on with an instruction that waits for a native, until the instruction is done.
+#[cycle(run)]
+#[cold]
+#[inline(never)]
+pub(crate) fn wait_for_native<H: Host, L: Ledger>(
+    run: &mut Run<H>,
+    context: Context<'_>,
+    host: &mut H,
+    steps: &mut Steps<L>,
+    frame: &mut Activation,
+    waiting: Waiting,
+) -> Result<Progress, OutOfMemory> {
+    let mut waiting = waiting;
+    'natives: loop {
+        let Waiting { asked, lent, rest } = waiting;
+        let pos = context.program.position(frame.address);
+        let native = AskingNative { asked, lent, pos };
+        let (outcome, _) = end_of_native(run, context, host, steps, native);
+        if is_out(&outcome) {
+            return Err(OutOfMemory);
+        }
+        match run.native_over(context, host, steps, frame, rest, outcome)? {
+            Performed::Leads(progress) => return Ok(progress),
+            Performed::Waits(next) => waiting = next,
+        }
+    }
+}
+
+// Whether memory ran out in a call.
+fn is_out(outcome: &Result<Dynamic, EvalAltResult>) -> bool {
+    match outcome {
+        Ok(_) => false,
+        Err(fault) => is_want(fault),
+    }
+}
+
+// `call` of a name that no function has: the native of that name, or the fault that an operand is a lent
+// cell. It is done on a copy of the frame, so that the loop can hold its own in registers.
+#[cycle(run)]
+#[inline(always)]
+pub(crate) fn call_native_by_name<H: Host, L: Ledger>(
+    run: &mut Run<H>,
+    context: Context<'_>,
+    host: &mut H,
+    steps: &mut Steps<L>,
+    frame: &mut Activation,
+    name: &Text,
+    count: usize,
+    next: usize,
+) -> Result<Progress, OutOfMemory> {
+    let mut copy = *frame;
+    let progress = native_by_name(run, context, host, steps, &mut copy, name, count, next);
+    frame.address = copy.address;
+    frame.floor = copy.floor;
+    frame.slot = copy.slot;
+    progress
+}
+
+// The same on the frame itself.
+#[cycle(run)]
+#[cold]
+#[inline(never)]
+pub(crate) fn native_by_name<H: Host, L: Ledger>(
+    run: &mut Run<H>,
+    context: Context<'_>,
+    host: &mut H,
+    steps: &mut Steps<L>,
+    frame: &mut Activation,
+    name: &Text,
+    count: usize,
+    next: usize,
+) -> Result<Progress, OutOfMemory> {
+    match run.native_by_name(context, host, steps, frame, name, count, next)? {
+        Performed::Leads(progress) => Ok(progress),
+        Performed::Waits(waiting) => wait_for_native(run, context, host, steps, frame, waiting),
+    }
+}
+
+// Goes on with a native that a walk calls, until it is over. If a property was missed before, and there is
+// no indexer either, the trace of that fault stands again; notes whether a property is missed now.
+#[cycle(run)]
+#[cold]
+#[inline(never)]
+pub(crate) fn native_in_walk<H: Host, L: Ledger>(
+    run: &mut Run<H>,
+    context: Context<'_>,
+    host: &mut H,
+    steps: &mut Steps<L>,
+    missed: &mut bool,
+    native: AskingNative,
+) -> Outcome {
+    let before = match take_trace(run, *missed) {
+        Ok(before) => before,
+        Err(OutOfMemory) => return give_up(run, host, native),
+    };
+    let (outcome, receiver) = end_of_native(run, context, host, steps, native);
+    let outcome = raised_in_walk(run, steps, outcome, before);
+    *missed = misses_property(&outcome);
+    (outcome, receiver)
+}
+
+// Takes the trace away, and gives it if it is to be kept.
+fn take_trace<H: Host>(run: &mut Run<H>, kept: bool) -> Result<Option<Vec<Fault>>, OutOfMemory> {
+    let before = if kept {
+        let mut copy = Vec::new(run.alloc);
+        'entries: for entry in run.stacks.trace() {
+            copy.push(*entry)?;
+        }
+        Some(copy)
+    } else {
+        None
+    };
+    run.stacks.cut_trace(0);
+    Ok(before)
+}
+
+// Memory ran out before what a native asks for could begin.
+fn give_up<H: Host>(run: &mut Run<H>, host: &mut H, native: AskingNative) -> Outcome {
+    host.forget(native.asked.token);
+    run.stacks.cut_trace(0);
+    let receiver = run.give_back(native.lent);
+    (Err(EvalAltResult::Memory), receiver)
+}
+
+// Raises the fault of a native that a walk called, at a mark. If it says that there is no indexer, the trace
+// is the one before, if one was kept.
+fn raised_in_walk<H: Host, L: Ledger>(
+    run: &mut Run<H>,
+    steps: &mut Steps<L>,
+    outcome: Result<Dynamic, EvalAltResult>,
+    before: Option<Vec<Fault>>,
+) -> Result<Dynamic, EvalAltResult> {
+    if outcome.is_ok() || is_out(&outcome) {
+        return outcome;
+    }
+    if let Some(before) = before {
+        if lacks_indexer(&outcome) {
+            if let Err(OutOfMemory) = run.stacks.put_trace(&before) {
+                return Err(EvalAltResult::Memory);
+            }
+        }
+    }
+    steps.mark();
+    outcome
+}
+
+// Calls a native on a receiver, and goes on with it until it is over.
+#[cycle(run)]
+#[cold]
+#[inline(never)]
+pub(crate) fn native_on<H: Host, L: Ledger>(
+    run: &mut Run<H>,
+    context: Context<'_>,
+    host: &mut H,
+    steps: &mut Steps<L>,
+    request: Request,
+) -> Outcome {
+    match call_native_on(run, host, steps, request) {
+        OnReceiver::Over(outcome) => outcome,
+        OnReceiver::Asks(native, cell) => {
+            let (outcome, left) = end_of_native(run, context, host, steps, native);
+            let outcome = raised_in_walk(run, steps, outcome, None);
+            match cell {
+                None => (outcome, left),
+                Some(cell) => {
+                    let receiver = give_back_to_cell(run, cell, left);
+                    (outcome, receiver)
+                }
+            }
+        }
+    }
+}
+
+// Does what a native asks for, and all that it asks for then, until it is over. Gives its value or its
+// fault, which is not raised yet, and the receiver that stood nowhere in the run, if it had one.
+#[cycle(run)]
+#[cold]
+#[inline(never)]
+fn end_of_native<H: Host, L: Ledger>(
+    run: &mut Run<H>,
+    context: Context<'_>,
+    host: &mut H,
+    steps: &mut Steps<L>,
+    native: AskingNative,
+) -> Outcome {
+    let AskingNative { asked, lent, pos } = native;
+    let mut asked = asked;
+    let mut lent = lent;
+    'asks: loop {
+        let Asked {
+            token,
+            pointer,
+            values,
+        } = asked;
+        let came = call_back(run, context, host, steps, pos, pointer, values);
+        let told = match told(run, steps, pos, came) {
+            Ok(told) => told,
+            Err(fault) => {
+                host.forget(token);
+                return (Err(fault), run.give_back(lent));
+            }
+        };
+        let (end, left) = run.resume_native(host, steps, token, told, lent, pos);
+        lent = left;
+        match end {
+            Err(OutOfMemory) => {
+                host.forget(token);
+                return (Err(EvalAltResult::Memory), run.give_back(lent));
+            }
+            Ok(NativeEnd::Fault(fault)) => return (Err(fault), run.give_back(lent)),
+            Ok(NativeEnd::Value(value)) => {
+                run.stacks.cut_trace(0);
+                return (Ok(value), run.give_back(lent));
+            }
+            Ok(NativeEnd::Asks(next)) => {
+                run.stacks.cut_trace(0);
+                asked = next;
+            }
+        }
+    }
+}
+
+// What the host is told of a call that it asked for: the value as it is read, or the fault. A fault that the
+// host is not told of is given apart.
+fn told<H: Host, L: Ledger>(
+    run: &Run<H>,
+    steps: &mut Steps<L>,
+    pos: Position,
+    came: Result<Dynamic, EvalAltResult>,
+) -> Result<Result<Dynamic, HostFault>, EvalAltResult> {
+    let fault = match came {
+        Ok(value) => match run.read_of(value) {
+            Err(OutOfMemory) => return Err(EvalAltResult::Memory),
+            Ok(Some(value)) => return Ok(Ok(value)),
+            Ok(None) => raise_race(run.alloc, steps, pos),
+        },
+        Err(fault) => fault,
+    };
+    if !fault.is_catchable() {
+        return Err(fault);
+    }
+    match HostFault::new(fault) {
+        Ok(fault) => Ok(Err(fault)),
+        Err(fault) => Err(fault),
+    }
+}
+
+// Calls what a pointer names that a native asks for: a function of the program, or else a native.
+#[cycle(run)]
+#[cold]
+#[inline(never)]
+fn call_back<H: Host, L: Ledger>(
+    run: &mut Run<H>,
+    context: Context<'_>,
+    host: &mut H,
+    steps: &mut Steps<L>,
+    pos: Position,
+    pointer: FnPtr,
+    values: Array,
+) -> Result<Dynamic, EvalAltResult> {
+    match find_back(run, context, pos, pointer, values) {
+        Err(OutOfMemory) => Err(EvalAltResult::Memory),
+        Ok(Needed::Function(call)) => {
+            let (outcome, _) = call_method(run, context, host, steps, call);
+            outcome
+        }
+        Ok(Needed::Native(request)) => native_back(run, context, host, steps, request),
+    }
+}
+
+// What a pointer names that a native asks for, on the pointer's values and then these.
+fn find_back<H: Host>(
+    run: &Run<H>,
+    context: Context<'_>,
+    pos: Position,
+    pointer: FnPtr,
+    values: Array,
+) -> Result<Needed, OutOfMemory> {
+    if context.engine.callbacks() {
+        let request = Request {
+            step: 0,
+            pos,
+            what: What::Pointer(pointer),
+            receiver: None,
+            arguments: values,
+        };
+        return match resolve_request(run, context, request) {
+            Ok(needed) => Ok(needed),
+            Err(_) => Err(OutOfMemory),
+        };
+    }
+    let all = with_curried(run.alloc, pointer.curry(), &values)?;
+    Ok(Needed::Native(Request {
+        step: 0,
+        pos,
+        what: What::Native(pointer.name),
+        receiver: None,
+        arguments: all,
+    }))
+}
+
+// Calls a native that another native asks for: it costs an operation, and runs one level up.
+#[cycle(run)]
+#[cold]
+#[inline(never)]
+fn native_back<H: Host, L: Ledger>(
+    run: &mut Run<H>,
+    context: Context<'_>,
+    host: &mut H,
+    steps: &mut Steps<L>,
+    request: Request,
+) -> Result<Dynamic, EvalAltResult> {
+    let pos = request.pos;
+    match begin_native_back(run, context, host, steps, pos) {
+        Some(fault) => Err(fault),
+        None => {
+            let outcome = match perform_request(run, host, steps, request) {
+                Answered::Over((outcome, _)) => outcome,
+                Answered::Asks(native) => {
+                    let (outcome, _) = end_of_native(run, context, host, steps, native);
+                    raised_in_walk(run, steps, outcome, None)
+                }
+            };
+            run.level -= 1;
+            outcome
+        }
+    }
+}
+
+// Charges an operation for a native that another one asks for, and goes one level up; or gives the fault.
+fn begin_native_back<H: Host, L: Ledger>(
+    run: &mut Run<H>,
+    context: Context<'_>,
+    host: &mut H,
+    steps: &mut Steps<L>,
+    pos: Position,
+) -> Option<EvalAltResult> {
+    match run.charge_at(context, host, steps, pos) {
+        Err(OutOfMemory) => return Some(EvalAltResult::Memory),
+        Ok(taken) => {
+            if !taken {
+                return Some(run.take_fault());
+            }
+        }
+    }
+    match deeper(run.level, context.engine.limits.levels) {
+        None => {
+            steps.mark();
+            Some(EvalAltResult::ErrorStackOverflow(pos))
+        }
+        Some(level) => {
+            run.level = level;
+            None
+        }
+    }
+}
