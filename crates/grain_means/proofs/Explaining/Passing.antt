@@ -1,5 +1,5 @@
 -- What follows a call of a native lets each fault pass that no script may catch: with it the walk ends.
-use Rattle.std.proofs.Common.{◌≡◌, ◌∙◌, ℕ, Bool, true, false, List, [], ◌∷◌, Some, refl, sym}
+use Rattle.std.proofs.Common.{◌≡◌, ℕ, Bool, true, false, List, [], ◌∷◌, Some, refl}
 use Rattle.std.specs.Prelude.{if◌then◌else◌}
 use Rattle.grain_value.specs.declared.values.Dynamic.{Dynamic}
 use Rattle.grain_value.specs.declared.values.Dynamic.TheVariants as dynamic
@@ -33,7 +33,7 @@ Caught absent x = absent ≡ true → catchable x ≡ true
 
 not_absent : (x : Problem) (absent : Bool) → Caught absent x → catchable x ≡ false → absent ≡ false
 not_absent x false caught e = refl
-not_absent x true caught e = absurd (sym (caught refl) ∙ e)
+not_absent x true caught e = let may : catchable x ≡ true = caught refl in cc
 
 pub is_property : (x : Problem) → catchable x ≡ false → is_dot_expr x ≡ false
 is_property x = not_absent x (is_dot_expr x) (caught x) where

@@ -1,6 +1,6 @@
 -- Roots through calls of functions and of pointers by an instruction, and through a handler that
 -- catches.
-use Rattle.std.proofs.Common.{◌≡◌, ◌+◌, ℕ, List, [], ◌∷◌, ◌++◌, Option, Some, None, nat_lt, length, take}
+use Rattle.std.proofs.Common.{◌≡◌, ◌+◌, ℕ, List, [], ◌∷◌, ◌++◌, Option, Some, None, false, nat_lt, length, take}
 use Rattle.std.specs.Prelude.{codes}
 use Rattle.grain_value.specs.Looking.{pointer_of}
 use Rattle.grain_value.specs.Operands.{arguments, read_write, under}
