@@ -77,7 +77,8 @@ module _ {S : Type 0} (m : Setup S) (sure : Bool) (c : ChainWalk S) where
             by_role : (b : Bool) → assigning role ≡ b → On m sure c (if b then adding else reading) v →
                 Why m sure c (if b then adding else reading) v
             by_role true e at =
-                marks m sure c n done (Write p (with_key k h.value) (next (deeper p (path_step.Key k)) done)) f
+                marks m sure c n done
+                (Write p (with_key k h.value) (next (deeper p (path_step.Key k)) done)) f
                 (λ v2 come2. on (deeper p (path_step.Key k)) done f
                 (record v2 { roots = put v2.roots (world_of m c p) (with_key k h.value) })
                 (join m sure c come2 (wrote here))) v at
@@ -102,10 +103,11 @@ module _ {S : Type 0} (m : Setup S) (sure : Bool) (c : ChainWalk S) where
           let over = walks.operating c.course.setting n bracket a u in
           let go = walks.into_answer c.course.setting n bracket false (OfIndex i bracket) over p done in
           asks m sure c n bracket walks.index_get (Some p) (i ∷ []) done
-          (walks.index_was_read n bracket p i u done go) f (past_index_read m sure c n done f bracket p i u go)
-          (index_read m sure c n (call_of m sure c n bracket walks.index_get (Some p) (i ∷ [])) refl bracket p i u
-          done go f
-          (into_answer m sure c n bracket (OfIndex i bracket) over (operates m sure c n bracket a u) p done f))
+          (walks.index_was_read n bracket p i u done go) f
+          (past_index_read m sure c n done f bracket p i u go)
+          (index_read m sure c n (call_of m sure c n bracket walks.index_get (Some p) (i ∷ [])) refl bracket
+          p i u done go f (into_answer m sure c n bracket (OfIndex i bracket) over
+          (operates m sure c n bracket a u) p done f))
 
       by_accessor : (name getter setter : ℕ) (q : Position) (r : Role) →
           From m sure c (walks.by_accessor c.course.setting n name getter setter q r next p done)
@@ -115,7 +117,8 @@ module _ {S : Type 0} (m : Setup S) (sure : Bool) (c : ChainWalk S) where
           (into_answer m sure c n q (OfProperty name setter q false) next on p done f)
       by_accessor name getter setter q Reads =
           let o : Origin = OfProperty name setter q false in
-          gets_property m sure c n name getter q p done (walks.own_value o done) f (own_value m sure c n o done f)
+          gets_property m sure c n name getter q p done (walks.own_value o done) f
+          (own_value m sure c n o done f)
       by_accessor name getter setter q (Writes u) =
           sets_property m sure c n name setter q true p u dynamic.Unit done f
       by_accessor name getter setter q (Operates u a) =

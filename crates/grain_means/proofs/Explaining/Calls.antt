@@ -64,7 +64,8 @@ module _ {S : Type 0} (m : Setup S) (sure : Bool) (c : ChainWalk S) where
           kept = if assigned then done (WalkFailed n x) else done (WalkEnded u true)
 
           second : Failing m sure c n y
-          second = failing_call m sure c n call step (walks.set_instead n x assigned u done) v come y after ends reason
+          second = failing_call m sure c n call step (walks.set_instead n x assigned u done) v come y after
+              ends reason
 
           by_assigned : is_indexing_type y ≡ true → (b : Bool) → assigned ≡ b →
               On m sure c (if b then done (WalkFailed n x) else done (WalkEnded u true)) w →
@@ -140,7 +141,8 @@ module _ {S : Type 0} (m : Setup S) (sure : Bool) (c : ChainWalk S) where
     got_instead call step x first done go replaced f on v come (Failed y) after ends reason w arrived =
         by_absence (is_indexing_type y) refl where
           second : Failing m sure c n y
-          second = failing_call m sure c n call step (walks.got_instead n x done go) v come y after ends reason
+          second =
+              failing_call m sure c n call step (walks.got_instead n x done go) v come y after ends reason
 
           by_absence : (b : Bool) → is_indexing_type y ≡ b →
               Why m sure c (if b then done (WalkFailed n x) else done (WalkFailed n y)) w
@@ -164,7 +166,8 @@ module _ {S : Type 0} (m : Setup S) (sure : Bool) (c : ChainWalk S) where
               walks.asking n q walks.index_get (Some p) (name ∷ []) done (walks.got_instead n x done go)
 
           first : Failing m sure c n x
-          first = failing_call m sure c n call step (walks.property_was_got n name q p done go) v come x after ends reason
+          first = failing_call m sure c n call step (walks.property_was_got n name q p done go) v come x
+              after ends reason
 
           by_absence : (b : Bool) → is_dot_expr x ≡ b → On m sure c
               (if b then again else done (WalkFailed n x)) w →
@@ -210,12 +213,14 @@ module _ {S : Type 0} (m : Setup S) (sure : Bool) (c : ChainWalk S) where
           plain : Task
           plain = walks.set_by_index n q p i set dynamic.Unit done
 
-          by_class : (b : Bool) → catchable x ≡ b → On m sure c (if b then plain else done (WalkFailed n x)) w →
+          by_class : (b : Bool) → catchable x ≡ b →
+              On m sure c (if b then plain else done (WalkFailed n x)) w →
               Why m sure c (if b then plain else done (WalkFailed n x)) w
           by_class true e at = sets_index q p i set dynamic.Unit done f w at
           by_class false e at =
               ill m sure c n x done f (native_row m sure c n x
-              (failing_call m sure c n call step (walks.index_was_read n q p i set done go) v come x after ends reason)
+              (failing_call m sure c n call step (walks.index_was_read n q p i set done go) v come x after
+              ends reason)
               (λ known. if_false (Falls n x) (catchable x) plain (done (WalkFailed n x)) e (f.falls n x))) w
 
     -- an op-assignment

@@ -65,7 +65,8 @@ is_found name x = not_absent x (says_missing name x) (caught x) where
   caught (SystemError s t) e = absurd cc
   caught NoMemory e = absurd cc
 
-module _ {S : Type 0} (m : Setup S) (sure : Bool) (c : ChainWalk S) (n : ℕ) (done : Rest) (f : Follows m sure c done) where
+module _ {S : Type 0} (m : Setup S) (sure : Bool) (c : ChainWalk S) (n : ℕ) (done : Rest)
+    (f : Follows m sure c done) where
   -- the fault of a test that fails goes to the walk's end
   by_test : (x : Problem) (b : Bool) (other : Task) → b ≡ false →
       Falls n x (if b then other else done (WalkFailed n x))

@@ -203,7 +203,10 @@ module _ {S : Type 0} (m : Setup S) (sure : Bool) (c : ChainWalk S) where
     pub native_row : (x : Problem) (call : Failing x) →
         ((known : sure ≡ true) → Falls n x ((call known).go (Failed x))) → Row n x
     native_row x call last =
-        λ known. inr (inr (inr (inr (inr (inr (inr (inl (record { fails = call known; last = last known }))))))))
+        λ known. inr (inr (inr (inr (inr (inr (inr (inl (record {
+          fails = call known;
+          last = last known;
+        }))))))))
 
     -- after a call that failed because there is no such property, another call is made in its place
     pub record IsReplaced {x : Problem} (first : CallFails m c n x) (call : Call)
@@ -217,7 +220,8 @@ module _ {S : Type 0} (m : Setup S) (sure : Bool) (c : ChainWalk S) where
 
     pub instead_row : (x y : Problem) (first : Failing x) (second : Failing y) →
         ((known : sure ≡ true) → IsReplaced (first known) (second known).call (second known).go) →
-        is_indexing_type y ≡ true → ((known : sure ≡ true) → Falls n x ((second known).go (Failed y))) → Row n x
+        is_indexing_type y ≡ true → ((known : sure ≡ true) → Falls n x ((second known).go (Failed y))) →
+        Row n x
     instead_row x y first second replaced absent last =
         λ known. inr (inr (inr (inr (inr (inr (inr (inr (inl (record {
           first = first known;

@@ -108,12 +108,12 @@ module _ {S : Type 0} (m : Setup S) (t : Option Place) (old : List Held) (n j : 
         (rules.body_over m q g heard)
         (λ from was a u there. over a u (under_place this may from u.roots was.0 there)) w (at, given)
       where
-          over : (a : Answer) (u : World S) → Meanwhile u.roots →
-              Follows (rules.body_over m q g heard a u)
-          over (Came v) u here = hears (Came v) u here
-          over (Failed x) u here =
-              body_fails m false t old Meanwhile (heard (Failed NoMemory)) (hears (Failed NoMemory))
-              (λ y. heard (Failed y)) (λ y. hears (Failed y)) q g x u here
+        over : (a : Answer) (u : World S) → Meanwhile u.roots →
+            Follows (rules.body_over m q g heard a u)
+        over (Came v) u here = hears (Came v) u here
+        over (Failed x) u here =
+            body_fails m false t old Meanwhile (heard (Failed NoMemory)) (hears (Failed NoMemory))
+            (λ y. heard (Failed y)) (λ y. hears (Failed y)) q g x u here
 
     -- on a copy of what can only be read, which goes afterwards
     abbrev copy_place : World S → Place
