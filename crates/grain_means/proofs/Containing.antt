@@ -215,7 +215,7 @@ module _ {S : Type 0} {m : Setup S} (on : Bases m) where
   open on use {clean, least, since}
 
   -- in a frame
-  framed : since.plain ≡ [] → Grounds m
+  abbrev framed : since.plain ≡ [] → Grounds m
   framed free = record {
     lawful = on.lawful;
     clean = on.clean;

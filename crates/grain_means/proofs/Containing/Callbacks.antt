@@ -191,7 +191,7 @@ module _ {S : Type 0} {m : Setup S} (on : Bases m) where
       receiver_with (Some q) names = home_with q.home q.held names
 
       -- and so the host holds what it may
-      left : Option Receiver
+      abbrev left : Option Receiver
       left = receiver_rewritten m.law w.host c.token o c.receiver
 
       left_names : ReceiverNames clean n left

@@ -1,5 +1,5 @@
 -- What a native is lent while the calls that it asked for are done.
-use Rattle.std.proofs.Common.{◌∙◌, ℕ, List, ◌∷◌, Option, Some, None, Bool, false, refl, arith}
+use Rattle.std.proofs.Common.{◌≡◌, ◌∙◌, ℕ, List, [], ◌∷◌, Option, Some, None, Bool, true, false, refl, arith}
 use Rattle.std.proofs.Math.Nat.{le-max_left, le-max_right}
 use Rattle.std.proofs.lemmas.List.{length-set}
 use Rattle.std.specs.List.{list_all}

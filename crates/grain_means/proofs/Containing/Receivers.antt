@@ -183,8 +183,8 @@ module _ {S : Type 0} {m : Setup S} (on : Grounds m) where
         Stays on n low f names (rules.receiver_called m d r values h next f w)
     calls_receiver d r pointer values given h held next w at =
         marking on n low f names w begins at
-        (calls_callee (bases inner) since n low f over overs (new_root w.roots) grown (with_root receiver held at)
-        (firm_look grown.roots (new_root w.roots))
+        (calls_callee (bases inner) since n low f over overs (new_root w.roots) grown
+        (with_root receiver held at) (firm_look grown.roots (new_root w.roots))
         (function_by_name m.program r.name (length r.curry + length values)) r
         (curried_in r ++ map read_write values)
         (all_joined (HeldNames clean n) (curried_in r) (map read_write values)

@@ -192,8 +192,8 @@ module _ {S : Type 0} {m : Setup S} (on : Bases m) (to : Since) where
       (done : Walked → World S → Act S) (first : ℕ)
       (over : (n : ℕ) → first ≤ n → (o : Walked) (w : World S) → WalkedNames clean n o → At on n w →
       Leaves m clean to n (done o w)) where
-    abbrev Walks : ℕ → Task → World S → Type 0
-    Walks n t w = Leaves m clean to n (rules.walks m k f p i t done w)
+    abbrev Walks : ℕ → Option (List Fault) → Task → World S → Type 0
+    Walks n missed t w = Leaves m clean to n (rules.walks m k f p i missed t done w)
 
     lends : (o : Option Place) → LendsSolid bare o →
         LendsFirm on to (option_map (placed p i) o)
