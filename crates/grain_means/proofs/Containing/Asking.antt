@@ -6,7 +6,6 @@ use Rattle.grain_value.specs.declared.values.Dynamic.{Dynamic}
 use Rattle.grain_value.specs.declared.values.Dynamic.TheVariants as dynamic
 use Rattle.grain_value.specs.declared.values.Held.{Held}
 use Rattle.grain_value.specs.declared.values.locating.Spot.{Spot}
-use Rattle.grain_value.specs.declared.values.locating.Spot.TheVariants as spot
 use Rattle.grain_fault.specs.Absences.{is_dot_expr}
 use Rattle.grain_fault.specs.Classes.{catchable}
 use Rattle.grain_fault.specs.declared.places.Position.{Position}

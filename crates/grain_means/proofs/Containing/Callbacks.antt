@@ -325,13 +325,13 @@ module _ {S : Type 0} {m : Setup S} (on : Bases m) where
           (λ room. native_back (rules.native_back_over m heard w1.level)
           (λ j le a v named here. hears j le a (record v { level = w1.level }) named here)
           (flat_all w1.cells (arguments_back c)) (record w1 { level = w1.level + 1 }) there refl)) w at
-            where
-              deeper : World S → Act S
-              deeper w1 =
-                  if nat_le m.engine.limits.levels w1.level
-                  then rules.failed_so m heard (Plain StackOverflow (rules.position m c.frame)) w1
-                  else rules.native_back m (rules.native_back_over m heard w1.level) c
-                  (flat_all w1.cells (arguments_back c)) (record w1 { level = w1.level + 1 })
+        where
+          deeper : World S → Act S
+          deeper w1 =
+              if nat_le m.engine.limits.levels w1.level
+              then rules.failed_so m heard (Plain StackOverflow (rules.position m c.frame)) w1
+              else rules.native_back m (rules.native_back_over m heard w1.level) c
+              (flat_all w1.cells (arguments_back c)) (record w1 { level = w1.level + 1 })
 
       callee_called : (o : Option Function) (w : World S) → At (lending c.receiver) n w →
           Leaves m clean since n (rules.callee_called_back m heard c o w)

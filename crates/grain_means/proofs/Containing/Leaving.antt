@@ -3,14 +3,13 @@
 use Rattle.std.proofs.Common.{◌≡◌, ◌≤◌, ◌+◌, ◌∙◌, ℕ, List, [], None, Bool, true, nat_lt, refl, arith}
 use Rattle.std.proofs.lemmas.List.{length-set}
 use Rattle.std.specs.Prelude.{slice_set}
-use Rattle.grain_value.specs.Cells.{flat, idle}
+use Rattle.grain_value.specs.Cells.{idle}
 use Rattle.grain_value.specs.Looking.{cell_of}
 use Rattle.grain_value.specs.Scopes.{set_held}
 use Rattle.grain_value.specs.declared.values.Dynamic.{Dynamic}
 use Rattle.grain_value.specs.declared.values.Held.{Held}
 use Rattle.grain_fault.specs.Classes.{catchable}
 use Rattle.grain_fault.specs.Problems.{Problem, Plain, Terminated, TooManyOperations}
-use Rattle.grain_fault.specs.declared.faults.MalformedKind.TheVariants as kind
 use Rattle.grain_fault.specs.declared.places.Position.{Position}
 use Rattle.grain_host.specs.Law.{GoOn, IsLawful, Stop, Verdict}
 use Rattle.grain_means.specs.Contained.{AnswerNames, ConstantsName, HeldNames, Names, ProblemNames}
