@@ -19,9 +19,9 @@ use Rattle.grain_program.specs.View.{View}
 use Rattle.grain_host.specs.Law.{Law}
 use Rattle.grain_global.specs.declared.engines.Engine.{Engine}
 use Rattle.grain_stack.specs.declared.handlers.Handler.{Handler}
-use Rattle.grain_means.specs.Worlds.{Act, Go, End, Then, Answer, Came, Failed, Frame, InFrame, Place, Setup, World}
+use Rattle.grain_means.specs.Worlds.{Act, Go, End, Then, Answer, Came, Failed, Frame, InFrame, InHost, Place, Receiver, Setup, World}
 use Rattle.grain_means.specs.Worlds as worlds
-use Rattle.grain_means.specs.Rules.{leave_by_fault, offered, instr, or_return}
+use Rattle.grain_means.specs.Rules.{cells_lent, leave_by_fault, native_over, offered, instr, or_return, with_token}
 use Rattle.grain_means.specs.Simulation.{LocalState, Computation, Simulates, SimulatesExactly}
 use Rattle.grain_means.specs.Means.{setup}
 use Rattle.grain_global.specs.StepsView.{StepsView}
@@ -281,13 +281,25 @@ ChargeResult engine s s' (Ok false) =
 ChargeResult engine s s' (Err e) =
     (s' ≡ record s { count = s'.count; fault = s'.fault }) × (s.count ≤ s'.count)
 
--- what follows from a native's value or from its fault; where memory is out, a fault left the frame
+-- what follows from a native's value or from its fault, or where it asks for a call first and has this of
+-- what it was lent; where memory is out, a fault left the frame
 abbrev pub native_continuation : {H : Type 0} → Result NativeEnd OutOfMemory →
-    (Option Place → Frame) → (Setup H → Option Place → Dynamic → World H → Act H) →
+    (Option Place → Option Receiver) → (Option Place → Frame) →
+    (Setup H → Option Place → Dynamic → World H → Act H) →
     (Setup H → Option Place → Problem → World H → Act H) → Computation H
-native_continuation (Ok (native_end.Value v)) f go fails m place w = go m place v w
-native_continuation (Ok (native_end.Fault x)) f go fails m place w = fails m place (problem_of x) w
-native_continuation (Err e) f go fails m place w = leave_by_fault m (f place) NoMemory w
+native_continuation (Ok (native_end.Value v)) r f go fails m place w = go m place v w
+native_continuation (Ok (native_end.Fault x)) r f go fails m place w =
+    fails m place (problem_of x) w
+native_continuation (Ok (native_end.Asks a)) r f go fails m place w =
+    Then (Go (InHost (record {
+      receiver = r place;
+      frame = f place;
+      token = a.token;
+      pointer = a.pointer;
+      values = a.values;
+    })) (record w { cells = cells_lent (r place) w.cells; tokens = with_token a.token w.tokens }))
+    (native_over (leave_by_fault m (f place) NoMemory) (go m place) (fails m place))
+native_continuation (Err e) r f go fails m place w = leave_by_fault m (f place) NoMemory w
 
 -- One instruction of a frame, or some in a row: the code did them from one moment to another, the
 -- frames around it are as they were, and if the frame goes on, it stands where the typing knows it.

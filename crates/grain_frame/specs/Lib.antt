@@ -6,6 +6,7 @@ pub mod Handling
 pub mod Operated
 pub mod Natives
 pub mod Targets
+pub mod Waiting
 pub mod This
 pub mod Refusals
 pub mod Pointers

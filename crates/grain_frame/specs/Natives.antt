@@ -52,6 +52,9 @@ EndsBy said p (Ok (native_end.Value v)) n n' =
 EndsBy said p (Ok (native_end.Fault x)) n n' = (y : Problem)
     × (said ≡ Some (reply.Failed y)) × (problem_of x ≡ at_position_if_none p y)
     × (n' ≡ record n { passed = n.passed + 1 + 1 })
+EndsBy said p (Ok (native_end.Asks a)) n n' =
+    (said ≡ Some (reply.Ask a.token a.pointer a.values))
+    × (n' ≡ record n { passed = n.passed + 1 + 1 })
 EndsBy said p (Err e) n n' = (said ≡ None) × (n' ≡ n)
 
 -- whatever its `this` is, what the frame does has this position
@@ -83,6 +86,10 @@ ServesTo law s n host key lent values p t (Ok (native_end.Fault x)) s' n' host' 
     × (reply.Failed y ≡ law.call_reply host key lent values)
     × (host' ≡ law.call_after host key lent values)
     × (problem_of x ≡ at_position_if_none p y) × (s' ≡ t)
+    × (n' ≡ record n { passed = n.passed + 1 + 1 })
+ServesTo law s n host key lent values p t (Ok (native_end.Asks a)) s' n' host' =
+    (reply.Ask a.token a.pointer a.values ≡ law.call_reply host key lent values)
+    × (host' ≡ law.call_after host key lent values) × (s' ≡ t)
     × (n' ≡ record n { passed = n.passed + 1 + 1 })
 ServesTo law s n host key lent values p t (Err e) s' n' host' =
     (host' ≡ host) × (s' ≡ s) × (n' ≡ n)

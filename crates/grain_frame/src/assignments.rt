@@ -8,7 +8,8 @@ ghost use Rattle.grain_program.specs.Indices.{InPools};
 ghost use Rattle.grain_means.specs.Rules.{held_at, if_fast, op_assigned, outcome_at};
 ghost use Rattle.grain_ops.specs.Outcomes.{Gave};
 ghost use Rattle.grain_ops.specs.Operators.{assignment};
-ghost use Rattle.grain_frame.specs.Abstraction.{frame_in, ImplementsBound, PerformsBound, Ready, setup_of, moment, this_of};
+ghost use Rattle.grain_frame.specs.Waiting.{ImplementsOrWaits, PerformsOrWaits};
+ghost use Rattle.grain_frame.specs.Abstraction.{frame_in, PerformsBound, Ready, setup_of, moment, this_of};
 ghost use Rattle.grain_frame.specs.Targets.{FreeCell, CanBeLent, CanBeWritten, HoldsAt, HoldsWritable, AssignedTarget, CanAssign, assigned_name, content_at, home_of, kept_operand, kept_value};
 ghost use Rattle.grain_frame.specs.declared.targets.Target.TheVariants as to;
 ghost use Rattle.grain_program.specs.declared.code.instruction_set.Op.TheVariants as op;
@@ -98,7 +99,7 @@ impl<H: Host> Run<H> {
     ) -> Result<Performed, OutOfMemory>
         requires ready { Ready frame.old self.old (op.AssignLocalOp slot name assign_op) next }
         requires pools { InPools context.program.now (op.AssignLocalOp slot name assign_op) }
-        ensures performs { PerformsBound (setup_of H.law context.entry)
+        ensures performs { PerformsOrWaits (setup_of H.law context.entry)
             (moment frame.old self.old steps.old host.old) (op.AssignLocalOp slot name assign_op)
             next result (moment frame.new self.new steps.new host.new) }
     {
@@ -145,20 +146,20 @@ impl<H: Host> Run<H> {
         frame: &mut Activation,
         assignment: Assignment,
     ) -> Result<Performed, OutOfMemory>
-        requires can { CanAssign context.program.now frame.old self.old assignment.now }
-        requires writable { HoldsWritable self.old assignment.now.target }
+        requires can { CanAssign context.program.now frame.old self.old assignment }
+        requires writable { HoldsWritable self.old assignment.target }
         ensures implements { (h : Held) → h.read_only ≡ false →
-            ImplementsBound (setup_of H.law context.entry)
+            ImplementsOrWaits (setup_of H.law context.entry)
             (moment frame.old self.old steps.old host.old)
-            (λ m place w. outcome_at m (home_of assignment.now.target place)
-            (assigned_name m.program assignment.now.variable)
-            (op_assigned m.engine assignment.now.operator
-            (content_at self.old assignment.now.target)
-            (kept_operand assignment.now.kept self.old.stacks.operands).value)
-            assignment.now.operator h (content_at self.old assignment.now.target)
-            (kept_operand assignment.now.kept self.old.stacks.operands)
-            assignment.now.next (frame_in frame.old self.old place) w)
-            (assignment.now.next ∷ []) 1 0 self.old.stacks.handlers result
+            (λ m place w. outcome_at m (home_of assignment.target place)
+            (assigned_name m.program assignment.variable)
+            (op_assigned m.engine assignment.operator
+            (content_at self.old assignment.target)
+            (kept_operand assignment.kept self.old.stacks.operands).value)
+            assignment.operator h (content_at self.old assignment.target)
+            (kept_operand assignment.kept self.old.stacks.operands)
+            assignment.next (frame_in frame.old self.old place) w)
+            (assignment.next ∷ []) 1 0 self.old.stacks.handlers result
             (moment frame.new self.new steps.new host.new) }
     {
         let token = assignment.operator.op_assign;

@@ -1,6 +1,6 @@
 //! Op-assignments that no built-in does, so that the host does them.
 
-ghost use Rattle.std.specs.Prelude.{◌≡◌, ◌<◌, ◌≤◌, ◌+◌, ◌-◌, ◌∷◌, [], ℕ, List, Option, Some, None, length, IfOk, false};
+ghost use Rattle.std.specs.Prelude.{◌≡◌, ◌<◌, ◌≤◌, ◌+◌, ◌-◌, ◌∷◌, [], ℕ, List, Option, Some, None, length, IfOk, OnTrue, OnFalse, false};
 ghost use Rattle.grain_value.specs.declared.values.Dynamic.{Dynamic};
 ghost use Rattle.grain_value.specs.declared.values.Held.{Held};
 ghost use Rattle.grain_value.specs.Cells.{flat};
@@ -13,6 +13,7 @@ ghost use Rattle.grain_means.specs.Worlds.{Setup, Frame, Place, World, Act};
 ghost use Rattle.grain_means.specs.Rules.{assigned_at, flattened, native, native_assigned_at, op_assign_failed_at, operator_at};
 ghost use Rattle.grain_means.specs.Simulation.{Simulates};
 ghost use Rattle.grain_frame.specs.Abstraction.{abstraction, frame_in, is_out, native_continuation, ImplementsBound, setup_of, moment};
+ghost use Rattle.grain_frame.specs.Waiting.{CanHold, GoesOn, ImplementsOrWaits, IsLentCell, LeadsTo, answer_of, no_memory_came, rest_of, value_rest};
 ghost use Rattle.grain_frame.specs.Natives.{IsAt, Seeks, ServesAt};
 ghost use Rattle.grain_frame.specs.Receivers.{KeepsBound};
 ghost use Rattle.grain_frame.specs.Targets.{CanAssign, CanBeLent, HoldsAt, HoldsWritable, assigned_name, content_at, home_of, kept_operand, receiver_at};
@@ -139,7 +140,9 @@ impl<H: Host> Run<H> {
             (λ m place w. native m name (Some (receiver_at target place h)) args (f place) w
             (go m place) (fails m place))
             (is_out result) (abstraction self.new steps.new host.new)
-            (native_continuation result f go fails) }
+            (native_continuation result
+            (λ place. Some (receiver_at target place (read_write (content_at self.new target)))) f go
+            fails) }
         ensures run { self.new ≡ record self.old {
           scope = self.new.scope;
           cells = self.new.cells;
@@ -168,17 +171,17 @@ impl<H: Host> Run<H> {
         frame: &mut Activation,
         assignment: Assignment,
     ) -> Result<Performed, OutOfMemory>
-        requires can { CanAssign context.program.now frame.old self.old assignment.now }
-        requires writable { HoldsWritable self.old assignment.now.target }
+        requires can { CanAssign context.program.now frame.old self.old assignment }
+        requires writable { HoldsWritable self.old assignment.target }
         ensures implements { (h : Held) → h.read_only ≡ false →
-            ImplementsBound (setup_of H.law context.entry)
+            ImplementsOrWaits (setup_of H.law context.entry)
             (moment frame.old self.old steps.old host.old)
-            (λ m place w. native_assigned_at m (home_of assignment.now.target place)
-            (assigned_name m.program assignment.now.variable) assignment.now.operator h
-            (content_at self.old assignment.now.target)
-            (kept_operand assignment.now.kept self.old.stacks.operands)
-            assignment.now.next (frame_in frame.old self.old place) w)
-            (assignment.now.next ∷ []) 1 0 self.old.stacks.handlers result
+            (λ m place w. native_assigned_at m (home_of assignment.target place)
+            (assigned_name m.program assignment.variable) assignment.operator h
+            (content_at self.old assignment.target)
+            (kept_operand assignment.kept self.old.stacks.operands)
+            assignment.next (frame_in frame.old self.old place) w)
+            (assignment.next ∷ []) 1 0 self.old.stacks.handlers result
             (moment frame.new self.new steps.new host.new) }
     {
         let name = context.program.name(assignment.operator.op_assign_name);
@@ -189,7 +192,10 @@ impl<H: Host> Run<H> {
         let sought = seek_lent(self.alloc, host, name, lent, value, position)?;
         match self.call_lent(host, steps, sought, target, position)? {
             NativeEnd::Value(_) => {
-                Ok(Performed::Leads(self.assigned(steps, frame, assignment.next)))
+                let _value = self.stacks.pop();
+                frame.address = assignment.next;
+                steps.mark();
+                Ok(Performed::Leads(Progress::Continues))
             }
             NativeEnd::Fault(fault) => {
                 self.op_assign_failed(context, host, steps, frame, assignment, fault)
@@ -205,19 +211,6 @@ impl<H: Host> Run<H> {
         }
     }
 
-    // An op-assignment is done by the host's: the operand is used up, and the frame goes on.
-    fn assigned<L: Ledger>(
-        &mut self,
-        steps: &mut Steps<L>,
-        frame: &mut Activation,
-        next: usize,
-    ) -> Progress {
-        let _value = self.stacks.pop();
-        frame.address = next;
-        steps.mark();
-        Progress::Continues
-    }
-
     // What follows once the native is over for which an instruction waited: what the instruction does
     // with the value or with the fault. It may ask the host for another native, and wait for that.
     pub fn native_over<L: Ledger>(
@@ -228,7 +221,18 @@ impl<H: Host> Run<H> {
         frame: &mut Activation,
         rest: Rest,
         outcome: Result<Dynamic, EvalAltResult>,
-    ) -> Result<Performed, OutOfMemory> {
+    ) -> Result<Performed, OutOfMemory>
+        requires not_out { no_memory_came outcome ≡ false }
+        requires unlent { (takes gives : ℕ) × (targets : List ℕ)
+            × LeadsTo context.program.now frame.old self.old rest takes gives targets }
+        ensures implements { (takes gives : ℕ) (targets : List ℕ) →
+            LeadsTo context.program.now frame.old self.old rest takes gives targets →
+            ImplementsOrWaits (setup_of H.law context.entry)
+            (moment frame.old self.old steps.old host.old)
+            (λ m place w. rest_of rest (frame_in frame.old self.old) m place (answer_of outcome) w)
+            targets takes gives self.old.stacks.handlers result
+            (moment frame.new self.new steps.new host.new) }
+    {
         match outcome {
             Ok(value) => Performed::of(self.value_came(context, steps, frame, rest, value)),
             Err(fault) => match rest {
@@ -248,10 +252,28 @@ impl<H: Host> Run<H> {
         frame: &mut Activation,
         rest: Rest,
         value: Dynamic,
-    ) -> Result<Progress, OutOfMemory> {
+    ) -> Result<Progress, OutOfMemory>
+        requires unlent { (takes gives : ℕ) × (targets : List ℕ)
+            × LeadsTo context.program.now frame.old self.old rest takes gives targets }
+        ensures implements { (takes gives : ℕ) (targets : List ℕ) (host : H) →
+            LeadsTo context.program.now frame.old self.old rest takes gives targets →
+            ImplementsBound (setup_of H.law context.entry)
+            (moment frame.old self.old steps.old host)
+            (λ m place w. value_rest rest (frame_in frame.old self.old) m place value w)
+            targets takes gives self.old.stacks.handlers result
+            (moment frame.new self.new steps.new host) }
+    {
         match rest {
-            Rest::Push { count, next } => Ok(self.push_answer(steps, frame, value, count, next)),
-            Rest::Assign(assignment) => Ok(self.assigned(steps, frame, assignment.next)),
+            Rest::Push { count, next } => {
+                self.stacks.cut(self.stacks.height() - count);
+                Ok(self.push_on(steps, frame, value, next))
+            }
+            Rest::Assign(assignment) => {
+                let _value = self.stacks.pop();
+                frame.address = assignment.next;
+                steps.mark();
+                Ok(Progress::Continues)
+            }
             Rest::Operate(assignment) => {
                 self.assign_answer(context, steps, frame, &assignment, value)
             }
@@ -269,15 +291,15 @@ impl<H: Host> Run<H> {
         assignment: Assignment,
         fault: EvalAltResult,
     ) -> Result<Performed, OutOfMemory>
-        requires can { CanAssign context.program.now frame.old self.old assignment.now }
+        requires can { GoesOn context.program.now frame.old self.old assignment }
         ensures implements { (h : Held) → h.read_only ≡ false →
-            ImplementsBound (setup_of H.law context.entry)
+            ImplementsOrWaits (setup_of H.law context.entry)
             (moment frame.old self.old steps.old host.old)
-            (λ m place w. op_assign_failed_at m (home_of assignment.now.target place)
-            (assigned_name m.program assignment.now.variable) assignment.now.operator h
-            (kept_operand assignment.now.kept self.old.stacks.operands)
-            assignment.now.next (frame_in frame.old self.old place) (problem_of fault) w)
-            (assignment.now.next ∷ []) 1 0 self.old.stacks.handlers result
+            (λ m place w. op_assign_failed_at m (home_of assignment.target place)
+            (assigned_name m.program assignment.variable) assignment.operator h
+            (kept_operand assignment.kept self.old.stacks.operands)
+            assignment.next (frame_in frame.old self.old place) (problem_of fault) w)
+            (assignment.next ∷ []) 1 0 self.old.stacks.handlers result
             (moment frame.new self.new steps.new host.new) }
     {
         let name = context.program.name(assignment.operator.op_assign_name);
@@ -299,17 +321,17 @@ impl<H: Host> Run<H> {
         frame: &mut Activation,
         assignment: Assignment,
     ) -> Result<Performed, OutOfMemory>
-        requires can { CanAssign context.program.now frame.old self.old assignment.now }
+        requires can { GoesOn context.program.now frame.old self.old assignment }
         ensures implements { (h : Held) → h.read_only ≡ false →
-            ImplementsBound (setup_of H.law context.entry)
+            ImplementsOrWaits (setup_of H.law context.entry)
             (moment frame.old self.old steps.old host.old)
-            (λ m place w. operator_at m (home_of assignment.now.target place)
-            (assigned_name m.program assignment.now.variable)
-            (name_of m.program assignment.now.operator.op_name) h
-            (read_write (content_at self.old assignment.now.target))
-            (kept_operand assignment.now.kept self.old.stacks.operands)
-            assignment.now.next (frame_in frame.old self.old place) w)
-            (assignment.now.next ∷ []) 1 0 self.old.stacks.handlers result
+            (λ m place w. operator_at m (home_of assignment.target place)
+            (assigned_name m.program assignment.variable)
+            (name_of m.program assignment.operator.op_name) h
+            (read_write (content_at self.old assignment.target))
+            (kept_operand assignment.kept self.old.stacks.operands)
+            assignment.next (frame_in frame.old self.old place) w)
+            (assignment.next ∷ []) 1 0 self.old.stacks.handlers result
             (moment frame.new self.new steps.new host.new) }
     {
         let mut arguments = Arguments::new(self.alloc);
@@ -341,7 +363,7 @@ impl<H: Host> Run<H> {
         assignment: &Assignment,
         value: Dynamic,
     ) -> Result<Progress, OutOfMemory>
-        requires can { CanAssign context.program.now frame.old self.old assignment.now }
+        requires can { GoesOn context.program.now frame.old self.old assignment.now }
         ensures implements { (host : H) → ImplementsBound (setup_of H.law context.entry)
             (moment frame.old self.old steps.old host)
             (λ m place w. flattened m (read_write value)
@@ -355,12 +377,28 @@ impl<H: Host> Run<H> {
         let Some(value) = self.read_of(value)? else {
             return self.data_race_in(context, steps, frame.address, assignment.variable);
         };
+        if !self.is_free(assignment.target) {
+            return self.data_race_in(context, steps, frame.address, assignment.variable);
+        }
         let _operand = self.stacks.pop();
         self.write(assignment.target, Held::read_write(value));
         steps.mark();
         frame.address = assignment.next;
         steps.mark();
         Ok(Progress::Continues)
+    }
+
+    // Whether the target is no cell, or a cell that is there and not lent.
+    fn is_free(&self, target: Target) -> bool
+        requires { CanHold self.now target }
+        ensures { OnTrue result (CanBeLent self.now target) }
+        ensures not { OnFalse result (IsLentCell self.now target) }
+    {
+        match target {
+            Target::Entry(_) => true,
+            Target::Cell(cell) => self.cells.find(cell).is_some(),
+            Target::This => true,
+        }
     }
 
     /// A value as it is read: of a cell a copy of what it holds, and nothing if that is lent.

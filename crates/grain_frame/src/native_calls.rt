@@ -7,7 +7,8 @@ ghost use Rattle.grain_value.specs.declared.values.Held.{Held};
 ghost use Rattle.grain_means.specs.Worlds.{Setup, Frame, Place, World, Act};
 ghost use Rattle.grain_means.specs.Rules.{native, flat_all, pushed, raised, call_function};
 ghost use Rattle.grain_means.specs.Simulation.{SimulatesExactly};
-ghost use Rattle.grain_frame.specs.Abstraction.{abstraction, is_out, native_continuation, frame_in, Implements, setup_of, moment};
+ghost use Rattle.grain_frame.specs.Abstraction.{abstraction, is_out, native_continuation, frame_in, setup_of, moment};
+ghost use Rattle.grain_frame.specs.Waiting.{ImplementsOrWaits};
 ghost use Rattle.grain_frame.specs.Natives.{Describes, IsAt, Seeks, Serves, EndsBy};
 ghost use Rattle.grain_fault.specs.Problems.{Problem};
 ghost use Rattle.grain_host.specs.Answers.{reply_of};
@@ -208,7 +209,7 @@ impl<H: Host> Run<H> {
             (abstraction self.old steps.old host.old)
             (λ m place w. native m name None args (f place) w (go m place) (fails m place))
             (is_out result) (abstraction self.new steps.new host.new)
-            (native_continuation result f go fails) }
+            (native_continuation result (λ place. None) f go fails) }
         ensures run { self.new ≡ self.old }
         ensures before { steps.new.before ≡ steps.old.before }
     {
@@ -262,7 +263,7 @@ impl<H: Host> Run<H> {
         requires ahead { frame.old.address < next }
         ensures implements { (args : List Held) → flat_all self.old.cells
             (arguments count self.old.stacks.operands) ≡ Some args →
-            Implements (setup_of H.law context.entry) (moment frame.old self.old steps.old host.old)
+            ImplementsOrWaits (setup_of H.law context.entry) (moment frame.old self.old steps.old host.old)
             (λ m place w. native m name.now None args (frame_in frame.old self.old place) w
             (λ v w1. pushed m (frame_in frame.old self.old place) next
             (under count self.old.stacks.operands) v w1)
@@ -276,7 +277,8 @@ impl<H: Host> Run<H> {
         let sought = seek(self.alloc, host, name, arguments, position)?;
         match self.call_native(host, steps, sought, position)? {
             NativeEnd::Value(value) => {
-                Ok(Performed::Leads(self.push_answer(steps, frame, value, count, next)))
+                self.stacks.cut(self.stacks.height() - count);
+                Ok(Performed::Leads(self.push_on(steps, frame, value, next)))
             }
             NativeEnd::Fault(fault) => Ok(Performed::Leads(self.raise(steps, fault))),
             NativeEnd::Asks(asked) => Ok(Performed::Waits(Waiting {
@@ -285,19 +287,6 @@ impl<H: Host> Run<H> {
                 rest: Rest::Push { count, next },
             })),
         }
-    }
-
-    // A native's value stands in the place of the last `count` operands, and the frame goes on.
-    pub(crate) fn push_answer<L: Ledger>(
-        &mut self,
-        steps: &mut Steps<L>,
-        frame: &mut Activation,
-        value: Dynamic,
-        count: usize,
-        next: usize,
-    ) -> Progress {
-        self.stacks.cut(self.stacks.height() - count);
-        self.push_on(steps, frame, value, next)
     }
 
     /// What follows where no function has the name: the native, or the fault that an operand is a lent
@@ -318,7 +307,7 @@ impl<H: Host> Run<H> {
         requires operands { count ≤ length self.old.stacks.operands }
         requires room { length self.old.stacks.operands - count < self.old.stacks.room }
         requires ahead { frame.old.address < next }
-        ensures implements { Implements (setup_of H.law context.entry)
+        ensures implements { ImplementsOrWaits (setup_of H.law context.entry)
             (moment frame.old self.old steps.old host.old)
             (λ m place w. call_function m None name.now count (frame_in frame.old self.old place)
             next w) (next ∷ []) count 1 self.old.stacks.handlers result

@@ -7,6 +7,7 @@ ghost use Rattle.grain_global.specs.declared.engines.Engine.{Engine};
 ghost use Rattle.grain_means.specs.Rules.{pushed, operated, flat_all};
 ghost use Rattle.grain_value.specs.declared.values.Held.{Held};
 ghost use Rattle.grain_means.specs.Means.{setup};
+ghost use Rattle.grain_frame.specs.Waiting.{PerformsOrWaits};
 ghost use Rattle.grain_frame.specs.Abstraction.{frame_in, Implements, Performs, Ready, setup_of, moment};
 ghost use Rattle.grain_ops.specs.Answers.{Answers};
 ghost use Rattle.grain_program.specs.Indices.{InPools};
@@ -124,7 +125,7 @@ impl<H: Host> Run<H> {
     ) -> Result<Performed, OutOfMemory>
         requires ready { Ready frame.old self.old (op.CallOp name count token) next }
         requires pools { InPools context.program.now (op.CallOp name count token) }
-        ensures performs { Performs (setup_of H.law context.entry)
+        ensures performs { PerformsOrWaits (setup_of H.law context.entry)
             (moment frame.old self.old steps.old host.old) (op.CallOp name count token) next result
             (moment frame.new self.new steps.new host.new) }
     {

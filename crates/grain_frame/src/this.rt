@@ -7,6 +7,7 @@ ghost use Rattle.grain_program.specs.Indices.{InPools};
 ghost use Rattle.grain_program.specs.View.{position_of};
 ghost use Rattle.grain_program.specs.declared.code.instruction_set.Op.TheVariants as op;
 ghost use Rattle.grain_means.specs.Rules.{flattened, onward, position, pushed, stepped};
+ghost use Rattle.grain_frame.specs.Waiting.{PerformsOrWaits};
 ghost use Rattle.grain_frame.specs.Abstraction.{frame_in, Implements, PerformsBound, Raises, Ready, setup_of, moment, this_of};
 ghost use Rattle.grain_frame.specs.Refusals.{FindsThis, refusal_fault};
 ghost use Rattle.grain_frame.specs.This.{at_held};
@@ -153,7 +154,7 @@ impl<H: Host> Run<H> {
     ) -> Result<Performed, OutOfMemory>
         requires ready { Ready frame.old self.old (op.AssignThisOp assign_op) next }
         requires pools { InPools context.program.now (op.AssignThisOp assign_op) }
-        ensures performs { PerformsBound (setup_of H.law context.entry)
+        ensures performs { PerformsOrWaits (setup_of H.law context.entry)
             (moment frame.old self.old steps.old host.old) (op.AssignThisOp assign_op) next result
             (moment frame.new self.new steps.new host.new) }
     {

@@ -1,13 +1,20 @@
 //! Instructions that wait for a native, which asked for a call first.
 
+ghost use Rattle.std.specs.Prelude.{◌≡◌, [], Option, Some, None, is_some, slice_set, true};
+ghost use Rattle.grain_value.specs.Cells.{idle};
+ghost use Rattle.grain_host.specs.Answers.{Resumed, outcome_of as host_outcome_of, reply_of};
+ghost use Rattle.grain_frame.specs.Targets.{CanBeLent};
+ghost use Rattle.grain_frame.specs.Waiting.{IsKept, KeepsLent, ResumesWith, TellsHost, apart_of, given_back_run, lent_of, performed_of};
+
 use crate::assignments::Assignment;
 use crate::native_calls::{Asked, NativeEnd, served};
 use crate::runs::{Progress, Run};
 use crate::targets::Target;
-use grain_fault::Position;
+use grain_fault::{EvalAltResult, Position};
 use grain_global::Steps;
-use grain_host::{Args, Host, HostFault};
-use grain_value::{Array, Dynamic, Held, OutOfMemory};
+use grain_host::{Args, Host, HostAnswer, HostFault};
+use grain_value::{Array, Dynamic, Held, OutOfMemory, Store};
+use std::alloc::Global;
 use std::sync::ledger::Ledger;
 
 /// What an instruction does once the native is over that it called.
@@ -36,7 +43,9 @@ pub enum Lent {
 
 impl Lent {
     /// What a native was lent that stands nowhere in the run, if it was lent something.
-    pub fn of(receiver: Option<Held>) -> Lent {
+    pub fn of(receiver: Option<Held>) -> Lent
+        ensures { result ≡ lent_of receiver }
+    {
         match receiver {
             Some(held) => Lent::Apart(held),
             None => Lent::Nothing,
@@ -67,15 +76,30 @@ pub enum Performed {
 impl Performed {
     // An instruction that is done, unless memory ran out.
     #[inline(always)]
-    pub(crate) fn of(done: Result<Progress, OutOfMemory>) -> Result<Performed, OutOfMemory> {
+    pub(crate) fn of(done: Result<Progress, OutOfMemory>) -> Result<Performed, OutOfMemory>
+        ensures { result ≡ performed_of done }
+    {
         Ok(Performed::Leads(done?))
     }
 }
 
+/// How a native goes on once it has heard what came of a call.
+#[derive(Drop)]
+pub enum Resumed {
+    /// It is over: its value, or its fault, which is not raised yet, and what it had that stands nowhere in
+    /// the run, if it had something.
+    Over(Result<Dynamic, EvalAltResult>, Option<Held>),
+    /// It asks for this call, and has this of what it was lent.
+    Asks(Asked, Lent),
+}
+
 impl<H: Host> Run<H> {
-    // What a native has that was lent what the target holds, and that asks for a call: a cell is lent
+    // What a native has that was lent what the target holds, and that asks for a call. A cell is lent
     // until the native is over.
-    pub(crate) fn keep_lent(&mut self, target: Target) -> Lent {
+    pub(crate) fn keep_lent(&mut self, target: Target) -> Lent
+        requires { CanBeLent self.old target }
+        ensures { KeepsLent self.old target result self.new }
+    {
         match target {
             Target::Cell(cell) => Lent::Cell(cell, self.take_out(target)),
             Target::Entry(_) => Lent::Target(target),
@@ -84,58 +108,144 @@ impl<H: Host> Run<H> {
     }
 
     /// Tells the host, by this token, what came of the call that it asked for, and lends it again what
-    /// it was lent. A fault of the host's without a position has this one.
+    /// it was lent. A fault of the host's without a position has this one. If memory runs out, the host
+    /// forgets the token.
     pub fn resume_native<L: Ledger>(
         &mut self,
         host: &mut H,
         steps: &mut Steps<L>,
         token: u64,
-        outcome: Result<Dynamic, HostFault>,
+        told: Result<Dynamic, HostFault>,
         lent: Lent,
         position: Position,
-    ) -> (Result<NativeEnd, OutOfMemory>, Lent) {
-        let (place, receiver) = match lent {
-            Lent::Nothing => (Lent::Nothing, None),
-            Lent::Target(target) => (Lent::Target(target), Some(self.take_out(target))),
-            Lent::Cell(cell, held) => (Lent::Cell(cell, Held::read_write(Dynamic::Unit)), Some(held)),
-            Lent::Apart(held) => (Lent::Apart(Held::read_write(Dynamic::Unit)), Some(held)),
-        };
-        let mut args = Args {
-            receiver,
-            values: Array::new(self.alloc),
-        };
-        let answer = host.resume(self.alloc, token, outcome, &mut args);
-        let Args { receiver, .. } = args;
-        let lent = self.lend_again(place, receiver);
-        (served(steps, answer, position), lent)
-    }
-
-    // What the native has once it was resumed.
-    fn lend_again(&mut self, place: Lent, receiver: Option<Held>) -> Lent {
-        let Some(held) = receiver else {
-            return Lent::Nothing;
-        };
-        match place {
-            Lent::Nothing => Lent::Nothing,
-            Lent::Target(target) => {
-                self.put_back(target, held);
-                Lent::Target(target)
+    ) -> Resumed
+        requires kept { IsKept self.old lent }
+        ensures tells { TellsHost H.law token (host_outcome_of told) lent position self.old steps.old host.old
+            result self.new steps.new host.new }
+        ensures before { steps.new.before ≡ steps.old.before }
+    {
+        let (answer, lent) = self.resume_with(host, token, told, lent);
+        match served(steps, answer, position) {
+            Err(OutOfMemory) => {
+                host.forget(token);
+                Resumed::Over(Err(EvalAltResult::Memory), self.give_back(lent))
             }
-            Lent::Cell(cell, _) => Lent::Cell(cell, held),
-            Lent::Apart(_) => Lent::Apart(held),
+            Ok(NativeEnd::Fault(fault)) => Resumed::Over(Err(fault), self.give_back(lent)),
+            Ok(NativeEnd::Value(value)) => {
+                self.stacks.cut_trace(0);
+                Resumed::Over(Ok(value), self.give_back(lent))
+            }
+            Ok(NativeEnd::Asks(asked)) => {
+                self.stacks.cut_trace(0);
+                Resumed::Asks(asked, lent)
+            }
         }
     }
 
-    /// Puts back what a native was lent that is over. What stands nowhere in the run is given.
-    pub fn give_back(&mut self, lent: Lent) -> Option<Held> {
+    /// The machine goes on without a native that asked for a call by this token: the host is told to forget
+    /// it, and what the native was lent goes back. What stands nowhere in the run is given.
+    pub fn forget_native(&mut self, host: &mut H, token: u64, lent: Lent) -> Option<Held>
+        ensures host { host.new ≡ H.law.forget_after host.old token }
+        ensures run { self.new ≡ given_back_run lent self.old }
+        ensures apart { result ≡ apart_of lent }
+    {
+        host.forget(token);
+        self.give_back(lent)
+    }
+
+    // Resumes the host, and lends it what it was lent.
+    fn resume_with(
+        &mut self,
+        host: &mut H,
+        token: u64,
+        told: Result<Dynamic, HostFault>,
+        lent: Lent,
+    ) -> (HostAnswer, Lent)
+        requires kept { IsKept self.old lent }
+        ensures resumes { ResumesWith H.law token (host_outcome_of told) lent self.old host.old result.0
+            result.1 self.new host.new }
+    {
+        match lent {
+            Lent::Nothing => {
+                let (answer, _) = resume(self.alloc, host, token, told, None);
+                (answer, Lent::Nothing)
+            }
+            Lent::Target(target) => {
+                let held = self.take_out(target);
+                let (answer, left) = resume(self.alloc, host, token, told, Some(held));
+                self.put_back(target, held_in(left));
+                (answer, Lent::Target(target))
+            }
+            Lent::Cell(cell, held) => {
+                let (answer, left) = resume(self.alloc, host, token, told, Some(held));
+                (answer, Lent::Cell(cell, held_in(left)))
+            }
+            Lent::Apart(held) => {
+                let (answer, left) = resume(self.alloc, host, token, told, Some(held));
+                (answer, Lent::Apart(held_in(left)))
+            }
+        }
+    }
+
+    // Puts back what a native was lent that is over. What stands nowhere in the run is given.
+    fn give_back(&mut self, lent: Lent) -> Option<Held>
+        ensures run { self.new ≡ given_back_run lent self.old }
+        ensures apart { result ≡ apart_of lent }
+    {
         match lent {
             Lent::Nothing => None,
             Lent::Target(_) => None,
             Lent::Cell(cell, held) => {
-                self.cells.give_back(cell, held);
+                put_in_cell(&mut self.cells, cell, held);
                 None
             }
             Lent::Apart(held) => Some(held),
         }
+    }
+}
+
+// Resumes the host with a receiver, if there is one, and gives the receiver as the host left it.
+fn resume<H: Host>(
+    alloc: Global,
+    host: &mut H,
+    token: u64,
+    told: Result<Dynamic, HostFault>,
+    receiver: Option<Held>,
+) -> (HostAnswer, Option<Held>)
+    ensures { Resumed H.law host.old token (host_outcome_of told)
+        (record { receiver = receiver; values = [] }) (reply_of result.0) host.new
+        (record { receiver = result.1; values = [] }) }
+{
+    let mut args = Args {
+        receiver,
+        values: Array::new(alloc),
+    };
+    let answer = host.resume(alloc, token, told, &mut args);
+    let Args { receiver, .. } = args;
+    (answer, receiver)
+}
+
+// What is held, which is there.
+fn held_in(held: Option<Held>) -> Held
+    requires { is_some held ≡ true }
+    ensures { Some result ≡ held }
+{
+    match held {
+        Some(held) => held,
+        None => unreachable!(),
+    }
+}
+
+/// Puts this into a cell, whose content is not lent from then on. A cell that is not there stays away.
+pub fn put_in_cell(cells: &mut Store, number: usize, held: Held)
+    ensures { cells.new ≡ slice_set cells.old number (idle held) }
+{
+    if number >= cells.len() {
+        return;
+    }
+    if cells.is_busy(number) {
+        cells.give_back(number, held);
+    } else {
+        cells.set(number, held);
     }
 }

@@ -1,4 +1,5 @@
 -- How the walk of a chain is driven: what it needs is asked of the host.
+pub use Rattle.grain_frame.specs.Waiting.{beside}
 use Rattle.std.specs.Prelude.{◌≡◌, ◌⊎◌, ◌+◌, ℕ, suc, List, [], Option, Some, None, Bool, true, false, Result, Ok, Err, map, option_map, take}
 use Rattle.grain_value.specs.Tree.{Tree}
 use Rattle.grain_value.specs.View.{value_of}
@@ -40,11 +41,6 @@ use Rattle.grain_vm.specs.Seats.{Rests, Seat, Seated, first_held, walk_seated}
 use Rattle.grain_vm.specs.declared.driving.WalkEnd.{WalkEnd}
 use Rattle.grain_vm.specs.declared.driving.WalkEnd.TheVariants as walk_end
 use Rattle.grain_frame.specs.declared.runs.Run.{Run}
-
--- the state of the code, but with this scope and this `this`: while a walk is under way, its root may
--- be away from its entry or from the frame's `this`
-abbrev pub beside : {H : Type 0} → List Entry → Option Held → Run H → StepsView → H → LocalState H
-beside scope this s n host = record (abstraction s n host) { scope = scope; this = this }
 
 -- the description that a host is given of a receiver, if there is one, and the arguments after it
 pub record DescribesAfter (x : Option Held) (a : Arguments) (args : List Held) : Type 0 where

@@ -11,7 +11,7 @@ use crate::natives::{OnReceiver, call_native_on, give_back_to_cell};
 use crate::calls::deeper;
 use grain_chain::{Request, What};
 use grain_fault::{EvalAltResult, Fault, Position};
-use grain_frame::{Activation, Asked, Context, Lent, NativeEnd, Performed, Progress, Run, Waiting};
+use grain_frame::{Activation, Asked, Context, Performed, Progress, Resumed, Run, Waiting};
 use grain_global::Steps;
 use grain_host::{Host, HostFault};
 use grain_value::{Array, Dynamic, FnPtr, Held, OutOfMemory, Text};
@@ -136,9 +136,8 @@ fn take_trace<H: Host>(run: &mut Run<H>, kept: bool) -> Result<Option<Vec<Fault>
 
 // Memory ran out before what a native asks for could begin.
 fn give_up<H: Host>(run: &mut Run<H>, host: &mut H, native: AskingNative) -> Outcome {
-    host.forget(native.asked.token);
     run.stacks.cut_trace(0);
-    let receiver = run.give_back(native.lent);
+    let receiver = run.forget_native(host, native.asked.token, native.lent);
     (Err(EvalAltResult::Memory), receiver)
 }
 
@@ -215,26 +214,13 @@ fn end_of_native<H: Host, L: Ledger>(
         let came = call_back(run, context, host, steps, pos, pointer, values);
         let told = match told(run, steps, pos, came) {
             Ok(told) => told,
-            Err(fault) => {
-                host.forget(token);
-                return (Err(fault), run.give_back(lent));
-            }
+            Err(fault) => return (Err(fault), run.forget_native(host, token, lent)),
         };
-        let (end, left) = run.resume_native(host, steps, token, told, lent, pos);
-        lent = left;
-        match end {
-            Err(OutOfMemory) => {
-                host.forget(token);
-                return (Err(EvalAltResult::Memory), run.give_back(lent));
-            }
-            Ok(NativeEnd::Fault(fault)) => return (Err(fault), run.give_back(lent)),
-            Ok(NativeEnd::Value(value)) => {
-                run.stacks.cut_trace(0);
-                return (Ok(value), run.give_back(lent));
-            }
-            Ok(NativeEnd::Asks(next)) => {
-                run.stacks.cut_trace(0);
+        match run.resume_native(host, steps, token, told, lent, pos) {
+            Resumed::Over(outcome, left) => return (outcome, left),
+            Resumed::Asks(next, left) => {
                 asked = next;
+                lent = left;
             }
         }
     }

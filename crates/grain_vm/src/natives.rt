@@ -10,10 +10,10 @@ use crate::driving::{Answered, AskingNative, ask_host, name_asked, perform_reque
 use crate::methods::Outcome;
 use grain_chain::{Request, What};
 use grain_fault::{EvalAltResult, Position};
-use grain_frame::{Arguments, Run};
+use grain_frame::{Arguments, Run, put_in_cell};
 use grain_global::Steps;
 use grain_host::Host;
-use grain_value::{Array, Dynamic, Held, OutOfMemory, Store};
+use grain_value::{Array, Held, OutOfMemory, Store};
 use std::alloc::Global;
 use std::sync::ledger::Ledger;
 
@@ -159,12 +159,10 @@ pub(crate) fn give_back_to_cell<H: Host>(
         read_only,
     } = back;
     let Some(left) = left else { unreachable!() };
-    run.cells.give_back(
-        cell,
-        Held {
-            value: left.value,
-            read_only,
-        },
-    );
+    let content = Held {
+        value: left.value,
+        read_only,
+    };
+    put_in_cell(&mut run.cells, cell, content);
     Some(receiver)
 }

@@ -10,7 +10,7 @@ ghost use Rattle.grain_frame.specs.Abstraction.{Raises};
 ghost use Rattle.grain_vm.specs.Chains.{root_index, root_held, home_in, can_read, HasChainOperands, FindsRoot, refusal_in, chain_fault, root_position_at, CanTake, CanPutBack, RootTaken, with_root, is_free};
 
 use grain_fault::{EvalAltResult, Position};
-use grain_frame::{Activation, Context, Progress, Run};
+use grain_frame::{Activation, Context, Progress, Run, put_in_cell};
 use grain_global::Steps;
 use grain_host::Host;
 use grain_program::{Chain, Program, Root, Step, Tail};
@@ -288,19 +288,5 @@ pub(crate) fn put_root_back<H: Host>(run: &mut Run<H>, home: Home, root: Held)
         Home::This => {
             let _meanwhile = run.receivers.replace(root);
         }
-    }
-}
-
-// Puts this into a cell, whose content is not lent from then on. A cell that is not there stays away.
-fn put_in_cell(cells: &mut Store, number: usize, held: Held)
-    ensures { cells.new ≡ slice_set cells.old number (idle held) }
-{
-    if number >= cells.len() {
-        return;
-    }
-    if cells.is_busy(number) {
-        cells.give_back(number, held);
-    } else {
-        cells.set(number, held);
     }
 }
