@@ -327,7 +327,7 @@ module _ {S : Type 0} {m : Setup S} (walk : Walk m) where
       (λ _. omega arith) in
       even_onward walk (now.ran + 1)
       (record f { address = f.address + width; floor = length now.scope }) (start walk)
-      (steady walk) trace (inr ((width, at), refl)) (sits.0, keeps.there, on.2, on.3, on.4)
+      (steady walk) trace (inr ((width, at), refl)) (sits.0, keeps.keeps.there, on.2, on.3, on.4)
   even_instr (op.Statement depth) width at = even_on walk (op.Statement depth) width at _ refl
       (sits_at walk (op.Statement depth) width at refl _ f.operands (inl refl) (λ _. omega arith))
   even_instr (op.PushHandler target) width at =
@@ -372,7 +372,7 @@ module _ {S : Type 0} {m : Setup S} (walk : Walk m) where
       (flat now.cells (top f.operands).value) refl
   even_instr op.Return width at =
       even_marked walk (now.ran + 1) (start walk) (steady walk) (End (Came (top f.operands).value))
-      (refl, tokens, level, keeps, trace, tt)
+      (refl, tokens, level, keeps, (trace, tt))
 
   even_begun : (x : Option (Op × ℕ)) → op_at m.program.code f.address ≡ x →
       Even walk (now.ran + 1) (start_instruction m (or_return x) f
@@ -381,7 +381,7 @@ module _ {S : Type 0} {m : Setup S} (walk : Walk m) where
       even_marked walk (now.ran + 1) (record now { ran = now.ran + 1 }) (steady walk)
       (instr m op.Return (f.address + 1) f)
       (even_marked walk (now.ran + 1) (start walk) (steady walk) (End (Came (top f.operands).value))
-      (refl, tokens, level, keeps, trace, tt))
+      (refl, tokens, level, keeps, (trace, tt)))
   even_begun (Some r) e = even_marked walk (now.ran + 1) (record now { ran = now.ran + 1 })
       (steady walk) (instr m r.0 (f.address + r.1) f) (even_instr r.0 r.1 e)
 

@@ -17,7 +17,7 @@ use Rattle.grain_means.specs.Rules.{Destination, Nowhere, ToSlot, ToThis, call_o
 use Rattle.grain_means.specs.Worlds.{Act, Answer, Came, Failed, Place, Setup, World}
 use Rattle.grain_means.specs.Causes.{Caused, UsesEntry}
 use Rattle.grain_means.proofs.Footing.{Sits, UnitThrown, by_test, is_false}
-use Rattle.grain_means.proofs.Kept.{keeps_set}
+use Rattle.grain_means.proofs.Ground.{stays_set}
 use Rattle.grain_means.proofs.Lengths.{past_scope}
 use Rattle.grain_means.proofs.Tally.Faults.{even_offered_in, even_raised_in, why}
 use Rattle.grain_means.proofs.Tally.Frames.{Blame, Enough, Even, Reason, Steady, Walk, even_onward, holding}
@@ -116,7 +116,7 @@ module _ {S : Type 0} {m : Setup S} (walk : Walk m) where
         in_entry h n a u s same e None none = no_entry n a u s same e none
         in_entry h n a u s same e (Some before) is =
             let v : World S = record u { scope = set_held u.scope i h } in
-            over n a v (s.0, s.1, s.2, keeps_set k.base k.names u.scope i h s.3)
+            over n a v (s.0, s.1, s.2, stays_set u.scope u.cells i h s.3)
             (ended_on a u v refl refl e)
 
       goes : (d : Destination) → UsesSlot o d → (h : Held) (n : ℕ) (a : Answer) (u : World S) →
