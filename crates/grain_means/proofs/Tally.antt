@@ -7,7 +7,10 @@
 -- `Tally`; `Catching` has the rule of a catch, and `Called` whole runs.
 pub mod Frames
 pub mod Faults
+pub mod Functions
+pub mod Asking
 pub mod Natives
+pub mod NativeCalls
 pub mod Entries
 pub mod Operators
 pub mod This
@@ -124,7 +127,7 @@ module _ {S : Type 0} {m : Setup S} (walk : Walk m) where
       (even_assigned_op walk (op.AssignLocalOp slot n a) width at n (assign_op_of m.program a) slot
       (sits_at walk (op.AssignLocalOp slot n a) width at refl _ _ (inl refl) (λ _. one_less walk))
       (λ reads h held. (refl, reads, (h, held))) (λ lent. (refl, lent))
-      (λ question asks native found called answer answers lent. record {
+      (λ question asks native found called answer answers. record {
         named = refl;
         question = question;
         asks = asks;
@@ -133,7 +136,6 @@ module _ {S : Type 0} {m : Setup S} (walk : Walk m) where
         called = called;
         answer = answer;
         answers = answers;
-        lent = lent;
       })
       (λ h u v held content read. (refl, (h, u, v, held, content, read, refl, refl)))
       (λ h u v held content read none. record {
@@ -169,7 +171,7 @@ module _ {S : Type 0} {m : Setup S} (walk : Walk m) where
       (sits_at walk (op.AssignThisOp a) width at refl _ _ (inl refl) (λ _. one_less walk))
       (λ reads. reads) (λ lent. (refl, lent)) (λ reads h held only. (refl, reads, (h, held, only)))
       (assign_op_of m.program a)
-      (λ question asks native found called answer answers lent. record {
+      (λ question asks native found called answer answers. record {
         named = refl;
         question = question;
         asks = asks;
@@ -178,7 +180,6 @@ module _ {S : Type 0} {m : Setup S} (walk : Walk m) where
         called = called;
         answer = answer;
         answers = answers;
-        lent = lent;
       })
       (λ h u v held no content read. (refl, (h, u, v, held, no, content, read, refl, refl)))
       (λ p u v is no content read none. record {

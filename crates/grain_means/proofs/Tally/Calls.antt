@@ -34,7 +34,7 @@ use Rattle.grain_means.proofs.Footing.{Onto, Sits, by_test, true-false, cause_in
 use Rattle.grain_means.proofs.Carrying.{cause_at}
 use Rattle.grain_means.proofs.Tally.Frames.{Walk, Even, Steady, start, steady, even_marked, holding, even_onward, point, Enough}
 use Rattle.grain_means.proofs.Tally.Faults.{blames_none, met, why, even_offered_in, even_raised_in, even_raised, even_flat, even_flat_all, heard, even_charged}
-use Rattle.grain_means.proofs.Tally.Natives.{answered_by, even_native_in}
+use Rattle.grain_means.proofs.Tally.NativeCalls.{even_native_in}
 
 -- an instruction that calls a function itself is no chain
 calls_itself : {S : Type 0} (program : View) (g : Function) (args : List Held) (o : Op) (f : Frame)
@@ -234,13 +234,12 @@ module _ {S : Type 0} {m : Setup S} (walk : Walk m) where
           args = args;
         }) (point walk o) =
         inl (inl (refl, refl, refl, inl (misses refl args e))) in
-        even_native_in walk o width stands (start walk) (steady walk) name None args q
+        even_native_in walk o width stands (start walk) (now.ran + 1) (steady walk) trace name None args q
         (λ x. inl (inl (refl, refl, refl, inl (misses refl args e)))) operands full
         (λ v w1. pushed m (holding walk operands) (f.address + width) (under count operands) v w1)
-        (λ n there _ v _. even_onward walk (now.ran + 1)
-        (stepped f (f.address + width) (under count operands ++ read_write v ∷ []))
-        (answered_by walk o width stands (start walk) (steady walk) name None args q n.key)
-        (steady walk) trace (inl refl) (u v)))
+        (λ n there called v l w1 how after empty. even_onward walk l
+        (stepped f (f.address + width) (under count operands ++ read_write v ∷ [])) w1 after.0 empty
+        (inl refl) (u v)))
         (flat_all now.cells (arguments count operands)) refl
     even_called name count operands full enough u charges fills (Some g) lent misses calls fits =
         let on : CallsOn m.program g (arguments count operands) o f now = calls g refl in
