@@ -11,6 +11,7 @@ use Rattle.grain_fault.specs.Classes.{catchable}
 use Rattle.grain_fault.specs.Positions.{at_position}
 use Rattle.grain_fault.specs.Problems.{Problem, Plain, InFunctionCall, NoMemory, StackOverflow, Terminated, TooManyOperations, TooManyVariables}
 use Rattle.grain_fault.specs.declared.places.Position.{Position}
+use Rattle.grain_fault.specs.declared.traces.Fault.{Fault}
 use Rattle.grain_host.specs.Law.{GoOn, Stop, Verdict}
 use Rattle.grain_program.specs.View.{name_of, source_text}
 use Rattle.grain_program.specs.declared.code.functions.Function.{Function}
@@ -25,7 +26,7 @@ use Rattle.grain_means.specs.Worlds.{Act, Go, Then, Answer, Came, Failed, Frame,
 use Rattle.grain_means.specs.lemmas.LentPlaces.{found-new}
 use Rattle.grain_means.proofs.Explaining.{explained}
 use Rattle.grain_means.proofs.Explaining.Ways.{Why}
-use Rattle.grain_means.proofs.Footing.{by_test}
+use Rattle.grain_means.proofs.Footing.{by_test, is_false}
 use Rattle.grain_means.proofs.Touching.{frame_touched}
 use Rattle.grain_means.proofs.Touching.Beside.{before_this, get_below}
 use Rattle.grain_means.proofs.Touching.Writes.{Stands, stands_same}
@@ -279,10 +280,10 @@ module _ {S : Type 0} (m : Setup S) (c : ChainWalk S) (i : Invocation) (go : Ans
   comes_no_more n x t v falls (wrote b) = falls
   comes_no_more n x t v falls (added b) = falls
   comes_no_more n x (Drop k f) v falls (dropped b) = comes_no_more n x _ _ (falls _) b
-  comes_no_more n x t v falls (heard e b) = falls
+  comes_no_more n x t v falls (heard trace e b) = falls
   comes_no_more n x t v falls (returned e b) = falls
 
-  falls_there : {t : Task} {v : World S} → WalksTo m c (Invoke i go) w t v → Why m c t v →
+  falls_there : {t : Task} {v : World S} → WalksTo m c (Invoke i go) w t v → Why m false c t v →
       (x : Problem) → Falls i.step x (go (Failed x))
   falls_there here why = why.1
   falls_there (marked e b) why = falls_there b (why.1 e)
@@ -291,13 +292,14 @@ module _ {S : Type 0} (m : Setup S) (c : ChainWalk S) (i : Invocation) (go : Ans
   falls_there (wrote b) why = falls_there b why
   falls_there (added b) why = falls_there b why
   falls_there (dropped b) why = falls_there b why
-  falls_there (heard {u = u} {a = z} e b) why = falls_there b (why.1 z u e)
+  falls_there (heard {u = u} {a = z} trace e b) why =
+      falls_there b (why.2 z u trace e (λ known. is_false known))
   falls_there (returned {u = u} {a = Came d} e b) why = falls_there b (why.2 d u e)
   falls_there (returned {i = k} {u = u} {a = Failed y} e b) why =
       elim (comes_no_more k.step y _ u (why.1 y) b) [ ]
 
   pub falls_on : ComesTo m c (Invoke i go) w → (x : Problem) → Falls i.step x (go (Failed x))
-  falls_on comes = falls_there comes (explained m c)
+  falls_on comes = falls_there comes (explained m false c)
 
 -- of roots that are taken, those below stay
 take-below : (xs : List Held) (n k : ℕ) → n < k → take n (take k xs) ≡ take n xs
@@ -308,13 +310,13 @@ take-below (x ∷ xs) (suc n) (suc k) low = ap (λ l. x ∷ l) (take-below xs n 
 
 -- what the first root held goes back
 module _ {S : Type 0} (m : Setup S) (k next n : ℕ) (f : Frame) (back : Held → World S → World S)
-    (w : World S) (x : Problem) where
+    (w : World S) (x : Problem) (missed : Option (List Fault)) where
   abbrev after : Walked → World S → Act S
   after o v = chain_over m k next f o (back (look v.roots (new_root w.roots))
       (record v { roots = take (length w.roots) v.roots }))
 
   pub goes_back : (t : Task) → Falls n x t → (u : World S) →
-      walks m k f (new_root w.roots) (length w.roots + 1) t after u ≡ after (WalkFailed n x) u
+      walks m k f (new_root w.roots) (length w.roots + 1) missed t after u ≡ after (WalkFailed n x) u
   goes_back (Done o) falls u = ap (λ (z : Walked). after z u) falls
   goes_back (Drop i go) falls u =
       let j : ℕ = length w.roots + 1 + i in

@@ -3,6 +3,7 @@
 -- whole runs, and that something stands at the `this` of each frame.
 pub mod Writes
 pub mod Passing
+pub mod Callbacks
 pub mod Frames
 pub mod Instructions
 pub mod Calls
@@ -14,7 +15,7 @@ pub mod Within
 pub mod Children
 pub mod Tasks
 pub mod Steps
-use Rattle.std.proofs.Common.{◌≡◌, ◌+◌, ℕ, List, [], ◌∷◌, Option, Some, None, true, false, length, refl, sym, subst}
+use Rattle.std.proofs.Common.{◌≡◌, ◌+◌, ℕ, Bool, List, [], ◌∷◌, Option, Some, None, true, false, length, refl, sym, subst}
 use Rattle.std.specs.Prelude.{is_some, slice_get}
 use Rattle.grain_value.specs.Looking.{cell_of, is_unit}
 use Rattle.grain_value.specs.Operands.{arguments, below, rotated, top, under}
@@ -32,9 +33,10 @@ use Rattle.grain_means.specs.Ends.{Ends, ended, went, joined}
 use Rattle.grain_means.specs.Places.{find}
 use Rattle.grain_means.specs.Rules as rules
 use Rattle.grain_means.specs.Rules.{Nowhere, ToSlot, ToThis, exit_of, function_found, is_stop, operated, or_return, outer_handlers, stepped, without}
-use Rattle.grain_means.specs.Worlds.{Act, Go, End, Then, Answer, Came, Failed, Frame, InCatch, InFrame, Place, Setup, Todo, World}
+use Rattle.grain_means.specs.Worlds.{Act, Go, End, Then, Answer, Came, Failed, Frame, InCatch, InFrame, InHost, Place, Setup, Todo, World}
 use Rattle.grain_means.proofs.Footing.{by_test}
-use Rattle.grain_means.proofs.Touching.Passing.{Leaves, this_of}
+use Rattle.grain_means.proofs.Touching.Passing.{Given, Leaves, Sits}
+use Rattle.grain_means.proofs.Touching.Callbacks.{calls_back}
 use Rattle.grain_means.proofs.Touching.Frames.{At, Stays, charged, jumps, marks, onward, pushes, raises, reads, reads_all}
 use Rattle.grain_means.proofs.Touching.Instructions.{assigns, assigns_this, declares, loads, loads_shared, loads_this, loads_this_shared, op_assigns, op_assigns_this, pushes_outcome, requires_this, shares, skips, stores, tests_top, unwinds}
 use Rattle.grain_means.proofs.Touching.Calls.{calls_function, calls_pointer, catches, curries}
@@ -138,52 +140,59 @@ module _ {S : Type 0} (m : Setup S) (t : Option Place) (old : List Held) where
     does op.Return next w at = marks m t old f w (End (Came (top f.operands).value)) at at
 
   -- one more thing is done
-  goes_further : (u : Todo) (w : World S) → At m t old w → this_of u ≡ t →
-      Stays m t old (rules.next m u w)
-  goes_further (InFrame f) w at is =
+  goes_further : (b : Bool) (u : Todo) (w : World S) → At m t old w → Sits b t (length old) u →
+      Leaves b t old (rules.next m u w)
+  goes_further false (InFrame f) w at is =
       let r = or_return (op_at m.program.code f.address) in
       marks m t old f (record w { ran = w.ran + 1 }) (rules.instr m r.0 (f.address + r.1) f) at
       (does f is r.0 (f.address + r.1) (record w { ran = w.ran + 1; passed = w.passed + 1 }) at)
-  goes_further (InCatch f h x) w at is = catches m t old f is h x w at
+  goes_further false (InCatch f h x) w at is = catches m t old f is h x w at
+  goes_further false (InHost c) w at is = absurd is
+  goes_further true (InFrame f) w at is = absurd is
+  goes_further true (InCatch f h x) w at is = absurd is
+  goes_further true (InHost c) w at may = calls_back m t old c may w at
 
 -- so it is where a run ends
 pub ends_touched : {S : Type 0} (m : Setup S) {act : Act S} {a : Answer} {v : World S} →
-    Ends m act a v → (t : Option Place) (old : List Held) → Leaves t old act → Stands t old v.roots
-ends_touched m ended t old h = h
-ends_touched m (went {t = u} {w = w} d) t old h =
-    ends_touched m d t old (goes_further m t old u w h.0 h.1)
-ends_touched m (joined {rest = rest} {b = x} {w = w} d e) t old h =
-    ends_touched m e t old (h.4 x w (ends_touched m d h.0 h.1 h.3))
+    Ends m act a v → (b : Bool) (t : Option Place) (old : List Held) → Leaves b t old act →
+    Stands t old v.roots
+ends_touched m ended b t old h = h
+ends_touched m (went {t = u} {w = w} d) b t old h =
+    ends_touched m d b t old (goes_further m t old b u w h.0 h.1)
+ends_touched m (joined {rest = rest} {b = x} {w = w} d e) b t old h =
+    ends_touched m e b t old (h.5 x w (ends_touched m d h.0 h.1 h.2 h.4))
 
 pub frame_touched : {S : Type 0} (m : Setup S) (f : Frame) (w v : World S) (a : Answer) →
     Ends m (Go (InFrame f) w) a v → Stands f.this w.roots v.roots
-frame_touched m f w v a d = ends_touched m d f.this w.roots (stands_same f.this w.roots, refl)
+frame_touched m f w v a d =
+    ends_touched m d false f.this w.roots (stands_same f.this w.roots, refl)
 
 -- something stands at the `this` of a frame to which a run comes
 pub comes_bound : {S : Type 0} (m : Setup S) {f : Frame} {v : World S} {act : Act S} →
-    Comes m (InFrame f) v act → (t : Option Place) (old : List Held) → Leaves t old act → Bound t old →
-    Bound f.this v.roots
-comes_bound m {f = f} {v = v} here t old h given =
+    Comes m (InFrame f) v act → (b : Bool) (t : Option Place) (old : List Held) → Leaves b t old act →
+    Given b t old → Bound f.this v.roots
+comes_bound m {f = f} {v = v} here false t old h given =
     subst (λ (o : Option Place). Bound o v.roots) (sym h.1) (bound_on t old v.roots h.0 given)
-comes_bound m (further {u = u} {v = w} c) t old h given =
-    comes_bound m c t old (goes_further m t old u w h.0 h.1) given
-comes_bound m (within c) t old h given = comes_bound m c h.0 h.1 h.3 (h.2 given)
-comes_bound m (behind {a = x} {v = w} d c) t old h given =
-    comes_bound m c t old (h.4 x w (ends_touched m d h.0 h.1 h.3)) given
+comes_bound m here true t old h given = absurd h.1
+comes_bound m (further {u = u} {v = w} c) b t old h given =
+    comes_bound m c b t old (goes_further m t old b u w h.0 h.1) given
+comes_bound m (within c) b t old h given = comes_bound m c h.0 h.1 h.2 h.4 (h.3 given)
+comes_bound m (behind {a = x} {v = w} d c) b t old h given =
+    comes_bound m c b t old (h.5 x w (ends_touched m d h.0 h.1 h.2 h.4)) given
 
 -- a call of the machine
 module _ {S : Type 0} (m : Setup S) (t : Option Place) (old : List Held) where
   passes : (w : World S) (go : World S → Act S) → Stands t old w.roots →
-      Leaves t old (go (record w { passed = w.passed + 1 })) → Leaves t old (rules.passing m w go)
+      Leaves false t old (go (record w { passed = w.passed + 1 })) → Leaves false t old (rules.passing m w go)
   passes w go at h =
-      by_test (Leaves t old) (is_stop m.stop w.passed) (End (Failed NoMemory) w)
+      by_test (Leaves false t old) (is_stop m.stop w.passed) (End (Failed NoMemory) w)
       (go (record w { passed = w.passed + 1 })) (λ stop. at) (λ clear. h)
 
   closes : (trace : List Fault) (a : Answer) (w : World S) → Stands t old w.roots →
-      Leaves t old (rules.closed m trace a w)
+      Leaves false t old (rules.closed m trace a w)
   closes trace a w at = passes w (rules.exited m (exit_of a) trace a) at (by_exit (exit_of a)) where
     by_exit : (o : Option Dynamic) →
-        Leaves t old (rules.exited m o trace a (record w { passed = w.passed + 1 }))
+        Leaves false t old (rules.exited m o trace a (record w { passed = w.passed + 1 }))
     by_exit None = at
     by_exit (Some d) = at
 
@@ -193,8 +202,9 @@ pub called_bound : {S : Type 0} (m : Setup S) (this : Option Place) (w v : World
     (h : Held) × (find v.roots p ≡ Some h)
 called_bound {S} m this w v f p stands comes is =
     subst (λ (o : Option Place). Bound o v.roots) is
-    (comes_bound m comes this w.roots (passes m this w.roots w twice (stands_same this w.roots)
+    (comes_bound m comes false this w.roots (passes m this w.roots w twice (stands_same this w.roots)
     (passes m this w.roots (record w { passed = w.passed + 1 }) enters (stands_same this w.roots) (
+      false,
       this,
       w.roots,
       (λ b. b),

@@ -5,17 +5,19 @@ use Rattle.grain_value.specs.Cells.{flat}
 use Rattle.grain_value.specs.declared.values.Dynamic.{Dynamic}
 use Rattle.grain_value.specs.declared.values.Held.{Held}
 use Rattle.grain_fault.specs.Absences.{is_dot_expr, is_indexing_type}
+use Rattle.grain_fault.specs.Classes.{catchable}
 use Rattle.grain_fault.specs.Problems.{Problem, Plain, DataRace, NoMemory}
 use Rattle.grain_fault.specs.declared.places.Position.{Position}
+use Rattle.grain_fault.specs.declared.traces.Fault.{Fault}
 use Rattle.grain_means.specs.Worlds.{is_stop, Answer, Came, Failed, Place, Setup, World}
 use Rattle.grain_means.specs.Places.{look, put}
-use Rattle.grain_means.specs.Rules.{race_text}
+use Rattle.grain_means.specs.Rules.{Receiver, race_text}
 use Rattle.grain_means.specs.Tasks.{Call, Invocation, Method, Task, Done, Mark, Look, Flatten, Write, Root, Drop, Need, Invoke, WalkEnded, WalkFailed}
 use Rattle.grain_means.specs.Walks as walks
 use Rattle.grain_means.specs.Walks.{Rest, Next, at_mark, failing, flat_or_busy, flattening}
-use Rattle.grain_means.specs.Causes.Spots.{ChainWalk, WalksTo, here, marked, looked, read, wrote, added, dropped, heard, returned, past, CallEnds, InvocationEnds, Falls, ComesTo, WalkRow, CallFails, lent_for, under_for, world_of}
+use Rattle.grain_means.specs.Causes.Spots.{ChainWalk, WalksTo, here, marked, looked, read, wrote, added, dropped, heard, returned, past, untraced, CallEnds, IsReason, InvocationEnds, Falls, ComesTo, WalkRow, CallFails, lent_for, under_for, world_of}
 
-module _ {S : Type 0} (m : Setup S) (c : ChainWalk S) where
+module _ {S : Type 0} (m : Setup S) (sure : Bool) (c : ChainWalk S) where
   -- one way after another
   pub join : {r u : Task} {x w : World S} {t : Task} {v : World S} → WalksTo m c u w t v →
       WalksTo m c r x u w → WalksTo m c r x t v
@@ -26,21 +28,31 @@ module _ {S : Type 0} (m : Setup S) (c : ChainWalk S) where
   join (wrote a) b = wrote (join a b)
   join (added a) b = added (join a b)
   join (dropped a) b = dropped (join a b)
-  join (heard e a) b = heard e (join a b)
+  join (heard trace e a) b = heard trace e (join a b)
   join (returned e a) b = returned e (join a b)
 
   abbrev pub On : Task → World S → Type 0
   On t v = ComesTo m c t v
 
+  -- a reason why the walk ends in a fault, and why a call ends, where it is sure that calls have one
+  abbrev pub Row : ℕ → Problem → Type 0
+  Row n x = sure ≡ true → WalkRow m c n x
+
+  abbrev pub HasReason : {call : Call} {r : Option Receiver} {w u : World S} {a : Answer} →
+      CallEnds m call r w a u → Type 0
+  HasReason ends = sure ≡ true → IsReason ends
+
   -- memory is out, and the newer roots go
   abbrev pub Stops : Task → Type 0
   Stops t = (k : ℕ) × Falls k NoMemory t
 
-  -- Every fault that a task comes to from this world has its row. The walk comes to a call of a
-  -- function, and with the fault of the call the walk ends.
+  -- Every fault that a task comes to from this world has its row, if it is sure that natives that are called
+  -- end with a reason. A call may leave any trace. Where a native ends with a fault that no script may
+  -- catch, the walk ends with it. The walk comes to a call of a function, and with the fault of the call
+  -- the walk ends.
   abbrev pub Why : Task → World S → Type 0
   Why (Done (WalkEnded u changed)) v = Unit {0}
-  Why (Done (WalkFailed n x)) v = WalkRow m c n x
+  Why (Done (WalkFailed n x)) v = Row n x
   Why (Mark out go) v = Stops out × (is_stop m.stop v.passed ≡ false → Why go (past v))
   Why (Look q go) v = Why (go (look v.roots (world_of m c q))) v
   Why (Flatten u go) v = Why (go (flat v.cells u)) v
@@ -50,12 +62,15 @@ module _ {S : Type 0} (m : Setup S) (c : ChainWalk S) where
       Why (go (look v.roots (record { root = c.others + i; path = [] })))
       (record v { roots = take (c.others + i) v.roots })
   Why (Need call go) v =
-      Stops (go (Failed NoMemory)) × ((a : Answer) (u : World S) →
-      CallEnds m call (lent_for m c call v) v a u → Why (go a) u)
+      Stops (go (Failed NoMemory)) ×
+      ((x : Problem) → catchable x ≡ false → Falls call.step x (go (Failed x))) ×
+      ((a : Answer) (u : World S) (trace : List Fault)
+      (ends : CallEnds m call (lent_for m c call v) (untraced v) a u) → HasReason ends →
+      Why (go a) (record u { trace = trace }))
   Why (Invoke i go) v =
       On (Invoke i go) v × ((x : Problem) → Falls i.step x (go (Failed x))) ×
       ((d : Dynamic) (u : World S) →
-      InvocationEnds m i (under_for m c i) v (Came d) u → Why (go (Came d)) u)
+      InvocationEnds m i (under_for m c i) (untraced v) (Came d) u → Why (go (Came d)) u)
 
   -- so from each world in which the walk comes to it
   abbrev pub From : Task → Type 0
@@ -70,7 +85,7 @@ module _ {S : Type 0} (m : Setup S) (c : ChainWalk S) where
   Goes next = (p : Place) (done : Rest) → Follows done → From (next p done)
 
   -- a fault that goes to the walk's end has the row that it has
-  pub fallen : (n : ℕ) (x : Problem) → WalkRow m c n x → (t : Task) → Falls n x t → (v : World S) →
+  pub fallen : (n : ℕ) (x : Problem) → Row n x → (t : Task) → Falls n x t → (v : World S) →
       Why t v
   fallen n x row (Done o) falls v = rw falls row
   fallen n x row (Mark out go) falls v = absurd falls
@@ -85,7 +100,7 @@ module _ {S : Type 0} (m : Setup S) (c : ChainWalk S) where
   fallen n x row (Invoke i go) falls v = absurd falls
 
   module _ (n : ℕ) where
-    pub ill : (x : Problem) (done : Rest) → Follows done → WalkRow m c n x → (v : World S) →
+    pub ill : (x : Problem) (done : Rest) → Follows done → Row n x → (v : World S) →
         Why (done (WalkFailed n x)) v
     ill x done f row v = fallen n x row (done (WalkFailed n x)) (f.falls n x) v
 
@@ -96,7 +111,7 @@ module _ {S : Type 0} (m : Setup S) (c : ChainWalk S) where
     marks done go f from v come =
         (out done f, λ clear. from (past v) (join come (marked clear here)))
 
-    pub fails : (x : Problem) (done : Rest) → Follows done → WalkRow m c n x → From (failing n x done)
+    pub fails : (x : Problem) (done : Rest) → Follows done → Row n x → From (failing n x done)
     fails x done f row = marks done (done (WalkFailed n x)) f (λ v come. ill x done f row v)
 
     -- a value is read in a world, or it is a lent cell
@@ -108,7 +123,7 @@ module _ {S : Type 0} (m : Setup S) (c : ChainWalk S) where
           On (flat_or_busy n q done go o) v → Why (flat_or_busy n q done go o) v
       by_content None e arrived =
           let x = Plain (DataRace (race_text [])) q in
-          fails x done f (inr (inr (inr (inr (inl (record {
+          fails x done f (λ known. inr (inr (inr (inr (inl (record {
             value = u;
             position = q;
             rest = done;
@@ -132,17 +147,26 @@ module _ {S : Type 0} (m : Setup S) (c : ChainWalk S) where
     call_of q name p args =
         record { step = n; position = q; name = name; receiver = p; values = args }
 
-    -- what follows from an answer, and from the way to it
+    -- what follows from an answer, and from the way to it, in each world to which it leads
     abbrev pub Hears : Call → (Answer → Task) → Type 0
     Hears call go = (v : World S) → On (Need call go) v → (a : Answer) (u : World S) →
-        CallEnds m call (lent_for m c call v) v a u → On (go a) u → Why (go a) u
+        (ends : CallEnds m call (lent_for m c call v) (untraced v) a u) → HasReason ends → (w : World S) →
+        On (go a) w → Why (go a) w
+
+    -- a fault that no script may catch goes to the walk's end
+    abbrev pub LetsPass : (Answer → Task) → Type 0
+    LetsPass go = (x : Problem) → catchable x ≡ false → Falls n x (go (Failed x))
 
     pub asks : (q : Position) (name : List ℕ) (p : Option Place) (args : List Dynamic) (done : Rest)
-        (go : Answer → Task) → Follows done → Falls n NoMemory (go (Failed NoMemory)) →
-        Hears (call_of q name p args) go → From (walks.asking n q name p args done go)
-    asks q name p args done go f quiet hears =
-        marks done (Need (call_of q name p args) go) f (λ v come.
-        ((n, quiet), λ a u ends. hears v come a u ends (join come (heard ends here))))
+        (go : Answer → Task) → Follows done → LetsPass go → Hears (call_of q name p args) go →
+        From (walks.asking n q name p args done go)
+    asks q name p args done go f passes hears =
+        marks done (Need (call_of q name p args) go) f (λ v come. (
+          (n, passes NoMemory refl),
+          passes,
+          λ a u trace ends reason. hears v come a u ends reason (record u { trace = trace })
+              (join come (heard trace ends here)),
+        ))
 
     -- a function that is called
     abbrev pub invocation_of : Position → Method → Option Place → List Dynamic → Invocation
@@ -158,10 +182,14 @@ module _ {S : Type 0} (m : Setup S) (c : ChainWalk S) where
         (come, falls, λ d u ends. hears d u (join come (returned ends here))))
 
     -- a call that failed, and the fault with which the walk then ends
+    abbrev pub Failing : Problem → Type 0
+    Failing x = sure ≡ true → CallFails m c n x
+
     abbrev pub failing_call : (call : Call) → call.step ≡ n → (go : Answer → Task) (v : World S) →
         On (Need call go) v → (x : Problem) (u : World S) →
-        CallEnds m call (lent_for m c call v) v (Failed x) u → CallFails m c n x
-    failing_call call step go v come x u ends = record {
+        (ends : CallEnds m call (lent_for m c call v) (untraced v) (Failed x) u) → HasReason ends →
+        Failing x
+    failing_call call step go v come x u ends reason = λ known. record {
       call = call;
       go = go;
       world = v;
@@ -169,12 +197,16 @@ module _ {S : Type 0} (m : Setup S) (c : ChainWalk S) where
       step = step;
       after = u;
       ends = ends;
+      reason = reason known;
     }
 
-    pub native_row : (x : Problem) (call : CallFails m c n x) → Falls n x (call.go (Failed x)) →
-        WalkRow m c n x
+    pub native_row : (x : Problem) (call : Failing x) →
+        ((known : sure ≡ true) → Falls n x ((call known).go (Failed x))) → Row n x
     native_row x call last =
-        inr (inr (inr (inr (inr (inr (inr (inl (record { fails = call; last = last }))))))))
+        λ known. inr (inr (inr (inr (inr (inr (inr (inl (record {
+          fails = call known;
+          last = last known;
+        }))))))))
 
     -- after a call that failed because there is no such property, another call is made in its place
     pub record IsReplaced {x : Problem} (first : CallFails m c n x) (call : Call)
@@ -183,17 +215,21 @@ module _ {S : Type 0} (m : Setup S) (c : ChainWalk S) where
       pub out : Task
       pub instead : first.go (Failed x) ≡ Mark out (Need call go)
 
-    pub instead_row : (x y : Problem) (first : CallFails m c n x) (second : CallFails m c n y) →
-        IsReplaced first second.call second.go → is_indexing_type y ≡ true →
-        Falls n x (second.go (Failed y)) → WalkRow m c n x
+    abbrev pub Replaced : {x : Problem} → Failing x → Call → (Answer → Task) → Type 0
+    Replaced first call go = (known : sure ≡ true) → IsReplaced (first known) call go
+
+    pub instead_row : (x y : Problem) (first : Failing x) (second : Failing y) →
+        ((known : sure ≡ true) → IsReplaced (first known) (second known).call (second known).go) →
+        is_indexing_type y ≡ true → ((known : sure ≡ true) → Falls n x ((second known).go (Failed y))) →
+        Row n x
     instead_row x y first second replaced absent last =
-        inr (inr (inr (inr (inr (inr (inr (inr (inl (record {
-          first = first;
-          no_property = replaced.none;
+        λ known. inr (inr (inr (inr (inr (inr (inr (inr (inl (record {
+          first = first known;
+          no_property = (replaced known).none;
           other = y;
-          second = second;
-          out = replaced.out;
-          instead = replaced.instead;
+          second = second known;
+          out = (replaced known).out;
+          instead = (replaced known).instead;
           absent = absent;
-          last = last;
+          last = last known;
         })))))))))

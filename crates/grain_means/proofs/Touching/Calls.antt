@@ -1,6 +1,6 @@
 -- Roots through calls of functions and of pointers by an instruction, and through a handler that
 -- catches.
-use Rattle.std.proofs.Common.{◌≡◌, ◌+◌, ℕ, List, [], ◌∷◌, ◌++◌, Option, Some, None, nat_lt, length, take}
+use Rattle.std.proofs.Common.{◌≡◌, ◌+◌, ℕ, List, [], ◌∷◌, ◌++◌, Option, Some, None, false, nat_lt, length, take}
 use Rattle.std.specs.Prelude.{codes}
 use Rattle.grain_value.specs.Looking.{pointer_of}
 use Rattle.grain_value.specs.Operands.{arguments, read_write, under}
@@ -31,7 +31,7 @@ module _ {S : Type 0} (m : Setup S) (t : Option Place) (old : List Held) where
       At m t old w → Stays m t old (rules.resume_caller m g f next a w)
   resumes f is g next (Came v) w at = pushes m t old f is next f.operands v w at
   resumes f is g next (Failed x) w at =
-      body_fails m t old (Stands t old) (rules.leave_by_fault m f NoMemory) (λ v there. there)
+      body_fails m false t old (Stands t old) (rules.leave_by_fault m f NoMemory) (λ v there. there)
       (rules.offered m f) (offered m t old f is) (rules.position m f) g x w at
 
   pub calls_function : (f : Frame) → f.this ≡ t → (o : Option Function) (name : List ℕ)
@@ -47,7 +47,7 @@ module _ {S : Type 0} (m : Setup S) (t : Option Place) (old : List Held) where
       (raises m t old f is) name args w at)
   calls_function f is (Some g) name count next w at =
       charged m t old f is (rules.function_entered m g count f next)
-      (λ v there. body_enters m t old (Stands t old) (rules.leave_by_fault m f NoMemory)
+      (λ v there. body_enters m false t old (Stands t old) (rules.leave_by_fault m f NoMemory)
       (λ u same. same) (rules.offered m f) (offered m t old f is) (rules.position m f) g
       (arguments count f.operands) None (λ from was given. tt)
       (rules.resume_caller m g (without count f) next)
@@ -123,7 +123,7 @@ module _ {S : Type 0} (m : Setup S) (t : Option Place) (old : List Held) where
 
           goes_on : (v : World S) → At m t old v → Stays m t old (after v)
           goes_on v there =
-              takes_operation m t old (Stands t old) (rules.leave_by_fault m g NoMemory)
+              takes_operation m false t old (Stands t old) (rules.leave_by_fault m g NoMemory)
               (λ u same. same) (rules.leave_by_fault m g) (λ y u same. same) p
               (Go (InFrame (resumed g h.target))) (λ u same. (same, is)) v there
 

@@ -71,7 +71,8 @@ module _ {S : Type 0} (m : Setup S) (t : Option Place) (old : List Held) where
       (calls : BindsAll task) (next : ℕ) where
     -- a walk is over
     chain_ends : (o : Walked) (w : World S) → Here w → Keeps (rules.chain_over m k next g o w)
-    chain_ends (WalkEnded v changed) w at = pushes m t old g is next g.operands v w at
+    chain_ends (WalkEnded v changed) w at =
+        pushes m t old g is next g.operands v (record w { trace = [] }) at
     chain_ends (WalkFailed j x) w at =
         raises m t old (record g { slot = Some (slot_of m.program k j) }) is x w at
 
@@ -93,7 +94,7 @@ module _ {S : Type 0} (m : Setup S) (t : Option Place) (old : List Held) where
           cut (length w.roots) (omega (arith, size)) there.0,
           omega (arith, size, there.1, length-take (length w.roots) v.roots),
         )))
-        task 1 one (record w { roots = w.roots ++ h ∷ [] })
+        None task 1 one (record w { roots = w.roots ++ h ∷ [] })
         (λ given. calls (new_root w.roots) (length w.roots + 1) (w.roots ++ h ∷ [])
         (omega (arith, length-append w.roots (h ∷ []))) (h, found-new w.roots h)) (
           added h at.0,
@@ -110,7 +111,7 @@ module _ {S : Type 0} (m : Setup S) (t : Option Place) (old : List Held) where
         (may_inside t (length old) p (length w.roots) e (omega (arith, size)))
         (λ o v. rules.chain_over m k next g o v)
         (λ o v there. chain_ends o v (there.0, omega (arith, size, there.1)))
-        task 1 one w
+        None task 1 one w
         (λ given. calls p (length w.roots) w.roots refl
         (subst (λ (o : Option Place). Bound o w.roots) e (bound_on t old w.roots at given)))
         (at.0, refl, omega (arith, size))

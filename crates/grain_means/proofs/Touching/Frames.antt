@@ -1,5 +1,5 @@
 -- Roots at a frame: faults, what is read and written, natives, and jumps.
-use Rattle.std.proofs.Common.{◌≡◌, ◌+◌, ◌∙◌, ℕ, List, [], ◌∷◌, ◌++◌, Option, Some, None, if◌then◌else◌, nat_le, length}
+use Rattle.std.proofs.Common.{◌≡◌, ◌+◌, ◌∙◌, ℕ, List, [], ◌∷◌, ◌++◌, Option, Some, None, false, if◌then◌else◌, nat_le, length}
 use Rattle.std.specs.Prelude.{slice_get, slice_set}
 use Rattle.grain_value.specs.Cells.{flat, idle}
 use Rattle.grain_value.specs.Operands.{below, read_write}
@@ -16,8 +16,8 @@ use Rattle.grain_means.specs.Rules as rules
 use Rattle.grain_means.specs.Rules.{Home, InScope, InCell, AtPlace, Receiver, flat_all, held_at, race_text, stepped, thrown_anew}
 use Rattle.grain_means.specs.Worlds.{Act, Go, Frame, Handler, InCatch, InFrame, Place, Setup, World}
 use Rattle.grain_means.proofs.Footing.{by_arming, by_test}
-use Rattle.grain_means.proofs.Touching.Passing.{HomeBack, Leaves, LendsBack, marks_or, natives, takes_operation}
-use Rattle.grain_means.proofs.Touching.Writes.{May, Stands, set}
+use Rattle.grain_means.proofs.Touching.Passing.{Leaves, lent_place, marks_or, natives, place_of, takes_operation}
+use Rattle.grain_means.proofs.Touching.Writes.{May, MayThis, Stands, set, stands_on}
 use Rattle.grain_means.specs.lemmas.PlaceLaws.{length-put}
 
 module _ {S : Type 0} (m : Setup S) (t : Option Place) (old : List Held) where
@@ -25,7 +25,7 @@ module _ {S : Type 0} (m : Setup S) (t : Option Place) (old : List Held) where
   At w = Stands t old w.roots
 
   abbrev pub Stays : Act S → Type 0
-  Stays act = Leaves t old act
+  Stays act = Leaves false t old act
 
   -- where a frame may write
   abbrev pub MayAt : Home → Type 0
@@ -37,10 +37,10 @@ module _ {S : Type 0} (m : Setup S) (t : Option Place) (old : List Held) where
       Stands t old roots → Stands t old (put roots p v)
   puts p may roots v at = (set p v may at.0, length-put roots p v ∙ at.1)
 
-  pub backs : (a : Home) → MayAt a → HomeBack (Stands t old) a
+  pub backs : (a : Home) → MayAt a → MayThis t (length old) (place_of a)
   backs (InScope i) may = tt
   backs (InCell i) may = tt
-  backs (AtPlace p) may = puts p may
+  backs (AtPlace p) may = may
 
   offers : (hs : List Handler) (f : Frame) → f.this ≡ t → (x : Problem) (w : World S) → At w →
       Stays (rules.offered_to m hs f x w)
@@ -58,7 +58,7 @@ module _ {S : Type 0} (m : Setup S) (t : Option Place) (old : List Held) where
   pub marks : (f : Frame) (w : World S) (go : World S → Act S) → At w →
       Stays (go (record w { passed = w.passed + 1 })) → Stays (rules.marked m f w go)
   marks f w go at h =
-      marks_or m t old (Stands t old) (rules.leave_by_fault m f NoMemory) (λ v there. there) w go at h
+      marks_or m false t old (Stands t old) (rules.leave_by_fault m f NoMemory) (λ v there. there) w go at h
 
   module _ (f : Frame) (is : f.this ≡ t) where
     pub offered : (x : Problem) (w : World S) → At w → Stays (rules.offered m f x w)
@@ -80,7 +80,7 @@ module _ {S : Type 0} (m : Setup S) (t : Option Place) (old : List Held) where
         ((w : World S) → At w → Stays (go w)) → (w : World S) → At w →
         Stays (rules.charged_or m p f fails w go)
     charges p fails go failing going w at =
-        takes_operation m t old (Stands t old) (rules.leave_by_fault m f NoMemory) (λ v there. there)
+        takes_operation m false t old (Stands t old) (rules.leave_by_fault m f NoMemory) (λ v there. there)
         fails failing p go going w at
 
     pub charged : (go : World S → Act S) → ((w : World S) → At w → Stays (go w)) → (w : World S) →
@@ -146,14 +146,15 @@ module _ {S : Type 0} (m : Setup S) (t : Option Place) (old : List Held) where
     pushes next ops v w at = onward (stepped f next (ops ++ read_write v ∷ [])) is w at
 
     -- a native that is asked for
-    pub asks : (r : Option Receiver) → LendsBack (Stands t old) r → (go : Dynamic → World S → Act S)
-        (fails : Problem → World S → Act S) →
+    pub asks : (r : Option Receiver) → MayThis t (length old) (lent_place r) →
+        (go : Dynamic → World S → Act S) (fails : Problem → World S → Act S) →
         ((v : Dynamic) (w : World S) → At w → Stays (go v w)) →
         ((x : Problem) (w : World S) → At w → Stays (fails x w)) → (name : List ℕ)
         (args : List Held) (w : World S) → At w → Stays (rules.native m name r args f w go fails)
     asks r lends go fails going failing name args w at =
-        natives m t old (Stands t old) (rules.leave_by_fault m f NoMemory) (λ v there. there) f r lends
-        go fails going failing name args w at
+        natives m false t old (Stands t old) (rules.leave_by_fault m f NoMemory) (λ v there. there) f
+        go fails going failing r
+        (λ from now was there. stands_on t (lent_place r) old from now lends was there) name args w at
 
     pub jumps : (g : Frame) → g.this ≡ t → (w : World S) → At w → Stays (rules.jumped m f g w)
     jumps g too w at = by_test Stays (nat_le g.address f.address)
@@ -164,7 +165,7 @@ module _ {S : Type 0} (m : Setup S) (t : Option Place) (old : List Held) where
           charged_back : (w : World S) → At w →
               Stays (rules.charged m (record g { address = f.address }) w (rules.onward m f g))
           charged_back w at =
-              takes_operation m t old (Stands t old)
+              takes_operation m false t old (Stands t old)
               (rules.leave_by_fault m (record g { address = f.address }) NoMemory) (λ v there. there)
               (rules.offered m (record g { address = f.address }))
               (λ x v there. offers g.handlers (record g { address = f.address }) too x v there)

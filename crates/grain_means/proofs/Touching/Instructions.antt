@@ -162,10 +162,10 @@ module _ {S : Type 0} (m : Setup S) (t : Option Place) (old : List Held) (f : Fr
       (λ r w1 there. goes_on (stepped f next (below f.operands)) is w1 there)
       (λ x w1 there. by_test Keeps (says_missing (name_of m.program o.op_assign_name) x)
       (rules.operator_at m a name (name_of m.program o.op_name) h
-      (record h { value = content_now a h w1 }) v next f w1)
+      (record h { value = content_now a h w1 }) v next f (record w1 { trace = [] }))
       (rules.raised m f x w1)
       (λ missing. by_operator a may name (name_of m.program o.op_name) h
-      (record h { value = content_now a h w1 }) v next w1 there)
+      (record h { value = content_now a h w1 }) v next (record w1 { trace = [] }) there)
       (λ other. refuses x w1 there))
       (name_of m.program o.op_assign_name) (v ∷ []) w at
 

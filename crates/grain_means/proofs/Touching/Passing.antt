@@ -1,5 +1,6 @@
 -- Roots through a run: marks, faults, charges, calls of functions and of natives, in whatever follows.
-use Rattle.std.proofs.Common.{◌≡◌, ◌+◌, ℕ, List, Option, Some, None, if◌then◌else◌, ◌&&◌, nat_lt, nat_le, length, refl}
+use Rattle.std.proofs.Common.{◌≡◌, ◌+◌, ℕ, List, Bool, true, false, Option, Some, None, if◌then◌else◌, ◌&&◌, nat_lt, nat_le, length, refl}
+use Rattle.grain_value.specs.Tree.{Tree}
 use Rattle.grain_value.specs.Operands.{values_in}
 use Rattle.grain_value.specs.declared.natives.Native.{Native}
 use Rattle.grain_value.specs.declared.values.Dynamic.{Dynamic}
@@ -8,53 +9,99 @@ use Rattle.grain_fault.specs.Classes.{catchable}
 use Rattle.grain_fault.specs.Positions.{at_position, at_position_if_none}
 use Rattle.grain_fault.specs.Problems.{Problem, Plain, InFunctionCall, NonPureCall, StackOverflow, Terminated, TooManyOperations, TooManyVariables}
 use Rattle.grain_fault.specs.declared.places.Position.{Position}
-use Rattle.grain_host.specs.Law.{GoOn, Reply, Stop, Verdict, native_of, written}
+use Rattle.grain_host.specs.Law.{GoOn, Law, Reply, Stop, Verdict, native_of, written}
 use Rattle.grain_host.specs.Law as reply
 use Rattle.grain_host.specs.Signatures.{not_found}
 use Rattle.grain_program.specs.View.{name_of, source_text}
 use Rattle.grain_program.specs.declared.code.functions.Function.{Function}
 use Rattle.grain_means.specs.Places.{put}
 use Rattle.grain_means.specs.Rules as rules
-use Rattle.grain_means.specs.Rules.{Home, InScope, InCell, AtPlace, Receiver, back_in_roots, bound, cells_given_back, first_is_read_only, frame_at, given, given_back, is_stop, lent_held, roots_given_back, trees_in}
-use Rattle.grain_means.specs.Worlds.{Act, Go, End, Then, Answer, Frame, InCatch, InFrame, Place, Setup, Todo, World}
+use Rattle.grain_means.specs.Rules.{Home, InScope, InCell, AtPlace, Receiver, back_in_roots, bound, cells_given_back, first_is_read_only, frame_at, given, given_back, is_stop, lent_held, no_memory, receiver_left, roots_given_back, trees_in}
+use Rattle.grain_means.specs.Worlds.{Act, Go, End, Then, Answer, Came, Failed, Frame, InCatch, InFrame, InHost, Place, Setup, Todo, World}
+use Rattle.grain_means.specs.lemmas.PlaceLaws.{length-put}
 use Rattle.grain_means.proofs.Footing.{by_test}
-use Rattle.grain_means.proofs.Touching.Writes.{Bound, Stands, stands_same}
+use Rattle.grain_means.proofs.Touching.Writes.{Bound, MayThis, Stands, may_own, same, set, stands_same}
 
--- the `this` of the frame at which a run stands
-abbrev pub this_of : Todo → Option Place
-this_of (InFrame f) = f.this
-this_of (InCatch f h x) = f.this
+-- the place where what is lent stands, if it stands at one
+abbrev pub place_of : Home → Option Place
+place_of (InScope i) = None
+place_of (InCell i) = None
+place_of (AtPlace p) = Some p
 
--- What is left of a run, of a frame with this `this`, which began at these roots. A run inside another
--- begins at roots of its own, at which something stands at its `this` if it did so at that of the frame.
-abbrev pub Leaves : {S : Type 0} → Option Place → List Held → Act S → Type 0
-Leaves t old (Go u w) = Stands t old w.roots × (this_of u ≡ t)
-Leaves t old (End a w) = Stands t old w.roots
-Leaves {S = S} t old (Then first rest) =
-    (u : Option Place) × (from : List Held) × (Bound t old → Bound u from) × Leaves u from first ×
-    ((a : Answer) (w : World S) → Stands u from w.roots → Leaves t old (rest a w))
+abbrev pub lent_place : Option Receiver → Option Place
+lent_place None = None
+lent_place (Some r) = place_of r.home
 
--- where what is lent may be put back
-abbrev pub HomeBack : (List Held → Type 0) → Home → Type 0
-HomeBack In (InScope i) = Unit {0}
-HomeBack In (InCell i) = Unit {0}
-HomeBack In (AtPlace p) = (roots : List Held) (v : Dynamic) → In roots → In (put roots p v)
+-- What a run stands at, by whether it is one of calls that a native asked for: it is a frame with this
+-- `this`; or a call that was asked for, where what the native was lent stands in this place.
+abbrev pub Sits : Bool → Option Place → ℕ → Todo → Type 0
+Sits false t size (InFrame f) = f.this ≡ t
+Sits false t size (InCatch f h x) = f.this ≡ t
+Sits false t size (InHost c) = ⊥
+Sits true t size (InFrame f) = ⊥
+Sits true t size (InCatch f h x) = ⊥
+Sits true t size (InHost c) = MayThis t size (lent_place c.receiver)
 
+-- what is known where a run begins: that something stands at the `this` of its frame, if it is one of a frame
+abbrev pub Given : Bool → Option Place → List Held → Type 0
+Given false t old = Bound t old
+Given true t old = Unit {0}
+
+-- What is left of a run, of a frame with this `this`, or of calls that a native asked for which was lent
+-- this place; the run began at these roots. A run inside another begins at roots of its own, at which
+-- something stands at its `this` if it did so at that of the frame.
+abbrev pub Leaves : {S : Type 0} → Bool → Option Place → List Held → Act S → Type 0
+Leaves b t old (Go u w) = Stands t old w.roots × Sits b t (length old) u
+Leaves b t old (End a w) = Stands t old w.roots
+Leaves {S = S} b t old (Then first rest) =
+    (c : Bool) × (u : Option Place) × (from : List Held) × (Given b t old → Given c u from)
+    × Leaves c u from first
+    × ((a : Answer) (w : World S) → Stands u from w.roots → Leaves b t old (rest a w))
+
+-- what is so of the roots stays so where a native that is lent this writes it
 abbrev pub LendsBack : (List Held → Type 0) → Option Receiver → Type 0
-LendsBack In None = Unit {0}
-LendsBack In (Some r) = HomeBack In r.home
+LendsBack In r = (from now : List Held) → In from → Stands (lent_place r) from now → In now
 
-home_back : (In : List Held → Type 0) (a : Home) → HomeBack In a → (h : Held) (roots : List Held) →
-    In roots → In (back_in_roots a h roots)
+pub put_there : (p : Place) (roots : List Held) (v : Dynamic) → Stands (Some p) roots (put roots p v)
+put_there p roots v =
+    (set p v (may_own (Some p) (length roots) p refl) same, length-put roots p v)
+
+home_back : (In : List Held → Type 0) (a : Home) →
+    ((from now : List Held) → In from → Stands (place_of a) from now → In now) → (h : Held)
+    (roots : List Held) → In roots → In (back_in_roots a h roots)
 home_back In (InScope i) back h roots at = at
 home_back In (InCell i) back h roots at = at
-home_back In (AtPlace p) back h roots at = back roots h.value at
+home_back In (AtPlace p) back h roots at =
+    back roots (put roots p h.value) at (put_there p roots h.value)
+
+left_back : {S : Type 0} (In : List Held → Type 0) (law : Law S) (s : S) (key : ℕ)
+    (values : List Tree) (r : Option Receiver) → LendsBack In r →
+    LendsBack In (receiver_left law s key values r)
+left_back In law s key values None back = back
+left_back In law s key values (Some r) back = back
+
+-- what is lent may be written
+pub may_lent : (r : Option Receiver) (size : ℕ) → MayThis (lent_place r) size (lent_place r)
+may_lent None size = tt
+may_lent (Some r) size = at r.home where
+  at : (a : Home) → MayThis (place_of a) size (place_of a)
+  at (InScope i) = tt
+  at (InCell i) = tt
+  at (AtPlace p) = may_own (Some p) size p refl
+
+-- an answer that is not heard changes no root
+pub unheard_stands : {S : Type 0} (In : List Held → Type 0) (law : Law S) (r : Reply) (w : World S) →
+    In w.roots → In (rules.unheard law r w).roots
+unheard_stands In law (reply.Done v) w at = at
+unheard_stands In law (reply.Failed x) w at = at
+unheard_stands In law (reply.Ask token p values) w at = at
 
 -- what follows leaves these roots so; `In` says what is so of the roots meanwhile
-module _ {S : Type 0} (m : Setup S) (t : Option Place) (old : List Held) (In : List Held → Type 0)
-    (out : World S → Act S) (outs : (w : World S) → In w.roots → Leaves t old (out w)) where
+module _ {S : Type 0} (m : Setup S) (hosting : Bool) (t : Option Place) (old : List Held)
+    (In : List Held → Type 0) (out : World S → Act S)
+    (outs : (w : World S) → In w.roots → Leaves hosting t old (out w)) where
   abbrev pub Reaches : Act S → Type 0
-  Reaches act = Leaves t old act
+  Reaches act = Leaves hosting t old act
 
   pub marks_or : (w : World S) (go : World S → Act S) → In w.roots →
       Reaches (go (record w { passed = w.passed + 1 })) → Reaches (rules.marked_or m out w go)
@@ -115,7 +162,7 @@ module _ {S : Type 0} (m : Setup S) (t : Option Place) (old : List Held) (In : L
 
       -- a function is called on these arguments
       module _ (g : Function) (args : List Held) (this : Option Place)
-          (binds : (from : List Held) → In from → Bound t old → Bound this from)
+          (binds : (from : List Held) → In from → Given hosting t old → Bound this from)
           (over : Answer → World S → Act S)
           (overs : (from : List Held) → In from → (a : Answer) (w : World S) →
           Stands this from w.roots → Reaches (over a w)) where
@@ -140,6 +187,7 @@ module _ {S : Type 0} (m : Setup S) (t : Option Place) (old : List Held) (In : L
             (rules.marked_or m out w (body w))
             (λ many. fails_or (Plain TooManyVariables q) w at)
             (λ few. marks_or w (body w) at (
+              false,
               this,
               w.roots,
               binds w.roots at,
@@ -153,52 +201,73 @@ module _ {S : Type 0} (m : Setup S) (t : Option Place) (old : List Held) (In : L
             takes_operation q (rules.body_entered m out fails q g args this over) body_enters w at
 
   -- a native that is asked for
-  module _ (f : Frame) (r : Option Receiver) (backs : LendsBack In r) (go : Dynamic → World S → Act S)
-      (fails : Problem → World S → Act S)
+  module _ (f : Frame) (go : Dynamic → World S → Act S) (fails : Problem → World S → Act S)
       (going : (v : Dynamic) (w : World S) → In w.roots → Reaches (go v w))
       (failing : (x : Problem) (w : World S) → In w.roots → Reaches (fails x w)) where
-    answered : (a : Reply) (w : World S) → In w.roots → Reaches (rules.answered m a f w go fails)
-    answered (reply.Done v) w at = going v w at
-    answered (reply.Failed x) w at = failing (at_position_if_none (rules.position m f) x) w at
+    is_over : (a : Answer) (w : World S) → In w.roots → Reaches (rules.native_over out go fails a w)
+    is_over (Came v) w at = going v w at
+    is_over (Failed x) w at =
+        by_test Reaches (no_memory x) (out w) (fails x w) (λ none. outs w at) (λ some. failing x w at)
 
-    abbrev after : ℕ → List Held → World S → World S
-    after key args w = record w {
-      host = m.law.call_after w.host key (lent_held r) (trees_in args);
-      scope = given_back m.law w.host key (trees_in args) r w.scope;
-      cells = cells_given_back m.law w.host key (trees_in args) r w.cells;
-      roots = roots_given_back m.law w.host key (trees_in args) r w.roots;
-    }
+    answered : (r : Option Receiver) → LendsBack In r → (a : Reply) (w : World S) → In w.roots →
+        Reaches (rules.answered m out r a f w go fails)
+    answered r backs (reply.Done v) w at = going v w at
+    answered r backs (reply.Failed x) w at =
+        failing (at_position_if_none (rules.position m f) x) w at
+    answered r backs (reply.Ask token p values) w at = (
+      true,
+      lent_place r,
+      w.roots,
+      (λ given. tt),
+      (stands_same (lent_place r) w.roots, may_lent r (length w.roots)),
+      λ a v there. is_over a v (backs w.roots v.roots at there),
+    )
 
-    given_roots : (key : ℕ) (args : List Held) (w : World S) (o : Option Receiver) → LendsBack In o →
-        In w.roots → In (roots_given_back m.law w.host key (trees_in args) o w.roots)
-    given_roots key args w None back at = at
-    given_roots key args w (Some q) back at =
-        home_back In q.home back (written m.law w.host key (trees_in args) q.held) w.roots at
+    module _ (r : Option Receiver) (backs : LendsBack In r) where
+      abbrev after : ℕ → List Held → World S → World S
+      after key args w = record w {
+        host = m.law.call_after w.host key (lent_held r) (trees_in args);
+        scope = given_back m.law w.host key (trees_in args) r w.scope;
+        cells = cells_given_back m.law w.host key (trees_in args) r w.cells;
+        roots = roots_given_back m.law w.host key (trees_in args) r w.roots;
+      }
 
-    calls : (key : ℕ) (args : List Held) (w : World S) → In w.roots →
-        Reaches (rules.host_called_or m out key r args f w go fails)
-    calls key args w at =
-        let values = trees_in args in
-        let w2 : World S = after key args (record w { passed = w.passed + 1 }) in
-        let there : In w2.roots = given_roots key args w r backs at in
-        marks_or w (λ v1. rules.marked_or m out (after key args v1) (λ v2.
-        rules.answered m (m.law.call_reply v1.host key (lent_held r) values) f v2 go fails)) at
-        (marks_or w2
-        (λ v2. rules.answered m (m.law.call_reply w.host key (lent_held r) values) f v2 go fails) there
-        (answered (m.law.call_reply w.host key (lent_held r) values)
-        (record w2 { passed = w2.passed + 1 }) there))
+      given_roots : (key : ℕ) (args : List Held) (w : World S) (o : Option Receiver) →
+          LendsBack In o → In w.roots →
+          In (roots_given_back m.law w.host key (trees_in args) o w.roots)
+      given_roots key args w None back at = at
+      given_roots key args w (Some q) back at =
+          home_back In q.home back (written m.law w.host key (trees_in args) q.held) w.roots at
 
-    pub natives : (name : List ℕ) (args : List Held) (w : World S) → In w.roots →
-        Reaches (rules.native_or m out name r args f w go fails)
-    natives name args w at =
-        by_native (native_of m.law w.host name (rules.kinds_in (given r args))) where
-          by_native : (o : Option Native) →
-              Reaches (rules.native_found_or m out o name r args f w go fails)
-          by_native None =
-              failing (not_found name (values_in (given r args)) (rules.position m f)) w at
-          by_native (Some q) =
-              by_test Reaches (q.writes && first_is_read_only (given r args))
-              (fails (Plain (NonPureCall name) (rules.position m f)) w)
-              (rules.host_called_or m out q.key r args f w go fails)
-              (λ not. failing (Plain (NonPureCall name) (rules.position m f)) w at)
-              (λ may. calls q.key args w at)
+      calls : (key : ℕ) (args : List Held) (w : World S) → In w.roots →
+          Reaches (rules.host_called_or m out key r args f w go fails)
+      calls key args w at =
+          let values = trees_in args in
+          let w2 : World S = after key args (record w { passed = w.passed + 1 }) in
+          let there : In w2.roots = given_roots key args w r backs at in
+          let a : Reply = m.law.call_reply w.host key (lent_held r) values in
+          let left : Option Receiver = receiver_left m.law w.host key values r in
+          marks_or w (λ v1. rules.marked_or m
+          (λ v2. out (rules.unheard m.law (m.law.call_reply v1.host key (lent_held r) values) v2))
+          (after key args v1) (λ v2. rules.answered m out (receiver_left m.law v1.host key values r)
+          (m.law.call_reply v1.host key (lent_held r) values) f v2 go fails)) at
+          (by_test Reaches (is_stop m.stop w2.passed) (out (rules.unheard m.law a w2))
+          (rules.answered m out left a f (record w2 { passed = w2.passed + 1 }) go fails)
+          (λ stop. outs (rules.unheard m.law a w2) (unheard_stands In m.law a w2 there))
+          (λ clear. answered left (left_back In m.law w.host key values r backs) a
+          (record w2 { passed = w2.passed + 1 }) there))
+
+      pub natives : (name : List ℕ) (args : List Held) (w : World S) → In w.roots →
+          Reaches (rules.native_or m out name r args f w go fails)
+      natives name args w at =
+          by_native (native_of m.law w.host name (rules.kinds_in (given r args))) where
+            by_native : (o : Option Native) →
+                Reaches (rules.native_found_or m out o name r args f w go fails)
+            by_native None =
+                failing (not_found name (values_in (given r args)) (rules.position m f)) w at
+            by_native (Some q) =
+                by_test Reaches (q.writes && first_is_read_only (given r args))
+                (fails (Plain (NonPureCall name) (rules.position m f)) w)
+                (rules.host_called_or m out q.key r args f w go fails)
+                (λ not. failing (Plain (NonPureCall name) (rules.position m f)) w at)
+                (λ may. calls q.key args w at)

@@ -1,6 +1,6 @@
 -- Roots through a call of a pointer with a receiver: the receiver is a root that is added, and that is
 -- gone afterwards. Then what is written is the frame's own `this`, or nothing.
-use Rattle.std.proofs.Common.{◌≡◌, ◌+◌, ◌∙◌, ℕ, zero, suc, List, [], ◌∷◌, ◌++◌, Option, Some, None, Bool, ◌||◌, is_some, length, map, take, refl, sym, arith, length-append}
+use Rattle.std.proofs.Common.{◌≡◌, ◌+◌, ◌∙◌, ℕ, zero, suc, List, [], ◌∷◌, ◌++◌, Option, Some, None, Bool, false, ◌||◌, is_some, length, map, take, refl, sym, arith, length-append}
 use Rattle.std.proofs.lemmas.List.{length-take}
 use Rattle.std.specs.Prelude.{slice_get, slice_set}
 use Rattle.grain_value.specs.Cells.{idle, lent}
@@ -30,16 +30,16 @@ use Rattle.grain_means.proofs.Touching.Writes.{Bound, May, added, cut, may_own, 
 -- what is called on a receiver, where there are as many roots as n and j say
 module _ {S : Type 0} (m : Setup S) (t : Option Place) (old : List Held) (n j : ℕ)
     (heard : Answer → World S → Act S)
-    (hears : (a : Answer) (w : World S) → Amid t old n j w.roots → Leaves t old (heard a w))
+    (hears : (a : Answer) (w : World S) → Amid t old n j w.roots → Leaves false t old (heard a w))
     (f : Frame) where
   -- a native, which is lent what a cell holds
   lends_cell : (o : Option Cell) (i : ℕ) (read_only : Bool) (name : List ℕ) (args : List Held)
       (w : World S) → Amid t old n j w.roots →
-      Leaves t old (rules.native_lent_cell m o i read_only name args f heard w)
+      Leaves false t old (rules.native_lent_cell m o i read_only name args f heard w)
   lends_cell None i read_only name args w at =
       fails_so m t old n j heard hears (Plain (DataRace (race_text [])) (rules.position m f)) w at
   lends_cell (Some c) i read_only name args w at =
-      by_test (Leaves t old) c.busy
+      by_test (Leaves false t old) c.busy
       (rules.failed_so m heard (Plain (DataRace (race_text [])) (rules.position m f)) w)
       (rules.native_lent m name args f back (new_root w.roots)
       (record w { roots = w.roots ++ content ∷ []; cells = slice_set w.cells i (lent c.held) }))
@@ -58,7 +58,7 @@ module _ {S : Type 0} (m : Setup S) (t : Option Place) (old : List Held) (n j : 
         back : Answer → World S → Act S
         back = rules.cell_given_back m i c.held (length w.roots) heard
 
-        backs : (a : Answer) (v : World S) → Amid t old n (suc j) v.roots → Leaves t old (back a v)
+        backs : (a : Answer) (v : World S) → Amid t old n (suc j) v.roots → Leaves false t old (back a v)
         backs a v there =
             let size : length (take (length w.roots) v.roots) ≡ length w.roots =
             omega (arith, length-take (length w.roots) v.roots, at.1, there.1) in
@@ -74,20 +74,20 @@ module _ {S : Type 0} (m : Setup S) (t : Option Place) (old : List Held) (n j : 
 
   module _ (p : Place) (may : May t (length old) p) (w : World S) (at : Amid t old n j w.roots) where
     calls_native : (o : Option ℕ) (name : List ℕ) (args : List Held) →
-        Leaves t old (rules.native_on m o (look w.roots p) name args f heard p w)
+        Leaves false t old (rules.native_on m o (look w.roots p) name args f heard p w)
     calls_native None name args = lends_native m t old n j heard hears name args f (Some p) may w at
     calls_native (Some i) name args =
         lends_cell (slice_get w.cells i) i (look w.roots p).read_only name args w at
 
     reads_native : (o : Option (List Held)) (name : List ℕ) →
-        Leaves t old (rules.native_on_read m o name f heard p w)
+        Leaves false t old (rules.native_on_read m o name f heard p w)
     reads_native None name =
         fails_so m t old n j heard hears (Plain (DataRace (race_text [])) (rules.position m f)) w at
     reads_native (Some args) name = calls_native (cell_of (look w.roots p).value) name args
 
     -- the function of a pointer, or the native of its name
     pub calls_callee : (Bound t old → Bound (Some p) w.roots) → (o : Option Function) (r : FnPtr)
-        (args : List Held) → Leaves t old (rules.callee_on m o r args f heard p w)
+        (args : List Held) → Leaves false t old (rules.callee_on m o r args f heard p w)
     calls_callee given None r args = reads_native (flat_all w.cells args) r.name
     calls_callee given (Some g) r args =
         calls m t old n j heard hears (rules.position m f) g args (Some p) may w at given

@@ -1,6 +1,6 @@
 -- Roots through a walk: it writes inside the place where it began, and leaves as many roots as there
 -- were.
-use Rattle.std.proofs.Common.{◌≡◌, ◌≤◌, ◌+◌, ℕ, suc, List, [], ◌∷◌, ◌++◌, Option, Some, None, length, map, take, refl, subst, arith, option_map, length-append}
+use Rattle.std.proofs.Common.{◌≡◌, ◌≤◌, ◌+◌, ℕ, suc, List, [], ◌∷◌, ◌++◌, Option, Some, None, false, length, map, take, refl, subst, arith, option_map, length-append}
 use Rattle.std.proofs.lemmas.List.{length-take}
 use Rattle.grain_value.specs.Cells.{flat}
 use Rattle.grain_value.specs.Operands.{read_write}
@@ -9,10 +9,11 @@ use Rattle.grain_value.specs.declared.values.Dynamic.TheVariants as dynamic
 use Rattle.grain_value.specs.declared.values.Held.{Held}
 use Rattle.grain_fault.specs.Problems.{Problem, Plain, DataRace, NoMemory}
 use Rattle.grain_fault.specs.declared.places.Position.{Position}
+use Rattle.grain_fault.specs.declared.traces.Fault.{Fault}
 use Rattle.grain_program.specs.declared.code.functions.Function.{Function}
 use Rattle.grain_means.specs.Places.{look, put}
 use Rattle.grain_means.specs.Rules as rules
-use Rattle.grain_means.specs.Rules.{at_step, curried_in, flat_all, function_by_name, function_numbered, is_stop, lent_at, placed, pointed_native, race_text}
+use Rattle.grain_means.specs.Rules.{at_step, curried_in, flat_all, function_by_name, function_numbered, is_stop, lent_at, missed_by, placed, pointed_native, race_text, trace_of}
 use Rattle.grain_means.specs.Tasks.{Task, Done, Mark, Look, Flatten, Write, Root, Drop, Need, Invoke, Call, Invocation, Method, Numbered, Pointed, Walked}
 use Rattle.grain_means.specs.WalkEnds.{AllEnds}
 use Rattle.grain_means.specs.Worlds.{Act, Answer, Came, Failed, Frame, Place, Setup, World}
@@ -48,40 +49,41 @@ ends_one P one (Invoke i go) n h = λ x. ends_one P one (go x) n (h x)
 
 module _ {S : Type 0} (m : Setup S) (t : Option Place) (old : List Held) (n j : ℕ)
     (heard : Answer → World S → Act S)
-    (hears : (a : Answer) (w : World S) → Amid t old n j w.roots → Leaves t old (heard a w)) where
+    (hears : (a : Answer) (w : World S) → Amid t old n j w.roots → Leaves false t old (heard a w)) where
   abbrev Meanwhile : List Held → Type 0
   Meanwhile now = Amid t old n j now
 
   abbrev Follows : Act S → Type 0
-  Follows act = Leaves t old act
-
-  puts : (q : Place) → May t (length old) q → (roots : List Held) (v : Dynamic) → Meanwhile roots →
-      Meanwhile (put roots q v)
-  puts q may roots v at = (
-    set q v may at.0,
-    omega (arith, at.1, length-put roots q v),
-    omega (arith, at.2, length-put roots q v),
-  )
+  Follows act = Leaves false t old act
 
   -- a native that a walk calls
   pub fails_so : (x : Problem) (w : World S) → Meanwhile w.roots → Follows (rules.failed_so m heard x w)
   fails_so x w at =
-      fails_or m t old Meanwhile (heard (Failed NoMemory)) (hears (Failed NoMemory))
+      fails_or m false t old Meanwhile (heard (Failed NoMemory)) (hears (Failed NoMemory))
       (λ y. heard (Failed y)) (λ y. hears (Failed y)) x w at
+
+  -- what a native wrote that was lent a place, or a function that was called there
+  under_place : (u : Option Place) → MayThis t (length old) u → (from now : List Held) →
+      Meanwhile from → Stands u from now → Meanwhile now
+  under_place u may from now was there = (
+    wrote_on t u (length old) old from was.2 may was.0 there.0,
+    omega (arith, was.1, there.1),
+    omega (arith, was.2, there.1),
+  )
 
   lends_back : (roots : List Held) (o : Option Place) → MayThis t (length old) o →
       LendsBack Meanwhile (lent_at roots o)
-  lends_back roots None may = tt
-  lends_back roots (Some q) may = puts q may
+  lends_back roots None may = under_place None tt
+  lends_back roots (Some q) may = under_place (Some q) may
 
   pub lends_native : (name : List ℕ) (args : List Held) (e : Frame) (o : Option Place) →
       MayThis t (length old) o → (w : World S) → Meanwhile w.roots →
       Follows (rules.native_or m (heard (Failed NoMemory)) name (lent_at w.roots o) args e w
       (λ v w1. heard (Came v) w1) (rules.failed_so m heard))
   lends_native name args e o may w at =
-      natives m t old Meanwhile (heard (Failed NoMemory)) (hears (Failed NoMemory)) e
-      (lent_at w.roots o) (lends_back w.roots o may) (λ v w1. heard (Came v) w1)
-      (rules.failed_so m heard) (λ v. hears (Came v)) fails_so name args w at
+      natives m false t old Meanwhile (heard (Failed NoMemory)) (hears (Failed NoMemory)) e
+      (λ v w1. heard (Came v) w1) (rules.failed_so m heard) (λ v. hears (Came v)) fails_so
+      (lent_at w.roots o) (lends_back w.roots o may) name args w at
 
   pub performs : (k : ℕ) (f : Frame) (c : Call) (o : Option Place) → MayThis t (length old) o →
       (w : World S) → Meanwhile w.roots → Follows (rules.performed m k f c o heard w)
@@ -100,21 +102,18 @@ module _ {S : Type 0} (m : Setup S) (t : Option Place) (old : List Held) (n j : 
     under : (this : Option Place) → MayThis t (length old) this → (w : World S) → Meanwhile w.roots →
         (Bound t old → Bound this w.roots) → Follows (rules.function_under m q g args heard this w)
     under this may w at given =
-        body_calls m t old (Calling this) (heard (Failed NoMemory))
+        body_calls m false t old (Calling this) (heard (Failed NoMemory))
         (λ u here. hears (Failed NoMemory) u here.0) (λ x. heard (Failed x))
         (λ x u here. hears (Failed x) u here.0) q g args this (λ from was. was.1)
         (rules.body_over m q g heard)
-        (λ from was a u there. over a u (
-          wrote_on t this (length old) old from was.0.2 may was.0.0 there.0,
-          omega (arith, was.0.1, there.1),
-          omega (arith, was.0.2, there.1),
-        )) w (at, given) where
-          over : (a : Answer) (u : World S) → Meanwhile u.roots →
-              Follows (rules.body_over m q g heard a u)
-          over (Came v) u here = hears (Came v) u here
-          over (Failed x) u here =
-              body_fails m t old Meanwhile (heard (Failed NoMemory)) (hears (Failed NoMemory))
-              (λ y. heard (Failed y)) (λ y. hears (Failed y)) q g x u here
+        (λ from was a u there. over a u (under_place this may from u.roots was.0 there)) w (at, given)
+      where
+        over : (a : Answer) (u : World S) → Meanwhile u.roots →
+            Follows (rules.body_over m q g heard a u)
+        over (Came v) u here = hears (Came v) u here
+        over (Failed x) u here =
+            body_fails m false t old Meanwhile (heard (Failed NoMemory)) (hears (Failed NoMemory))
+            (λ y. heard (Failed y)) (λ y. hears (Failed y)) q g x u here
 
     -- on a copy of what can only be read, which goes afterwards
     abbrev copy_place : World S → Place
@@ -127,7 +126,7 @@ module _ {S : Type 0} (m : Setup S) (t : Option Place) (old : List Held) (n j : 
         Follows (rules.function_under m q g args (rules.copy_dropped m (length w.roots) heard)
         (Some (record { root = length w.roots; path = [] })) (record w { roots = w.roots ++ h ∷ [] }))
     copied h w at =
-        body_calls m t old (Lent h w) (quiet (Failed NoMemory)) (dropped (Failed NoMemory))
+        body_calls m false t old (Lent h w) (quiet (Failed NoMemory)) (dropped (Failed NoMemory))
         (λ x. quiet (Failed x)) (λ x. dropped (Failed x)) q g args (Some place)
         (λ from was given. bound_on (Some place) grown from was (h, found-new w.roots h))
         (rules.body_over m q g quiet)
@@ -161,7 +160,7 @@ module _ {S : Type 0} (m : Setup S) (t : Option Place) (old : List Held) (n j : 
               Follows (rules.body_over m q g quiet a u)
           over (Came v) u here = dropped (Came v) u here
           over (Failed x) u here =
-              body_fails m t old (Lent h w) (quiet (Failed NoMemory)) (dropped (Failed NoMemory))
+              body_fails m false t old (Lent h w) (quiet (Failed NoMemory)) (dropped (Failed NoMemory))
               (λ y. quiet (Failed y)) (λ y. dropped (Failed y)) q g x u here
 
     pub calls : (o : Option Place) → MayThis t (length old) o → (w : World S) → Meanwhile w.roots →
@@ -192,54 +191,57 @@ module _ {S : Type 0} (m : Setup S) (t : Option Place) (old : List Held) (n j : 
 module _ {S : Type 0} (m : Setup S) (t : Option Place) (old : List Held) (k : ℕ) (f : Frame)
     (p : Place) (n : ℕ) (low : length old ≤ n)
     (may : (q : Place) → May t (length old) (placed p n q)) (done : Walked → World S → Act S)
-    (over : (o : Walked) (w : World S) → Amid t old n 1 w.roots → Leaves t old (done o w)) where
+    (over : (o : Walked) (w : World S) → Amid t old n 1 w.roots → Leaves false t old (done o w)) where
   may_lend : (o : Option Place) → MayThis t (length old) (option_map (placed p n) o)
   may_lend None = tt
   may_lend (Some q) = may q
 
-  pub walks_on : (task : Task) (j : ℕ) → AllEnds One j task → (w : World S) →
-      (Bound t old → Binds p n w.roots task) → Amid t old n j w.roots →
-      Leaves t old (rules.walks m k f p n task done w)
-  walks_on (Done o) j h w b at =
+  pub walks_on : (missed : Option (List Fault)) (task : Task) (j : ℕ) → AllEnds One j task →
+      (w : World S) → (Bound t old → Binds p n w.roots task) → Amid t old n j w.roots →
+      Leaves false t old (rules.walks m k f p n missed task done w)
+  walks_on missed (Done o) j h w b at =
       over o w (subst (λ (i : ℕ). Amid t old n i w.roots) h at)
-  walks_on (Mark out go) j h w b at =
-      by_test (Leaves t old) (is_stop m.stop w.passed) (rules.walks m k f p n out done w)
-      (rules.walks m k f p n go done (record w { passed = w.passed + 1 }))
-      (λ stop. walks_on out j h.0 w (λ x. (b x).0) at)
-      (λ clear. walks_on go j h.1 (record w { passed = w.passed + 1 }) (λ x. (b x).1) at)
-  walks_on (Look q go) j h w b at =
-      let r : Held = look w.roots (placed p n q) in walks_on (go r) j (h r) w b at
-  walks_on (Flatten v go) j h w b at =
-      let o : Option Dynamic = flat w.cells v in walks_on (go o) j (h o) w (λ x. b x o) at
-  walks_on (Write q v task) j h w b at =
+  walks_on missed (Mark out go) j h w b at =
+      by_test (Leaves false t old) (is_stop m.stop w.passed) (rules.walks m k f p n missed out done w)
+      (rules.walks m k f p n missed go done (record w { passed = w.passed + 1 }))
+      (λ stop. walks_on missed out j h.0 w (λ x. (b x).0) at)
+      (λ clear. walks_on missed go j h.1 (record w { passed = w.passed + 1 }) (λ x. (b x).1) at)
+  walks_on missed (Look q go) j h w b at =
+      let r : Held = look w.roots (placed p n q) in walks_on missed (go r) j (h r) w b at
+  walks_on missed (Flatten v go) j h w b at =
+      let o : Option Dynamic = flat w.cells v in walks_on missed (go o) j (h o) w (λ x. b x o) at
+  walks_on missed (Write q v task) j h w b at =
       let r : Place = placed p n q in
-      walks_on task j h (record w { roots = put w.roots r v }) b (
+      walks_on missed task j h (record w { roots = put w.roots r v }) b (
         set r v (may q) at.0,
         omega (arith, at.1, length-put w.roots r v),
         omega (arith, at.2, length-put w.roots r v),
       )
-  walks_on (Root g task) j h w b at =
-      walks_on task (suc j) h (record w { roots = w.roots ++ g ∷ [] }) b (
+  walks_on missed (Root g task) j h w b at =
+      walks_on missed task (suc j) h (record w { roots = w.roots ++ g ∷ [] }) b (
         added g at.0,
         omega (arith, at.1, length-append w.roots (g ∷ [])),
         omega (arith, at.2, length-append w.roots (g ∷ [])),
       )
-  walks_on (Drop i go) j h w b at =
+  walks_on missed (Drop i go) j h w b at =
       let r : Held = look w.roots (record { root = n + i; path = [] }) in
       let size : length (take (n + i) w.roots) ≡ n + i =
       omega (arith, length-take (n + i) w.roots, at.1, h.0) in
-      walks_on (go r) (suc i) (h.1 r) (record w { roots = take (n + i) w.roots }) b (
+      walks_on missed (go r) (suc i) (h.1 r) (record w { roots = take (n + i) w.roots }) b (
         cut (n + i) (omega (arith, low)) at.0,
         omega (arith, size),
         omega (arith, size, low),
       )
-  walks_on (Need c go) j h w b at =
-      performs m t old n j (λ a w1. rules.walks m k f p n (go a) done w1)
-      (λ a w1 there. walks_on (go a) j (h a) w1
+  walks_on missed (Need c go) j h w b at =
+      performs m t old n j (λ a w1. rules.walks m k f p n (missed_by a w1.trace) (go a) done
+      (record w1 { trace = trace_of missed a w1.trace }))
+      (λ a w1 there. walks_on (missed_by a w1.trace) (go a) j (h a)
+      (record w1 { trace = trace_of missed a w1.trace })
       (λ x. b x a w1.roots (omega (arith, there.1, at.1))) there) k f c
-      (option_map (placed p n) c.receiver) (may_lend c.receiver) w at
-  walks_on (Invoke i go) j h w b at =
-      invokes m t old n j (λ a w1. rules.walks m k f p n (go a) done w1)
-      (λ a w1 there. walks_on (go a) j (h a) w1
+      (option_map (placed p n) c.receiver) (may_lend c.receiver) (record w { trace = [] }) at
+  walks_on missed (Invoke i go) j h w b at =
+      invokes m t old n j (λ a w1. rules.walks m k f p n None (go a) done w1)
+      (λ a w1 there. walks_on None (go a) j (h a) w1
       (λ x. (b x).1 a w1.roots (omega (arith, there.1, at.1))) there) k f i
-      (option_map (placed p n) i.this) (may_lend i.this) i.method w at (λ x. (b x).0)
+      (option_map (placed p n) i.this) (may_lend i.this) i.method (record w { trace = [] }) at
+      (λ x. (b x).0)
