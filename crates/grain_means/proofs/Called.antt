@@ -48,7 +48,7 @@ module _ {S : Type 0} (m : Setup S) where
       s.3 s.4
   even_step Hosting root turn r k (InCatch f h x) w comes s = absurd s.4
   even_step Framed root turn r k (InHost c) w comes h = absurd h.4
-  even_step Hosting root turn r k (InHost c) w comes h = even_back m root k c w h
+  even_step Hosting root turn r k (InHost c) w comes h = even_back m root r k turn c w h
 
   -- what is counted, the tokens, the level, the scope and the cells, and how it ended
   tallied : {act : Act S} {a : Answer} {v : World S} (d : Ends m act a v) (role : Role)

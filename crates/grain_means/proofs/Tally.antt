@@ -11,6 +11,8 @@ pub mod Functions
 pub mod Asking
 pub mod Natives
 pub mod NativeCalls
+pub mod Telling
+pub mod Callbacks
 pub mod Entries
 pub mod Operators
 pub mod This

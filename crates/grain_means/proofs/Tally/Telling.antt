@@ -1,6 +1,7 @@
 -- The walk over the rules where a call is over that a native asked for: the host hears of it, and answers
 -- the native's call at last or asks for another; or the native is given up.
-use Rattle.std.proofs.Common.{◌≡◌, ◌⊎◌, ◌+◌, ℕ, List, [], ◌∷◌, Option, Some, None, Bool, true, false, refl, sym, subst, ap, ◌∙◌, inl, inr, length, eqb-refl}
+use Rattle.std.proofs.Common.{◌≡◌, ◌⊎◌, ◌+◌, ℕ, List, [], ◌∷◌, Option, Some, None, Bool, true, false, refl, sym, subst, ap, ◌∙◌, inl, inr, length}
+use Rattle.std.proofs.lemmas.Bool.{eqb-false}
 use Rattle.std.specs.Prelude.{nat_eq}
 use Rattle.grain_value.specs.Cells.{flat}
 use Rattle.grain_value.specs.declared.scopes.Entry.{Entry}
@@ -24,11 +25,17 @@ use Rattle.grain_means.proofs.Roles.{Hosting, NativeAnswers, NativeFails}
 use Rattle.grain_means.proofs.Tally.Asking.{length_back}
 use Rattle.grain_means.proofs.Unlent.{Beyond, Unlent, beyond_on, cell_away, given_in}
 
+same_token : (token : ℕ) → nat_eq token token ≡ true
+same_token token = at (nat_eq token token) refl where
+  at : (b : Bool) → nat_eq token token ≡ b → nat_eq token token ≡ true
+  at true e = e
+  at false e = absurd (eqb-false token token e refl)
+
 -- a token that was given last is taken back
 taken_back : (token : ℕ) (tokens : Option (List ℕ)) →
     without_token token (with_token token tokens) ≡ tokens
 taken_back token None = refl
-taken_back token (Some ts) = rw (eqb-refl token) refl
+taken_back token (Some ts) = rw (same_token token) refl
 
 -- what is lent stays where it is lent from
 still_away : {S : Type 0} (law : Law S) (s : S) (token : ℕ) (o : Outcome) (r : Option Receiver) →
