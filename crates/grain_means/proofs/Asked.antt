@@ -41,7 +41,8 @@ module _ {S : Type 0} (m : Setup S) {first : Callback} {start : World S} where
   same_frame (inside on b called says) = same_frame on
 
   -- what is asked for inside of such a call
-  pub asks_on : {c d : Callback} {w v : World S} → AsksOn m first start c w → AsksOn m c w d v →
+  pub asks_on : {c : Callback} {w : World S} {d : Callback} {v : World S} →
+      AsksOn m first start c w → AsksOn m c w d v →
       AsksOn m first start d v
   asks_on one at_first = one
   asks_on one (again two hears says clear later) = again (asks_on one two) hears says clear later
@@ -86,11 +87,11 @@ module _ {S : Type 0} (m : Setup S) {first : Callback} {start : World S} where
         of_answer y is =
             subst (λ (z : Problem). at_position_if_none p z ≡ z) (sym is) (filled_twice p y)
 
-        kept_out : {n : ℕ} {w : World S} → IsKeptOut m p n w x → at_position_if_none p x ≡ x
-        kept_out (inl a) = of_kind _ a.1
-        kept_out (inr (inl a)) = of_kind _ a.3
-        kept_out (inr (inr (inl a))) = of_kind _ a.2
-        kept_out (inr (inr (inr a))) = of_kind _ a.3
+        kept_out : (n : ℕ) (w : World S) → IsKeptOut m p n w x → at_position_if_none p x ≡ x
+        kept_out n w (inl a) = of_kind _ a.1
+        kept_out n w (inr (inl a)) = of_kind _ a.3
+        kept_out n w (inr (inr (inl a))) = of_kind _ a.2
+        kept_out n w (inr (inr (inr a))) = of_kind _ a.3
 
         of_why : IsKeptOut m p (parameters (function_back m.program m.engine.callbacks h.callback))
             h.world x
@@ -99,6 +100,7 @@ module _ {S : Type 0} (m : Setup S) {first : Callback} {start : World S} where
             ⊎ ((b : NativeBack m h.callback h.world) × (y : Problem) × IsCalledBack m b
             × (reply_to m (question_back m b) b.native.key ≡ reply.Failed y) × (is_told x ≡ false)
             × (x ≡ at_position_if_none p y))) → at_position_if_none p x ≡ x
-        of_why (inl a) = kept_out a
+        of_why (inl a) =
+            kept_out (parameters (function_back m.program m.engine.callbacks h.callback)) h.world a
         of_why (inr (inl a)) = of_answer a.2 a.5
         of_why (inr (inr a)) = of_answer a.1 a.5

@@ -83,7 +83,7 @@ module _ {S : Type 0} (m : Setup S) where
       here_or_left (inr l) = inr (l.0, left_call l.1, l.2)
 
     -- the calls back of a native of the first act are those of the second
-    calls_back : CallsBack m first → CallsBack m root
+    abbrev calls_back : CallsBack m first → CallsBack m root
     calls_back c = record {
       point = c.point;
       met = meets c.point c.met;

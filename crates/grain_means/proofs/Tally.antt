@@ -20,6 +20,7 @@ pub mod Transfers
 pub mod Calls
 pub mod Bodies
 pub mod Calling
+pub mod Needs
 pub mod Walks
 pub mod Roots
 pub mod Chains

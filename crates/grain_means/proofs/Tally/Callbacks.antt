@@ -114,14 +114,14 @@ module _ {S : Type 0} {m : Setup S} (hosted : Hosted m) (r : ℕ) (ran : hosted.
     whole a v ends =
         subst (λ (f : Option Function). Ends m (callee_called_back m End c f now) a v) (sym found) ends
 
+    abbrev body : Act S
+    body = Go (InFrame (frame_at g.chunk 0 None)) (body_begins m g (arguments_back c) now)
+
     by_body : (x y : Problem) → FromBody m (root hosted) (turn hosted) q g (arguments_back c) None now x y →
         (u : World S) (n : ℕ) → Whole (End (Failed y) u) → Beside now n u →
         Back hosted n (heard (Failed y) u)
     by_body x y b u n so_ends at =
         even_fault hosted y u n (so_ends (Failed y) u ended) (λ no. left no b.how) (aside n u at) where
-          abbrev body : Act S
-          body = Go (InFrame (frame_at g.chunk 0 None)) (body_begins m g (arguments_back c) now)
-
           left : is_told y ≡ false →
               ((catchable x ≡ true) × Raised m body (now.level + 1) x (Why m x)
               × (y ≡ wrapped m (root hosted) (turn hosted) q g (arguments_back c) None now x))
@@ -235,10 +235,10 @@ module _ {S : Type 0} {m : Setup S} (hosted : Hosted m) (r : ℕ) (ran : hosted.
             (a : Answer) (u : World S) →
             IsOver m (turn hosted) (asked token p values) (served n) k.base k.names a u →
             Whole (Then (Go (InHost (asked token p values)) (asking (asked token p values) (served n)))
-            (native_over m (said (Failed NoMemory)) (λ v w. said (Came v) w) (failed_so m said))) →
+            (native_over (said (Failed NoMemory)) (λ v w. said (Came v) w) (failed_so m said))) →
             NativeAnswers m (asked token p values) (asking (asked token p values) (served n)) a u →
             Back hosted u.ran
-            (native_over m (over (Failed NoMemory)) (λ v w. over (Came v) w) (failed_so m over) a u)
+            (native_over (over (Failed NoMemory)) (λ v w. over (Came v) w) (failed_so m over) a u)
         even_over token p values is a u o so_ends = by_answer a o.ends where
           at : Up u.ran u
           at = record {
@@ -257,11 +257,11 @@ module _ {S : Type 0} {m : Setup S} (hosted : Hosted m) (r : ℕ) (ran : hosted.
               Ends m (Go (InHost (asked token p values)) (asking (asked token p values) (served n))) a u →
               NativeAnswers m (asked token p values) (asking (asked token p values) (served n)) a u →
               Back hosted u.ran
-              (native_over m (over (Failed NoMemory)) (λ v w. over (Came v) w) (failed_so m over) a u)
+              (native_over (over (Failed NoMemory)) (λ v w. over (Came v) w) (failed_so m over) a u)
           by_answer (Came v) ends answers =
               even_value hosted v (down u) u.ran (so_ends (Came v) (down u) (joined ends ended)) at
           by_answer (Failed x) ends (inl out) =
-              subst (λ (y : Problem). Back hosted u.ran (native_over m (over (Failed NoMemory))
+              subst (λ (y : Problem). Back hosted u.ran (native_over (over (Failed NoMemory))
               (λ v w. over (Came v) w) (failed_so m over) (Failed y) u)) (sym out.0)
               (even_out hosted (down u) u.ran out.1 at)
           by_answer (Failed x) ends (inr how) =
@@ -292,7 +292,7 @@ module _ {S : Type 0} {m : Setup S} (hosted : Hosted m) (r : ℕ) (ran : hosted.
         even_answered (reply.Ask token p values) is so_ends =
             even_asked m Hosting (root hosted) (turn hosted) k r (asked token p values) (served n) k.base
             k.names ran trace stays.keeps
-            (native_over m (over (Failed NoMemory)) (λ v w. over (Came v) w) (failed_so m over))
+            (native_over (over (Failed NoMemory)) (λ v w. over (Came v) w) (failed_so m over))
             (λ a u o. even_over token p values is a u o so_ends o.answers)
 
         -- the host has answered, and is not heard
@@ -392,15 +392,15 @@ module _ {S : Type 0} {m : Setup S} (hosted : Hosted m) (r : ℕ) (ran : hosted.
     kept_back_out x why u at =
         kept_out x (subst (λ (f : Option Function). IsKeptOut m q (parameters f) now x) (sym none) why) u at
 
+    abbrev told : World S
+    told = counted_world m Hosting (root hosted) (turn hosted) k q now whole_run heard End out_so
+
     even_native : Back hosted r (native_called_back m heard c now)
     even_native =
         even_taken m Hosting (root hosted) (turn hosted) k q now whole_run heard End out_so r ran 0
         kept_back_out (entering heard) (entering End) entered
         (λ a v ends. subst (λ (f : Option Function). Ends m (callee_called_back m End c f now) a v)
         (sym none) ends) where
-          abbrev told : World S
-          told = counted_world m Hosting (root hosted) (turn hosted) k q now whole_run heard End out_so
-
           entered : IsCharged m now → Whole (entering End told) → Back hosted r (entering heard told)
           entered charged so_ends =
               let high = nat_le m.engine.limits.levels now.level in

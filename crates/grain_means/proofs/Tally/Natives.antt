@@ -209,11 +209,11 @@ module _ {S : Type 0} {m : Setup S} (walk : Walk m) where
             (a : AsksThen w name r args n) (x : Answer) (u : World S) →
             Ends m (Go (InHost (asked_by m a)) a.start) x u → Over u.ran u →
             NativeAnswers m (asked_by m a) a.start x u →
-            Even walk u.ran (native_over m out go fails x u)
+            Even walk u.ran (native_over out go fails x u)
         even_over n e called a (Came v) u ends after empty =
             goes n e called v u.ran u (inr (a, ends)) after empty
         even_over n e called a (Failed x) u ends after (inl stop) =
-            subst (λ (y : Problem). Even walk u.ran (native_over m out go fails (Failed y) u))
+            subst (λ (y : Problem). Even walk u.ran (native_over out go fails (Failed y) u))
             (sym stop.0) (out_so u.ran u (inl (refl, stop.1)) after)
         even_over n e called a (Failed x) u ends after (inr how) =
             by_test (Even walk u.ran) (no_memory x) (out u) (fails x u)
@@ -238,7 +238,7 @@ module _ {S : Type 0} {m : Setup S} (walk : Walk m) where
             let v : World S = left_by n.key in
             let at = after_answer n.key in
             even_asked m Framed root (Go (InFrame f) now) k ran c v k.base k.names s.0 t at.0.3.keeps
-            (native_over m out go fails)
+            (native_over out go fails)
             (λ x u over. even_over n e called (record {
               token = token;
               pointer = p;

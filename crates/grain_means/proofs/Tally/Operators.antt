@@ -27,7 +27,8 @@ use Rattle.grain_means.specs.Causes.{Question, native_asked, reply_to, asks_firs
 use Rattle.grain_means.proofs.Footing.{Sits, by_test}
 use Rattle.grain_means.proofs.Tally.Frames.{Walk, Even, Steady, start, steady, even_onward, point, all_there}
 use Rattle.grain_means.proofs.Tally.Faults.{why, even_raised, even_flat, even_flat_in, even_on}
-use Rattle.grain_means.proofs.Tally.Natives.{Gave, FailedSo}
+use Rattle.grain_means.proofs.Tally.Natives.{FailedSo}
+use Rattle.grain_means.proofs.Tally.Natives.{Gave as HasGiven}
 use Rattle.grain_means.proofs.Tally.NativeCalls.{none_raised, refused_raised, even_found, even_native}
 use Rattle.grain_means.proofs.Tally.Entries.{even_constant, even_home, even_written_at}
 
@@ -134,7 +135,7 @@ module _ {S : Type 0} {m : Setup S} (walk : Walk m) where
         -- the operator gave a value, which is written
         given : (n : Native) → native_asked m question ≡ Some n → IsCalled question n →
             (z : Dynamic) (l : ℕ) (w1 : World S) →
-            Gave walk w (name_of m.program a.op_name) None args n z w1 →
+            HasGiven walk w (name_of m.program a.op_name) None args n z w1 →
             Steady walk l w1 → w1.trace ≡ [] → Readable w1 →
             Even walk l (flattened m (read_write z) name f w1 (λ y.
             assigned_at m home (record h { value = y }) name (f.address + width) f w1))
@@ -144,7 +145,7 @@ module _ {S : Type 0} {m : Setup S} (walk : Walk m) where
             (λ y. even_written_at walk o width stands w1 l s1 t1 h name (record h { value = y }) sits_on
             (λ none. none_some (sym none ∙ reads.1)) home is_home)
             (flat w1.cells z) refl where
-              lends : Gave walk w (name_of m.program a.op_name) None args n z w1 →
+              lends : HasGiven walk w (name_of m.program a.op_name) None args n z w1 →
                   flat w1.cells z ≡ None → AnswersLent m name (point walk o)
               lends (inl (is, left)) none =
                   answers_lent question asked_so n e called z

@@ -15,7 +15,8 @@ use Rattle.grain_means.specs.Ends.{Ends}
 use Rattle.grain_means.specs.Leavings.{Keeps}
 use Rattle.grain_means.specs.Rules.{Home, InScope, InCell, AtPlace, Receiver, answered_again, back_in_scope, called_back_over, cells_with, ended_so, given_up, is_stop, is_told, lent_held, position, race_text, receiver_rewritten, roots_with, scope_with, told, unheard, value_told, went_on, with_token, without_token}
 use Rattle.grain_means.specs.Worlds.{Act, Answer, Came, Callback, Failed, Go, InHost, Setup, World}
-use Rattle.grain_means.specs.Causes.{AsksOn, BackEnds, HearsOf, again, of_fault, of_lent, of_value, reply_again}
+use Rattle.grain_means.specs.Causes.{AsksOn, BackEnds, HearsOf, again, reply_again}
+use Rattle.grain_means.specs.Causes.Callbacks.{of_fault, of_lent, of_value}
 use Rattle.grain_means.specs.Causes.Spots.{past}
 use Rattle.grain_means.proofs.Choices.{if_false}
 use Rattle.grain_means.proofs.Footing.{Tally, by_test}
@@ -244,8 +245,8 @@ module _ {S : Type 0} {m : Setup S} (hosted : Hosted m) where
 
   pub even_untold : (x : Problem) (u : World S) (n : ℕ) → is_told x ≡ false →
       NativeFails m first start x → Aside n u → Back n (called_back_over m c (Failed x) u)
-  even_untold x u n no why at =
-      if_false (Back n) (is_told x) (told m c (Fault x) u) (given_up m c (Failed x) u) no
+  even_untold x u n passes why at =
+      if_false (Back n) (is_told x) (told m c (Fault x) u) (given_up m c (Failed x) u) passes
       (gives_up (Failed x) n u at (inr why))
 
   -- memory is out

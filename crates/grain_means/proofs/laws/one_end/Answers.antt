@@ -1,4 +1,3 @@
-use Rattle.grain_means.proofs.Carrying.{cause_at}
 use Rattle.grain_means.proofs.Determined.{one_end}
 use Rattle.grain_means.proofs.laws.one_end.Goals as goal
 
