@@ -51,7 +51,7 @@ use Rattle.grain_means.proofs.Lengths.{length_under, length_pushed, length_rotat
 use Rattle.grain_means.proofs.Standing.{tries_outer, fits_found}
 use Rattle.grain_means.proofs.Footing.{guarded_outside}
 use Rattle.grain_means.proofs.Tally.Frames.{Walk, Even, start, steady, even_marked, guarding, unguarded, even_onward, one_less, one_more}
-use Rattle.grain_means.proofs.Tally.Faults.{why, why_chain, even_raised_in, even_flat, even_flat_all, fits_on, sits_at, even_on, even_charged_on, even_jumped}
+use Rattle.grain_means.proofs.Tally.Faults.{why, why_chain, why_left, even_raised_in, even_flat, even_flat_all, fits_on, sits_at, even_on, even_charged_on, even_jumped}
 use Rattle.grain_means.proofs.Tally.Entries.{even_at, even_declared, even_stored_in, even_assigned, even_shared}
 use Rattle.grain_means.proofs.Tally.Operators.{even_pushed, even_assigned_op}
 use Rattle.grain_means.proofs.Tally.This.{even_assigned_op_this, even_assigned_this, even_at_this}
@@ -367,6 +367,7 @@ module _ {S : Type 0} {m : Setup S} (walk : Walk m) where
         enough,
       )))
       (λ j x row. why_chain walk (op.Chain k) width at k j x refl row)
+      (λ j x how cause passes. why_left walk (op.Chain k) width at k j x refl how cause passes)
   even_instr op.Throw width at =
       even_flat walk op.Throw width at (top f.operands) [] (λ lent. (refl, lent)) _
       (λ v read. even_raised_in walk op.Throw width at (under 1 f.operands)

@@ -1,5 +1,5 @@
 -- The walk over the rules through a call that a native asked for: of a function, or of a native.
-use Rattle.std.proofs.Common.{◌≡◌, ◌⊎◌, ◌+◌, ◌<◌, ℕ, List, [], Option, Some, None, Bool, true, false, ◌&&◌, refl, sym, subst, ap, ◌∙◌, inl, inr, arith, length, nat_le}
+use Rattle.std.proofs.Common.{◌≡◌, ◌⊎◌, ◌+◌, ◌<◌, ℕ, List, [], Option, Some, None, Bool, true, false, ◌&&◌, if◌then◌else◌, refl, sym, subst, ap, ◌∙◌, inl, inr, arith, length, nat_le}
 use Rattle.std.proofs.lemmas.Bool.{leb-true, leb-false}
 use Rattle.grain_value.specs.declared.natives.Native.{Native}
 use Rattle.grain_value.specs.declared.values.Dynamic.{Dynamic}
@@ -12,7 +12,7 @@ use Rattle.grain_fault.specs.Positions.{at_position, at_position_if_none}
 use Rattle.grain_fault.specs.declared.places.Position.{Position}
 use Rattle.grain_fault.specs.Problems.{FaultKind, Problem, Plain, DataRace, NonPureCall, NoMemory, StackOverflow}
 use Rattle.grain_host.specs.Faults.{kept_back}
-use Rattle.grain_host.specs.Law.{Reply}
+use Rattle.grain_host.specs.Law.{Reply, native_of}
 use Rattle.grain_host.specs.Law as reply
 use Rattle.grain_host.specs.Signatures.{missing_kind, not_found}
 use Rattle.grain_program.specs.Lookups.{function_by_text}
@@ -127,8 +127,8 @@ module _ {S : Type 0} {m : Setup S} (hosted : Hosted m) (r : ℕ) (ran : hosted.
               × (y ≡ wrapped m (root hosted) (turn hosted) q g (arguments_back c) None now x))
               ⊎ ((catchable x ≡ false) × Cause m body (now.level + 1) x × (y ≡ at_position q x)) →
               NativeFails m first start y
-          left no (inl (may, raised, is)) = true-false (ap is_told is) no
-          left no (inr (passes, cause, is)) = inr (
+          left untold (inl (may, raised, is)) = true-false (ap is_told is) untold
+          left untold (inr (passes, cause, is)) = inr (
             record {
               runs = record { callback = c; world = now; on = on; function = g; is = found };
               inner = x;
@@ -189,7 +189,7 @@ module _ {S : Type 0} {m : Setup S} (hosted : Hosted m) (r : ℕ) (ran : hosted.
         }))
 
     told_of : (x : Problem) → is_told x ≡ true → is_told x ≡ false → NativeFails m first start x
-    told_of x yes no = true-false yes no
+    told_of x told untold = true-false told untold
 
     begins_up : (u : World S) → u.ran ≡ now.ran → u.tokens ≡ now.tokens → u.scope ≡ now.scope →
         u.cells ≡ now.cells → Up r u
@@ -339,7 +339,7 @@ module _ {S : Type 0} {m : Setup S} (hosted : Hosted m) (r : ℕ) (ran : hosted.
             (lost_said (told (past up))) (answers_said (past up) (past (told (past up)))) later ends)))))
 
       even_found : (found : Option Native) →
-          native_asked m (question_back m (back_with (record { key = 0; writes = false }))) ≡ found →
+          native_of m.law up.host name (kinds_in args) ≡ found →
           Whole (native_found_or m (said (Failed NoMemory)) found name None args c.frame up
           (λ v w. said (Came v) w) (failed_so m said)) →
           Back hosted r (native_found_or m (over (Failed NoMemory)) found name None args c.frame up
@@ -370,14 +370,7 @@ module _ {S : Type 0} {m : Setup S} (hosted : Hosted m) (r : ℕ) (ran : hosted.
         fails_so x up r so_ends (told_of x refl) (begins_up up refl refl refl refl)
     even_read charged low (Some args) is so_ends =
         even_found charged low args is
-        (native_asked m (question_back m (record {
-          none = none;
-          charged = charged;
-          level = low;
-          args = args;
-          reads = is;
-          native = record { key = 0; writes = false };
-        }))) refl so_ends
+        (native_of m.law up.host c.pointer.name (kinds_in args)) refl so_ends
 
     -- once the operation is taken
     abbrev entering : (Answer → World S → Act S) → World S → Act S

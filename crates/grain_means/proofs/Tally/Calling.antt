@@ -87,7 +87,7 @@ module _ {S : Type 0} {m : Setup S} (walk : Walk m) where
       even_by_chain heard said out fault value kept_out fails_so =
           even_under walk o width stands q g args this w called fits away r s t slot (ChainCallFails calls)
           (λ begun x y ends fails is. blames_step walk o width stands calls.index calls.step y calls.is
-          (inr (body_fails begun x y ends fails is)))
+          (inr (inl (body_fails begun x y ends fails is))))
           (λ begun x ends fails is. (
             walk.level,
             inr (inl (

@@ -1,9 +1,10 @@
 -- The walk at an instruction: the faults that it raises, the cells that it finds lent, the
 -- operations that it is charged, and how its frame goes on.
-use Rattle.std.proofs.Common.{◌≡◌, ◌≤◌, ◌<◌, ◌⊎◌, ℕ, ◌+◌, ◌-◌, List, [], Option, Some, None, refl, sym, subst, ap, inl, inr, length, nat_lt, nat_le}
+use Rattle.std.proofs.Common.{◌≡◌, ◌≤◌, ◌<◌, ◌⊎◌, ℕ, ◌+◌, ◌-◌, List, [], Option, Some, None, true, false, refl, sym, subst, ap, inl, inr, length, nat_lt, nat_le}
 use Rattle.std.proofs.lemmas.Bool.{ltb-true, ltb-false, leb-true}
 use Rattle.grain_value.specs.declared.values.Dynamic.{Dynamic}
 use Rattle.grain_value.specs.declared.values.Held.{Held}
+use Rattle.grain_fault.specs.Classes.{catchable}
 use Rattle.grain_fault.specs.Positions.{at_position_if_none, position_of_problem}
 use Rattle.grain_fault.specs.declared.places.Position.{Position}
 use Rattle.grain_fault.specs.Problems.{Problem, Plain, TooManyOperations}
@@ -21,15 +22,15 @@ use Rattle.grain_program.specs.Decoding.{op_at}
 use Rattle.grain_value.specs.Cells.{flat}
 use Rattle.grain_means.specs.Worlds.{Act, World, Setup, Frame}
 use Rattle.grain_host.specs.Law.{Verdict, GoOn, Stop}
-use Rattle.grain_means.proofs.Moving.{placed_here, placed_if_none}
+use Rattle.grain_means.proofs.Moving.{placed_here, placed_if_none, unit_caught}
 use Rattle.grain_means.specs.Rules.{offered, on_verdict, progressed, stepped, marked, raised, charged, onward, jumped, position, flat_or_race, flat_all, all_or_race, data_race, race_text}
 use Rattle.grain_means.specs.Comes.{Meets, tries}
 use Rattle.grain_means.specs.Causes as causes
-use Rattle.grain_means.specs.Causes.{ChainRow, HostAnswers, RaisedByChain, Charges, IsCharged, IsNoChain, Row, ReadsLent, AnswersLent, IsLent}
+use Rattle.grain_means.specs.Causes.{Cause, ChainRow, HostAnswers, LeavesNative, RaisedByChain, Charges, IsCharged, IsNoChain, Row, ReadsLent, AnswersLent, IsLent}
 use Rattle.grain_means.specs.Blame.{Blames, FailsAtStep, at_step, no_step}
 use Rattle.grain_means.proofs.Chainless.{IsOwn, no_chain, not_answered, own_position}
 use Rattle.grain_means.proofs.Standing.{Fitting, fits_next, fits_covered}
-use Rattle.grain_means.proofs.Footing.{Sits, by_test, unit_by_row, Offers}
+use Rattle.grain_means.proofs.Footing.{Sits, by_test, true-false, unit_by_row, Offers}
 use Rattle.grain_means.proofs.Tally.Frames.{Walk, Even, Steady, start, steady, even_marked, even_marked_at, holding, stepping, even_offered, even_onward, point, Blame, Reason, ReasonAt, Enough, all_there}
 
 module _ {S : Type 0} {m : Setup S} (walk : Walk m) where
@@ -122,6 +123,18 @@ module _ {S : Type 0} {m : Setup S} (walk : Walk m) where
           ),
           blames_step k n x is (inl row),
         )
+
+    -- why the run ends in a fault that left a native which a chain calls
+    pub why_left : (k n : ℕ) (x : Problem) → o ≡ op.Chain k →
+        (x ≡ problem.NoMemory) ⊎ LeavesNative m (chain_of m.program k) (point walk o) n x →
+        Cause m root walk.footing.level x → catchable x ≡ false →
+        ReasonAt walk (Some (slot_of m.program k n)) x
+    why_left k n x is how cause passes =
+        (cause, λ unit. true-false (unit_caught x unit) passes, blame how) where
+          blame : (x ≡ problem.NoMemory) ⊎ LeavesNative m (chain_of m.program k) (point walk o) n x →
+              Blame walk (Some (slot_of m.program k n)) x
+          blame (inl out) = inl out
+          blame (inr left) = blames_step k n x is (inr (inr left))
 
     -- a fault is offered to the frame's handlers, where no more operands are gone than the
     -- instruction takes

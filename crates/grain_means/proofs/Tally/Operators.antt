@@ -1,5 +1,5 @@
 -- The walk through operators and op-assignments: the built-in, and else the host.
-use Rattle.std.proofs.Common.{◌≡◌, ℕ, ◌+◌, List, [], ◌∷◌, ◌++◌, Option, Some, None, Bool, true, false, refl, sym, ◌∙◌, inl, inr, if◌then◌else◌}
+use Rattle.std.proofs.Common.{◌≡◌, ◌⊎◌, ℕ, ◌+◌, List, [], ◌∷◌, ◌++◌, Some, None, Option, Bool, true, false, refl, sym, subst, ◌∙◌, inl, inr, if◌then◌else◌}
 use Rattle.grain_value.specs.declared.values.Dynamic.{Dynamic}
 use Rattle.grain_value.specs.declared.values.Held.{Held}
 use Rattle.grain_value.specs.Looking.{cell_of}

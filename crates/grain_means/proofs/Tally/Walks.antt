@@ -198,7 +198,7 @@ module _ {S : Type 0} {m : Setup S} (walk : Walk m) where
               (λ u l stop at. heard_out (dropped u) l stop at)
               (λ x u l because at. heard_fault x (dropped u) l (of_step by x because) at)
               (λ d u l whole at empty. hears d (dropped u) l
-              (ends_so (Came d) (dropped u) (whole (Came d) (dropped u) ended)) (at, empty))
+              (ends_so (Came d) (dropped u) (whole (Came d) (dropped u) ended)) at)
               (λ x why. at_slot by x (kept_out x why))
               (λ x u whole. by.3 x (dropped u)
               (ends_so (Failed x) (dropped u) (whole (Failed x) (dropped u) ended))))
