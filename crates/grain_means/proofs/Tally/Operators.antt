@@ -143,7 +143,7 @@ module _ {S : Type 0} {m : Setup S} (walk : Walk m) where
             even_flat_in walk o width stands l w1 s1 z name (λ none. inr (lends how none))
             (λ y. assigned_at m home (record h { value = y }) name (f.address + width) f w1)
             (λ y. even_written_at walk o width stands w1 l s1 t1 h name (record h { value = y }) sits_on
-            (λ none. none_some (sym none ∙ reads.1)) home is_home)
+            (λ none. absurd (none_some (sym none ∙ reads.1))) home is_home)
             (flat w1.cells z) refl where
               lends : HasGiven walk w (name_of m.program a.op_name) None args n z w1 →
                   flat w1.cells z ≡ None → AnswersLent m name (point walk o)
