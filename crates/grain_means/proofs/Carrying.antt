@@ -11,7 +11,7 @@ use Rattle.grain_means.specs.Rules.{is_stop}
 use Rattle.grain_means.specs.Comes.{ProgramPoint, CatchPoint, ComesToCatch, Meets}
 use Rattle.grain_means.specs.Leavings.{AtCheckpoint, Cut}
 use Rattle.grain_means.specs.Blame.{Blamed}
-use Rattle.grain_means.specs.Causes.{HasPosition, LeftCall, Tells, ThrownAnew, RaisedByCatch, Cause, Caused}
+use Rattle.grain_means.specs.Causes.{HasPosition, LeftCall, Tells, ThrownAnew, RaisedByCatch, CallsBack, Cause, Caused, raised, by_catch, from_native}
 use Rattle.grain_means.proofs.Moving.{placed_twice, caught_anywhere}
 use Rattle.grain_means.proofs.Footing.{Onto, moved_why, moved_catch}
 
@@ -82,25 +82,43 @@ module _ {S : Type 0} (m : Setup S) where
       here_or_left (inl own) = inl own
       here_or_left (inr l) = inr (l.0, left_call l.1, l.2)
 
+    -- the calls back of a native of the first act are those of the second
+    abbrev calls_back : CallsBack m first → CallsBack m root
+    calls_back c = record {
+      point = c.point;
+      met = meets c.point c.met;
+      first = c.first;
+      start = c.start;
+      comes = c.comes;
+      address = c.address;
+      runs = c.runs;
+    }
+
+    pub cause_on : {level : ℕ} {x : Problem} → Cause m first level x → Cause m root level x
+    cause_on {level = level} {x = x} (raised c) = raised (record {
+      point = c.point;
+      met = meets c.point c.met;
+      why = c.why;
+      tells = told level c.point x c.tells;
+    })
+    cause_on {level = level} {x = x} (by_catch c) = by_catch (caught_told level x c)
+    cause_on (from_native c passes inner p (inl own)) =
+        from_native (calls_back c) passes inner p (inl own)
+    cause_on (from_native c passes inner p (inr l)) =
+        from_native (calls_back c) passes inner p (inr (left_call l))
+
     pub caused : (level : ℕ) (a : Answer) (w v : World S) →
         (is_stop m.stop w.passed ≡ true → is_stop m.stop v.passed ≡ true) →
         Caused m first level a w → Caused m root level a v
     caused level (Came u) w v stops c = tt
     caused level (Failed x) w v stops (inl s) = inl (s.0, stops s.1)
-    caused level (Failed x) w v stops (inr (inl c)) =
-        inr (inl (record {
-          point = c.point;
-          met = meets c.point c.met;
-          why = c.why;
-          tells = told level c.point x c.tells;
-        }))
-    caused level (Failed x) w v stops (inr (inr c)) = inr (inr (caught_told level x c))
+    caused level (Failed x) w v stops (inr c) = inr (cause_on c)
 
     -- a fault that no script may catch goes on at a call
     pub cause_at : (p : Position) (inside level : ℕ) (x : Problem) → catchable x ≡ false →
         ((Runs : Act S → Type 0) → Runs first → LeftCall m root level Runs p) →
         Cause m first inside x → Cause m root level (at_position p x)
-    cause_at p inside level x passes call (inl c) = inl (record {
+    cause_at p inside level x passes call (raised c) = raised (record {
       point = c.point;
       met = meets c.point c.met;
       why = moved_why m p x c.point c.why;
@@ -109,12 +127,15 @@ module _ {S : Type 0} (m : Setup S) where
         (p, call (Meets m c.point) c.met, placed_twice p p x),
       ));
     })
-    cause_at p inside level x passes call (inr c) = inr (record {
+    cause_at p inside level x passes call (by_catch c) = by_catch (record {
       point = c.point;
       comes = catches c.point c.comes;
       why = moved_catch m p x c.point c.why;
       tells = inr (p, call (ComesToCatch m c.point) c.comes, placed_twice p p x);
     })
+    cause_at p inside level x passes call (from_native {y = y} c passing inner q at) =
+        subst (Cause m root level) (sym (placed_twice p q y))
+        (from_native (calls_back c) passing inner p (inr (call (Meets m c.point) c.met)))
 
     -- and how a fault cut the scope, also where memory is out afterwards
     pub cut_of : (level base : ℕ) (x y : Problem) → (y ≡ x) ⊎ (y ≡ NoMemory) →

@@ -17,11 +17,14 @@ use Rattle.grain_means.specs.Rules.{is_full, is_stop, leave_by_fault, marked, on
 use Rattle.grain_means.specs.Comes.{CatchPoint, Comes, try_of, tries}
 use Rattle.grain_means.specs.Leavings.{Keeps, Cut}
 use Rattle.grain_means.specs.Blame.{Blamed}
-use Rattle.grain_means.specs.Causes.{HasPosition, ComesToCharge, CatchRow, raised_at, Caused}
+use Rattle.grain_means.specs.Causes.{HasPosition, ComesToCharge, CatchRow, raised_at, Caused, by_catch}
 use Rattle.grain_means.specs.CatchBlocks.{variable_entry, Catches}
-use Rattle.grain_means.proofs.Footing.{Footing, CanCatch, Tally, by_test, catch_passes, true-false}
+use Rattle.grain_means.proofs.Footing.{CanCatch, Tally, by_test, catch_passes, true-false}
+use Rattle.grain_means.proofs.Ground.{Footing, Stays, stays_cut}
 use Rattle.grain_means.proofs.Kept.{keeps_cut, keeps_push}
+use Rattle.grain_means.proofs.Unlent.{Unlent}
 use Rattle.grain_means.proofs.Lengths.{cut_short}
+use Rattle.grain_means.proofs.Roles.{Framed}
 use Rattle.grain_means.proofs.Standing.{Covered, as_many, fits_caught}
 
 -- a handler without a variable has none
@@ -47,7 +50,8 @@ module _ {S : Type 0} (m : Setup S) (f : Frame) (h : Handler) (x : Problem) (w :
 
   -- a world to which catching comes
   abbrev Along : World S → Type 0
-  Along u = (u.ran ≡ w.ran) × (u.tokens ≡ w.tokens) × (u.level ≡ w.level) × Kept u.scope
+  Along u = (u.ran ≡ w.ran) × (u.tokens ≡ w.tokens) × (u.level ≡ w.level) × Kept u.scope ×
+      (u.cells ≡ w.cells)
 
   -- memory is out, or the handler raises the fault
   abbrev FailsWith : Problem → World S → Type 0
@@ -115,7 +119,7 @@ module _ {S : Type 0} (m : Setup S) (f : Frame) (h : Handler) (x : Problem) (w :
     verdict fits GoOn e = inr (record {
       world = heard;
       is = refl;
-      along = (refl, refl, refl, kept);
+      along = (refl, refl, refl, kept, refl);
       there = came.0;
       scope = is;
       trace = refl;
@@ -123,7 +127,7 @@ module _ {S : Type 0} (m : Setup S) (f : Frame) (h : Handler) (x : Problem) (w :
     })
     verdict fits (Stop v) e =
         escapes (Plain (Terminated v) (position_of m.program h.target)) heard (came, fits, e) refl
-        (refl, refl, refl, kept)
+        (refl, refl, refl, kept, refl)
 
     charges : Outcome (charged_or m (position_of m.program h.target) g (leave_by_fault m g)
         now (Go (InFrame block)))
@@ -138,15 +142,15 @@ module _ {S : Type 0} (m : Setup S) (f : Frame) (h : Handler) (x : Problem) (w :
         by_test Outcome (nat_lt w.count m.engine.limits.operations)
         (marked m g now (λ w1. progressed m p g leaves (record w1 { count = w1.count + 1 }) go))
         (marked m g now (leaves (Plain TooManyOperations p)))
-        (λ fits. at_mark now (refl, refl, refl, kept)
+        (λ fits. at_mark now (refl, refl, refl, kept, refl)
         (λ w1. progressed m p g leaves (record w1 { count = w1.count + 1 }) go)
-        (at_mark counted (refl, refl, refl, kept) (λ w1. marked m g (after w1) (tells w1))
-        (at_mark (after (record counted { passed = counted.passed + 1 })) (refl, refl, refl, kept)
+        (at_mark counted (refl, refl, refl, kept, refl) (λ w1. marked m g (after w1) (tells w1))
+        (at_mark (after (record counted { passed = counted.passed + 1 })) (refl, refl, refl, kept, refl)
         (tells (record counted { passed = counted.passed + 1 }))
         (verdict (ltb-true w.count m.engine.limits.operations fits)
         (m.law.progress_reply w.host (w.count + 1)) refl))))
         (λ full. escapes (Plain TooManyOperations p) now
-        (came, ltb-false w.count m.engine.limits.operations full) refl (refl, refl, refl, kept))
+        (came, ltb-false w.count m.engine.limits.operations full) refl (refl, refl, refl, kept, refl))
 
   -- the world whose scope and trace are cut
   abbrev cut : World S
@@ -183,8 +187,8 @@ module _ {S : Type 0} (m : Setup S) (f : Frame) (h : Handler) (x : Problem) (w :
           cut_short h.scope w.scope,
         ),
         there,
-      ) refl (refl, refl, refl, kept_cut))
-      (λ room. at_mark cut (refl, refl, refl, kept_cut)
+      ) refl (refl, refl, refl, kept_cut, refl))
+      (λ room. at_mark cut (refl, refl, refl, kept_cut, refl)
       (λ w1. charge (record w1 { scope = w1.scope ++ entry ∷ [] }))
       (charges (scope ++ entry ∷ []) (w.passed + 1)
       (λ base ns low k. keeps_push base ns scope entry (kept_cut base ns low k)) (
@@ -208,14 +212,20 @@ module _ {S : Type 0} (m : Setup S) (f : Frame) (h : Handler) (x : Problem) (w :
       (bind_caught m h.variable p g x cut
       (λ w1. charged_or m p g (leave_by_fault m g) w1 (Go (InFrame block))))
       (λ short. escapes y (record w { trace = [] }) (refl, refl, ltb-true (length w.scope) h.scope short) refl
-      (refl, refl, refl, λ base ns low k. k))
+      (refl, refl, refl, λ base ns low k. k, refl))
       (λ clear. binds h.variable refl (ltb-false (length w.scope) h.scope clear))
 
   -- what is left of a catch, on its footing
   module _ (root turn : Act S) (k : Footing) (comes : Comes m (InCatch f h x) w root) (r : ℕ)
       (ran : w.ran ≡ r) (tokens : w.tokens ≡ k.tokens) (level : w.level ≡ k.level)
-      (keeps : Keeps k.base k.names w.scope) (can : CanCatch m root k f h x) where
-    even_fails : (act : Act S) → Fails act → Tally m root turn r k act
+      (keeps : Stays k None w.scope w.cells) (can : CanCatch m root k f h x) where
+    stays : (u : World S) → Along u → Stays k None u.scope u.cells
+    stays u along = record {
+      keeps = along.3 k.base k.names can.scope keeps.keeps;
+      unlent = subst (Unlent k.cells) (sym along.4) keeps.unlent;
+    }
+
+    even_fails : (act : Act S) → Fails act → Tally m Framed root turn r k act
     even_fails act l =
         let u = l.world in
         let left : Cut m root k.level k.base l.fault (take f.floor u.scope)
@@ -231,14 +241,12 @@ module _ {S : Type 0} (m : Setup S) (f : Frame) (h : Handler) (x : Problem) (w :
           blames = blames l.fault u l.why;
           short = inl (omega (arith, cut_short f.floor u.scope, can.floor));
         } in
-        subst (Tally m root turn r k) (sym l.is) (
+        subst (Tally m Framed root turn r k) (sym l.is) (
           l.along.0 ∙ ran,
           l.along.1 ∙ tokens,
           l.along.2 ∙ level,
-          keeps_cut k.base f.floor k.names u.scope can.low
-              (l.along.3 k.base k.names can.scope keeps),
-          inl left,
-          cause l.fault u l.why,
+          stays_cut f.floor u.scope u.cells can.low (stays u l.along),
+          (inl left, cause l.fault u l.why),
         ) where
           may : (x ≡ can.blamed.raised) ⊎ ((throws_unit can.blamed.raised ≡ true)
               ⊎ ((catchable can.blamed.raised ≡ true) × (catchable x ≡ false))) →
@@ -272,20 +280,20 @@ module _ {S : Type 0} (m : Setup S) (f : Frame) (h : Handler) (x : Problem) (w :
 
           cause : (y : Problem) (u : World S) → FailsWith y u → Caused m root k.level (Failed y) u
           cause y u (inl out) = inl out
-          cause y u (inr why) = inr (inr (record {
+          cause y u (inr why) = inr (by_catch (record {
             point = point;
             comes = comes;
             why = why.0;
             tells = inl (level, why.1);
           }))
 
-    even_begins : (act : Act S) → Begins act → Tally m root turn r k act
+    even_begins : (act : Act S) → Begins act → Tally m Framed root turn r k act
     even_begins act b =
-        subst (Tally m root turn r k) (sym b.is) (
+        subst (Tally m Framed root turn r k) (sym b.is) (
           b.along.0 ∙ ran,
           b.along.1 ∙ tokens,
           b.along.2 ∙ level,
-          b.along.3 k.base k.names can.scope keeps,
+          stays b.world b.along,
           (
             b.trace,
             (
@@ -310,9 +318,9 @@ module _ {S : Type 0} (m : Setup S) (f : Frame) (h : Handler) (x : Problem) (w :
           ),
         )
 
-    pub even_caught : Tally m root turn r k (caught m f h x w)
+    pub even_caught : Tally m Framed root turn r k (caught m f h x w)
     even_caught = by_outcome outcome where
-      by_outcome : Outcome (caught m f h x w) → Tally m root turn r k (caught m f h x w)
+      by_outcome : Outcome (caught m f h x w) → Tally m Framed root turn r k (caught m f h x w)
       by_outcome (inl l) = even_fails (caught m f h x w) l
       by_outcome (inr b) = even_begins (caught m f h x w) b
 

@@ -95,3 +95,9 @@ pub not_answered : {S : Type 0} (m : Setup S) (y : Problem) (o : Op) (f : Frame)
 not_answered m y (op.Chain k) f w a =
     asks_last m k f w (at_position_if_none (position m f) y) a.2.question a.5
 not_answered m y o f w a = tt
+
+-- where an instruction asks for a native, it is no chain
+pub asks_no_chain : {S : Type 0} (m : Setup S) (q : Question S) (o : Op) (f : Frame) (w : World S) →
+    AsksNative m q (record { instruction = o; frame = f; world = w }) → IsNoChain o
+asks_no_chain m q (op.Chain k) f w a = asks_native m k f w q a
+asks_no_chain m q o f w a = tt

@@ -6,22 +6,17 @@ use Rattle.grain_fault.specs.Positions.{at_position, position_of_problem}
 use Rattle.grain_fault.specs.declared.places.Position.{Position}
 use Rattle.grain_fault.specs.Problems.{FaultKind, Malformed, Runtime, Terminated, TooManyOperations, TooManyVariables, Problem, Plain, InFunctionCall, InModule, SystemError, NoMemory}
 use Rattle.grain_program.specs.Typing.{IsProgram}
-use Rattle.grain_means.specs.Worlds.{Act, Go, End, Then, Answer, Failed, World, Setup, Frame, Handler, Todo, InFrame, InCatch}
+use Rattle.grain_means.specs.Worlds.{Act, Go, End, Then, Answer, Failed, World, Setup, Frame, Handler, Todo, InFrame, InCatch, InHost}
 use Rattle.grain_means.specs.Rules.{if_armed, kind_throws_unit, outer_handlers, position, throws_unit, thrown_anew}
 use Rattle.grain_means.specs.Comes.{ProgramPoint, CatchPoint, Comes, ComesToCatch, BlamesNone, Meets, try_of, tries}
 use Rattle.grain_means.specs.Ends.{Ends}
-use Rattle.grain_means.specs.Leavings.{Keeps, Cuts}
+use Rattle.grain_means.specs.Leavings.{Cuts}
 use Rattle.grain_means.specs.Blame.{Blamed}
-use Rattle.grain_means.specs.Causes.{HasPosition, Why, Throws, Raises, Tells, ThrowsUnit, HaveCaughtUnit, FirstIsArmed, Raised, Row, FailsToCatch, CatchRow, Caused, ThrowsUnitAt}
-use Rattle.grain_means.proofs.Moving.{placed_twice, unit_anywhere, unit_placed}
+use Rattle.grain_means.specs.Causes.{HasPosition, Why, Throws, Raises, Tells, ThrowsUnit, HaveCaughtUnit, FirstIsArmed, Raised, Row, FailsToCatch, CatchRow, Cause, Caused, ThrowsUnitAt, raised, by_catch, from_native}
+use Rattle.grain_means.proofs.Ground.{Footing, Stays}
+use Rattle.grain_means.proofs.Roles.{Role, Framed, Hosting, tokens_at, away_at, AsksAt, NativeEnds}
+use Rattle.grain_means.proofs.Moving.{caught_anywhere, placed_twice, unit_anywhere, unit_placed}
 use Rattle.grain_means.proofs.Standing.{Fitting, Covered}
-
--- what a run keeps: the tokens that are out, the level, and the names of the entries below a base
-pub record Footing : Type 0 where
-  pub tokens : Option (List ℕ)
-  pub level : ℕ
-  pub base : ℕ
-  pub names : List (List ℕ)
 
 -- what the first act comes to, the second comes to
 abbrev pub Onto : {S : Type 0} → Setup S → Act S → Act S → Type 0
@@ -77,23 +72,31 @@ pub record CanCatch {S : Type 0} (m : Setup S) (root : Act S) (k : Footing) (f :
       Covered m.program f.operands (try_of h ∷ tries f.handlers)
 
 -- what is known where the run stands at this
-abbrev pub Seats : {S : Type 0} → Setup S → Act S → Footing → Todo → World S → Type 0
-Seats m root k (InFrame f) w = (w.trace ≡ []) × Sits m root k f
-Seats m root k (InCatch f h x) w = CanCatch m root k f h x
+abbrev pub Seats : {S : Type 0} → Setup S → Role → Act S → Footing → Todo → World S → Type 0
+Seats m Framed root k (InFrame f) w = (w.trace ≡ []) × Sits m root k f
+Seats m Framed root k (InCatch f h x) w = CanCatch m root k f h x
+Seats m Framed root k (InHost c) w = ⊥
+Seats m Hosting root k (InFrame f) w = ⊥
+Seats m Hosting root k (InCatch f h x) w = ⊥
+Seats m Hosting root k (InHost c) w = (w.trace ≡ []) × AsksAt m root c w
+
+-- what is known where the run is over
+abbrev pub Over : {S : Type 0} → Setup S → Role → Act S → Footing → Answer → World S → Type 0
+Over m Framed root k a w = Cuts m root k.level k.base a w × Caused m root k.level a w
+Over m Hosting root k a w = NativeEnds m root a w
 
 -- what is left to do of a run, and of its instruction, begins after n instructions, keeps its
 -- footing, and ends with a cause and the scope cut
-abbrev pub Tally : {S : Type 0} → Setup S → Act S → Act S → ℕ → Footing → Act S → Type 0
-Tally {S = S} m root turn r k (Go t w) = (w.ran ≡ r) × (w.tokens ≡ k.tokens) ×
-    (w.level ≡ k.level) × Keeps k.base k.names w.scope × Seats m root k t w
-Tally {S = S} m root turn r k (End a w) = (w.ran ≡ r) × (w.tokens ≡ k.tokens) ×
-    (w.level ≡ k.level) × Keeps k.base k.names w.scope × Cuts m root k.level k.base a w ×
-    Caused m root k.level a w
-Tally {S = S} m root turn r k (Then first rest) =
-    (j : Footing) × Tally m first first r j first ×
+abbrev pub Tally : {S : Type 0} → Setup S → Role → Act S → Act S → ℕ → Footing → Act S → Type 0
+Tally {S = S} m role root turn r k (Go t w) = (w.ran ≡ r) × (w.tokens ≡ tokens_at t k.tokens) ×
+    (w.level ≡ k.level) × Stays k (away_at t) w.scope w.cells × Seats m role root k t w
+Tally {S = S} m role root turn r k (End a w) = (w.ran ≡ r) × (w.tokens ≡ k.tokens) ×
+    (w.level ≡ k.level) × Stays k None w.scope w.cells × Over m role root k a w
+Tally {S = S} m role root turn r k (Then first rest) =
+    (j : Footing) × (inner : Role) × Tally m inner first first r j first ×
     (Onto m first root → Onto m first turn → (x : Answer) (w : World S) → Ends m first x w →
-    w.tokens ≡ j.tokens → w.level ≡ j.level → Keeps j.base j.names w.scope → Cuts m first j.level j.base x w →
-    Caused m first j.level x w → Tally m root turn w.ran k (rest x w))
+    w.tokens ≡ j.tokens → w.level ≡ j.level → Stays j None w.scope w.cells →
+    Over m inner first j x w → Tally m role root turn w.ran k (rest x w))
 
 pub by_test : {S : Type 0} (P : Act S → Type 0) (b : Bool) (x y : Act S) → (b ≡ true → P x) →
     (b ≡ false → P y) → P (if b then x else y)
@@ -159,11 +162,17 @@ module _ {S : Type 0} (m : Setup S) where
   catch_passes NoMemory s row = absurd row
 
   -- the cause of a fault that a script may catch
+  raised_in : {act : Act S} {level : ℕ} {x : Problem} → Cause m act level x → catchable x ≡ true →
+      Raised m act level x (Why m x)
+  raised_in (raised c) may = c
+  raised_in {x = x} (by_catch c) may = true-false may (catch_passes x c.point c.why)
+  raised_in (from_native {y = y} c passes inner p at) may =
+      true-false (sym (caught_anywhere p y) ∙ may) passes
+
   pub cause_in : (act : Act S) (level : ℕ) (x : Problem) (w : World S) → catchable x ≡ true →
       Caused m act level (Failed x) w → Raised m act level x (Why m x)
   cause_in act level x w may (inl s) = true-false may (ap catchable s.0)
-  cause_in act level x w may (inr (inl c)) = c
-  cause_in act level x w may (inr (inr c)) = true-false may (catch_passes x c.point c.why)
+  cause_in act level x w may (inr c) = raised_in c may
 
   -- where it was raised
   tells_level : (act : Act S) (level : ℕ) (at : ProgramPoint S) (x : Problem) →
@@ -296,7 +305,7 @@ module _ {S : Type 0} (m : Setup S) where
         by_unit false e = (λ stays. offers.0 (λ unit. true-false unit e), offers.1)
         by_unit true e =
             let throw = offers.1 e in (
-              λ stays. inr (inl (cause_anew root level inside around h y c (left e) p
+              λ stays. inr (raised (cause_anew root level inside around h y c (left e) p
                   (λ unit. stays (unit_anywhere p y ∙ unit)) (throw.0, throw.1 ∙ split))),
               λ again. subst (ThrownUnder root level hs)
                   (sym (unit_placed p y (sym (unit_anywhere p y) ∙ again))) throw,

@@ -1,7 +1,12 @@
+pub mod Choices
 pub mod Determined
 pub mod Kept
+pub mod Unlent
+pub mod Ground
 pub mod Lengths
 pub mod Standing
+pub mod Roles
+pub mod Asked
 pub mod Footing
 pub mod Carrying
 pub mod Catching

@@ -16,7 +16,7 @@ of_either P true x y p q = p
 of_either P false x y p q = q
 
 -- what holds of the three holds of the kind
-of_each : (P : FaultKind → Type 0) (name : List ℕ) (args : List Dynamic) →
+pub of_each : (P : FaultKind → Type 0) (name : List ℕ) (args : List Dynamic) →
     ((s : List ℕ) → P (FunctionNotFound s)) → ((s : List ℕ) → P (DotExpr s)) →
     ((s : List ℕ) → P (IndexingType s)) → P (missing_kind name args)
 of_each P name args f d i =

@@ -7,7 +7,12 @@
 -- `Tally`; `Catching` has the rule of a catch, and `Called` whole runs.
 pub mod Frames
 pub mod Faults
+pub mod Functions
+pub mod Asking
 pub mod Natives
+pub mod NativeCalls
+pub mod Telling
+pub mod Callbacks
 pub mod Entries
 pub mod Operators
 pub mod This
@@ -15,6 +20,7 @@ pub mod Transfers
 pub mod Calls
 pub mod Bodies
 pub mod Calling
+pub mod Needs
 pub mod Walks
 pub mod Roots
 pub mod Chains
@@ -45,7 +51,7 @@ use Rattle.grain_means.proofs.Lengths.{length_under, length_pushed, length_rotat
 use Rattle.grain_means.proofs.Standing.{tries_outer, fits_found}
 use Rattle.grain_means.proofs.Footing.{guarded_outside}
 use Rattle.grain_means.proofs.Tally.Frames.{Walk, Even, start, steady, even_marked, guarding, unguarded, even_onward, one_less, one_more}
-use Rattle.grain_means.proofs.Tally.Faults.{why, why_chain, even_raised_in, even_flat, even_flat_all, fits_on, sits_at, even_on, even_charged_on, even_jumped}
+use Rattle.grain_means.proofs.Tally.Faults.{why, why_chain, why_left, even_raised_in, even_flat, even_flat_all, fits_on, sits_at, even_on, even_charged_on, even_jumped}
 use Rattle.grain_means.proofs.Tally.Entries.{even_at, even_declared, even_stored_in, even_assigned, even_shared}
 use Rattle.grain_means.proofs.Tally.Operators.{even_pushed, even_assigned_op}
 use Rattle.grain_means.proofs.Tally.This.{even_assigned_op_this, even_assigned_this, even_at_this}
@@ -124,7 +130,7 @@ module _ {S : Type 0} {m : Setup S} (walk : Walk m) where
       (even_assigned_op walk (op.AssignLocalOp slot n a) width at n (assign_op_of m.program a) slot
       (sits_at walk (op.AssignLocalOp slot n a) width at refl _ _ (inl refl) (λ _. one_less walk))
       (λ reads h held. (refl, reads, (h, held))) (λ lent. (refl, lent))
-      (λ question asks native found called answer answers lent. record {
+      (λ question asks native found called answer answers. record {
         named = refl;
         question = question;
         asks = asks;
@@ -133,7 +139,6 @@ module _ {S : Type 0} {m : Setup S} (walk : Walk m) where
         called = called;
         answer = answer;
         answers = answers;
-        lent = lent;
       })
       (λ h u v held content read. (refl, (h, u, v, held, content, read, refl, refl)))
       (λ h u v held content read none. record {
@@ -169,7 +174,7 @@ module _ {S : Type 0} {m : Setup S} (walk : Walk m) where
       (sits_at walk (op.AssignThisOp a) width at refl _ _ (inl refl) (λ _. one_less walk))
       (λ reads. reads) (λ lent. (refl, lent)) (λ reads h held only. (refl, reads, (h, held, only)))
       (assign_op_of m.program a)
-      (λ question asks native found called answer answers lent. record {
+      (λ question asks native found called answer answers. record {
         named = refl;
         question = question;
         asks = asks;
@@ -178,7 +183,6 @@ module _ {S : Type 0} {m : Setup S} (walk : Walk m) where
         called = called;
         answer = answer;
         answers = answers;
-        lent = lent;
       })
       (λ h u v held no content read. (refl, (h, u, v, held, no, content, read, refl, refl)))
       (λ p u v is no content read none. record {
@@ -327,7 +331,7 @@ module _ {S : Type 0} {m : Setup S} (walk : Walk m) where
       (λ _. omega arith) in
       even_onward walk (now.ran + 1)
       (record f { address = f.address + width; floor = length now.scope }) (start walk)
-      (steady walk) trace (inr ((width, at), refl)) (sits.0, keeps.there, on.2, on.3, on.4)
+      (steady walk) trace (inr ((width, at), refl)) (sits.0, keeps.keeps.there, on.2, on.3, on.4)
   even_instr (op.Statement depth) width at = even_on walk (op.Statement depth) width at _ refl
       (sits_at walk (op.Statement depth) width at refl _ f.operands (inl refl) (λ _. omega arith))
   even_instr (op.PushHandler target) width at =
@@ -363,6 +367,7 @@ module _ {S : Type 0} {m : Setup S} (walk : Walk m) where
         enough,
       )))
       (λ j x row. why_chain walk (op.Chain k) width at k j x refl row)
+      (λ j x how cause passes. why_left walk (op.Chain k) width at k j x refl how cause passes)
   even_instr op.Throw width at =
       even_flat walk op.Throw width at (top f.operands) [] (λ lent. (refl, lent)) _
       (λ v read. even_raised_in walk op.Throw width at (under 1 f.operands)
@@ -372,7 +377,7 @@ module _ {S : Type 0} {m : Setup S} (walk : Walk m) where
       (flat now.cells (top f.operands).value) refl
   even_instr op.Return width at =
       even_marked walk (now.ran + 1) (start walk) (steady walk) (End (Came (top f.operands).value))
-      (refl, tokens, level, keeps, trace, tt)
+      (refl, tokens, level, keeps, (trace, tt))
 
   even_begun : (x : Option (Op × ℕ)) → op_at m.program.code f.address ≡ x →
       Even walk (now.ran + 1) (start_instruction m (or_return x) f
@@ -381,7 +386,7 @@ module _ {S : Type 0} {m : Setup S} (walk : Walk m) where
       even_marked walk (now.ran + 1) (record now { ran = now.ran + 1 }) (steady walk)
       (instr m op.Return (f.address + 1) f)
       (even_marked walk (now.ran + 1) (start walk) (steady walk) (End (Came (top f.operands).value))
-      (refl, tokens, level, keeps, trace, tt))
+      (refl, tokens, level, keeps, (trace, tt)))
   even_begun (Some r) e = even_marked walk (now.ran + 1) (record now { ran = now.ran + 1 })
       (steady walk) (instr m r.0 (f.address + r.1) f) (even_instr r.0 r.1 e)
 

@@ -1,5 +1,5 @@
 -- The calls of functions by a chain: it calls each function to which its walk comes.
-use Rattle.std.proofs.Common.{◌≡◌, ℕ, List, [], Option, Some, true, refl, inl, inr}
+use Rattle.std.proofs.Common.{◌≡◌, ℕ, List, [], Option, Some, true, length, refl, inl, inr}
 use Rattle.grain_value.specs.declared.values.Dynamic.{Dynamic}
 use Rattle.grain_value.specs.declared.values.Held.{Held}
 use Rattle.grain_fault.specs.Problems.{Problem, NoMemory}
@@ -13,11 +13,12 @@ use Rattle.grain_means.specs.Worlds.{Act, Answer, Came, Failed, Place, Setup, Wo
 use Rattle.grain_means.specs.Ends.{Ends}
 use Rattle.grain_means.specs.Rules.{frame_at, function_under, is_stop}
 use Rattle.grain_means.specs.Causes.Positions.{BodyFails, CallsWith, ChainCallFails, ChainCalls, out_of_body, roots_for, this_for}
-use Rattle.grain_means.specs.Causes.Spots.{ChainWalk, InvocationEnds, Invokes, under_for}
+use Rattle.grain_means.specs.Causes.Spots.{ChainWalk, InvocationEnds, Invokes, under_for, untraced}
 use Rattle.grain_means.proofs.Standing.{Fitting}
-use Rattle.grain_means.proofs.Tally.Bodies.{Begun, EndsIn, IsKeptOut, enters, even_under, run, wrapped}
+use Rattle.grain_means.specs.Causes.{IsKeptOut}
+use Rattle.grain_means.proofs.Tally.Bodies.{Begun, EndsIn, enters, even_under, run, wrapped}
 use Rattle.grain_means.proofs.Tally.Faults.{blames_step}
-use Rattle.grain_means.proofs.Tally.Frames.{Even, ReasonAt, Steady, Walk, point}
+use Rattle.grain_means.proofs.Tally.Frames.{Even, ReasonAt, SteadyBut, Walk, point}
 
 module _ {S : Type 0} {m : Setup S} (walk : Walk m) where
   -- The chain of this index, which is the instruction, calls the function at this step, on these arguments,
@@ -33,9 +34,9 @@ module _ {S : Type 0} {m : Setup S} (walk : Walk m) where
   abbrev pub CallsOf : Op → ℕ → ChainWalk S → Type 0
   CallsOf o index s = (j : ℕ) (at : Invokes m s j) (this : Option Place) (w : World S) →
       this ≡ this_for at.world.roots (under_for m s at.call) →
-      w ≡ record at.world { roots = roots_for at.world.roots (under_for m s at.call) } →
+      w ≡ record at.world { trace = []; roots = roots_for at.world.roots (under_for m s at.call) } →
       CalledAt o index j at.function at.arguments this at.call.position w
-      (λ x u. InvocationEnds m at.call (under_for m s at.call) at.world (Failed x) u)
+      (λ x u. InvocationEnds m at.call (under_for m s at.call) (untraced at.world) (Failed x) u)
 
   -- A chain, by an instruction that stands where the frame does. Its walk calls the function g on these
   -- arguments, at this position and under this `this`, in a world, after r instructions.
@@ -44,7 +45,7 @@ module _ {S : Type 0} {m : Setup S} (walk : Walk m) where
       (q : Position) (g : Function) (args : List Held) (this : Option Place)
       (w : World S) (calls : ChainCalls m g args this q w (point walk o))
       (fits : IsProgram m.program → Fitting m.program (frame_at g.chunk 0 this))
-      (r : ℕ) (s : Steady walk r w) (t : w.trace ≡ [])
+      (away : Option ℕ) (r : ℕ) (s : SteadyBut walk away r w) (t : w.trace ≡ [])
     where
       -- the slot of the step that calls
       abbrev slot : Option ℕ
@@ -54,15 +55,15 @@ module _ {S : Type 0} {m : Setup S} (walk : Walk m) where
       called = inr (inl calls)
 
       -- the body ended with a fault, and so the call did
-      abbrev body_fails : Begun walk o width stands q g args this w called fits r s t → (x y : Problem) →
-          EndsIn walk o width stands q g args this w called fits r s t x
-          (run walk o width stands q g args this w called fits r s t) → ChainCallFails calls y →
+      abbrev body_fails : Begun walk o width stands q g args this w called fits away r s t → (x y : Problem) →
+          EndsIn walk o width stands q g args this w called fits away r s t x
+          (run walk o width stands q g args this w called fits away r s t) → ChainCallFails calls y →
           y ≡ out_of_body m.program q g x → BodyFails m (point walk o) calls.step y
       body_fails begun x y ends fails is = record {
         function = g;
         inner = x;
-        enters = enters walk o width stands q g args this w called fits r s t begun
-            (EndsIn walk o width stands q g args this w called fits r s t x) ends;
+        enters = enters walk o width stands q g args this w called fits away r s t begun
+            (EndsIn walk o width stands q g args this w called fits away r s t x) ends;
         calls = calls;
         step = refl;
         fails = fails;
@@ -71,27 +72,27 @@ module _ {S : Type 0} {m : Setup S} (walk : Walk m) where
 
       -- What follows from the answer, beside what else may follow from it, as in `even_under`.
       pub even_by_chain : (heard said : Answer → World S → Act S) →
-          ((u : World S) (n : ℕ) → is_stop m.stop u.passed ≡ true → Steady walk n u →
+          ((u : World S) (n : ℕ) → is_stop m.stop u.passed ≡ true → SteadyBut walk away n u →
           Even walk n (heard (Failed NoMemory) u)) →
-          ((x : Problem) (u : World S) (n : ℕ) → ReasonAt walk slot x → Steady walk n u →
+          ((x : Problem) (u : World S) (n : ℕ) → ReasonAt walk slot x → SteadyBut walk away n u →
           Even walk n (heard (Failed x) u)) →
           ((d : Dynamic) (u : World S) (n : ℕ) → ((a : Answer) (v : World S) →
           Ends m (said (Came d) u) a v → Ends m (function_under m q g args said this w) a v) →
-          Steady walk n u → u.trace ≡ [] → Even walk n (heard (Came d) u)) →
-          ((x : Problem) → IsKeptOut m q g w x → ReasonAt walk slot x) →
+          SteadyBut walk away n u → u.trace ≡ [] → Even walk n (heard (Came d) u)) →
+          ((x : Problem) → IsKeptOut m q (length g.params) w x → ReasonAt walk slot x) →
           ((x : Problem) (u : World S) → ((a : Answer) (v : World S) →
           Ends m (said (Failed x) u) a v → Ends m (function_under m q g args said this w) a v) →
           ChainCallFails calls x) →
           Even walk r (function_under m q g args heard this w)
       even_by_chain heard said out fault value kept_out fails_so =
-          even_under walk o width stands q g args this w called fits r s t slot (ChainCallFails calls)
+          even_under walk o width stands q g args this w called fits away r s t slot (ChainCallFails calls)
           (λ begun x y ends fails is. blames_step walk o width stands calls.index calls.step y calls.is
-          (inr (body_fails begun x y ends fails is)))
+          (inr (inl (body_fails begun x y ends fails is))))
           (λ begun x ends fails is. (
             walk.level,
             inr (inl (
               calls.step,
-              body_fails begun x (wrapped walk o width stands q g args this w called fits r s t x) ends fails
+              body_fails begun x (wrapped walk o width stands q g args this w called fits away r s t x) ends fails
                   is,
               refl,
             )),

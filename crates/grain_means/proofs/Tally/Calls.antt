@@ -25,13 +25,16 @@ use Rattle.grain_means.specs.Rules.{offered, pushed, without, bound, frame_at, s
 use Rattle.grain_means.specs.Comes.{here}
 use Rattle.grain_means.specs.Leavings.{Cuts}
 use Rattle.grain_means.specs.Causes.{AsksNative, Why, Calls, Charges, IsCharged, IsNoChain, Overfills, CallsOn, Enters, LeftCall, Raised, Caused, ReadsLent, IsLent, Points, AsksPointer, Misses}
+use Rattle.grain_means.proofs.Ground.{Footing, stays_on}
 use Rattle.grain_means.proofs.Kept.{keeps_nothing}
+use Rattle.grain_means.proofs.Roles.{Framed}
+use Rattle.grain_means.proofs.Unlent.{Unlent, unlent_same}
 use Rattle.grain_means.proofs.Standing.{Fitting}
-use Rattle.grain_means.proofs.Footing.{Footing, Onto, Sits, by_test, true-false, cause_in, Offers}
+use Rattle.grain_means.proofs.Footing.{Onto, Sits, by_test, true-false, cause_in, Offers}
 use Rattle.grain_means.proofs.Carrying.{cause_at}
 use Rattle.grain_means.proofs.Tally.Frames.{Walk, Even, Steady, start, steady, even_marked, holding, even_onward, point, Enough}
 use Rattle.grain_means.proofs.Tally.Faults.{blames_none, met, why, even_offered_in, even_raised_in, even_raised, even_flat, even_flat_all, heard, even_charged}
-use Rattle.grain_means.proofs.Tally.Natives.{answered_by, even_native_in}
+use Rattle.grain_means.proofs.Tally.NativeCalls.{even_native_in}
 
 -- an instruction that calls a function itself is no chain
 calls_itself : {S : Type 0} (program : View) (g : Function) (args : List Held) (o : Op) (f : Frame)
@@ -109,17 +112,17 @@ module _ {S : Type 0} {m : Setup S} (walk : Walk m) where
             ((v : Dynamic) →
             Sits m root k
             (stepped f (f.address + width) (under count operands ++ read_write v ∷ []))) →
-            (x : Answer) (u : World S) → u.tokens ≡ k.tokens → (j : Footing) →
-            Cuts m body j.level j.base x u → Caused m body inside x u →
+            (x : Answer) (u : World S) → u.tokens ≡ k.tokens → Unlent now.cells u.cells →
+            (j : Footing) → Cuts m body j.level j.base x u → Caused m body inside x u →
             Even walk u.ran
             (resume_caller m g (without count (holding walk operands)) (f.address + width) x
             (record u { scope = now.scope; level = now.level }))
-        even_resumed on (Came v) u t j cut cause =
+        even_resumed on (Came v) u t cells j cut cause =
             even_onward walk u.ran _ (record u { scope = now.scope; level = now.level })
-            (refl, t, level, keeps) cut (inl refl) (on v)
-        even_resumed on (Failed x) u t j cut cause =
+            (refl, t, level, stays_on now.scope now.cells u.cells keeps cells) cut (inl refl) (on v)
+        even_resumed on (Failed x) u t cells j cut cause =
             even_propagated u.ran x (record u { scope = now.scope; level = now.level })
-            (refl, t, level, keeps) cause
+            (refl, t, level, stays_on now.scope now.cells u.cells keeps cells) cause
 
       even_entered :
           ((v : Dynamic) →
@@ -152,6 +155,7 @@ module _ {S : Type 0} {m : Setup S} (walk : Walk m) where
             level = now.level + 1;
             base = 0;
             names = [];
+            cells = now.cells;
           } in
           even_charged walk o width stands operands full (function_entered m g count
           (holding walk operands) (f.address + width)) charges
@@ -171,14 +175,18 @@ module _ {S : Type 0} {m : Setup S} (walk : Walk m) where
           (ltb-true m.engine.limits.variables (length g.params) many))))
           (λ _. even_marked walk r w1 (steady walk) body (
             j,
+            Framed,
             (
               refl,
               refl,
               refl,
-              keeps_nothing (bound m.program g.params args),
+              record {
+                keeps = keeps_nothing (bound m.program g.params args);
+                unlent = unlent_same now.cells;
+              },
               (trace, (refl, omega arith, fits, tt, (refl, refl))),
             ),
-            λ onto mine x w ends t l there cut cause.
+            λ onto mine x w ends t l there end.
                 even_resumed (Go (InFrame (frame_at g.chunk 0 None)) inside) onto (now.level + 1)
                 refl (calls_itself m.program g args o f now calls_on)
                 (λ Runs runs. record {
@@ -190,7 +198,8 @@ module _ {S : Type 0} {m : Setup S} (walk : Walk m) where
                   level = refl;
                   comes = mine (InFrame (frame_at g.chunk 0 None)) inside here;
                   runs = runs;
-                }) (λ Runs runs. refl) u x w (t ∙ tokens) j cut cause,
+                }) (λ Runs runs. refl) u x w (t ∙ tokens)
+                there.unlent j end.0 end.1,
           ))))
 
     -- a call of a function that may be there, and else of a native
@@ -225,13 +234,12 @@ module _ {S : Type 0} {m : Setup S} (walk : Walk m) where
           args = args;
         }) (point walk o) =
         inl (inl (refl, refl, refl, inl (misses refl args e))) in
-        even_native_in walk o width stands (start walk) (steady walk) name None args q
+        even_native_in walk o width stands (start walk) (now.ran + 1) (steady walk) trace name None args q
         (λ x. inl (inl (refl, refl, refl, inl (misses refl args e)))) operands full
         (λ v w1. pushed m (holding walk operands) (f.address + width) (under count operands) v w1)
-        (λ n there _ v _. even_onward walk (now.ran + 1)
-        (stepped f (f.address + width) (under count operands ++ read_write v ∷ []))
-        (answered_by walk o width stands (start walk) (steady walk) name None args q n.key)
-        (steady walk) trace (inl refl) (u v)))
+        (λ n there called v l w1 how after empty. even_onward walk l
+        (stepped f (f.address + width) (under count operands ++ read_write v ∷ [])) w1 after.0 empty
+        (inl refl) (u v)))
         (flat_all now.cells (arguments count operands)) refl
     even_called name count operands full enough u charges fills (Some g) lent misses calls fits =
         let on : CallsOn m.program g (arguments count operands) o f now = calls g refl in

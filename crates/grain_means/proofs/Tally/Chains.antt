@@ -1,5 +1,5 @@
 -- The walk over the rules through a chain.
-use Rattle.std.proofs.Common.{◌≡◌, ◌+◌, ℕ, List, [], ◌∷◌, ◌++◌, Option, Some, None, Bool, true, false, ◌&&◌, length, take, refl, sym, subst, ap, ◌∙◌, arith, inl}
+use Rattle.std.proofs.Common.{◌≡◌, ◌+◌, ℕ, List, [], ◌∷◌, ◌++◌, Option, Some, None, Bool, true, false, ◌&&◌, length, take, refl, sym, subst, ap, ◌∙◌, arith, inl, inr, ◌⊎◌}
 use Rattle.std.proofs.lemmas.List.{length-append}
 use Rattle.std.specs.Prelude.{slice_get, slice_set}
 use Rattle.grain_value.specs.Cells.{flat, idle, lent}
@@ -7,6 +7,7 @@ use Rattle.grain_value.specs.Operands.{read_write, top, under}
 use Rattle.grain_value.specs.declared.stores.Cell.{Cell}
 use Rattle.grain_value.specs.declared.values.Dynamic.{Dynamic}
 use Rattle.grain_value.specs.declared.values.Held.{Held}
+use Rattle.grain_fault.specs.Classes.{catchable}
 use Rattle.grain_fault.specs.Problems.{Problem, Plain, AssignmentToConstant, DataRace, Malformed, NoMemory, UnboundThis}
 use Rattle.grain_fault.specs.declared.places.Position.{Position}
 use Rattle.grain_fault.specs.declared.faults.MalformedKind.TheVariants as kind
@@ -26,18 +27,20 @@ use Rattle.grain_means.specs.Rules.{assigned_operand, back_from, course_of, held
 use Rattle.grain_means.specs.Tasks.{Task, WalkEnded, WalkFailed}
 use Rattle.grain_means.specs.Walks.{whole_walk}
 use Rattle.grain_means.specs.Worlds.{Act, Frame, Place, Setup, World}
-use Rattle.grain_means.specs.Causes.Chains.{AssignsValue, ChainReads, ChainRow, RootHolds, RootLends, by_walk, constant, past_scope, root_lent, unbound, value_lent, walk_of, walk_place, walk_roots}
-use Rattle.grain_means.specs.Causes.Spots.{ChainWalk, WalkRow}
+use Rattle.grain_means.specs.Causes.{Cause}
+use Rattle.grain_means.specs.Causes.Chains.{AssignsValue, ChainReads, ChainRow, LeavesNative, RootHolds, RootLends, by_walk, constant, past_scope, root_lent, unbound, value_lent, walk_of, walk_place, walk_roots}
+use Rattle.grain_means.specs.Causes.Spots.{BackFails, ChainWalk, PointedLeft, WalkRow, here}
 use Rattle.grain_means.proofs.Explaining.{explained}
 use Rattle.grain_means.proofs.Footing.{Sits, by_test}
-use Rattle.grain_means.proofs.Kept.{keeps_set}
+use Rattle.grain_means.proofs.Ground.{Stays, stays_set}
+use Rattle.grain_means.proofs.Unlent.{lent_back, lent_out}
 use Rattle.grain_means.proofs.Lengths.{past_scope as scope_passed}
 use Rattle.grain_means.proofs.Tally.Calling.{CallsOf}
 use Rattle.grain_means.proofs.Tally.Entries.{busy_content}
 use Rattle.grain_means.proofs.Tally.Faults.{even_raised_at}
-use Rattle.grain_means.proofs.Tally.Frames.{Enough, Even, ReasonAt, Steady, Walk, all_there, stepping, even_left_at, even_marked_at, even_onward, point, start, steady}
+use Rattle.grain_means.proofs.Tally.Frames.{Enough, Even, ReasonAt, Steady, SteadyBut, Walk, all_there, stepping, even_left_at, even_marked_at, even_onward, point, start, steady}
 use Rattle.grain_means.proofs.Tally.Roots.{IsAdded, added_cell, added_place, added_root}
-use Rattle.grain_means.proofs.Tally.Walks.{Kept, even_walks}
+use Rattle.grain_means.proofs.Tally.Walks.{even_walks}
 
 module _ {S : Type 0} {m : Setup S} (walk : Walk m) where
   open walk use {root as whole_run, footing as k, frame as f, now, tokens, level, trace, keeps, sits}
@@ -50,6 +53,9 @@ module _ {S : Type 0} {m : Setup S} (walk : Walk m) where
       (on : (v : Dynamic) → Sits m whole_run k (stepped f (f.address + width)
       (under (chain_takes c) f.operands ++ read_write v ∷ [])))
       (reason : (n : ℕ) (x : Problem) → ChainRow m c (point walk o) n x →
+      ReasonAt walk (Some (slot_of m.program index n)) x)
+      (reason_left : (n : ℕ) (x : Problem) → (x ≡ NoMemory) ⊎ LeavesNative m c (point walk o) n x →
+      Cause m whole_run k.level x → catchable x ≡ false →
       ReasonAt walk (Some (slot_of m.program index n)) x)
       (calls : (so_far : ChainReads m c (point walk o)) (r : Held) (cells : List Cell) →
       RootLends (rules.lent_cell m.program c.steps so_far.held) so_far.held now r cells →
@@ -68,15 +74,12 @@ module _ {S : Type 0} {m : Setup S} (walk : Walk m) where
     abbrev walking : Frame
     walking = without (chain_takes c) f
 
-    abbrev Here : World S → Type 0
-    Here w = Steady walk ran w × (w.trace ≡ [])
-
     -- the walk is over
-    over_well : (u : Dynamic) (changed : Bool) (n : ℕ) (w : World S) → Kept walk n w →
+    over_well : (u : Dynamic) (changed : Bool) (n : ℕ) (w : World S) → Steady walk n w →
         Even walk n (rules.chain_over m index next walking (WalkEnded u changed) w)
     over_well u changed n w s =
-        even_onward walk n (stepped walking next (walking.operands ++ read_write u ∷ [])) w s.0 s.1
-        (inl refl) (on u)
+        even_onward walk n (stepped walking next (walking.operands ++ read_write u ∷ []))
+        (record w { trace = [] }) s refl (inl refl) (on u)
 
     over_ill : (j : ℕ) (x : Problem) (n : ℕ) (w : World S) →
         ReasonAt walk (Some (slot_of m.program index j)) x → Steady walk n w →
@@ -95,10 +98,9 @@ module _ {S : Type 0} {m : Setup S} (walk : Walk m) where
         (inl (refl, stop)))
         (λ no. absurd cc)
 
-    -- what is done with the roots once the walk is over
-    record Returns (back : World S → World S) : Type 0 where
-      pub stays : (n : ℕ) (w : World S) → Steady walk n w → Steady walk n (back w)
-      pub empty : (w : World S) → w.trace ≡ [] → (back w).trace ≡ []
+    -- what is done with the roots once the walk is over, which may have the content of a cell
+    record Returns (away : Option ℕ) (back : World S → World S) : Type 0 where
+      pub stays : (n : ℕ) (w : World S) → SteadyBut walk away n w → Steady walk n (back w)
       pub marks : (w : World S) → (back w).passed ≡ w.passed
 
     -- the walk of the chain, from its first root and beside these cells
@@ -131,34 +133,48 @@ module _ {S : Type 0} {m : Setup S} (walk : Walk m) where
             ∙ ap (λ (x : List Held). steps_at q (length x) x) roots
             ∙ ap (λ (x : ℕ). steps_at q x ys) size
 
-        even_walked : (s : ChainWalk S) → steps ≡ s → (back : World S → World S) → Returns back →
-            Kept walk ran s.start →
-            Even walk ran (rules.walks m index walking s.place s.others
+        -- a function that a native called back was left by the fault
+        left_so : (s : ChainWalk S) → steps ≡ s → (j : ℕ) (x : Problem) →
+            (x ≡ NoMemory) ⊎ (BackFails m s j x ⊎ PointedLeft m s j x) →
+            Cause m whole_run k.level x → catchable x ≡ false →
+            ReasonAt walk (Some (slot_of m.program index j)) x
+        left_so s same j x (inl out) cause passes = reason_left j x (inl out) cause passes
+        left_so s same j x (inr how) cause passes =
+            reason_left j x (inr (record {
+              so_far = so_far;
+              root = r;
+              cells = cells;
+              lends = lends;
+              fails = subst (λ (t : ChainWalk S). BackFails m t j x ⊎ PointedLeft m t j x) (sym same) how;
+            })) cause passes
+
+        even_walked : (away : Option ℕ) (s : ChainWalk S) → steps ≡ s →
+            (back : World S → World S) → Returns away back → SteadyBut walk away ran s.start →
+            Even walk ran (rules.walks m index walking s.place s.others None
             (whole_walk s.course s.steps)
             (λ u w. rules.chain_over m index next walking u (back w)) s.start)
-        even_walked s same back home kept =
-            even_walks walk o width stands index walking s
+        even_walked away s same back home kept =
+            even_walks walk o width stands away index walking refl s
             (λ u w. rules.chain_over m index next walking u (back w))
-            (λ u changed n w at. over_well u changed n (back w)
-            (home.stays n w at.0, home.empty w at.1))
+            (λ u changed n w at. over_well u changed n (back w) (home.stays n w at))
             (λ j x n w because at. over_ill j x n (back w) because (home.stays n w at))
             (λ j n w stop at. over_out j n (back w) (rw (home.marks w) stop) (home.stays n w at))
             (λ j x row. reason j x (by_walk so_far r cells lends
             (subst (λ (t : ChainWalk S). WalkRow m t j x) (sym same) row)))
-            (subst (CallsOf walk o index) same (calls so_far r cells lends))
-            (whole_walk s.course s.steps) s.start (explained m s) ran kept
+            (left_so s same) (subst (CallsOf walk o index) same (calls so_far r cells lends))
+            (whole_walk s.course s.steps) s.start (explained m true s) here ran None kept
 
         -- from a root that is added, and then goes back
         even_added : IsAdded c.root (rules.lent_cell m.program c.steps so_far.held) f.this →
-            (back : Held → World S → World S) →
-            ((h : Held) → Returns (back h)) →
+            (away : Option ℕ) → Stays k away now.scope cells → (back : Held → World S → World S) →
+            ((h : Held) → Returns away (back h)) →
             Even walk ran (rules.walk_from m index (whole_walk (course_of m c f so_far.value) c.steps)
             next walking r back (record now { ran = ran; passed = now.passed + 1 + 1; cells = cells }))
-        even_added is back home =
+        even_added is away there back home =
             let cell = rules.lent_cell m.program c.steps so_far.held in
             let out : World S → World S = λ w. record w { roots = take (length now.roots) w.roots } in
             let held : World S → Held = λ w. look w.roots (new_root now.roots) in
-            even_walked (steps_at (new_root now.roots) (length now.roots + 1) (now.roots ++ r ∷ []))
+            even_walked away (steps_at (new_root now.roots) (length now.roots + 1) (now.roots ++ r ∷ []))
             (moved (walk_place c.root cell f.this now.roots) (new_root now.roots)
             (length now.roots + 1) (walk_roots c.root cell f.this r now.roots) (now.roots ++ r ∷ [])
             (added_place c.root cell f.this now.roots is)
@@ -166,29 +182,27 @@ module _ {S : Type 0} {m : Setup S} (walk : Walk m) where
             (omega (arith, length-append now.roots (r ∷ []))))
             (λ w. back (held w) (out w)) (record {
               stays = λ n w s. (home (held w)).stays n (out w) s;
-              empty = λ w s. (home (held w)).empty (out w) s;
               marks = λ w. (home (held w)).marks (out w);
-            }) ((refl, tokens, level, keeps), trace)
+            }) (refl, tokens, level, there)
 
     -- a root goes back to its entry
-    entry_back : (a : Root) (h : Held) → Returns (back_from a walking h)
+    entry_back : (a : Root) (h : Held) → Returns None (back_from a walking h)
     entry_back (root.Local name slot) h = record {
       stays = λ n w s.
-          (s.0, s.1, s.2, keeps_set k.base k.names w.scope (f.base + slot) h s.3);
-      empty = λ w s. s;
+          (s.0, s.1, s.2, stays_set w.scope w.cells (f.base + slot) h s.3);
       marks = λ w. refl;
     }
     entry_back (root.This q) h =
-        record { stays = λ n w s. s; empty = λ w s. s; marks = λ w. refl }
+        record { stays = λ n w s. s; marks = λ w. refl }
     entry_back root.Temporary h =
-        record { stays = λ n w s. s; empty = λ w s. s; marks = λ w. refl }
+        record { stays = λ n w s. s; marks = λ w. refl }
 
     -- a fault of the root
-    even_rooting : (x : Problem) → ChainRow m c (point walk o) 0 x → (w : World S) → Here w →
+    even_rooting : (x : Problem) → ChainRow m c (point walk o) 0 x → (w : World S) → Steady walk ran w →
         Even walk ran (rules.raised m rooting x w)
     even_rooting x row w s =
         even_raised_at walk o width stands (Some (slot_of m.program index 0)) f.position f.operands
-        (all_there walk o) ran x w s.0 (reason 0 x row)
+        (all_there walk o) ran x w s (reason 0 x row)
 
     -- the chain's mark is passed
     abbrev begun : World S
@@ -205,7 +219,7 @@ module _ {S : Type 0} {m : Setup S} (walk : Walk m) where
           Even walk ran (rules.walk_cell m a i (is_read_only now so_far.held) index task next
           (root_name m.program c.root) rooting walking begun)
       even_cell i is None e =
-          even_rooting _ (root_lent so_far i is (rw e refl)) begun ((refl, tokens, level, keeps), trace)
+          even_rooting _ (root_lent so_far i is (rw e refl)) begun (refl, tokens, level, keeps)
       even_cell i is (Some a) e =
           by_test (Even walk ran) a.busy
           (rules.data_race m (root_name m.program c.root) rooting begun)
@@ -213,7 +227,7 @@ module _ {S : Type 0} {m : Setup S} (walk : Walk m) where
           (record { value = a.held.value; read_only = is_read_only now so_far.held }) in_cell
           (record begun { cells = slice_set now.cells i (lent a.held) }))
           (λ busy. even_rooting _ (root_lent so_far i is (rw e (busy_content a busy))) begun
-          ((refl, tokens, level, keeps), trace))
+          (refl, tokens, level, keeps))
           (λ free. even_added so_far
           (record { value = a.held.value; read_only = is_read_only now so_far.held })
           (slice_set now.cells i (lent a.held))
@@ -221,8 +235,17 @@ module _ {S : Type 0} {m : Setup S} (walk : Walk m) where
           (record { value = a.held.value; read_only = is_read_only now so_far.held })
           (slice_set now.cells i (lent a.held))) (sym is) (a, e, free, refl, refl))
           (subst (λ (x : Option ℕ). IsAdded c.root x f.this) (sym is) (added_cell c.root i f.this))
-          in_cell
-          (λ h. record { stays = λ n w s. s; empty = λ w s. s; marks = λ w. refl })) where
+          (Some i) (record {
+            keeps = keeps.keeps;
+            unlent = lent_out k.cells now.cells i (lent a.held) keeps.unlent;
+          }) in_cell
+          (λ h. record {
+            stays = λ n w s. (s.0, s.1, s.2, record {
+              keeps = s.3.keeps;
+              unlent = lent_back k.cells w.cells i (record a.held { value = h.value }) s.3.unlent;
+            });
+            marks = λ w. refl;
+          })) where
             in_cell : Held → World S → World S
             in_cell = λ h w. record w {
               cells = slice_set w.cells i (idle (record a.held { value = h.value }));
@@ -240,21 +263,21 @@ module _ {S : Type 0} {m : Setup S} (walk : Walk m) where
             (back_from c.root walking) begun)
         even_as_added added =
             even_added so_far so_far.held now.cells lends_nothing
-            (subst (λ (x : Option ℕ). IsAdded c.root x f.this) (sym is) added)
+            (subst (λ (x : Option ℕ). IsAdded c.root x f.this) (sym is) added) None keeps
             (back_from c.root walking) (entry_back c.root)
 
         -- the place of a `this`
         even_at_place : (q : Position) → c.root ≡ root.This q → (p : Place) → f.this ≡ Some p →
             Even walk ran (rules.walk_at m index task next walking p begun)
         even_at_place q at p e =
-            even_walked so_far so_far.held now.cells lends_nothing
+            even_walked so_far so_far.held now.cells lends_nothing None
             (steps_at so_far so_far.held now.cells lends_nothing p (length now.roots) now.roots)
             (moved so_far so_far.held now.cells lends_nothing
             (walk_place c.root cell f.this now.roots) p (length now.roots)
             (walk_roots c.root cell f.this so_far.held now.roots) now.roots
             (rw (at, is, e) refl) (rw (at, is, e) refl) refl) (λ w. w)
-            (record { stays = λ n w s. s; empty = λ w s. s; marks = λ w. refl })
-            ((refl, tokens, level, keeps), trace)
+            (record { stays = λ n w s. s; marks = λ w. refl })
+            (refl, tokens, level, keeps)
 
         even_root_held : (a : Root) → c.root ≡ a → (this : Option Place) → f.this ≡ this →
             Even walk ran (rules.walk_held m a this so_far.held index task next walking begun)
@@ -312,7 +335,7 @@ module _ {S : Type 0} {m : Setup S} (walk : Walk m) where
                 Even walk ran (rules.flat_or_race m x [] rooting (start walk) (λ v. goes (Some v)))
             by_content None e =
                 even_rooting (Plain (DataRace (race_text [])) (position m f))
-                (value_lent h holds writable (rw is refl) e) (start walk) (steady walk, trace)
+                (value_lent h holds writable (rw is refl) e) (start walk) (steady walk)
             by_content (Some v) e =
                 even_read (Some v) (subst (λ (x : Tail). AssignsValue x
                 (assigned_operand c f.operands) now (Some v)) (sym is) (v, refl, e))
@@ -338,7 +361,7 @@ module _ {S : Type 0} {m : Setup S} (walk : Walk m) where
         h index c (whole_walk (course_of m c f v) c.steps) next rooting walking)))
         (λ yes. even_rooting x (subst (λ (q : Position). ChainRow m c (point walk o) 0
         (Plain (AssignmentToConstant (root_name m.program c.root)) q)) (at_root_still c.root)
-        (constant h holds yes)) (start walk) (steady walk, trace))
+        (constant h holds yes)) (start walk) (steady walk))
         (λ no. even_value h holds no c.tail refl)
 
     even_at : (a : Root) → c.root ≡ a → (go : Held → Act S) →
@@ -351,13 +374,13 @@ module _ {S : Type 0} {m : Setup S} (walk : Walk m) where
           by_entry None e =
               even_rooting (Plain (Malformed (kind.SlotPastScope (f.base + slot) (length now.scope)))
               (position m f)) (past_scope name slot is (scope_passed now.scope (f.base + slot) e))
-              (start walk) (steady walk, trace)
+              (start walk) (steady walk)
           by_entry (Some h) e = rest h e
     even_at (root.This q) is go rest = by_place f.this refl where
       by_place : (this : Option Place) → f.this ≡ this →
           Even walk ran (rules.at_place m this q rooting (start walk) (λ p. go (look now.roots p)))
       by_place None e =
-          even_rooting (Plain UnboundThis q) (unbound q is e) (start walk) (steady walk, trace)
+          even_rooting (Plain UnboundThis q) (unbound q is e) (start walk) (steady walk)
       by_place (Some p) e = rest (look now.roots p) (p, e, refl)
     even_at root.Temporary is go rest = rest (top f.operands) refl
 
@@ -372,9 +395,12 @@ module _ {S : Type 0} {m : Setup S} (walk : Walk m) where
       (under (chain_takes c) f.operands ++ read_write v ∷ []))) →
       ((n : ℕ) (x : Problem) → ChainRow m c (point walk o) n x →
       ReasonAt walk (Some (slot_of m.program index n)) x) →
+      ((n : ℕ) (x : Problem) → (x ≡ NoMemory) ⊎ LeavesNative m c (point walk o) n x →
+      Cause m whole_run k.level x → catchable x ≡ false →
+      ReasonAt walk (Some (slot_of m.program index n)) x) →
       Even walk (now.ran + 1) (rules.chain m index (f.address + width) f (start walk)))
-  even_chain o width stands index is after on reason =
-      even_chain_in o width stands index (chain_of m.program index) after on reason
+  even_chain o width stands index is after on reason reason_left =
+      even_chain_in o width stands index (chain_of m.program index) after on reason reason_left
       (λ so_far r cells lends j at this v under starts. (
         record {
           index = index;

@@ -21,7 +21,8 @@ use Rattle.grain_means.specs.Worlds.{Act, World, Setup, Frame}
 use Rattle.grain_means.specs.Places.{put}
 use Rattle.grain_means.specs.Rules.{Home, InScope, InCell, AtPlace, in_entry, assigned_at, held_at, stepped, is_full, marked, onward, at_entry, declare, assignment_to_constant, write_entry, position, flattened, data_race, cell_written, operand_for, shared, is_read_only}
 use Rattle.grain_means.specs.Causes.{ReadsTop, Overfills, UsesEntry, Holds, AssignsConstant, ReadsLent, IsLent, AssignsLent, StoresLent}
-use Rattle.grain_means.proofs.Kept.{keeps_push, keeps_set}
+use Rattle.grain_means.proofs.Ground.{Stays, stays_idle, stays_on, stays_push, stays_set}
+use Rattle.grain_means.proofs.Unlent.{unlent_more}
 use Rattle.grain_means.proofs.Lengths.{past_scope}
 use Rattle.grain_means.proofs.Readable.{IsHomeOf, home_in_entry}
 use Rattle.grain_means.proofs.Footing.{Sits, by_test}
@@ -68,7 +69,7 @@ module _ {S : Type 0} {m : Setup S} (walk : Walk m) where
         (fills (v, read) (leb-true m.engine.limits.variables (length now.scope) full))))
         (λ _. even_written walk (stepped f (f.address + width) (below f.operands))
         (λ scope. scope ++ entry ∷ [])
-        (keeps_push k.base k.names now.scope entry keeps) refl u))
+        (stays_push now.scope now.cells entry keeps) refl u))
         (flat now.cells (top f.operands).value) refl
 
     pub even_constant : (n : ℕ) → AssignsConstant m.program (name_of m.program n) o f now →
@@ -79,40 +80,40 @@ module _ {S : Type 0} {m : Setup S} (walk : Walk m) where
         refl constant)
 
     -- this is written in a world, where something else is held so far
-    module _ (w : World S) (s : Steady walk (now.ran + 1) w) (t : w.trace ≡ []) (before : Held)
+    module _ (w : World S) (r : ℕ) (s : Steady walk r w) (t : w.trace ≡ []) (before : Held)
         (name : List ℕ) (h : Held)
         (u : Sits m root k (stepped f (f.address + width) (below f.operands)))
-        (race : flat w.cells before.value ≡ None → Even walk (now.ran + 1) (data_race m name f w))
+        (race : flat w.cells before.value ≡ None → Even walk r (data_race m name f w))
       where
         abbrev after_it : Frame
         after_it = stepped f (f.address + width) (below f.operands)
 
         even_in_cell : (n : ℕ) → cell_of before.value ≡ Some n → (c : Option Cell) →
             slice_get w.cells n ≡ c →
-            Even walk (now.ran + 1) (cell_written m c n h name f w (onward m f after_it))
+            Even walk r (cell_written m c n h name f w (onward m f after_it))
         even_in_cell n is None e = race (lent_cell w.cells before.value n None is e refl)
         even_in_cell n is (Some c) e =
-            by_test (Even walk (now.ran + 1)) c.busy (data_race m name f w) _
+            by_test (Even walk r) c.busy (data_race m name f w) _
             (λ yes. race (lent_cell w.cells before.value n (Some c) is e (busy_content c yes)))
-            (λ _. even_marked walk (now.ran + 1) w s
+            (λ _. even_marked walk r w s
             (λ w1. onward m f after_it (record w1 { cells = slice_set w1.cells n (idle h) }))
-            (even_onward walk (now.ran + 1) after_it
-            (record w { passed = w.passed + 1; cells = slice_set w.cells n (idle h) }) s t (inl refl)
-            u))
+            (even_onward walk r after_it
+            (record w { passed = w.passed + 1; cells = slice_set w.cells n (idle h) })
+            (s.0, s.1, s.2, stays_idle w.scope w.cells n h s.3) t (inl refl) u))
 
         pub even_written_at : (a : Home) → IsHomeOf (cell_of before.value) a →
-            Even walk (now.ran + 1) (assigned_at m a h name (f.address + width) f w)
+            Even walk r (assigned_at m a h name (f.address + width) f w)
         even_written_at (InScope i) is =
-            even_marked walk (now.ran + 1) w s
+            even_marked walk r w s
             (λ w1. onward m f after_it (record w1 { scope = set_held w1.scope i h }))
-            (even_onward walk (now.ran + 1) after_it
+            (even_onward walk r after_it
             (record w { passed = w.passed + 1; scope = set_held w.scope i h })
-            (s.0, s.1, s.2, keeps_set k.base k.names w.scope i h s.3) t (inl refl) u)
+            (s.0, s.1, s.2, stays_set w.scope w.cells i h s.3) t (inl refl) u)
         even_written_at (InCell n) is = even_in_cell n is (slice_get w.cells n) refl
         even_written_at (AtPlace p) is =
-            even_marked walk (now.ran + 1) w s
+            even_marked walk r w s
             (λ w1. onward m f after_it (record w1 { roots = put w1.roots p h.value }))
-            (even_onward walk (now.ran + 1) after_it
+            (even_onward walk r after_it
             (record w { passed = w.passed + 1; roots = put w.roots p h.value }) s t (inl refl) u)
 
     -- this where something else is held so far, which may be a lent cell
@@ -121,8 +122,9 @@ module _ {S : Type 0} {m : Setup S} (walk : Walk m) where
         (IsLent now before → ReadsLent m.program name o f now) →
         Even walk (now.ran + 1) (assigned_at m a h name (f.address + width) f (start walk))
     even_home before name a home h u lent =
-        even_written_at (start walk) (steady walk) trace before name h u
-        (λ none. even_race walk o width stands name (inl (lent none)) (start walk) (steady walk))
+        even_written_at (start walk) (now.ran + 1) (steady walk) trace before name h u
+        (λ none. even_race walk o width stands name (inl (lent none)) (now.ran + 1) (start walk)
+        (steady walk))
         a home
 
     pub even_entry : (before : Held) (name : List ℕ) (slot : ℕ) (h : Held) →
@@ -189,6 +191,8 @@ module _ {S : Type 0} {m : Setup S} (walk : Walk m) where
         f.operands) refl u
     even_shared slot h u None =
         let cells = now.cells ++ idle h ∷ [] in
+        let more : Stays k None now.scope cells =
+        stays_on now.scope now.cells cells keeps (unlent_more now.cells (idle h ∷ [])) in
         let held : Held = read_write (dynamic.Cell (length now.cells)) in
         let after : Frame = stepped f (f.address + width) f.operands in
         let write : World S → World S =
@@ -204,7 +208,7 @@ module _ {S : Type 0} {m : Setup S} (walk : Walk m) where
         onward m f after (record w2 {
           scope = set_held w2.scope (f.base + slot) (read_write (dynamic.Cell (length w1.cells)));
         })))
-        (even_marked walk r added (steady walk) (λ w2. onward m f after (write w2))
+        (even_marked walk r added (refl, tokens, level, more) (λ w2. onward m f after (write w2))
         (even_onward walk r after (write (record added { passed = added.passed + 1 }))
-        (refl, tokens, level, keeps_set k.base k.names now.scope (f.base + slot) held keeps) trace
+        (refl, tokens, level, stays_set now.scope cells (f.base + slot) held more) trace
         (inl refl) u))

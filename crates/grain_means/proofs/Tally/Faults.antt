@@ -1,9 +1,10 @@
 -- The walk at an instruction: the faults that it raises, the cells that it finds lent, the
 -- operations that it is charged, and how its frame goes on.
-use Rattle.std.proofs.Common.{◌≡◌, ◌≤◌, ◌<◌, ◌⊎◌, ℕ, ◌+◌, ◌-◌, List, [], Option, Some, None, refl, sym, subst, ap, inl, inr, length, nat_lt, nat_le}
+use Rattle.std.proofs.Common.{◌≡◌, ◌≤◌, ◌<◌, ◌⊎◌, ℕ, ◌+◌, ◌-◌, List, [], Option, Some, None, true, false, refl, sym, subst, ap, inl, inr, length, nat_lt, nat_le}
 use Rattle.std.proofs.lemmas.Bool.{ltb-true, ltb-false, leb-true}
 use Rattle.grain_value.specs.declared.values.Dynamic.{Dynamic}
 use Rattle.grain_value.specs.declared.values.Held.{Held}
+use Rattle.grain_fault.specs.Classes.{catchable}
 use Rattle.grain_fault.specs.Positions.{at_position_if_none, position_of_problem}
 use Rattle.grain_fault.specs.declared.places.Position.{Position}
 use Rattle.grain_fault.specs.Problems.{Problem, Plain, TooManyOperations}
@@ -21,14 +22,15 @@ use Rattle.grain_program.specs.Decoding.{op_at}
 use Rattle.grain_value.specs.Cells.{flat}
 use Rattle.grain_means.specs.Worlds.{Act, World, Setup, Frame}
 use Rattle.grain_host.specs.Law.{Verdict, GoOn, Stop}
-use Rattle.grain_means.proofs.Moving.{placed_here, placed_if_none}
+use Rattle.grain_means.proofs.Moving.{placed_here, placed_if_none, unit_caught}
 use Rattle.grain_means.specs.Rules.{offered, on_verdict, progressed, stepped, marked, raised, charged, onward, jumped, position, flat_or_race, flat_all, all_or_race, data_race, race_text}
 use Rattle.grain_means.specs.Comes.{Meets, tries}
-use Rattle.grain_means.specs.Causes.{ChainRow, HostAnswers, RaisedByChain, Charges, IsCharged, IsNoChain, Row, ReadsLent, AnswersLent, IsLent}
+use Rattle.grain_means.specs.Causes as causes
+use Rattle.grain_means.specs.Causes.{Cause, ChainRow, HostAnswers, LeavesNative, RaisedByChain, Charges, IsCharged, IsNoChain, Row, ReadsLent, AnswersLent, IsLent}
 use Rattle.grain_means.specs.Blame.{Blames, FailsAtStep, at_step, no_step}
 use Rattle.grain_means.proofs.Chainless.{IsOwn, no_chain, not_answered, own_position}
 use Rattle.grain_means.proofs.Standing.{Fitting, fits_next, fits_covered}
-use Rattle.grain_means.proofs.Footing.{Sits, by_test, unit_by_row, Offers}
+use Rattle.grain_means.proofs.Footing.{Sits, by_test, true-false, unit_by_row, Offers}
 use Rattle.grain_means.proofs.Tally.Frames.{Walk, Even, Steady, start, steady, even_marked, even_marked_at, holding, stepping, even_offered, even_onward, point, Blame, Reason, ReasonAt, Enough, all_there}
 
 module _ {S : Type 0} {m : Setup S} (walk : Walk m) where
@@ -64,7 +66,7 @@ module _ {S : Type 0} {m : Setup S} (walk : Walk m) where
     pub why : (x : Problem) → IsOwn (position m f) o x → Row m x (point walk o) → Reason walk x
     why x own row =
         let has = own_position (position m f) o x own in (
-          inl (record {
+          causes.raised (record {
             point = point walk o;
             met = met;
             why = inl row;
@@ -80,7 +82,7 @@ module _ {S : Type 0} {m : Setup S} (walk : Walk m) where
     why_answered y answers =
         let placed = placed_if_none (position m f) y in
         let x = at_position_if_none (position m f) y in (
-          inl (record {
+          causes.raised (record {
             point = point walk o;
             met = met;
             why = inr (y, placed.0, inl answers, placed.1);
@@ -104,7 +106,7 @@ module _ {S : Type 0} {m : Setup S} (walk : Walk m) where
         ReasonAt walk (Some (slot_of m.program k n)) x
     why_chain k n x is row =
         let how : RaisedByChain m x (point walk o) = (k, n, is, row) in (
-          inl (record {
+          causes.raised (record {
             point = point walk o;
             met = met;
             why = inr (x, position_of_problem x, inr how, sym (placed_here x));
@@ -121,6 +123,18 @@ module _ {S : Type 0} {m : Setup S} (walk : Walk m) where
           ),
           blames_step k n x is (inl row),
         )
+
+    -- why the run ends in a fault that left a native which a chain calls
+    pub why_left : (k n : ℕ) (x : Problem) → o ≡ op.Chain k →
+        (x ≡ problem.NoMemory) ⊎ LeavesNative m (chain_of m.program k) (point walk o) n x →
+        Cause m root walk.footing.level x → catchable x ≡ false →
+        ReasonAt walk (Some (slot_of m.program k n)) x
+    why_left k n x is how cause passes =
+        (cause, λ unit. true-false (unit_caught x unit) passes, blame how) where
+          blame : (x ≡ problem.NoMemory) ⊎ LeavesNative m (chain_of m.program k) (point walk o) n x →
+              Blame walk (Some (slot_of m.program k n)) x
+          blame (inl out) = inl out
+          blame (inr left) = blames_step k n x is (inr (inr left))
 
     -- a fault is offered to the frame's handlers, where no more operands are gone than the
     -- instruction takes
@@ -160,16 +174,16 @@ module _ {S : Type 0} {m : Setup S} (walk : Walk m) where
     -- a cell is lent
     even_race_in : (operands : List Held) → Enough walk o operands → (name : List ℕ) →
         ReadsLent m.program name o f now ⊎ AnswersLent m name (point walk o) →
-        (w : World S) → Steady walk (now.ran + 1) w →
-        Even walk (now.ran + 1) (data_race m name (holding walk operands) w)
-    even_race_in operands enough name reads w s =
+        (r : ℕ) (w : World S) → Steady walk r w →
+        Even walk r (data_race m name (holding walk operands) w)
+    even_race_in operands enough name reads r w s =
         let x = Plain (problem.DataRace (race_text name)) (position m f) in
-        even_raised_in operands enough (now.ran + 1) x w s (why x refl (name, refl, reads))
+        even_raised_in operands enough r x w s (why x refl (name, refl, reads))
 
     pub even_race : (name : List ℕ) → ReadsLent m.program name o f now ⊎ AnswersLent m name
-        (point walk o) → (w : World S) → Steady walk (now.ran + 1) w → Even walk (now.ran + 1)
-        (data_race m name f w)
-    even_race name reads w s = even_race_in f.operands (all_there walk o) name reads w s
+        (point walk o) → (r : ℕ) (w : World S) → Steady walk r w →
+        Even walk r (data_race m name f w)
+    even_race name reads r w s = even_race_in f.operands (all_there walk o) name reads r w s
 
     -- what is held is read, or it is a lent cell
     pub even_flat : (h : Held) (name : List ℕ) → (IsLent now h → ReadsLent m.program name o f now) →
@@ -177,17 +191,18 @@ module _ {S : Type 0} {m : Setup S} (walk : Walk m) where
         ((v : Dynamic) → flat now.cells h.value ≡ Some v → Even walk (now.ran + 1) (go v)) →
         (x : Option Dynamic) → flat now.cells h.value ≡ x →
         Even walk (now.ran + 1) (flat_or_race m x name f (start walk) go)
-    even_flat h name lent go rest None e = even_race name (inl (lent e)) (start walk) (steady walk)
+    even_flat h name lent go rest None e = even_race name (inl (lent e)) (now.ran + 1) (start walk)
+        (steady walk)
     even_flat h name lent go rest (Some v) e = rest v e
 
     -- a value is read in another world
-    pub even_flat_in : (w : World S) → Steady walk (now.ran + 1) w → (z : Dynamic) (name : List ℕ) →
+    pub even_flat_in : (r : ℕ) (w : World S) → Steady walk r w → (z : Dynamic) (name : List ℕ) →
         (flat w.cells z ≡ None → ReadsLent m.program name o f now ⊎ AnswersLent m name
-        (point walk o)) → (go : Dynamic → Act S) → ((v : Dynamic) → Even walk (now.ran + 1) (go v))
+        (point walk o)) → (go : Dynamic → Act S) → ((v : Dynamic) → Even walk r (go v))
         → (x : Option Dynamic) → flat w.cells z ≡ x →
-        Even walk (now.ran + 1) (flat_or_race m x name f w go)
-    even_flat_in w s z name lent go rest None e = even_race name (lent e) w s
-    even_flat_in w s z name lent go rest (Some v) e = rest v
+        Even walk r (flat_or_race m x name f w go)
+    even_flat_in r w s z name lent go rest None e = even_race name (lent e) r w s
+    even_flat_in r w s z name lent go rest (Some v) e = rest v
 
     -- the same of several
     pub even_flat_all : (operands : List Held) → Enough walk o operands → (hs : List Held) →
@@ -197,7 +212,7 @@ module _ {S : Type 0} {m : Setup S} (walk : Walk m) where
         (x : Option (List Held)) → flat_all now.cells hs ≡ x →
         Even walk (now.ran + 1) (all_or_race m x (holding walk operands) (start walk) go)
     even_flat_all operands enough hs lent go rest None e =
-        even_race_in operands enough [] (inl (lent e)) (start walk) (steady walk)
+        even_race_in operands enough [] (inl (lent e)) (now.ran + 1) (start walk) (steady walk)
     even_flat_all operands enough hs lent go rest (Some vs) e = rest vs e
 
     -- the frame goes on at an address to which the instruction leads, with as many operands and

@@ -14,14 +14,15 @@ use Rattle.grain_program.specs.Typing.{IsProgram}
 use Rattle.grain_means.specs.Worlds.{Act, Go, Failed, World, Setup, Frame, Handler, InFrame, InCatch}
 use Rattle.grain_means.specs.Rules.{throws_unit, offered_to, thrown_anew, outer_handlers, is_stop, leave_by_fault, marked, onward, next}
 use Rattle.grain_means.specs.Comes.{ProgramPoint, Comes, try_of, tries}
-use Rattle.grain_means.specs.Leavings.{Keeps, AtCheckpoint, Cut}
+use Rattle.grain_means.specs.Leavings.{AtCheckpoint, Cut}
 use Rattle.grain_means.specs.Blame.{Blamed}
 use Rattle.grain_means.specs.Causes.{HaveCaughtUnit, Cause, Caused}
-use Rattle.grain_means.proofs.Kept.{keeps_cut}
+use Rattle.grain_means.proofs.Ground.{Footing, Stays, stays_cut}
 use Rattle.grain_means.proofs.Lengths.{cut_short, length_under, length_pushed}
 use Rattle.grain_means.proofs.Moving.{unit_caught}
+use Rattle.grain_means.proofs.Roles.{Framed}
 use Rattle.grain_means.proofs.Standing.{Covered, covered_outside}
-use Rattle.grain_means.proofs.Footing.{Footing, HasCaught, Guarded, Sits, Tally, by_test, by_arming, cause_in, true-false, UnitThrown, OffersTo, left_so_far, offers_anew}
+use Rattle.grain_means.proofs.Footing.{HasCaught, Guarded, Sits, Tally, by_test, by_arming, cause_in, true-false, UnitThrown, OffersTo, left_so_far, offers_anew}
 
 -- where the walk is: the run of a root, on a footing, at an instruction of a frame
 pub record Walk {S : Type 0} (m : Setup S) : Type 0 where
@@ -33,19 +34,22 @@ pub record Walk {S : Type 0} (m : Setup S) : Type 0 where
   pub tokens : now.tokens ≡ footing.tokens
   pub level : now.level ≡ footing.level
   pub trace : now.trace ≡ []
-  pub keeps : Keeps footing.base footing.names now.scope
+  pub keeps : Stays footing None now.scope now.cells
   pub sits : Sits m root footing frame
 
 module _ {S : Type 0} {m : Setup S} (walk : Walk m) where
   open walk use {root, footing as k, frame as f, now, comes, tokens, level, trace, keeps, sits}
 
   abbrev pub Even : ℕ → Act S → Type 0
-  Even r act = Tally m root (Go (InFrame f) now) r k act
+  Even r act = Tally m Framed root (Go (InFrame f) now) r k act
 
-  -- the world stands on the footing
+  -- the world stands on the footing, while the cell of this number is lent, if any
+  abbrev pub SteadyBut : Option ℕ → ℕ → World S → Type 0
+  SteadyBut away r w =
+      (w.ran ≡ r) × (w.tokens ≡ k.tokens) × (w.level ≡ k.level) × Stays k away w.scope w.cells
+
   abbrev pub Steady : ℕ → World S → Type 0
-  Steady r w =
-      (w.ran ≡ r) × (w.tokens ≡ k.tokens) × (w.level ≡ k.level) × Keeps k.base k.names w.scope
+  Steady r w = SteadyBut None r w
 
   -- the world in which the instruction begins
   abbrev pub start : World S
@@ -96,7 +100,7 @@ module _ {S : Type 0} {m : Setup S} (walk : Walk m) where
         blames = blame;
         short = short x g.floor (take g.floor w.scope) floor (cut_short g.floor w.scope);
       } in
-      (s.0, s.1, s.2, keeps_cut k.base g.floor k.names w.scope low s.3, inl cut, cause)
+      (s.0, s.1, s.2, stays_cut g.floor w.scope w.cells low s.3, (inl cut, cause))
 
   -- a mark, in the frame as it then stands
   pub even_marked_at : (g : Frame) (r : ℕ) (w : World S) → g.address ≡ f.address → Floor g.floor →
@@ -234,7 +238,7 @@ module _ {S : Type 0} {m : Setup S} (walk : Walk m) where
 
   -- a write of the scope, and on
   pub even_written : (g : Frame) (write : List Entry → List Entry) →
-      Keeps k.base k.names (write now.scope) → g.floor ≡ f.floor → Sits m root k g →
+      Stays k None (write now.scope) now.cells → g.floor ≡ f.floor → Sits m root k g →
       Even (now.ran + 1)
       (marked m f start (λ w1. onward m f g (record w1 { scope = write w1.scope })))
   even_written g write there floor u =

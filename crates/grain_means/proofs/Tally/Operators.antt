@@ -1,5 +1,5 @@
 -- The walk through operators and op-assignments: the built-in, and else the host.
-use Rattle.std.proofs.Common.{◌≡◌, ℕ, ◌+◌, List, [], ◌∷◌, ◌++◌, Option, Some, None, Bool, true, false, refl, sym, ◌∙◌, inl, inr, if◌then◌else◌}
+use Rattle.std.proofs.Common.{◌≡◌, ◌⊎◌, ℕ, ◌+◌, List, [], ◌∷◌, ◌++◌, Some, None, Option, Bool, true, false, refl, sym, subst, ◌∙◌, inl, inr, if◌then◌else◌}
 use Rattle.grain_value.specs.declared.values.Dynamic.{Dynamic}
 use Rattle.grain_value.specs.declared.values.Held.{Held}
 use Rattle.grain_value.specs.Looking.{cell_of}
@@ -14,18 +14,22 @@ use Rattle.grain_program.specs.View.{name_of}
 use Rattle.grain_ops.specs.Outcomes.{Outcome, NotBuiltIn, Gave, ArithmeticFault, TooLarge}
 use Rattle.grain_value.specs.Cells.{flat}
 use Rattle.grain_value.specs.declared.stores.Cell.{Cell}
-use Rattle.grain_means.proofs.Readable.{IsHomeOf, home_in_entry, stays_readable}
-use Rattle.grain_means.specs.Worlds.{World, Setup}
+use Rattle.grain_means.proofs.Readable.{IsHomeOf, home_in_entry}
+use Rattle.grain_means.proofs.Unlent.{flat_stays}
+use Rattle.grain_means.specs.Worlds.{World, Setup, Go, InHost, Came}
+use Rattle.grain_means.specs.Ends.{Ends}
 use Rattle.grain_host.specs.Signatures.{not_found, says_missing}
 use Rattle.grain_host.specs.Law as reply
 use Rattle.grain_value.specs.declared.natives.Native.{Native}
-use Rattle.grain_means.specs.Rules.{Home, Receiver, assigned_at, assignment_to_constant, content_now, entry_of_slot, flattened, given, held_at, is_read_only, native_assigned_at, onward, op_assign_failed_at, op_assigned, operator_at, outcome_at, position, push_outcome, pushed, stepped, store_outcome, trees_in}
+use Rattle.grain_means.specs.Rules.{Home, Receiver, assigned_at, assignment_to_constant, content_now, entry_of_slot, flattened, given as given_to, held_at, is_read_only, native_assigned_at, onward, op_assign_failed_at, op_assigned, operator_at, outcome_at, position, push_outcome, pushed, stepped, store_outcome, trees_in}
 use Rattle.grain_means.specs.Comes.{ProgramPoint}
-use Rattle.grain_means.specs.Causes.{Question, native_asked, reply_to, asks_first, EndsWith, HasNoBuiltIn, AssignsByHost, AsksAgain, AsksSecond, AsksNative, IsCalled, ReadsTop, Holds, AssignsConstant, Operates, ReadsLent, AnswersLent, IsLent, AssignsLent}
+use Rattle.grain_means.specs.Causes.{Question, native_asked, reply_to, asks_first, EndsWith, HasNoBuiltIn, AssignsByHost, AsksAgain, AsksSecond, AsksNative, IsCalled, ReadsTop, Holds, AssignsConstant, Operates, ReadsLent, AnswersLent, IsLent, AssignsLent, AsksFirst, asked_by}
 use Rattle.grain_means.proofs.Footing.{Sits, by_test}
 use Rattle.grain_means.proofs.Tally.Frames.{Walk, Even, Steady, start, steady, even_onward, point, all_there}
 use Rattle.grain_means.proofs.Tally.Faults.{why, even_raised, even_flat, even_flat_in, even_on}
-use Rattle.grain_means.proofs.Tally.Natives.{answered_by, steady_after, none_raised, refused_raised, failed_raised, even_found, even_native}
+use Rattle.grain_means.proofs.Tally.Natives.{FailedSo}
+use Rattle.grain_means.proofs.Tally.Natives.{Gave as HasGiven}
+use Rattle.grain_means.proofs.Tally.NativeCalls.{none_raised, refused_raised, even_found, even_native}
 use Rattle.grain_means.proofs.Tally.Entries.{even_constant, even_home, even_written_at}
 
 none_some : {A : Type 0} {x : A} → None ≡ Some x → ⊥
@@ -34,8 +38,11 @@ none_some e = absurd cc
 -- what the host answers to an operator of an op-assignment, if it is a lent cell
 abbrev pub AnswersLentTo : {S : Type 0} → Setup S → ProgramPoint S → List ℕ → Type 0
 AnswersLentTo {S = S} m at name = (q : Question S) → AsksSecond m q at → (n : Native) →
-    native_asked m q ≡ Some n → IsCalled q n → (v : Dynamic) → reply_to m q n.key ≡ reply.Done v →
-    flat q.cells v ≡ None → AnswersLent m name at
+    native_asked m q ≡ Some n → IsCalled q n → (v : Dynamic) →
+    ((reply_to m q n.key ≡ reply.Done v) × (flat q.cells v ≡ None))
+    ⊎ ((a : AsksFirst m q n at.frame at.world) × (w : World S)
+    × Ends m (Go (InHost (asked_by m a)) a.start) (Came v) w × (flat w.cells v ≡ None)) →
+    AnswersLent m name at
 
 module _ {S : Type 0} {m : Setup S} (walk : Walk m) where
   open walk use {root, footing as k, frame as f, now, trace}
@@ -58,13 +65,11 @@ module _ {S : Type 0} {m : Setup S} (walk : Walk m) where
           args = args;
         }) (point walk o) =
         inl (inl (refl, refl, refl, inr (asks refl))) in
-        even_native walk o width stands (start walk) (steady walk) name None args q
+        even_native walk o width stands (start walk) (now.ran + 1) (steady walk) trace name None args q
         (λ x. inl (inl (refl, refl, refl, inr (asks refl))))
         (λ v w1. pushed m f (f.address + width) operands v w1)
-        (λ n e _ v _. even_onward walk (now.ran + 1) (stepped f (f.address + width)
-        (operands ++ read_write v ∷ []))
-        (answered_by walk o width stands (start walk) (steady walk) name None args q n.key)
-        (steady walk) trace (inl refl)
+        (λ n e called v l w1 how after empty. even_onward walk l
+        (stepped f (f.address + width) (operands ++ read_write v ∷ [])) w1 after.0 empty (inl refl)
         (u v))
     even_pushed name args operands u (Gave v) says asks = even_on walk o width stands _ refl (u v)
     even_pushed name args operands u (ArithmeticFault t) says asks =
@@ -98,40 +103,77 @@ module _ {S : Type 0} {m : Setup S} (walk : Walk m) where
       abbrev Readable : World S → Type 0
       Readable w = (c : Dynamic) × (flat w.cells h.value ≡ Some c)
 
-      even_operator : (w : World S) → Steady walk (now.ran + 1) w → w.trace ≡ [] → Readable w →
-          (x : Problem) → EndsWith m f now first_question x w.host w.scope w.cells w.roots →
-          says x ≡ true →
-          Even walk (now.ran + 1)
-          (operator_at m home name (name_of m.program a.op_name) h
-          (record h { value = content_now home h w }) v (f.address + width) f w)
-      even_operator w s t readable x ends missing =
-          let g : Held = record h { value = content_now home h w } in
-          let op_name = name_of m.program a.op_name in
-          let args : List Held = g ∷ v ∷ [] in
-          let question : Question S =
-          record { host = w.host; cells = w.cells; name = op_name; lent = None; args = args } in
-          let again : AsksAgain m a home h u v question (point walk o) =
-          (x, w.host, w.scope, w.cells, w.roots, ends, missing, refl) in
-          let asked_so : AsksSecond m question (point walk o) =
-          (a, home, h, u, v, by_host, again) in
-          let q : AsksNative m question (point walk o) =
-          inr (a, home, h, u, v, by_host, inr again) in
-          even_native walk o width stands w s op_name None args q
-          (λ y. inr (a, home, h, u, v, by_host, inr again))
-          (λ z w1. flattened m (read_write z) name f w1 (λ y.
-          assigned_at m home (record h { value = y }) name (f.address + width) f w1))
-          (λ native e called z is. let w1 = answered_by walk o width stands w s op_name None args q
-          native.key in let s1 = steady_after walk o width stands w s op_name None args q native.key
-          in
-          even_flat_in walk o width stands w1 s1 z name
-          (λ none. inr (answers_lent question asked_so native e called z is none))
-          (λ y. assigned_at m home (record h { value = y }) name (f.address + width) f w1)
-          (λ y. even_written_at walk o width stands w1 s1 t h name (record h { value = y }) sits_on
-          (λ none. absurd (is_readable w.cells readable none)) home is_home)
-          (flat w.cells z) refl) where
-            is_readable : (c : List Cell) → (x : Dynamic) × (flat c h.value ≡ Some x) →
-                flat c h.value ≡ None → ⊥
-            is_readable c x none = none_some (sym none ∙ x.1)
+      -- the operator is asked for in a world, after r instructions
+      module _ (w : World S) (r : ℕ) (s : Steady walk r w) (t : w.trace ≡ []) (readable : Readable w)
+          (x : Problem)
+          (ends : EndsWith m f now first_question x w.host w.scope w.cells w.roots)
+          (missing : says x ≡ true) where
+        abbrev now_held : Held
+        now_held = record h { value = content_now home h w }
+
+        abbrev args : List Held
+        args = now_held ∷ v ∷ []
+
+        abbrev question : Question S
+        question = record {
+          host = w.host;
+          cells = w.cells;
+          name = name_of m.program a.op_name;
+          lent = None;
+          args = args;
+        }
+
+        asks_again : AsksAgain m a home h u v question (point walk o)
+        asks_again = (x, w.host, w.scope, w.cells, w.roots, ends, missing, refl)
+
+        asked_so : AsksSecond m question (point walk o)
+        asked_so = (a, home, h, u, v, by_host, asks_again)
+
+        asks : AsksNative m question (point walk o)
+        asks = inr (a, home, h, u, v, by_host, inr asks_again)
+
+        -- the operator gave a value, which is written
+        given : (n : Native) → native_asked m question ≡ Some n → IsCalled question n →
+            (z : Dynamic) (l : ℕ) (w1 : World S) →
+            HasGiven walk w (name_of m.program a.op_name) None args n z w1 →
+            Steady walk l w1 → w1.trace ≡ [] → Readable w1 →
+            Even walk l (flattened m (read_write z) name f w1 (λ y.
+            assigned_at m home (record h { value = y }) name (f.address + width) f w1))
+        given n e called z l w1 how s1 t1 reads =
+            even_flat_in walk o width stands l w1 s1 z name (λ none. inr (lends how none))
+            (λ y. assigned_at m home (record h { value = y }) name (f.address + width) f w1)
+            (λ y. even_written_at walk o width stands w1 l s1 t1 h name (record h { value = y }) sits_on
+            (λ none. absurd (none_some (sym none ∙ reads.1))) home is_home)
+            (flat w1.cells z) refl where
+              lends : HasGiven walk w (name_of m.program a.op_name) None args n z w1 →
+                  flat w1.cells z ≡ None → AnswersLent m name (point walk o)
+              lends (inl (is, left)) none =
+                  answers_lent question asked_so n e called z
+                  (inl (is, subst (λ (c : World S). flat c.cells z ≡ None) left none))
+              lends (inr (first, over)) none =
+                  answers_lent question asked_so n e called z (inr (first, w1, over, none))
+
+        even_operator : Even walk r
+            (operator_at m home name (name_of m.program a.op_name) h now_held v (f.address + width) f w)
+        even_operator =
+            even_native walk o width stands w r s t (name_of m.program a.op_name) None args asks
+            (λ y. inr (a, home, h, u, v, by_host, inr asks_again))
+            (λ z w1. flattened m (read_write z) name f w1 (λ y.
+            assigned_at m home (record h { value = y }) name (f.address + width) f w1))
+            (λ n e called z l w1 how after empty. given n e called z l w1 how after.0 empty
+            (flat_stays w.cells w1.cells h.value readable.0 readable.1 after.2))
+
+      -- how the first native failed
+      ends_so : (n : Native) → native_asked m first_question ≡ Some n → IsCalled first_question n →
+          (x : Problem) (w : World S) →
+          FailedSo walk (start walk) (name_of m.program a.op_assign_name)
+          (Some (record { home = home; held = record h { value = u } })) (v ∷ []) n x w →
+          EndsWith m f now first_question x w.host w.scope w.cells w.roots
+      ends_so n e called x w (inl (y, is, at, left)) =
+          subst (λ (c : World S). EndsWith m f now first_question x c.host c.scope c.cells c.roots)
+          (sym left) (inr (n, e, called, inl (y, is, at, refl, refl, refl, refl)))
+      ends_so n e called x w (inr (first, over)) =
+          inr (n, e, called, inr (first, w, over, refl, refl, refl, refl))
 
       even_natively : Even walk (now.ran + 1)
           (native_assigned_at m home name a h u v (f.address + width) f (start walk))
@@ -142,20 +184,19 @@ module _ {S : Type 0} {m : Setup S} (walk : Walk m) where
           let args : List Held = v ∷ [] in
           let q : AsksNative m first_question (point walk o) =
           inr (a, home, h, u, v, by_host, inl refl) in
-          let there = answered_by walk o width stands (start walk) (steady walk) word r args q in
-          let steady_there = steady_after walk o width stands (start walk) (steady walk) word r args
-          q in
-          even_found walk o width stands (start walk) (steady walk) word r args q f.operands
+          even_found walk o width stands (start walk) (now.ran + 1) (steady walk) trace word r args q
+          f.operands
           (λ z w1. onward m f (stepped f (f.address + width) (below f.operands)) w1)
           (op_assign_failed_at m home name a h v (f.address + width) f)
-          (λ native e _ z is. even_onward walk (now.ran + 1) (stepped f (f.address + width)
-          (below f.operands)) (there native.key) (steady_there native.key) trace (inl refl) sits_on)
-          (λ e. let x = not_found word (values_in (given r args)) (position m f) in
+          (λ n e called z l w1 how after empty. even_onward walk l (stepped f (f.address + width)
+          (below f.operands)) w1 after.0 empty (inl refl) sits_on)
+          (λ e. let x = not_found word (values_in (given_to r args)) (position m f) in
           by_test (Even walk (now.ran + 1)) (says x) _ _
-          (λ missing. even_operator (start walk) (steady walk) trace (u, by_host.content) x
+          (λ missing. even_operator (record (start walk) { trace = [] }) (now.ran + 1) (steady walk) refl
+          (u, by_host.content) x
           (inl (e, refl, refl, refl, refl, refl)) missing)
-          (λ other. none_raised walk o width stands (start walk) (steady walk) word r args q
-          f.operands (all_there walk o) (inr (
+          (λ other. none_raised walk o width stands (start walk) (now.ran + 1) (steady walk) trace word r
+          args q f.operands (all_there walk o) (inr (
             a,
             home,
             h,
@@ -163,17 +204,15 @@ module _ {S : Type 0} {m : Setup S} (walk : Walk m) where
             v,
             by_host,
             inl (refl, other),
-          )) e)) (refused_raised walk o width stands (start walk) (steady walk)
+          )) e)) (refused_raised walk o width stands (start walk) (now.ran + 1) (steady walk) trace
           word r args q f.operands (all_there walk o))
-          (λ native e called y is. let x = at_position_if_none (position m f) y in
-          by_test (Even walk (now.ran + 1)) (says x) _ _
-          (λ missing. even_operator (there native.key) (steady_there native.key) trace
-          (stays_readable m.law now.host native.key (trees_in args) home h u now.cells is_home
-          by_host.content) x
-          (inr (native, e, called, (y, is, refl, refl, refl, refl, refl))) missing)
-          (λ other. failed_raised walk o width stands (start walk) (steady walk) word r args q
-          f.operands (all_there walk o) native e called y
-          (inr (a, home, h, u, v, by_host, inl (refl, other))) is))
+          (λ n e called x l w1 how reason after.
+          by_test (Even walk l) (says x) _ _
+          (λ missing. even_operator (record w1 { trace = [] }) l after.0 refl
+          (flat_stays now.cells w1.cells h.value u by_host.content after.2) x
+          (ends_so n e called x w1 how) missing)
+          (λ other. even_raised walk o width stands l x w1 after.0
+          (reason (inr (a, home, h, u, v, by_host, inl (refl, other))))))
           (native_asked m first_question) refl
 
     -- what an op-assignment gives is written where h is held

@@ -1,5 +1,5 @@
 -- The walk over the rules through calls of a pointer with a receiver.
-use Rattle.std.proofs.Common.{◌≡◌, ◌≤◌, ◌⊎◌, ℕ, zero, suc, ◌+◌, ◌-◌, List, [], ◌∷◌, ◌++◌, Option, Some, None, refl, sym, subst, ap, inl, inr, arith, length, take}
+use Rattle.std.proofs.Common.{◌≡◌, ◌≤◌, ◌⊎◌, ℕ, zero, suc, ◌+◌, ◌-◌, List, [], ◌∷◌, ◌++◌, Option, Some, None, refl, sym, subst, ap, ◌∙◌, inl, inr, arith, length, take}
 use Rattle.std.specs.Prelude.{codes, slice_get, slice_set}
 use Rattle.grain_value.specs.declared.stores.Cell.{Cell}
 use Rattle.grain_value.specs.declared.values.Dynamic.{Dynamic}
@@ -19,23 +19,24 @@ use Rattle.grain_program.specs.declared.code.instruction_set.Op.{Op}
 use Rattle.grain_means.specs.Places.{look, or_unit}
 use Rattle.grain_means.specs.Rules.{Destination, callee_on, cell_given_back, copy_dropped, failed_so, flat_all, function_called, function_under, given, lent_at, native_lent, native_lent_cell, native_on, native_on_read, is_read_only, method_call, new_root, not_a_pointer, operand_under, pointer_called, spread, function_by_name, first_called, target_called, position, race_text, receiver_called, root_over, stepped}
 use Rattle.grain_means.specs.Worlds.{Act, Answer, Came, End, Failed, Place, Setup, World}
-use Rattle.grain_means.specs.Causes.{AsksEither, AsksNative, AsksOnReceiver, Calls, CallsUnder, CallsWith, Charges, HasReceiver, IsMethodCall, Points, PointsFirst, args_beside, function_beside, native_asked, receiver, roots_for, this_for}
+use Rattle.grain_means.specs.Causes.{AsksEither, AsksNative, AsksOnReceiver, Calls, CallsUnder, CallsWith, Charges, HasReceiver, IsKeptOut, IsMethodCall, Points, PointsFirst, args_beside, function_beside, native_asked, receiver, roots_for, this_for}
 use Rattle.grain_means.specs.lemmas.LentPlaces.{found-new}
-use Rattle.grain_means.proofs.Explaining.Calls.{if_false, if_true}
+use Rattle.grain_means.proofs.Choices.{if_false, if_true}
 use Rattle.grain_means.proofs.Footing.{Sits, by_test}
 use Rattle.grain_means.proofs.Lengths.{length_under, spread_length, spread_under}
 use Rattle.grain_means.proofs.Standing.{fits_found}
-use Rattle.grain_means.proofs.Tally.Bodies.{IsKeptOut, even_under}
+use Rattle.grain_means.proofs.Unlent.{lent_out}
+use Rattle.grain_means.proofs.Tally.Bodies.{even_under}
 use Rattle.grain_means.proofs.Tally.Entries.{busy_content, lent_cell}
 use Rattle.grain_means.proofs.Tally.Calls.{even_called}
 use Rattle.grain_means.proofs.Tally.Faults.{blames_none, even_flat, even_raised, why}
-use Rattle.grain_means.proofs.Tally.Frames.{Enough, Even, Reason, Steady, Walk, even_marked, holding, point, start, steady}
+use Rattle.grain_means.proofs.Tally.Frames.{Enough, Even, Reason, Steady, SteadyBut, Walk, even_marked, holding, point, start, steady}
 use Rattle.grain_means.proofs.Tally.Methods.{method_asks, method_calls, method_charges, method_fills, method_misses, method_no_chain, method_reads}
-use Rattle.grain_means.proofs.Tally.Natives.{answered_by, even_found_or, failed_why, none_why, refused_why, steady_after}
-use Rattle.grain_means.proofs.Tally.Returns.{Hears, UsesSlot, ended_on, fails_so, hears_cell, hears_root, out_ended}
+use Rattle.grain_means.proofs.Tally.Natives.{even_found_or, none_why, refused_why}
+use Rattle.grain_means.proofs.Tally.Returns.{Hears, HearsBut, UsesSlot, caused_out, ended_on, fails_so, hears_cell, hears_root, out_ended}
 
 module _ {S : Type 0} {m : Setup S} (walk : Walk m) where
-  open walk use {root, footing as k, frame as f, now, level, trace}
+  open walk use {root, footing as k, frame as f, now, tokens, level, trace, keeps}
 
   -- the rules of an instruction that stands where the frame does, which then has these operands
   module _ (o : Op) (width : ℕ) (stands : op_at m.program.code f.address ≡ Some (o, width))
@@ -45,9 +46,9 @@ module _ {S : Type 0} {m : Setup S} (walk : Walk m) where
       ran = now.ran + 1
 
       -- a native is lent what stands at a place
-      native_asks : (heard : Answer → World S → Act S) → Hears walk heard → (w : World S) →
-          Steady walk ran w → w.trace ≡ [] → w.scope ≡ now.scope → (name : List ℕ) (p : Place)
-          (args : List Held) →
+      native_asks : (away : Option ℕ) (heard : Answer → World S → Act S) → HearsBut walk away heard →
+          (w : World S) → SteadyBut walk away ran w → w.trace ≡ [] →
+          length w.scope ≡ length now.scope → (name : List ℕ) (p : Place) (args : List Held) →
           AsksOnReceiver m
           (record {
             host = w.host;
@@ -57,28 +58,22 @@ module _ {S : Type 0} {m : Setup S} (walk : Walk m) where
             args = args;
           }) (point walk o) →
           Even walk ran (native_lent m name args (holding walk operands) heard p w)
-      native_asks heard hears w s t same name p args asks =
+      native_asks away heard hears w s t same name p args asks =
           let r = lent_at w.roots (Some p) in
           let q : AsksNative m
           (record { host = w.host; cells = w.cells; name = name; lent = r; args = args })
           (point walk o) = inl (inr asks) in
-          let after = answered_by walk o width stands w s name r args q in
-          let steady_so = steady_after walk o width stands w s name r args q in
-          even_found_or walk o width stands w s name r args q operands (λ v w1. heard (Came v) w1)
-          (failed_so m heard)
-          (λ n e _ v _. hears ran (Came v) (after n.key) (steady_so n.key) same t)
-          (λ e. fails_so walk heard hears (not_found name (values_in (given r args)) (position m f)) w
-          (none_why walk o width stands w s name r args q (inl (inr asks)) e) s same)
-          (λ n e writes only. fails_so walk heard hears _ w
-          (refused_why walk o width stands w s name r args q n e writes only) s same)
-          (λ n e called y is. fails_so walk heard hears (at_position_if_none (position m f) y) (after n.key)
-          (failed_why walk o width stands w s name r args q n e called y (inl (inr asks)) is)
-          (steady_so n.key) same)
-          (heard (Failed NoMemory))
-          (λ stop. hears ran (Failed NoMemory) w s same (out_ended walk w stop))
-          (λ key stop.
-          let v : World S = record (after key) { passed = w.passed + 1 } in
-          hears ran (Failed NoMemory) v (steady_so key) same (out_ended walk v stop))
+          even_found_or walk o width stands away w ran s t name r args q operands (heard (Failed NoMemory))
+          (λ v w1. heard (Came v) w1) (failed_so m heard)
+          (λ l u cause after. hears l (Failed NoMemory) u after.0 (after.1 ∙ same)
+          (caused_out walk u cause))
+          (λ n e called v l u how after empty. hears l (Came v) u after.0 (after.1 ∙ same) empty)
+          (λ e. fails_so walk away heard hears (not_found name (values_in (given r args)) (position m f))
+          ran w (none_why walk o width stands away w ran s t name r args q (inl (inr asks)) e) s same)
+          (λ n e writes only. fails_so walk away heard hears _ ran w
+          (refused_why walk o width stands away w ran s t name r args q n e writes only) s same)
+          (λ n e called x l u how reason after. fails_so walk away heard hears x l u
+          (reason (inl (inr asks))) after.0 (after.1 ∙ same))
           (native_asked m (record { host = w.host; cells = w.cells; name = name; lent = r; args = args }))
           refl
 
@@ -110,7 +105,7 @@ module _ {S : Type 0} {m : Setup S} (walk : Walk m) where
               Even walk ran (failed_so m heard (Plain (DataRace (race_text [])) (position m f)) begun)
           races lent =
               let x = Plain (DataRace (race_text [])) (position m f) in
-              fails_so walk heard hears x begun
+              fails_so walk None heard hears x ran begun
               (why walk o width stands x refl (
                 [],
                 refl,
@@ -136,8 +131,11 @@ module _ {S : Type 0} {m : Setup S} (walk : Walk m) where
                 (native_lent m p.name values (holding walk operands)
                 (cell_given_back m i c.held size heard) (new_root begun.roots) v)
                 (λ busy. races (inr (lent_cell now.cells h.value i (Some c) at e (busy_content c busy))))
-                (λ free. native_asks (cell_given_back m i c.held size heard)
-                (hears_cell walk i size c.held heard hears) v (steady walk) trace refl p.name
+                (λ free. native_asks (Some i) (cell_given_back m i c.held size heard)
+                (hears_cell walk i size c.held heard hears) v (refl, tokens, level, record {
+                  keeps = keeps.keeps;
+                  unlent = lent_out k.cells now.cells i (lent c.held) keeps.unlent;
+                }) trace refl p.name
                 (new_root begun.roots) values (record {
                   n = n;
                   is = is;
@@ -153,7 +151,7 @@ module _ {S : Type 0} {m : Setup S} (walk : Walk m) where
             by_cell : (cell : Option ℕ) → cell_of h.value ≡ cell →
                 Even walk ran (native_on m cell h p.name values (holding walk operands) heard place begun)
             by_cell None at =
-                native_asks heard hears begun (steady walk) trace refl p.name place values (record {
+                native_asks None heard hears begun (steady walk) trace refl p.name place values (record {
                   n = n;
                   is = is;
                   pointer = p;
@@ -185,7 +183,7 @@ module _ {S : Type 0} {m : Setup S} (walk : Walk m) where
           charges : Charges m.program o f now
           charges = method_charges m.program o (suc n) f now is counts
 
-          kept_out : (x : Problem) → IsKeptOut m (position m f) g begun x → Reason walk x
+          kept_out : (x : Problem) → IsKeptOut m (position m f) (length g.params) begun x → Reason walk x
           kept_out x (inl (full, at)) = rw at
               (why walk o width stands (Plain TooManyOperations (position m f)) refl (full, charges))
           kept_out x (inr (inl (v, fits, says, at))) = rw at
@@ -211,15 +209,15 @@ module _ {S : Type 0} {m : Setup S} (walk : Walk m) where
               (λ valid. fits_found m.program valid
               (function_by_text m.program p.name
               (length p.curry + length (values_in (arguments n f.operands)))) g 0 this found)
-              ran (steady walk) trace f.slot (λ x. Unit {0})
+              None ran (steady walk) trace f.slot (λ x. Unit {0})
               (λ begins x y ends end is_so. blames_none walk o width stands y
               (method_no_chain o (suc n) is))
               (λ begins x ends end is_so. (level, inl (method_no_chain o (suc n) is, refl)))
               said End
-              (λ u l stop at. hearing l (Failed NoMemory) u at.0 at.1 (out_ended walk u stop))
-              (λ x u l because at. hearing l (Failed x) u at.0 at.1
+              (λ u l stop at. hearing l (Failed NoMemory) u at.0 (ap length at.1) (out_ended walk u stop))
+              (λ x u l because at. hearing l (Failed x) u at.0 (ap length at.1)
               (inr because.0, because.1, because.2))
-              (λ d u l whole at empty. hearing l (Came d) u at.0 at.1 empty)
+              (λ d u l whole at empty. hearing l (Came d) u at.0 (ap length at.1) empty)
               (λ x why. kept_out x why) (λ x u whole. tt)
 
           hears_copy : (size : ℕ) → Hears walk (copy_dropped m size heard)

@@ -17,10 +17,11 @@ use Rattle.grain_means.specs.Rules.{Destination, Nowhere, ToSlot, ToThis, call_o
 use Rattle.grain_means.specs.Worlds.{Act, Answer, Came, Failed, Place, Setup, World}
 use Rattle.grain_means.specs.Causes.{Caused, UsesEntry}
 use Rattle.grain_means.proofs.Footing.{Sits, UnitThrown, by_test, is_false}
-use Rattle.grain_means.proofs.Kept.{keeps_set}
+use Rattle.grain_means.proofs.Ground.{stays_set}
 use Rattle.grain_means.proofs.Lengths.{past_scope}
+use Rattle.grain_means.proofs.Unlent.{lent_back}
 use Rattle.grain_means.proofs.Tally.Faults.{even_offered_in, even_raised_in, why}
-use Rattle.grain_means.proofs.Tally.Frames.{Blame, Enough, Even, Reason, Steady, Walk, even_onward, holding}
+use Rattle.grain_means.proofs.Tally.Frames.{Blame, Enough, Even, Reason, Steady, SteadyBut, Walk, even_onward, holding}
 
 module _ {S : Type 0} {m : Setup S} (walk : Walk m) where
   open walk use {root, footing as k, frame as f, now, tokens, level, trace, keeps}
@@ -31,10 +32,14 @@ module _ {S : Type 0} {m : Setup S} (walk : Walk m) where
   Ended (Failed x) u =
       Caused m root k.level (Failed x) u × UnitThrown m root k.level f.handlers x × Blame walk f.slot x
 
-  -- this follows from the end of a call, where the scope is that of the call
+  -- this follows from the end of a call, where the scope is as long as that of the call, while the cell of
+  -- this number is lent, if any
+  abbrev pub HearsBut : Option ℕ → (Answer → World S → Act S) → Type 0
+  HearsBut away heard = (n : ℕ) (a : Answer) (u : World S) → SteadyBut walk away n u →
+      length u.scope ≡ length now.scope → Ended a u → Even walk n (heard a u)
+
   abbrev pub Hears : (Answer → World S → Act S) → Type 0
-  Hears heard = (n : ℕ) (a : Answer) (u : World S) → Steady walk n u → u.scope ≡ now.scope →
-      Ended a u → Even walk n (heard a u)
+  Hears heard = HearsBut None heard
 
   -- a call has ended so whatever is written then
   pub ended_on : (a : Answer) (u v : World S) → v.trace ≡ u.trace → v.passed ≡ u.passed → Ended a u →
@@ -51,30 +56,37 @@ module _ {S : Type 0} {m : Setup S} (walk : Walk m) where
   UsesSlot o d = Unit {0}
 
   -- memory is out
+  pub caused_out : (u : World S) → Caused m root k.level (Failed NoMemory) u → Ended (Failed NoMemory) u
+  caused_out u cause = (cause, λ unit. is_false unit, inl refl)
+
   pub out_ended : (u : World S) → is_stop m.stop u.passed ≡ true → Ended (Failed NoMemory) u
-  out_ended u stop = (inl (refl, stop), λ unit. is_false unit, inl refl)
+  out_ended u stop = caused_out u (inl (refl, stop))
 
   -- a call ends with this fault
-  pub fails_so : (heard : Answer → World S → Act S) → Hears heard → (x : Problem) (u : World S) →
-      Reason walk x → Steady walk (now.ran + 1) u → u.scope ≡ now.scope →
-      Even walk (now.ran + 1) (failed_so m heard x u)
-  fails_so heard hears x u because s same =
+  pub fails_so : (away : Option ℕ) (heard : Answer → World S → Act S) → HearsBut away heard →
+      (x : Problem) (n : ℕ) (u : World S) → Reason walk x → SteadyBut walk away n u →
+      length u.scope ≡ length now.scope → Even walk n (failed_so m heard x u)
+  fails_so away heard hears x n u because s same =
       let v : World S = record u { passed = u.passed + 1 } in
-      by_test (Even walk (now.ran + 1)) (is_stop m.stop u.passed) (heard (Failed NoMemory) u)
+      by_test (Even walk n) (is_stop m.stop u.passed) (heard (Failed NoMemory) u)
       (heard (Failed x) v)
-      (λ stop. hears (now.ran + 1) (Failed NoMemory) u s same (out_ended u stop))
-      (λ _. hears (now.ran + 1) (Failed x) v s same (inr because.0, because.1, because.2))
+      (λ stop. hears n (Failed NoMemory) u s same (out_ended u stop))
+      (λ _. hears n (Failed x) v s same (inr because.0, because.1, because.2))
 
   -- what a native was lent of a cell goes back
   pub hears_cell : (i size : ℕ) (held : Held) (heard : Answer → World S → Act S) → Hears heard →
-      Hears (cell_given_back m i held size heard)
+      HearsBut (Some i) (cell_given_back m i held size heard)
   hears_cell i size held heard hears n a u s same e =
       let v : World S = record u {
         cells = slice_set u.cells i
             (idle (record held { value = (look u.roots (root_at size)).value }));
         roots = take size u.roots;
       } in
-      hears n a v s same (ended_on a u v refl refl e)
+      hears n a v (s.0, s.1, s.2, record {
+        keeps = s.3.keeps;
+        unlent = lent_back k.cells u.cells i
+            (record held { value = (look u.roots (root_at size)).value }) s.3.unlent;
+      }) same (ended_on a u v refl refl e)
 
   -- The rules of an instruction that stands where the frame does, which then has these operands, and goes
   -- on with one more.
@@ -94,14 +106,14 @@ module _ {S : Type 0} {m : Setup S} (walk : Walk m) where
 
       -- there is no entry to which the receiver goes
       module _ (i : ℕ) (uses : UsesEntry i o f now) where
-        passed : (n : ℕ) (u : World S) → Steady walk n u → u.scope ≡ now.scope →
+        passed : (n : ℕ) (u : World S) → Steady walk n u → length u.scope ≡ length now.scope →
             held_at u.scope i ≡ None → Even walk n (slot_past_scope m (holding walk operands) i u)
         passed n u s same none =
             let x = Plain (Malformed (kind.SlotPastScope i (length u.scope))) (position m f) in
             even_raised_in walk o width stands operands enough n x u s
-            (why walk o width stands x refl (ap length same, past_scope u.scope i none, uses))
+            (why walk o width stands x refl (same, past_scope u.scope i none, uses))
 
-        no_entry : (n : ℕ) (a : Answer) (u : World S) → Steady walk n u → u.scope ≡ now.scope →
+        no_entry : (n : ℕ) (a : Answer) (u : World S) → Steady walk n u → length u.scope ≡ length now.scope →
             Ended a u → held_at u.scope i ≡ None →
             Even walk n (over_without_entry m i next (holding walk operands) a u)
         no_entry n (Came v) u s same e none = passed n u s same none
@@ -111,16 +123,16 @@ module _ {S : Type 0} {m : Setup S} (walk : Walk m) where
             (λ _. over n (Failed x) u s e) (λ _. passed n (record u { trace = [] }) s same none)
 
         in_entry : (h : Held) (n : ℕ) (a : Answer) (u : World S) → Steady walk n u →
-            u.scope ≡ now.scope → Ended a u → (before : Option Held) → held_at u.scope i ≡ before →
+            length u.scope ≡ length now.scope → Ended a u → (before : Option Held) → held_at u.scope i ≡ before →
             Even walk n (over_in_entry m before i h next (holding walk operands) a u)
         in_entry h n a u s same e None none = no_entry n a u s same e none
         in_entry h n a u s same e (Some before) is =
             let v : World S = record u { scope = set_held u.scope i h } in
-            over n a v (s.0, s.1, s.2, keeps_set k.base k.names u.scope i h s.3)
+            over n a v (s.0, s.1, s.2, stays_set u.scope u.cells i h s.3)
             (ended_on a u v refl refl e)
 
       goes : (d : Destination) → UsesSlot o d → (h : Held) (n : ℕ) (a : Answer) (u : World S) →
-          Steady walk n u → u.scope ≡ now.scope → Ended a u →
+          Steady walk n u → length u.scope ≡ length now.scope → Ended a u →
           Even walk n (over_at m d h next (holding walk operands) a u)
       goes Nowhere uses h n a u s same e = over n a u s e
       goes (ToSlot slot) uses h n a u s same e =

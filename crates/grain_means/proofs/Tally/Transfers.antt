@@ -16,7 +16,7 @@ use Rattle.grain_value.specs.Cells.{flat}
 use Rattle.grain_means.specs.Worlds.{Setup}
 use Rattle.grain_means.specs.Rules.{push_handler, stepped, agrees, branched, tested, skip, unwind, position, jump_if}
 use Rattle.grain_means.specs.Causes.{Charges, Unwinds, Tests, ReadsLent, IsLent, truth_on_top, truth_read}
-use Rattle.grain_means.proofs.Kept.{keeps_cut}
+use Rattle.grain_means.proofs.Ground.{stays_cut}
 use Rattle.grain_means.proofs.Standing.{Fitting}
 use Rattle.grain_means.proofs.Footing.{Sits, by_test, is_false}
 use Rattle.grain_means.proofs.Tally.Frames.{Walk, Even, start, steady, guarding, even_onward, Enough, all_there}
@@ -92,7 +92,7 @@ module _ {S : Type 0} {m : Setup S} (walk : Walk m) where
         (why walk o width stands x refl (refl, ltb-true (length now.scope) target past, unwinds)))
         (λ _. even_onward walk (now.ran + 1) (stepped f (f.address + width) f.operands)
         (record (start walk) { scope = take target (start walk).scope })
-        (refl, tokens, level, keeps_cut k.base target k.names now.scope le keeps) trace
+        (refl, tokens, level, stays_cut target now.scope now.cells le keeps) trace
         (inl refl) u)
 
     -- a handler is pushed, above as many operands and entries of the scope as there are
@@ -102,4 +102,4 @@ module _ {S : Type 0} {m : Setup S} (walk : Walk m) where
         (f.address + width) f (start walk))
     even_handled target variable fits =
         even_on walk o width stands (guarding walk target variable (f.address + width)) refl
-        (sits.0, sits.1, fits, (keeps.there, tt, sits.3), sits.4)
+        (sits.0, sits.1, fits, (keeps.keeps.there, tt, sits.3), sits.4)

@@ -7,7 +7,7 @@ use Rattle.grain_value.specs.declared.values.Dynamic.{Dynamic}
 use Rattle.grain_value.specs.declared.values.Dynamic.TheVariants as dynamic
 use Rattle.grain_value.specs.declared.values.Held.{Held}
 use Rattle.grain_fault.specs.Positions.{at_position_if_none}
-use Rattle.grain_fault.specs.Problems.{Problem, Plain, DataRace, NonPureCall}
+use Rattle.grain_fault.specs.Problems.{Problem, Plain, DataRace, NonPureCall, NoMemory}
 use Rattle.grain_host.specs.Law as reply
 use Rattle.grain_host.specs.Signatures.{not_found}
 use Rattle.grain_program.specs.declared.code.functions.Function.{Function}
@@ -86,7 +86,7 @@ call_start {m = m} {r = r} {w = w} a = asking_world m a.native.key r a.args a.to
 -- fault if an argument is a cell whose content is lent, if there is no such native, or if the native
 -- writes its first argument and that can only be read. Else the host answers with a value, or with a
 -- fault, which gets the call's position if the host gave it none; or it asks for calls first, and the run of
--- these ends so.
+-- these ends so, also where the host answered want of memory.
 pub data CallEnds {S : Type 0} (m : Setup S) (c : Call) (r : Option Receiver) (w : World S) :
     Answer → World S → Type 0 where
   lent : flat_all w.cells (map read_write c.values) ≡ None → Passes m w →
@@ -114,12 +114,16 @@ pub data CallEnds {S : Type 0} (m : Setup S) (c : Call) (r : Option Receiver) (w
   asked_failed : (a : CallAsks m c r w) (x : Problem) {u : World S} →
       Ends m (Go (InHost (call_asked a)) (call_start a)) (Failed x) u → no_memory x ≡ false →
       Passes m u → CallEnds m c r w (Failed x) (past u)
+  asked_out : (a : CallAsks m c r w) {u : World S} →
+      Ends m (Go (InHost (call_asked a)) (call_start a)) (Failed NoMemory) u →
+      CallEnds m c r w (Failed NoMemory) u
 
 -- The calls that a native asked for first are the reason why it ended so, and not only the body of a
 -- function that it called back.
 abbrev pub IsReason : {S : Type 0} {m : Setup S} {c : Call} {r : Option Receiver} {w u : World S}
     {a : Answer} → CallEnds m c r w a u → Type 0
 IsReason {m = m} (asked_failed a x ends some clear) = HostFails m (call_asked a) (call_start a) x
+IsReason {m = m} (asked_out a ends) = HostFails m (call_asked a) (call_start a) NoMemory
 IsReason ends = Unit {0}
 
 -- The body of a function that a native called back ended with a fault that no script may catch, and so the
