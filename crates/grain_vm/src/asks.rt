@@ -1,6 +1,7 @@
 //! Natives that ask for calls: what they ask for is done, and the host hears what came of it, until the
 //! native is over.
 
+use crate::calls::deeper;
 use crate::chains::is_want;
 use crate::driving::{
     Answered, AskingNative, lacks_indexer, misses_property, perform_request, raise_race,
@@ -8,7 +9,6 @@ use crate::driving::{
 use crate::method_runs::call_method;
 use crate::methods::{Needed, Outcome, resolve_request, with_curried};
 use crate::natives::{OnReceiver, call_native_on, give_back_to_cell};
-use crate::calls::deeper;
 use grain_chain::{Request, What};
 use grain_fault::{EvalAltResult, Fault, Position};
 use grain_frame::{Activation, Asked, Context, Performed, Progress, Resumed, Run, Waiting};

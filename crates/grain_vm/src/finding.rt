@@ -93,8 +93,7 @@ pub(crate) fn find_pointed<H: Host, L: Ledger>(
             match context.program.function_named(name.as_str(), total) {
                 Some(number) => Ok(Found::Function { number, next }),
                 None => Found::of(native_by_name(
-                    run,
-                    context, host, steps, frame, &name, total, next,
+                    run, context, host, steps, frame, &name, total, next,
                 )),
             }
         }

@@ -95,20 +95,27 @@ fn walk_chain<H: Host, L: Ledger>(
             let mut answer = answer;
             let mut missed = false;
             'calls: loop {
-                let (outcome, receiver) =
-                    match drive(run, context, host, steps, &mut walking.walk, &mut missed, answer) {
-                        Driven::Over(end) => {
-                            return finish_chain(run, context, steps, frame, walking, end);
-                        }
-                        Driven::Calls(call) => {
-                            run.stacks.cut_trace(0);
-                            missed = false;
-                            call_method(run, context, host, steps, call)
-                        }
-                        Driven::Asks(native) => {
-                            native_in_walk(run, context, host, steps, &mut missed, native)
-                        }
-                    };
+                let (outcome, receiver) = match drive(
+                    run,
+                    context,
+                    host,
+                    steps,
+                    &mut walking.walk,
+                    &mut missed,
+                    answer,
+                ) {
+                    Driven::Over(end) => {
+                        return finish_chain(run, context, steps, frame, walking, end);
+                    }
+                    Driven::Calls(call) => {
+                        run.stacks.cut_trace(0);
+                        missed = false;
+                        call_method(run, context, host, steps, call)
+                    }
+                    Driven::Asks(native) => {
+                        native_in_walk(run, context, host, steps, &mut missed, native)
+                    }
+                };
                 answer = go_on(run, context, steps, &mut walking.walk, outcome, receiver);
             }
         }

@@ -6,7 +6,9 @@ ghost use Rattle.grain_means.specs.Worlds.{Setup};
 ghost use Rattle.grain_vm.specs.Driving.{IsNative, SameFlag, name_in};
 ghost use Rattle.grain_vm.specs.Receivers.{LendsCell, NativeCalled, ReadsForCell};
 
-use crate::driving::{Answered, AskingNative, ask_host, name_asked, perform_request, raise_race, read_on};
+use crate::driving::{
+    Answered, AskingNative, ask_host, name_asked, perform_request, raise_race, read_on,
+};
 use crate::methods::Outcome;
 use grain_chain::{Request, What};
 use grain_fault::{EvalAltResult, Position};
