@@ -35,8 +35,8 @@ use Rattle.grain_frame.specs.declared.native_calls.NativeEnd.TheVariants as nati
 use Rattle.grain_frame.specs.declared.runs.Run.{Run}
 use Rattle.grain_frame.specs.declared.targets.Target.{Target}
 use Rattle.grain_frame.specs.declared.targets.Target.TheVariants as to
-use Rattle.grain_frame.specs.declared.waiting.Lent.{Lent}
-use Rattle.grain_frame.specs.declared.waiting.Lent.TheVariants as have
+use Rattle.grain_frame.specs.declared.waiting.Loan.{Loan}
+use Rattle.grain_frame.specs.declared.waiting.Loan.TheVariants as have
 use Rattle.grain_frame.specs.declared.waiting.Performed.{Performed}
 use Rattle.grain_frame.specs.declared.waiting.Performed.TheVariants as performed
 use Rattle.grain_frame.specs.declared.waiting.Rest.{Rest}
@@ -48,7 +48,7 @@ use Rattle.grain_frame.specs.declared.waiting.Waiting.{Waiting}
 
 -- What a native has that asks for a call, as the meaning has it, if the frame's `this` stands at a place.
 -- What stands nowhere in the run stands there.
-abbrev pub receiver_in : {H : Type 0} → (Option Place → Home) → Run H → Lent → Option Place →
+abbrev pub receiver_in : {H : Type 0} → (Option Place → Home) → Run H → Loan → Option Place →
     Option Receiver
 receiver_in apart s have.Nothing place = None
 receiver_in apart s (have.Target t) place =
@@ -57,7 +57,7 @@ receiver_in apart s (have.Cell n h) place = Some (record { home = InCell n; held
 receiver_in apart s (have.Apart h) place = Some (record { home = apart place; held = h })
 
 -- the call that the native asks for
-abbrev pub callback_in : {H : Type 0} → (Option Place → Home) → Run H → Asked → Lent →
+abbrev pub callback_in : {H : Type 0} → (Option Place → Home) → Run H → Asked → Loan →
     (Option Place → Frame) → Option Place → Callback
 callback_in apart s a l f place = record {
   receiver = receiver_in apart s l place;
@@ -68,7 +68,7 @@ callback_in apart s a l f place = record {
 }
 
 -- it is to be done, and then what follows from how the native ends
-abbrev pub asking : {H : Type 0} → (Option Place → Home) → Run H → Asked → Lent →
+abbrev pub asking : {H : Type 0} → (Option Place → Home) → Run H → Asked → Loan →
     (Option Place → Frame) → (Setup H → Option Place → Answer → World H → Act H) → Computation H
 asking apart s a l f heard m place w =
     Then (Go (InHost (callback_in apart s a l f place))
@@ -113,7 +113,7 @@ performed_continuation (Err e) s f m place w = leave_by_fault m (f place) NoMemo
 
 -- the same where a native is over, or asks for a call: what follows is this
 abbrev pub end_continuation : {H : Type 0} → Result NativeEnd OutOfMemory →
-    (Option Place → Home) → Run H → Lent → (Option Place → Frame) →
+    (Option Place → Home) → Run H → Loan → (Option Place → Frame) →
     (Setup H → Option Place → Answer → World H → Act H) → Computation H
 end_continuation (Ok (native_end.Value v)) apart s l f heard m place w = heard m place (worlds.Came v) w
 end_continuation (Ok (native_end.Fault x)) apart s l f heard m place w =
@@ -145,14 +145,14 @@ CanHold s (to.Cell n) = Unit {0}
 CanHold s to.This = CanBeWritten (this_of s)
 
 -- what a native has that asks for a call stands in the run, or nowhere
-abbrev pub IsKept : {H : Type 0} → Run H → Lent → Type 0
+abbrev pub IsKept : {H : Type 0} → Run H → Loan → Type 0
 IsKept s have.Nothing = Unit {0}
 IsKept s (have.Target t) = CanHold s t
 IsKept s (have.Cell n h) = Unit {0}
 IsKept s (have.Apart h) = Unit {0}
 
 -- what the instruction's native has is what the instruction writes, or nothing
-abbrev pub Lends : Rest → Lent → Type 0
+abbrev pub Lends : Rest → Loan → Type 0
 Lends (rest.Push count next) l = l ≡ have.Nothing
 Lends (rest.Assign a) have.Nothing = ⊥
 Lends (rest.Assign a) (have.Target t) = t ≡ a.target
@@ -214,7 +214,7 @@ PerformsOrWaits m a o next result b =
     (leads_of o next) (takes_of m.program o) (gives_of o) a.run.stacks.handlers result b
 
 -- what a native was lent that stands nowhere in the run, if it was lent something
-abbrev pub lent_of : Option Held → Lent
+abbrev pub lent_of : Option Held → Loan
 lent_of None = have.Nothing
 lent_of (Some h) = have.Apart h
 
@@ -223,35 +223,35 @@ performed_of (Ok p) = Ok (performed.Leads p)
 performed_of (Err e) = Err e
 
 -- what a native has that was lent what the target holds: a cell is lent from then on
-abbrev pub KeepsLent : {H : Type 0} → Run H → Target → Lent → Run H → Type 0
+abbrev pub KeepsLent : {H : Type 0} → Run H → Target → Loan → Run H → Type 0
 KeepsLent s (to.Entry i) l s' = (l ≡ have.Target (to.Entry i)) × (s' ≡ s)
 KeepsLent s (to.Cell n) l s' = (h : Held) × HoldsAt s (to.Cell n) h × (l ≡ have.Cell n h)
     × (s' ≡ taken_out s (to.Cell n) h)
 KeepsLent s to.This l s' = (l ≡ have.Target to.This) × (s' ≡ s)
 
 -- the run once what a native was lent is back
-abbrev pub given_back_run : {H : Type 0} → Lent → Run H → Run H
+abbrev pub given_back_run : {H : Type 0} → Loan → Run H → Run H
 given_back_run have.Nothing s = s
 given_back_run (have.Target t) s = s
 given_back_run (have.Cell n h) s = record s { cells = slice_set s.cells n (idle h) }
 given_back_run (have.Apart h) s = s
 
 -- what it has that stands nowhere in the run
-abbrev pub apart_of : Lent → Option Held
+abbrev pub apart_of : Loan → Option Held
 apart_of have.Nothing = None
 apart_of (have.Target t) = None
 apart_of (have.Cell n h) = None
 apart_of (have.Apart h) = Some h
 
 -- all that it was lent
-abbrev pub held_of_lent : {H : Type 0} → Run H → Lent → Option Held
+abbrev pub held_of_lent : {H : Type 0} → Run H → Loan → Option Held
 held_of_lent s have.Nothing = None
 held_of_lent s (have.Target t) = Some (read_write (content_at s t))
 held_of_lent s (have.Cell n h) = Some h
 held_of_lent s (have.Apart h) = Some h
 
 -- the same native, and the run, once it left this of what it was lent
-abbrev pub LeavesLent : {H : Type 0} → Run H → Lent → Option Held → Lent → Run H → Type 0
+abbrev pub LeavesLent : {H : Type 0} → Run H → Loan → Option Held → Loan → Run H → Type 0
 LeavesLent s have.Nothing left l s' = (left ≡ None) × (l ≡ have.Nothing) × (s' ≡ s)
 LeavesLent s (have.Target t) left l s' =
     (h : Held) × (left ≡ Some h) × (l ≡ have.Target t) × (s' ≡ put_in s t h)
@@ -262,7 +262,7 @@ LeavesLent s (have.Apart g) left l s' =
 
 -- The host was resumed with what it was lent, if anything, and left it so; where memory is out, nothing
 -- has changed.
-abbrev pub ResumesWith : {H : Type 0} → Law H → ℕ → Outcome → Lent → Run H → H → HostAnswer → Lent →
+abbrev pub ResumesWith : {H : Type 0} → Law H → ℕ → Outcome → Loan → Run H → H → HostAnswer → Loan →
     Run H → H → Type 0
 ResumesWith law token o l s host said l' s' host' =
     (left : Option Held) × LeavesLent s l left l' s'
@@ -276,7 +276,7 @@ beside scope this s n host = record (abstraction s n host) { scope = scope; this
 
 -- The state of the code where a native has this: what stands at a target stands in the run, and what stands
 -- nowhere in it is what the meaning has at the place. Else the scope and the `this` may be any.
-abbrev pub state_with : {H : Type 0} → Lent → List Entry → Option Held → Run H → StepsView → H →
+abbrev pub state_with : {H : Type 0} → Loan → List Entry → Option Held → Run H → StepsView → H →
     LocalState H
 state_with have.Nothing scope x s n host = beside scope x s n host
 state_with (have.Target t) scope x s n host = abstraction s n host
@@ -284,7 +284,7 @@ state_with (have.Cell c h) scope x s n host = beside scope x s n host
 state_with (have.Apart h) scope x s n host = beside scope (Some h) s n host
 
 -- The state once the native is over that had this: what stands nowhere in the run is now this.
-abbrev pub state_after : {H : Type 0} → Lent → Option Held → List Entry → Option Held → Run H →
+abbrev pub state_after : {H : Type 0} → Loan → Option Held → List Entry → Option Held → Run H →
     StepsView → H → LocalState H
 state_after have.Nothing left scope x s n host = beside scope x s n host
 state_after (have.Target t) left scope x s n host = abstraction s n host
@@ -298,7 +298,7 @@ resumed_continuation (went.Over o left) s f heard m place w = heard m place (ans
 resumed_continuation (went.Asks a l) s f heard m place w =
     asking (home_of to.This) s a l f heard m place w
 
-abbrev pub resumed_state : {H : Type 0} → Lent → Resumed → List Entry → Option Held → Run H →
+abbrev pub resumed_state : {H : Type 0} → Loan → Resumed → List Entry → Option Held → Run H →
     StepsView → H → LocalState H
 resumed_state l (went.Over o left) scope x s n host = state_after l left scope x s n host
 resumed_state l (went.Asks a l') scope x s n host = state_with l' scope x s n host
@@ -308,7 +308,7 @@ resumed_is_out (went.Over o left) = no_memory_came o
 resumed_is_out (went.Asks a l) = false
 
 -- what a native has that goes on is still kept as it was; what stands nowhere is given where it is over
-abbrev pub StaysLent : {H : Type 0} → Lent → Resumed → Run H → Type 0
+abbrev pub StaysLent : {H : Type 0} → Loan → Resumed → Run H → Type 0
 StaysLent have.Nothing (went.Over o left) s = left ≡ None
 StaysLent have.Nothing (went.Asks a l) s = l ≡ have.Nothing
 StaysLent (have.Target t) (went.Over o left) s = left ≡ None
@@ -321,7 +321,7 @@ StaysLent (have.Apart h) (went.Asks a l) s =
     (g : Held) × (l ≡ have.Apart g) × (g.read_only ≡ h.read_only)
 
 -- the run once a native was told: only what it was lent, the cells and the trace may differ
-pub record ToldRun {H : Type 0} (l : Lent) (s : Run H) (r : Resumed) (s' : Run H) : Type 0 where
+pub record ToldRun {H : Type 0} (l : Loan) (s : Run H) (r : Resumed) (s' : Run H) : Type 0 where
   pub others : s' ≡ record s {
     scope = s'.scope;
     cells = s'.cells;
@@ -335,7 +335,7 @@ pub record ToldRun {H : Type 0} (l : Lent) (s : Run H) (r : Resumed) (s' : Run H
 
 -- The host was told, and the code did what the rule says, wherever the frame stands and whatever follows.
 -- `start` is the rule with the token still out.
-pub record TellsHost {H : Type 0} (law : Law H) (token : ℕ) (o : Outcome) (l : Lent) (q : Position)
+pub record TellsHost {H : Type 0} (law : Law H) (token : ℕ) (o : Outcome) (l : Loan) (q : Position)
     (s : Run H) (n : StepsView) (host : H) (r : Resumed) (s' : Run H) (n' : StepsView) (host' : H) :
     Type 0 where
   pub same : (m : Setup H) (f : Option Place → Frame) (a : Asked)

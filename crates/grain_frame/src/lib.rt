@@ -32,4 +32,4 @@ pub use receivers::Receivers;
 pub use runs::{Progress, Run};
 pub use saved::SavedScopes;
 pub use transfers::agrees;
-pub use waiting::{Lent, Performed, Rest, Resumed, Waiting, put_in_cell};
+pub use waiting::{Loan, Performed, Rest, Resumed, Waiting, put_in_cell};

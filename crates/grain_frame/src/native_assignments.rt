@@ -25,7 +25,7 @@ use crate::contexts::Context;
 use crate::native_calls::{Arguments, NativeEnd, Sought, seek, served};
 use crate::runs::{Progress, Run};
 use crate::targets::Target;
-use crate::waiting::{Lent, Performed, Rest, Waiting};
+use crate::waiting::{Loan, Performed, Rest, Waiting};
 use grain_fault::{EvalAltResult, Position};
 use grain_global::Steps;
 use grain_host::{Args, Host, not_found, says_missing};
@@ -159,6 +159,29 @@ impl<H: Host> Run<H> {
         }
     }
 
+    // What the host has for an op-assignment, to which what the target holds is lent.
+    fn seek_assignment(
+        &self,
+        context: Context<'_>,
+        host: &H,
+        assignment: &Assignment,
+        position: Position,
+    ) -> Result<Sought, OutOfMemory>
+        requires first { assignment.now.operator.op_assign_name < length context.program.now.names }
+        requires target { CanBeLent self.now assignment.now.target }
+        requires operand { 0 < length self.now.stacks.operands }
+        ensures { (place : Option Place) → IfOk result (λ s. Seeks H.law host.now
+            (name_of context.entry.program.now assignment.now.operator.op_assign_name)
+            (Some (receiver_at assignment.now.target place
+            (read_write (content_at self.now assignment.now.target))))
+            (kept_operand assignment.now.kept self.now.stacks.operands ∷ []) position s) }
+    {
+        let name = context.program.name(assignment.operator.op_assign_name);
+        let value = operand(&self.stacks, &assignment.kept);
+        let lent = self.content(assignment.target);
+        seek_lent(self.alloc, host, name, lent, value, position)
+    }
+
     // The host's op-assignment, to which what the target holds is lent; where it has none of that
     // name, the host's operator.
     #[cold]
@@ -184,12 +207,9 @@ impl<H: Host> Run<H> {
             (assignment.next ∷ []) 1 0 self.old.stacks.handlers result
             (moment frame.new self.new steps.new host.new) }
     {
-        let name = context.program.name(assignment.operator.op_assign_name);
-        let position = context.program.position(frame.address);
         let target = assignment.target;
-        let value = operand(&self.stacks, &assignment.kept);
-        let lent = self.content(target);
-        let sought = seek_lent(self.alloc, host, name, lent, value, position)?;
+        let position = context.program.position(frame.address);
+        let sought = self.seek_assignment(context, host, &assignment, position)?;
         match self.call_lent(host, steps, sought, target, position)? {
             NativeEnd::Value(_) => {
                 let _value = self.stacks.pop();
@@ -348,7 +368,7 @@ impl<H: Host> Run<H> {
             NativeEnd::Fault(fault) => Ok(Performed::Leads(self.raise(steps, fault))),
             NativeEnd::Asks(asked) => Ok(Performed::Waits(Waiting {
                 asked,
-                lent: Lent::Nothing,
+                lent: Loan::Nothing,
                 rest: Rest::Operate(assignment),
             })),
         }
@@ -391,8 +411,8 @@ impl<H: Host> Run<H> {
     // Whether the target is no cell, or a cell that is there and not lent.
     fn is_free(&self, target: Target) -> bool
         requires { CanHold self.now target }
-        ensures { OnTrue result (CanBeLent self.now target) }
-        ensures not { OnFalse result (IsLentCell self.now target) }
+        ensures free { OnTrue result (CanBeLent self.now target) }
+        ensures lent { OnFalse result (IsLentCell self.now target) }
     {
         match target {
             Target::Entry(_) => true,

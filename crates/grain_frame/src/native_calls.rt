@@ -16,7 +16,7 @@ ghost use Rattle.grain_host.specs.Answers.{reply_of};
 use crate::activations::Activation;
 use crate::contexts::Context;
 use crate::runs::{Progress, Run};
-use crate::waiting::{Lent, Performed, Rest, Waiting};
+use crate::waiting::{Loan, Performed, Rest, Waiting};
 use grain_fault::{EvalAltResult, Position};
 use grain_global::Steps;
 use grain_host::{Args, Host, HostAnswer, not_found};
@@ -283,7 +283,7 @@ impl<H: Host> Run<H> {
             NativeEnd::Fault(fault) => Ok(Performed::Leads(self.raise(steps, fault))),
             NativeEnd::Asks(asked) => Ok(Performed::Waits(Waiting {
                 asked,
-                lent: Lent::Nothing,
+                lent: Loan::Nothing,
                 rest: Rest::Push { count, next },
             })),
         }

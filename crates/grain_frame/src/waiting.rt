@@ -30,7 +30,7 @@ pub enum Rest {
 
 /// What a native was lent that waits for a call.
 #[derive(Drop)]
-pub enum Lent {
+pub enum Loan {
     /// Nothing.
     Nothing,
     /// What stands at this target, which is no cell.
@@ -41,14 +41,14 @@ pub enum Lent {
     Apart(Held),
 }
 
-impl Lent {
+impl Loan {
     /// What a native was lent that stands nowhere in the run, if it was lent something.
-    pub fn of(receiver: Option<Held>) -> Lent
+    pub fn of(receiver: Option<Held>) -> Loan
         ensures { result ≡ lent_of receiver }
     {
         match receiver {
-            Some(held) => Lent::Apart(held),
-            None => Lent::Nothing,
+            Some(held) => Loan::Apart(held),
+            None => Loan::Nothing,
         }
     }
 }
@@ -59,7 +59,7 @@ pub struct Waiting {
     /// What the native asks for.
     pub asked: Asked,
     /// What it was lent.
-    pub lent: Lent,
+    pub lent: Loan,
     /// What the instruction then does.
     pub rest: Rest,
 }
@@ -90,20 +90,20 @@ pub enum Resumed {
     /// the run, if it had something.
     Over(Result<Dynamic, EvalAltResult>, Option<Held>),
     /// It asks for this call, and has this of what it was lent.
-    Asks(Asked, Lent),
+    Asks(Asked, Loan),
 }
 
 impl<H: Host> Run<H> {
     // What a native has that was lent what the target holds, and that asks for a call. A cell is lent
     // until the native is over.
-    pub(crate) fn keep_lent(&mut self, target: Target) -> Lent
+    pub(crate) fn keep_lent(&mut self, target: Target) -> Loan
         requires { CanBeLent self.old target }
         ensures { KeepsLent self.old target result self.new }
     {
         match target {
-            Target::Cell(cell) => Lent::Cell(cell, self.take_out(target)),
-            Target::Entry(_) => Lent::Target(target),
-            Target::This => Lent::Target(target),
+            Target::Cell(cell) => Loan::Cell(cell, self.take_out(target)),
+            Target::Entry(_) => Loan::Target(target),
+            Target::This => Loan::Target(target),
         }
     }
 
@@ -116,7 +116,7 @@ impl<H: Host> Run<H> {
         steps: &mut Steps<L>,
         token: u64,
         told: Result<Dynamic, HostFault>,
-        lent: Lent,
+        lent: Loan,
         position: Position,
     ) -> Resumed
         requires kept { IsKept self.old lent }
@@ -144,7 +144,7 @@ impl<H: Host> Run<H> {
 
     /// The machine goes on without a native that asked for a call by this token: the host is told to forget
     /// it, and what the native was lent goes back. What stands nowhere in the run is given.
-    pub fn forget_native(&mut self, host: &mut H, token: u64, lent: Lent) -> Option<Held>
+    pub fn forget_native(&mut self, host: &mut H, token: u64, lent: Loan) -> Option<Held>
         ensures host { host.new ≡ H.law.forget_after host.old token }
         ensures run { self.new ≡ given_back_run lent self.old }
         ensures apart { result ≡ apart_of lent }
@@ -159,47 +159,47 @@ impl<H: Host> Run<H> {
         host: &mut H,
         token: u64,
         told: Result<Dynamic, HostFault>,
-        lent: Lent,
-    ) -> (HostAnswer, Lent)
+        lent: Loan,
+    ) -> (HostAnswer, Loan)
         requires kept { IsKept self.old lent }
         ensures resumes { ResumesWith H.law token (host_outcome_of told) lent self.old host.old result.0
             result.1 self.new host.new }
     {
         match lent {
-            Lent::Nothing => {
+            Loan::Nothing => {
                 let (answer, _) = resume(self.alloc, host, token, told, None);
-                (answer, Lent::Nothing)
+                (answer, Loan::Nothing)
             }
-            Lent::Target(target) => {
+            Loan::Target(target) => {
                 let held = self.take_out(target);
                 let (answer, left) = resume(self.alloc, host, token, told, Some(held));
                 self.put_back(target, held_in(left));
-                (answer, Lent::Target(target))
+                (answer, Loan::Target(target))
             }
-            Lent::Cell(cell, held) => {
+            Loan::Cell(cell, held) => {
                 let (answer, left) = resume(self.alloc, host, token, told, Some(held));
-                (answer, Lent::Cell(cell, held_in(left)))
+                (answer, Loan::Cell(cell, held_in(left)))
             }
-            Lent::Apart(held) => {
+            Loan::Apart(held) => {
                 let (answer, left) = resume(self.alloc, host, token, told, Some(held));
-                (answer, Lent::Apart(held_in(left)))
+                (answer, Loan::Apart(held_in(left)))
             }
         }
     }
 
     // Puts back what a native was lent that is over. What stands nowhere in the run is given.
-    fn give_back(&mut self, lent: Lent) -> Option<Held>
+    fn give_back(&mut self, lent: Loan) -> Option<Held>
         ensures run { self.new ≡ given_back_run lent self.old }
         ensures apart { result ≡ apart_of lent }
     {
         match lent {
-            Lent::Nothing => None,
-            Lent::Target(_) => None,
-            Lent::Cell(cell, held) => {
+            Loan::Nothing => None,
+            Loan::Target(_) => None,
+            Loan::Cell(cell, held) => {
                 put_in_cell(&mut self.cells, cell, held);
                 None
             }
-            Lent::Apart(held) => Some(held),
+            Loan::Apart(held) => Some(held),
         }
     }
 }

@@ -62,6 +62,21 @@ changed_sound s t i there co eb er en ef et ct eh = record {
   handlers = rw (ef, eh) i.handlers;
 }
 
+-- another trace, which has room for an entry of each frame
+pub traced_sound : (s t : Inside) → IsSound s → t.slots ≡ s.slots → t.bottom ≡ s.bottom →
+    t.room ≡ s.room → t.noted ≡ s.noted → t.outer ≡ s.outer → t.handlers ≡ s.handlers →
+    length t.trace.items + (length s.outer + 1) ≤ vec_capacity t.trace → IsSound t
+traced_sound s t i es eb er en ef eh free =
+    let all : unnoted t.noted (floors t) ≤ length (floors t) = unnoted_all t.noted (floors t) in
+    let size : length (floors t) ≡ length s.outer = length-reverse t.outer ∙ ap length ef in
+    record {
+      bottom = rw (es, eb) i.bottom;
+      room = rw (es, eb, er) i.room;
+      nested = rw (es, eb, ef) i.nested;
+      notes = omega (arith, all, size, free);
+      handlers = rw (ef, eh) i.handlers;
+    }
+
 -- a frame more, around which the others keep their room
 pub entered_sound : (s t : Inside) (f : Floor) → IsSound s → t.slots.operands ≡ s.slots.operands →
     s.slots.slots ≤ t.slots.slots → t.bottom ≡ length s.slots.operands → t.bottom + t.room ≤

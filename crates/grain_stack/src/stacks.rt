@@ -270,19 +270,14 @@ impl Stacks {
         self.trace.truncate(n);
     }
 
-    /// Replaces the trace. If memory runs out, there is none.
-    pub fn put_trace(&mut self, trace: &[Fault]) -> Result<(), OutOfMemory>
-        ensures put { OnOk result (self.new ≡ record self.old { trace = trace.now }) }
-        ensures none { OnErr result (self.new ≡ record self.old { trace = [] }) }
+    /// Replaces the trace. After want of memory the stacks are as they were.
+    pub fn put_trace(&mut self, trace: Vec<Fault>) -> Result<(), OutOfMemory>
+        ensures { self.new ≡ (if is_ok result then record self.old { trace = trace.items }
+            else self.old) }
     {
-        self.trace.truncate(0);
-        self.trace.reserve(self.outer.len() + trace.len())?;
-        'entries: for entry in trace {
-            match self.trace.push(*entry) {
-                Ok(()) => {}
-                Err(_) => unreachable!(),
-            }
-        }
+        let mut trace = trace;
+        trace.reserve(self.outer.len() + 1)?;
+        self.trace = trace;
         Ok(())
     }
 

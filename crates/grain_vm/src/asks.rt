@@ -154,7 +154,7 @@ fn raised_in_walk<H: Host, L: Ledger>(
     }
     if let Some(before) = before {
         if lacks_indexer(&outcome) {
-            if let Err(OutOfMemory) = run.stacks.put_trace(&before) {
+            if let Err(OutOfMemory) = run.stacks.put_trace(before) {
                 return Err(EvalAltResult::Memory);
             }
         }

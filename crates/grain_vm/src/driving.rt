@@ -24,7 +24,7 @@ ghost use Rattle.grain_vm.specs.Underway.{DrivesTo, RootedTo, WaitsFor, driven_i
 use crate::methods::{MethodCall, Needed, Outcome, resolve_request};
 use grain_chain::{Request, Walk, WalkAnswer, What};
 use grain_fault::{EvalAltResult, Position};
-use grain_frame::{Arguments, Asked, Context, Lent, NativeEnd, Run, Sought, served};
+use grain_frame::{Arguments, Asked, Context, Loan, NativeEnd, Run, Sought, served};
 use grain_global::Steps;
 use grain_host::{Args, Host, not_found};
 use grain_value::{Array, Dynamic, Held, OutOfMemory, Store, Text};
@@ -35,7 +35,7 @@ use std::sync::ledger::Ledger;
 #[derive(Drop)]
 pub struct AskingNative {
     pub asked: Asked,
-    pub lent: Lent,
+    pub lent: Loan,
     pub pos: Position,
 }
 
@@ -296,7 +296,7 @@ fn call_lending<H: Host, L: Ledger>(
             }
             NativeEnd::Asks(asked) => Answered::Asks(AskingNative {
                 asked,
-                lent: Lent::of(receiver),
+                lent: Loan::of(receiver),
                 pos: position,
             }),
         },
