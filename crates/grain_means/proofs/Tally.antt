@@ -12,6 +12,7 @@ pub mod Asking
 pub mod Natives
 pub mod NativeCalls
 pub mod Telling
+pub mod NativesBack
 pub mod Callbacks
 pub mod Entries
 pub mod Operators
@@ -23,6 +24,7 @@ pub mod Calling
 pub mod Needs
 pub mod Walks
 pub mod Roots
+pub mod ChainWalks
 pub mod Chains
 pub mod Methods
 pub mod Returns
