@@ -1,41 +1,23 @@
 -- The walk over the rules through a call that a native asked for: of a function, or of a native.
-use Rattle.std.proofs.Common.{◌≡◌, ◌⊎◌, ◌+◌, ◌<◌, ℕ, List, [], Option, Some, None, Bool, true, false, ◌&&◌, if◌then◌else◌, refl, sym, subst, ap, ◌∙◌, inl, inr, arith, length, nat_le}
-use Rattle.std.proofs.lemmas.Bool.{leb-true, leb-false}
-use Rattle.grain_value.specs.declared.natives.Native.{Native}
-use Rattle.grain_value.specs.declared.values.Dynamic.{Dynamic}
-use Rattle.grain_value.specs.declared.values.FnPtr.{FnPtr}
-use Rattle.grain_value.specs.declared.values.Held.{Held}
-use Rattle.grain_value.specs.Tree.{Tree}
-use Rattle.grain_value.specs.Operands.{values_in}
+use Rattle.std.proofs.Common.{◌≡◌, ◌⊎◌, ◌+◌, ℕ, Option, Some, None, Bool, true, false, refl, sym, subst, ap, inl, inr, arith, length}
 use Rattle.grain_fault.specs.Classes.{catchable}
-use Rattle.grain_fault.specs.Positions.{at_position, at_position_if_none}
+use Rattle.grain_fault.specs.Positions.{at_position}
 use Rattle.grain_fault.specs.declared.places.Position.{Position}
-use Rattle.grain_fault.specs.Problems.{FaultKind, Problem, Plain, DataRace, NonPureCall, NoMemory, StackOverflow}
-use Rattle.grain_host.specs.Faults.{kept_back}
-use Rattle.grain_host.specs.Law.{Reply, native_of}
-use Rattle.grain_host.specs.Law as reply
-use Rattle.grain_host.specs.Signatures.{missing_kind, not_found}
+use Rattle.grain_fault.specs.Problems.{Problem}
 use Rattle.grain_program.specs.Lookups.{function_by_text}
 use Rattle.grain_program.specs.Typing.{IsProgram}
 use Rattle.grain_program.specs.declared.code.functions.Function.{Function}
-use Rattle.grain_means.specs.Ends.{Ends, ended, joined}
-use Rattle.grain_means.specs.Leavings.{Keeps}
-use Rattle.grain_means.specs.Rules.{answered, arguments_back, called_back, called_back_over, callee_called_back, calling_back, failed_so, first_is_read_only, flat_all, frame_at, function_back, function_by_name, function_under, given, host_called_or, is_stop, is_told, kinds_in, marked_or, native_back, native_back_over, native_called_back, native_called_or, native_found_or, native_or, native_over, no_memory, operation_taken, position, race_text, trees_in, unheard}
+use Rattle.grain_means.specs.Ends.{Ends, ended}
+use Rattle.grain_means.specs.Rules.{arguments_back, called_back, called_back_over, callee_called_back, calling_back, frame_at, function_back, function_by_name, function_under, is_told, position}
 use Rattle.grain_means.specs.Worlds.{Act, Answer, Came, Callback, End, Failed, Go, InCatch, InFrame, InHost, Setup, Then, World}
-use Rattle.grain_means.specs.Causes.{AsksOn, Cause, IsCalled, IsCalledBack, IsCharged, IsKeptOut, NativeBack, Raised, Why, body_begins, first_asked, inside, native_asked, native_begins, parameters, question_back, reply_to}
-use Rattle.grain_means.specs.Causes.Spots.{past}
-use Rattle.grain_means.proofs.Asked.{fails_on}
-use Rattle.grain_means.proofs.Choices.{if_false, if_true}
-use Rattle.grain_means.proofs.Footing.{Tally, by_test, is_false, is_true, true-false}
+use Rattle.grain_means.specs.Causes.{Cause, IsKeptOut, Raised, Why, body_begins, parameters}
+use Rattle.grain_means.proofs.Footing.{Tally, true-false}
 use Rattle.grain_means.proofs.Ground.{Footing}
-use Rattle.grain_means.proofs.Missing.{of_each}
-use Rattle.grain_means.proofs.Roles.{Hosting, NativeAnswers, NativeFails}
+use Rattle.grain_means.proofs.Roles.{Hosting, NativeFails}
 use Rattle.grain_means.proofs.Standing.{Fitting, fits_found}
-use Rattle.grain_means.proofs.Tally.Asking.{IsOver, asking, even_asked}
 use Rattle.grain_means.proofs.Tally.NativesBack.{even_native}
-use Rattle.grain_means.proofs.Tally.Functions.{Beside, EndsAs, FromBody, even_function, even_taken, raises, told as counted_world, wrapped}
-use Rattle.grain_means.proofs.Tally.Telling.{Aside, Back, Hosted, aside, even_fault, even_out, even_untold, even_value, kept_out, out_so, root, turn}
-use Rattle.grain_means.proofs.Unlent.{Unlent, unlent_same}
+use Rattle.grain_means.proofs.Tally.Functions.{Beside, EndsAs, FromBody, even_function, wrapped}
+use Rattle.grain_means.proofs.Tally.Telling.{Back, Hosted, aside, even_fault, even_value, kept_out, out_so, root, turn}
 
 module _ {S : Type 0} {m : Setup S} (hosted : Hosted m) (r : ℕ) (ran : hosted.now.ran ≡ r) where
   open hosted use {first, start, footing as k, callback as c, now, on, stays, trace}
@@ -99,8 +81,8 @@ module _ {S : Type 0} {m : Setup S} (hosted : Hosted m) (r : ℕ) (ran : hosted.
     even_body =
         even_function m Hosting (root hosted) (turn hosted) k q now whole_run heard End (out_so hosted) g
         (arguments_back c) None fits r ran trace
-        (λ x why u at. kept_out hosted r x (subst (λ (f : Option Function). IsKeptOut m q (parameters f) now x)
-        (sym found) why) u at) by_body
+        (λ x why u at. kept_out hosted r x
+        (subst (λ (f : Option Function). IsKeptOut m q (parameters f) now x) (sym found) why) u at) by_body
         (λ d u n so_ends at empty. even_value hosted d u n (so_ends (Came d) u ended) (aside hosted n u at))
         whole
 

@@ -1,45 +1,32 @@
 -- The walk over the rules through the walk of a chain, from its root to where the root goes back.
-use Rattle.std.proofs.Common.{◌≡◌, ◌+◌, ℕ, List, [], ◌∷◌, ◌++◌, Option, Some, None, Bool, true, false, ◌&&◌, length, take, refl, sym, subst, ap, ◌∙◌, arith, inl, inr, ◌⊎◌}
+use Rattle.std.proofs.Common.{◌≡◌, ◌+◌, ℕ, List, [], ◌∷◌, ◌++◌, Option, Some, None, Bool, true, false, length, take, refl, sym, subst, ap, ◌∙◌, arith, inl, inr, ◌⊎◌}
 use Rattle.std.proofs.lemmas.List.{length-append}
-use Rattle.std.specs.Prelude.{slice_get, slice_set}
-use Rattle.grain_value.specs.Cells.{flat, idle, lent}
-use Rattle.grain_value.specs.Operands.{read_write, top, under}
+use Rattle.grain_value.specs.Operands.{read_write, under}
 use Rattle.grain_value.specs.declared.stores.Cell.{Cell}
 use Rattle.grain_value.specs.declared.values.Dynamic.{Dynamic}
 use Rattle.grain_value.specs.declared.values.Held.{Held}
 use Rattle.grain_fault.specs.Classes.{catchable}
-use Rattle.grain_fault.specs.Problems.{Problem, Plain, AssignmentToConstant, DataRace, Malformed, NoMemory, UnboundThis}
-use Rattle.grain_fault.specs.declared.places.Position.{Position}
-use Rattle.grain_fault.specs.declared.faults.MalformedKind.TheVariants as kind
-use Rattle.grain_program.specs.Chains.{assigns, chain_takes, slot_of}
+use Rattle.grain_fault.specs.Problems.{Problem, NoMemory}
+use Rattle.grain_program.specs.Chains.{chain_takes, slot_of}
 use Rattle.grain_program.specs.Decoding.{op_at}
-use Rattle.grain_program.specs.View.{chain_of}
 use Rattle.grain_program.specs.declared.code.chains.Chain.{Chain}
-use Rattle.grain_program.specs.declared.code.chains.Root.{Root}
-use Rattle.grain_program.specs.declared.code.chains.Root.TheVariants as root
-use Rattle.grain_program.specs.declared.code.chains.Tail.{Tail}
-use Rattle.grain_program.specs.declared.code.chains.Tail.TheVariants as tail
 use Rattle.grain_program.specs.declared.code.instruction_set.Op.{Op}
-use Rattle.grain_program.specs.declared.code.instruction_set.Op.TheVariants as op
 use Rattle.grain_means.specs.Places.{look}
 use Rattle.grain_means.specs.Rules as rules
 use Rattle.grain_means.specs.Rules.{assigned_operand, back_from, course_of, held_at, is_read_only, is_stop, leave_by_fault, new_root, offered, position, race_text, root_name, root_position, stepped, without}
-use Rattle.grain_means.specs.Tasks.{Task, WalkEnded, WalkFailed}
+use Rattle.grain_means.specs.Tasks.{WalkEnded, WalkFailed}
 use Rattle.grain_means.specs.Walks.{whole_walk}
-use Rattle.grain_means.specs.Worlds.{Act, Frame, Place, Setup, World}
+use Rattle.grain_means.specs.Worlds.{Frame, Place, Setup, World}
 use Rattle.grain_means.specs.Causes.{Cause}
-use Rattle.grain_means.specs.Causes.Chains.{AssignsValue, ChainReads, ChainRow, LeavesNative, RootHolds, RootLends, by_walk, constant, past_scope, root_lent, unbound, value_lent, walk_of, walk_place, walk_roots}
+use Rattle.grain_means.specs.Causes.Chains.{ChainReads, ChainRow, LeavesNative, RootLends, by_walk, walk_of, walk_place, walk_roots}
 use Rattle.grain_means.specs.Causes.Spots.{BackFails, ChainWalk, PointedLeft, WalkRow, here}
 use Rattle.grain_means.proofs.Explaining.{explained}
 use Rattle.grain_means.proofs.Footing.{Sits, by_test}
-use Rattle.grain_means.proofs.Ground.{Stays, stays_set}
-use Rattle.grain_means.proofs.Unlent.{lent_back, lent_out}
-use Rattle.grain_means.proofs.Lengths.{past_scope as scope_passed}
+use Rattle.grain_means.proofs.Ground.{Stays}
 use Rattle.grain_means.proofs.Tally.Calling.{CallsOf}
-use Rattle.grain_means.proofs.Tally.Entries.{busy_content}
 use Rattle.grain_means.proofs.Tally.Faults.{even_raised_at}
-use Rattle.grain_means.proofs.Tally.Frames.{Enough, Even, ReasonAt, Steady, SteadyBut, Walk, all_there, stepping, even_left_at, even_marked_at, even_onward, point, start, steady}
-use Rattle.grain_means.proofs.Tally.Roots.{IsAdded, added_cell, added_place, added_root}
+use Rattle.grain_means.proofs.Tally.Frames.{Enough, Even, ReasonAt, Steady, SteadyBut, Walk, stepping, even_left_at, even_onward, point}
+use Rattle.grain_means.proofs.Tally.Roots.{IsAdded, added_place, added_root}
 use Rattle.grain_means.proofs.Tally.Walks.{even_walks}
 
 module _ {S : Type 0} {m : Setup S} (walk : Walk m) where

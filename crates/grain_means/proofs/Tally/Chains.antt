@@ -1,6 +1,5 @@
 -- The walk over the rules through a chain.
-use Rattle.std.proofs.Common.{◌≡◌, ◌+◌, ℕ, List, [], ◌∷◌, ◌++◌, Option, Some, None, Bool, true, false, ◌&&◌, length, take, refl, sym, subst, ap, ◌∙◌, arith, inl, inr, ◌⊎◌}
-use Rattle.std.proofs.lemmas.List.{length-append}
+use Rattle.std.proofs.Common.{◌≡◌, ◌+◌, ℕ, List, [], ◌∷◌, ◌++◌, Option, Some, None, false, ◌&&◌, length, refl, sym, subst, inl, ◌⊎◌}
 use Rattle.std.specs.Prelude.{slice_get, slice_set}
 use Rattle.grain_value.specs.Cells.{flat, idle, lent}
 use Rattle.grain_value.specs.Operands.{read_write, top, under}
@@ -24,22 +23,20 @@ use Rattle.grain_program.specs.declared.code.instruction_set.Op.TheVariants as o
 use Rattle.grain_means.specs.Places.{look}
 use Rattle.grain_means.specs.Rules as rules
 use Rattle.grain_means.specs.Rules.{assigned_operand, back_from, course_of, held_at, is_read_only, is_stop, leave_by_fault, new_root, offered, position, race_text, root_name, root_position, stepped, without}
-use Rattle.grain_means.specs.Tasks.{Task, WalkEnded, WalkFailed}
+use Rattle.grain_means.specs.Tasks.{Task}
 use Rattle.grain_means.specs.Walks.{whole_walk}
 use Rattle.grain_means.specs.Worlds.{Act, Frame, Place, Setup, World}
 use Rattle.grain_means.specs.Causes.{Cause}
-use Rattle.grain_means.specs.Causes.Chains.{AssignsValue, ChainReads, ChainRow, LeavesNative, RootHolds, RootLends, by_walk, constant, past_scope, root_lent, unbound, value_lent, walk_of, walk_place, walk_roots}
-use Rattle.grain_means.specs.Causes.Spots.{BackFails, ChainWalk, PointedLeft, WalkRow, here}
-use Rattle.grain_means.proofs.Explaining.{explained}
+use Rattle.grain_means.specs.Causes.Chains.{AssignsValue, ChainReads, ChainRow, LeavesNative, RootHolds, RootLends, constant, past_scope, root_lent, unbound, value_lent, walk_of, walk_place, walk_roots}
 use Rattle.grain_means.proofs.Footing.{Sits, by_test}
-use Rattle.grain_means.proofs.Ground.{Stays, stays_set}
+use Rattle.grain_means.proofs.Ground.{stays_set}
 use Rattle.grain_means.proofs.Unlent.{lent_back, lent_out}
 use Rattle.grain_means.proofs.Lengths.{past_scope as scope_passed}
 use Rattle.grain_means.proofs.Tally.Calling.{CallsOf}
 use Rattle.grain_means.proofs.Tally.Entries.{busy_content}
 use Rattle.grain_means.proofs.Tally.Faults.{even_raised_at}
-use Rattle.grain_means.proofs.Tally.Frames.{Enough, Even, ReasonAt, Steady, SteadyBut, Walk, all_there, stepping, even_left_at, even_marked_at, even_onward, point, start, steady}
-use Rattle.grain_means.proofs.Tally.Roots.{IsAdded, added_cell, added_place, added_root}
+use Rattle.grain_means.proofs.Tally.Frames.{Enough, Even, ReasonAt, Steady, Walk, all_there, even_marked_at, point, start, steady}
+use Rattle.grain_means.proofs.Tally.Roots.{IsAdded, added_cell}
 use Rattle.grain_means.proofs.Tally.ChainWalks.{Returns, even_added, even_walked, moved, steps_at}
 
 module _ {S : Type 0} {m : Setup S} (walk : Walk m) where

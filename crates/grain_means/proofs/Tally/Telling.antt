@@ -1,18 +1,16 @@
 -- The walk over the rules where a call is over that a native asked for: the host hears of it, and answers
 -- the native's call at last or asks for another; or the native is given up.
-use Rattle.std.proofs.Common.{◌≡◌, ◌⊎◌, ◌+◌, ℕ, List, [], ◌∷◌, Option, Some, None, Bool, true, false, refl, sym, subst, ap, ◌∙◌, inl, inr, length}
+use Rattle.std.proofs.Common.{◌≡◌, ◌+◌, ℕ, List, [], Option, Some, None, Bool, true, false, refl, sym, subst, ap, ◌∙◌, inl, inr, length}
 use Rattle.std.proofs.lemmas.Bool.{eqb-false}
 use Rattle.std.specs.Prelude.{nat_eq}
 use Rattle.grain_value.specs.Cells.{flat}
 use Rattle.grain_value.specs.declared.scopes.Entry.{Entry}
 use Rattle.grain_value.specs.declared.values.Dynamic.{Dynamic}
-use Rattle.grain_value.specs.declared.values.Held.{Held}
 use Rattle.grain_fault.specs.Positions.{at_position_if_none}
 use Rattle.grain_fault.specs.declared.places.Position.{Position}
 use Rattle.grain_fault.specs.Problems.{Problem, Plain, DataRace, NoMemory}
 use Rattle.grain_host.specs.Law.{Law, Outcome, Reply, Value, Fault}
 use Rattle.grain_host.specs.Law as reply
-use Rattle.grain_means.specs.Ends.{Ends}
 use Rattle.grain_means.specs.Leavings.{Keeps}
 use Rattle.grain_means.specs.Rules.{Home, InScope, InCell, AtPlace, Receiver, answered_again, back_in_scope, called_back_over, cells_with, ended_so, function_back, given_up, is_stop, is_told, lent_held, position, race_text, receiver_rewritten, roots_with, scope_with, told, unheard, value_told, went_on, with_token, without_token}
 use Rattle.grain_means.specs.Worlds.{Act, Answer, Came, Callback, Failed, Go, InHost, Setup, World}
@@ -280,8 +278,9 @@ module _ {S : Type 0} {m : Setup S} (hosted : Hosted m) where
   out_so u n stop at = even_out u n stop (aside n u at)
 
   -- the call fails before anything of it is done
-  pub kept_out : (r : ℕ) (x : Problem) → IsKeptOut m (position m c.frame) (parameters (function_back m.program m.engine.callbacks c))
-      now x → (u : World S) → Beside now r u → Back r (called_back_over m c (Failed x) u)
+  pub kept_out : (r : ℕ) (x : Problem) → IsKeptOut m (position m c.frame)
+      (parameters (function_back m.program m.engine.callbacks c)) now x →
+      (u : World S) → Beside now r u → Back r (called_back_over m c (Failed x) u)
   kept_out r x why u at =
       even_untold x u r
       (untold m (position m c.frame) (parameters (function_back m.program m.engine.callbacks c)) now x why)
