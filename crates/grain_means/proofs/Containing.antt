@@ -4,6 +4,8 @@
 pub mod Roots
 pub mod Keeping
 pub mod Parts
+pub mod Lending
+pub mod Leaving
 pub mod Frames
 pub mod Natives
 pub mod Bodies
@@ -15,11 +17,13 @@ pub mod Transfers
 pub mod Calls
 pub mod Catching
 pub mod Tasks
+pub mod Asking
 pub mod MethodTasks
 pub mod StepTasks
 pub mod Walks
 pub mod Chains
 pub mod Receivers
+pub mod Callbacks
 use Rattle.std.proofs.Common.{◌≡◌, ◌≤◌, ◌+◌, ℕ, List, [], ◌∷◌, Option, Some, None, Bool, true, false, length, refl, arith}
 use Rattle.std.specs.List.{AllByRecursion}
 use Rattle.std.specs.Prelude.{is_some}
@@ -39,13 +43,15 @@ use Rattle.grain_means.specs.Contained.{AnswerNames, ConstantsName, Contained, N
 use Rattle.grain_means.specs.Ends.{Ends, ended, went, joined}
 use Rattle.grain_means.specs.Rules as rules
 use Rattle.grain_means.specs.Rules.{Nowhere, ToSlot, ToThis, exit_of, function_found, given, is_stop, operated, or_return, outer_handlers, stepped, without}
-use Rattle.grain_means.specs.Worlds.{Act, Go, End, Then, Answer, Came, Failed, Frame, Handler, InCatch, InFrame, Place, Setup, Todo, World}
+use Rattle.grain_means.specs.Worlds.{Act, Go, End, Then, Answer, Came, Failed, Frame, Handler, InCatch, InFrame, InHost, Place, Setup, Todo, World}
 use Rattle.grain_means.proofs.Caught.{sole_names}
 use Rattle.grain_means.proofs.Footing.{by_test}
 use Rattle.grain_means.proofs.Naming.{arguments_name, rotated_names, under_names}
 use Rattle.grain_means.proofs.Plain.{operated_plain}
 use Rattle.grain_means.proofs.Containing.Parts.{HandlerNames, Operands, FrameNames, exit_names}
-use Rattle.grain_means.proofs.Containing.Frames.{Grounds, At, Holds, Leaves, Seated, Within, lower, ends, raises, charged, reads_all}
+use Rattle.grain_means.proofs.Containing.Frames.{Grounds, At, Within, bases, lower, ends, raises, charged, reads_all}
+use Rattle.grain_means.proofs.Containing.Leaving.{Bases, Holds, Leaves, MayWrite, SeatedAt, seen_from}
+use Rattle.grain_means.proofs.Containing.Callbacks.{calls_back}
 use Rattle.grain_means.proofs.Containing.Keeping.{Since, all_named, at_last, begun}
 use Rattle.grain_means.proofs.Containing.Steps.{Stays, Here, pushing, going_on, reading, marking, last, less}
 use Rattle.grain_means.proofs.Containing.Entries.{stores, declares, assigns, loads, loads_shared, shares}
@@ -205,16 +211,31 @@ module _ {S : Type 0} {m : Setup S} (on : Grounds m) where
         at
         (does r.0 (f.address + r.1) (record w { ran = w.ran + 1; passed = w.passed + 1 }) at)
 
+module _ {S : Type 0} {m : Setup S} (on : Bases m) where
+  open on use {clean, least, since}
+
+  -- in a frame
+  abbrev framed : since.plain ≡ [] → Grounds m
+  framed free = record {
+    lawful = on.lawful;
+    clean = on.clean;
+    least = on.least;
+    constants = on.constants;
+    since = on.since;
+    free = free;
+  }
+
   -- one more thing is done
   goes_further : (n : ℕ) (low : least ≤ n) (t : Todo) (w : World S) →
-      At on n w → Seated on n t →
-      Within on n (rules.next m t w)
-  goes_further n low (InFrame f) w at seated = begins n low f seated w at
-  goes_further n low (InCatch f h x) w at seated =
-      catches on n low f seated.0 h x seated.1 seated.2 w at
+      Holds m clean (seen_from t since) n w → SeatedAt clean n t → MayWrite t since.plain →
+      Leaves m clean since n (rules.next m t w)
+  goes_further n low (InFrame f) w at seated free = begins (framed free) n low f seated w at
+  goes_further n low (InCatch f h x) w at seated free =
+      catches (framed free) n low f seated.0 h x seated.1 seated.2 w at
+  goes_further n low (InHost c) w at seated free = calls_back on n low c seated w at
 
-module _ {S : Type 0} {m : Setup S} (on : Grounds m) where
-  open on use {clean, least, since}
+module _ {S : Type 0} {m : Setup S} (on : Bases m) where
+  open on use {clean, least}
 
   -- so it is where a run ends
   ends_within : {act : Act S} {a : Answer} {v : World S} → Ends m act a v → (s : Since) (k : ℕ) →
@@ -223,11 +244,15 @@ module _ {S : Type 0} {m : Setup S} (on : Grounds m) where
   ends_within ended s k low h = h
   ends_within (went {t = t} {w = w} d) s k low h =
       let more : least ≤ h.0 = omega (arith, low, h.1) in
-      let i = ends_within d s h.0 more (goes_further (record on { since = s }) h.0 more t w h.2 h.3) in
+      let i = ends_within d s h.0 more
+      (goes_further (record on { since = s }) h.0 more t w h.2 h.3 h.4) in
       (i.0, omega (arith, h.1, i.1), i.2, i.3)
   ends_within (joined {rest = rest} {b = x} {w = w} d e) s k low h =
       let i = ends_within d h.2 h.0 (omega (arith, low, h.1)) h.3 in
       ends_within e s k low (h.4 x w i.0 i.1 i.2 i.3)
+
+module _ {S : Type 0} {m : Setup S} (on : Grounds m) where
+  open on use {clean, least, since}
 
   -- a mark outside of all frames
   passes : (n : ℕ) → least ≤ n → (w : World S) (go : World S → Act S) →
@@ -264,12 +289,12 @@ module _ {S : Type 0} {m : Setup S} (on : Grounds m) where
       let start : World S → Act S = λ u. Then (Go (InFrame (rules.main_frame m u.scope this)) u)
       (rules.closed m u.trace) in
       let inside : World S = record w { passed = w.passed + 1 + 1 } in
-      ends_within d since n low (passes n low w (λ u. rules.passing m u start) at
+      ends_within (bases on) d since n low (passes n low w (λ u. rules.passing m u start) at
       (passes n low (record w { passed = w.passed + 1 }) start at (
         n,
         omega arith,
         since,
-        (n, omega arith, at, (tt, tt)),
+        (n, omega arith, at, (tt, tt), on.free),
         λ b u k le there named. lower on n k
             (rules.closed m inside.trace b u) le
             (closes k (omega (arith, low, le)) inside.trace b u there named),
@@ -288,6 +313,7 @@ called_within m this w v a clean n lawful constants start roots d =
       clean = clean;
       least = n;
       constants = constants;
-      since = record { cells = w.cells; roots = w.roots };
+      since = record { cells = w.cells; roots = w.roots; plain = [] };
+      free = refl;
     }) this w v a n (omega arith) (begun w.roots start roots) d in
     (end.0, end.1, at_last n start.contents end.2, end.3, all_named end.2)

@@ -245,7 +245,7 @@ module _ (clean : Bool) (n : ℕ) where
             (first_true (is_clean t) (is_clean (pointer [] (pack ts))) (h.1 s)) (rest.1 s),
       )
 
-  curry_names : (ts : List Tree) → CurryNames ts →
+  pub curry_names : (ts : List Tree) → CurryNames ts →
       AllByRecursion (HeldNames clean n) (map (λ t. read_write (value_of t)) ts)
   curry_names [] h = tt
   curry_names (t ∷ ts) h = (

@@ -1,6 +1,6 @@
 -- Calls of functions keep to the store, by an instruction or by a walk: the body of a function, and what
 -- follows when it is over.
-use Rattle.std.proofs.Common.{◌≤◌, ◌+◌, ℕ, List, Option, if◌then◌else◌, nat_lt, nat_le, length, refl, arith}
+use Rattle.std.proofs.Common.{◌≤◌, ◌+◌, ℕ, List, [], Option, if◌then◌else◌, nat_lt, nat_le, length, refl, arith}
 use Rattle.grain_value.specs.declared.values.Held.{Held}
 use Rattle.grain_fault.specs.Classes.{catchable}
 use Rattle.grain_fault.specs.Positions.{at_position}
@@ -16,10 +16,10 @@ use Rattle.grain_means.proofs.Caught.{placed_names}
 use Rattle.grain_means.proofs.Footing.{by_test}
 use Rattle.grain_means.proofs.Naming.{all_wider, bound_names, entry_wider}
 use Rattle.grain_means.proofs.Containing.Parts.{Operands}
-use Rattle.grain_means.proofs.Containing.Frames.{Grounds, At, Leaves, fails_or, lowers, marks_or, takes_operation}
+use Rattle.grain_means.proofs.Containing.Leaving.{Bases, At, Holds, Leaves, fails_or, lowers, marks_or, takes_operation}
 use Rattle.grain_means.proofs.Containing.Keeping.{Kept, Since}
 
-module _ {S : Type 0} {m : Setup S} (on : Grounds m) where
+module _ {S : Type 0} {m : Setup S} (on : Bases m) where
   open on use {clean, least, since}
 
   module _ (to : Since) (n : ℕ) (out : World S → Act S)
@@ -50,19 +50,26 @@ module _ {S : Type 0} {m : Setup S} (on : Grounds m) where
             level = w1.level + 1;
           })) (λ a w2. over a (record w2 { scope = w.scope; level = w.level }))
 
+      -- the body's scope is its own
+      abbrev inner : Since
+      inner = record since { plain = [] }
+
       inside : (w : World S) → At on n w →
-          Kept m.law clean n since (bound m.program g.params args) w.cells w.host w.roots
+          Kept m.law clean n inner (bound m.program g.params args) w.cells w.host w.roots
       inside w at = record {
         size = at.size;
         entries = bound_names clean n m.program.names g.params args given;
         contents = at.contents;
         reaches = at.reaches;
         hands = at.hands;
+        waits = at.waits;
         lends = at.lends;
         stand = at.stand;
+        plain = tt;
       }
 
-      restored : (w : World S) → At on n w → (k : ℕ) → n ≤ k → (v : World S) → At on k v →
+      restored : (w : World S) → At on n w → (k : ℕ) → n ≤ k → (v : World S) →
+          Holds m clean inner k v →
           Kept m.law clean k since w.scope v.cells v.host v.roots
       restored w at k le v there = record {
         size = there.size;
@@ -71,8 +78,10 @@ module _ {S : Type 0} {m : Setup S} (on : Grounds m) where
         contents = there.contents;
         reaches = there.reaches;
         hands = there.hands;
+        waits = there.waits;
         lends = there.lends;
         stand = there.stand;
+        plain = at.plain;
       }
 
       pub body_enters : (w : World S) → At on n w →
@@ -92,8 +101,8 @@ module _ {S : Type 0} {m : Setup S} (on : Grounds m) where
           (omega arith, λ s. refl)) (λ few. marks_or on to n out outs w (body w) at (
             n,
             omega arith,
-            since,
-            (n, omega arith, inside w at, (tt, tt)),
+            inner,
+            (n, omega arith, inside w at, (tt, tt), refl),
             λ a v k le there named.
                 lowers m clean to n k (over a (record v { scope = w.scope; level = w.level })) le
                 (overs k le a (record v { scope = w.scope; level = w.level })

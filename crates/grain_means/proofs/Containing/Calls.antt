@@ -16,7 +16,7 @@ use Rattle.grain_means.specs.Worlds.{Answer, Came, Failed, Frame, Setup, World}
 use Rattle.grain_means.proofs.Naming.{all_joined, arguments_name, curried_names, more_names, top_names, trees_name, under_names}
 use Rattle.grain_means.proofs.Containing.Parts.{Operands, FrameNames, pointer_names}
 use Rattle.grain_means.proofs.Containing.Bodies.{body_enters, body_fails}
-use Rattle.grain_means.proofs.Containing.Frames.{Grounds, charged, leaves, offered, reads_all}
+use Rattle.grain_means.proofs.Containing.Frames.{Grounds, bases, charged, leaves, offered, reads_all}
 use Rattle.grain_means.proofs.Containing.Steps.{frame_wider, Stays, Here, raising, pushing, reading, giving}
 
 module _ {S : Type 0} {m : Setup S} (on : Grounds m) where
@@ -28,7 +28,7 @@ module _ {S : Type 0} {m : Setup S} (on : Grounds m) where
         AnswerNames clean n a → Stays on n low f names (rules.resume_caller m g f next a w)
     resumes g next (Came v) w at named = pushing on n low f names next f.operands v w at names.0 named
     resumes g next (Failed x) w at named =
-        body_fails on on.since n (rules.leave_by_fault m f NoMemory)
+        body_fails (bases on) on.since n (rules.leave_by_fault m f NoMemory)
         (λ v there. leaves on n low f NoMemory v there (omega arith, λ s. refl)) (rules.offered m f)
         (offered on n low f names) (rules.position m f) g x w at named
 
@@ -37,7 +37,7 @@ module _ {S : Type 0} {m : Setup S} (on : Grounds m) where
     enters : (g : Function) (count next : ℕ) (w : World S) → Here on n low f names w →
         Stays on n low f names (rules.function_entered m g count f next w)
     enters g count next w at =
-        body_enters on on.since n (rules.leave_by_fault m f NoMemory)
+        body_enters (bases on) on.since n (rules.leave_by_fault m f NoMemory)
         (λ v there. leaves on n low f NoMemory v there (omega arith, λ s. refl)) (rules.offered m f)
         (offered on n low f names) (rules.position m f) g (arguments count f.operands)
         (arguments_name clean n count f.operands names.0) None
@@ -58,8 +58,10 @@ module _ {S : Type 0} {m : Setup S} (on : Grounds m) where
         (λ v w1. rules.pushed m f next (under count f.operands) v w1) (rules.raised m f))
         (λ args given. giving on n low f names
         (λ v w1. rules.pushed m f next (under count f.operands) v w1)
-        (λ v w1 there named. pushing on n low f names next (under count f.operands) v w1 there
-        (under_names clean n count f.operands names.0) named)
+        (λ k le v w1 there named.
+        let wide : FrameNames clean k f = frame_wider on n k f le names in
+        pushing on k (omega (arith, low, le)) f wide next (under count f.operands) v w1 there
+        (under_names clean k count f.operands wide.0) named)
         name args w at given)
     calls_function (Some g) name count next w at =
         charged on n low f names (rules.function_entered m g count f next)

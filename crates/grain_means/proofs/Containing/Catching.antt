@@ -16,7 +16,7 @@ use Rattle.grain_means.proofs.Caught.{caught_names}
 use Rattle.grain_means.proofs.Footing.{by_test}
 use Rattle.grain_means.proofs.Naming.{all_joined, all_take}
 use Rattle.grain_means.proofs.Containing.Parts.{FrameNames}
-use Rattle.grain_means.proofs.Containing.Frames.{Grounds, cut, goes, leaves, marks, charges}
+use Rattle.grain_means.proofs.Containing.Frames.{Grounds, cut, goes, leaves, marks, none_plain, charges}
 use Rattle.grain_means.proofs.Containing.Steps.{Stays, Here}
 
 module _ {S : Type 0} {m : Setup S} (on : Grounds m) where
@@ -53,8 +53,10 @@ module _ {S : Type 0} {m : Setup S} (on : Grounds m) where
             contents = at.contents;
             reaches = at.reaches;
             hands = at.hands;
+            waits = at.waits;
             lends = at.lends;
             stand = at.stand;
+            plain = at.plain;
           }
 
           start : World S
@@ -87,7 +89,7 @@ module _ {S : Type 0} {m : Setup S} (on : Grounds m) where
               (rules.leave_by_fault m g) (Go (InFrame (resumed g h.target)))
               (λ y u here within. leaves on n low g y u here within)
               (λ u here. goes on n low
-              (InFrame (resumed g h.target)) u here caught_frame) v there
+              (resumed g h.target) u here caught_frame) v there
 
           binds : (variable : Option ℕ) →
               Stays on n low f names (rules.bind_caught m variable p g x start after)
@@ -113,6 +115,8 @@ module _ {S : Type 0} {m : Setup S} (on : Grounds m) where
                 contents = started.contents;
                 reaches = started.reaches;
                 hands = started.hands;
+                waits = started.waits;
                 lends = started.lends;
                 stand = started.stand;
+                plain = none_plain on (start.scope ++ entry ∷ []);
               })))

@@ -29,7 +29,8 @@ use Rattle.grain_means.proofs.Footing.{by_test}
 use Rattle.grain_means.proofs.Inside.{Firm, TreeNames, firm}
 use Rattle.grain_means.proofs.Naming.{CellHolds, all_got, arguments_name, top_names, under_names}
 use Rattle.grain_means.proofs.Containing.Parts.{FrameNames, Operands}
-use Rattle.grain_means.proofs.Containing.Frames.{Grounds, At, Holds, Keeps, Leaves, entry_set, raises}
+use Rattle.grain_means.proofs.Containing.Frames.{Grounds, At, Keeps, bases, entry_set, raises}
+use Rattle.grain_means.proofs.Containing.Leaving.{Holds, Leaves}
 use Rattle.grain_means.proofs.Containing.Roots.{FirmAt, firm_look, look_names, look_whole, new_root_plain, past_roots}
 use Rattle.grain_means.proofs.Containing.Keeping.{Kept, cell_back, cell_lent, from_here, joined_on, root_gone, with_root}
 use Rattle.grain_means.proofs.Containing.Steps.{Stays, Here, frame_wider, looking, marking, pushing, raising, reading}
@@ -57,7 +58,7 @@ module _ {S : Type 0} {m : Setup S} (on : Grounds m) where
     chain_ends : (k next : ℕ) (g : Frame) → FrameNames clean n g → (o : Walked) (w : World S) →
         WalkedNames clean n o → At on n w → Keeps on n low (rules.chain_over m k next g o w)
     chain_ends k next g names (WalkEnded v changed) w bound at =
-        pushing on n low g names next g.operands v w at names.0 bound
+        pushing on n low g names next g.operands v (record w { trace = [] }) at names.0 bound
     chain_ends k next g names (WalkFailed j x) w bound at =
         raises on n low (record g { slot = Some (slot_of m.program k j) }) names x w at bound
 
@@ -96,21 +97,21 @@ module _ {S : Type 0} {m : Setup S} (on : Grounds m) where
       -- a walk from a root that is added
       walks_from : (h : Held) → HeldNames clean n h → (bare ≡ false → cell_of h.value ≡ None) →
           (back : Held → World S → World S) (w : World S) →
-          Kept m.law clean n (record { cells = w.cells; roots = w.roots ++ h ∷ [] }) w.scope w.cells
+          Kept m.law clean n (record since { cells = w.cells; roots = w.roots ++ h ∷ [] }) w.scope w.cells
           w.host (w.roots ++ h ∷ []) →
           ((j : ℕ) → n ≤ j → (r : Held) (v : World S) → HeldNames clean j r →
           (cell_of h.value ≡ None → cell_of r.value ≡ None) →
-          Holds m clean (record { cells = w.cells; roots = w.roots }) j v → At on j (back r v)) →
+          Holds m clean (record since { cells = w.cells; roots = w.roots }) j v → At on j (back r v)) →
           Keeps on n low (rules.walk_from m k task next g h back w)
       walks_from h held plain back w begun backs =
-          walks_within inner since bare g k (new_root w.roots) (length w.roots + 1)
+          walks_within (bases inner) since bare g k (new_root w.roots) (length w.roots + 1)
           (firm_walk bare (w.roots ++ h ∷ []) (new_root w.roots) (length w.roots + 1)
           (omega (arith, length-append w.roots (h ∷ []))) (λ e. new_root_plain w.roots h (plain e)))
           (λ o v. rules.chain_over m k next g o (back (own_root w v) (without_root w v))) n over task n
-          low (omega arith) written (record w { roots = w.roots ++ h ∷ [] }) begun where
+          low (omega arith) written None (record w { roots = w.roots ++ h ∷ [] }) begun where
             inner : Grounds m
             inner = record on {
-              since = record { cells = w.cells; roots = w.roots ++ h ∷ [] };
+              since = record since { cells = w.cells; roots = w.roots ++ h ∷ [] };
             }
 
             over : (j : ℕ) → n ≤ j → (o : Walked) (v : World S) → WalkedNames clean j o →
@@ -130,13 +131,13 @@ module _ {S : Type 0} {m : Setup S} (on : Grounds m) where
       walks_at : (p : Place) (w : World S) → (bare ≡ false → cell_of (look w.roots p).value ≡ None) →
           At on n w → Keeps on n low (rules.walk_at m k task next g p w)
       walks_at p w plain at =
-          walks_within inner since bare g k p (length w.roots)
+          walks_within (bases inner) since bare g k p (length w.roots)
           (firm_walk bare w.roots p (length w.roots) (omega arith)
           (λ e. firm_look w.roots p (plain e)))
-          (λ o v. rules.chain_over m k next g o v) n over task n low (omega arith) written w
-          (from_here at) where
+          (λ o v. rules.chain_over m k next g o v) n over task n low (omega arith) written None
+          w (from_here at) where
             inner : Grounds m
-            inner = record on { since = record { cells = w.cells; roots = w.roots } }
+            inner = record on { since = record since { cells = w.cells; roots = w.roots } }
 
             over : (j : ℕ) → n ≤ j → (o : Walked) (v : World S) → WalkedNames clean j o →
                 At inner j v → Leaves m clean since j (rules.chain_over m k next g o v)
@@ -205,7 +206,7 @@ module _ {S : Type 0} {m : Setup S} (on : Grounds m) where
 
           backs : (j : ℕ) → n ≤ j → (r : Held) (v : World S) → HeldNames clean j r →
               (cell_of c.held.value ≡ None → cell_of r.value ≡ None) →
-              Holds m clean (record { cells = lents; roots = w.roots }) j v → At on j (back_in r v)
+              Holds m clean (record since { cells = lents; roots = w.roots }) j v → At on j (back_in r v)
           backs j le r v named keeps there =
               cell_back i c.held (record c.held { value = r.value }) named (keeps here.flat) at there
 

@@ -15,7 +15,7 @@ use Rattle.grain_means.specs.Worlds.{Frame, Setup, World}
 use Rattle.grain_means.proofs.Footing.{by_test}
 use Rattle.grain_means.proofs.Naming.{CellHolds, all_joined, all_wider, cell_wider, entry_wider, set_names}
 use Rattle.grain_means.proofs.Containing.Parts.{FrameNames, MayStand, may_stand}
-use Rattle.grain_means.proofs.Containing.Frames.{Grounds, lower, marks, onward}
+use Rattle.grain_means.proofs.Containing.Frames.{Grounds, lower, marks, none_plain, onward}
 use Rattle.grain_means.proofs.Containing.Roots.{roots_wider}
 use Rattle.grain_means.proofs.Containing.Keeping.{Kept, lends_added}
 use Rattle.grain_means.proofs.Containing.Steps.{frame_wider, Stays, Here, raising, pushing, going_on, reading, looking, writing, marking, last, less, moves}
@@ -99,8 +99,11 @@ module _ {S : Type 0} {m : Setup S} (on : Grounds m) where
           contents = at.contents;
           reaches = at.reaches;
           hands = at.hands;
+          waits = at.waits;
           lends = at.lends;
           stand = at.stand;
+          plain = none_plain on
+              (w.scope ++ new_entry name (record { value = v; read_only = flag }) ∷ []);
         }) (moves on n low f names next (below f.operands) (less on n low f names)))))
 
     pub refuses : (name : ℕ) (w : World S) → Here on n low f names w →
@@ -175,8 +178,10 @@ module _ {S : Type 0} {m : Setup S} (on : Grounds m) where
                     );
                 reaches = omega (arith, at.reaches);
                 hands = at.hands;
+                waits = at.waits;
                 lends = lends_added w.cells since.cells h at.lends;
                 stand = roots_wider clean n k more w.roots since.roots at.stand;
+                plain = at.plain;
               } in
               let set : Kept m.law clean k since (set_held w.scope (f.base + slot) cell)
               (w.cells ++ idle h ∷ []) w.host w.roots = record {
@@ -186,8 +191,10 @@ module _ {S : Type 0} {m : Setup S} (on : Grounds m) where
                 contents = wide.contents;
                 reaches = wide.reaches;
                 hands = wide.hands;
+                waits = wide.waits;
                 lends = wide.lends;
                 stand = wide.stand;
+                plain = none_plain on (set_held w.scope (f.base + slot) cell);
               } in
               let wider = frame_wider on n k f more names in
               marking on n low f names w (λ w1. rules.marked m f

@@ -1,6 +1,5 @@
 -- The walk at a store: marks, faults, charges, and what a frame reads and writes.
-use Rattle.std.proofs.Common.{◌≡◌, ◌≤◌, ◌+◌, ◌∙◌, ℕ, List, [], ◌∷◌, ◌++◌, Option, Some, None, Bool, true, false, if◌then◌else◌, nat_lt, nat_le, length, take, refl, sym, subst, arith}
-use Rattle.std.proofs.lemmas.List.{length-set}
+use Rattle.std.proofs.Common.{◌≡◌, ◌≤◌, ◌+◌, ℕ, List, [], ◌∷◌, ◌++◌, Option, Some, None, Bool, true, false, if◌then◌else◌, nat_le, length, take, refl, sym, subst, arith}
 use Rattle.std.specs.List.{AllByRecursion}
 use Rattle.std.specs.Prelude.{slice_get, slice_set}
 use Rattle.grain_value.specs.Cells.{flat, idle}
@@ -13,72 +12,46 @@ use Rattle.grain_value.specs.declared.values.Dynamic.{Dynamic}
 use Rattle.grain_value.specs.declared.values.Held.{Held}
 use Rattle.grain_fault.specs.Classes.{catchable}
 use Rattle.grain_fault.specs.Positions.{at_position, position_of_problem}
-use Rattle.grain_fault.specs.Problems.{Problem, Plain, NoMemory, Malformed, Terminated, TooManyOperations, DataRace}
+use Rattle.grain_fault.specs.Problems.{Problem, Plain, NoMemory, Malformed, DataRace}
 use Rattle.grain_fault.specs.declared.faults.MalformedKind.TheVariants as kind
 use Rattle.grain_fault.specs.declared.places.Position.{Position}
-use Rattle.grain_host.specs.Law.{GoOn, IsLawful, Stop, Verdict}
+use Rattle.grain_host.specs.Law.{IsLawful}
 use Rattle.grain_means.specs.Contained.{AnswerNames, ConstantsName, EntryNames, HeldNames, Names, ProblemNames}
 use Rattle.grain_means.specs.Places.{put}
 use Rattle.grain_means.specs.Rules as rules
 use Rattle.grain_means.specs.Rules.{Home, InScope, InCell, AtPlace, bound, flat_all, held_at, is_stop, race_text, stepped, thrown_anew, throws_unit}
-use Rattle.grain_means.specs.Worlds.{Act, Go, End, Then, Answer, Frame, Handler, InCatch, InFrame, Place, Setup, Todo, World}
-use Rattle.grain_means.proofs.Caught.{placed_names, sole_names}
+use Rattle.grain_means.specs.Worlds.{Act, Go, End, Answer, Frame, Handler, InCatch, InFrame, Setup, World}
+use Rattle.grain_means.proofs.Caught.{placed_names}
 use Rattle.grain_means.proofs.Footing.{by_arming, by_test}
-use Rattle.grain_means.proofs.Inside.{MayPut, may_put}
-use Rattle.grain_means.proofs.Naming.{CellHolds, all_set, all_take, flat_all_names, flat_names, held_at_names, pushed_names, set_names}
-use Rattle.grain_means.proofs.Containing.Parts.{CaughtNames, HandlerNames, Operands, Arguments, FrameNames, MayStand, VerdictNames}
-use Rattle.grain_means.proofs.Containing.Roots.{put_roots}
-use Rattle.grain_means.proofs.Containing.Keeping.{Kept, Since, lends_set}
+use Rattle.grain_means.proofs.Inside.{may_put}
+use Rattle.grain_means.proofs.Naming.{all_take, flat_all_names, flat_names, held_at_names, pushed_names, set_names}
+use Rattle.grain_means.proofs.Containing.Parts.{CaughtNames, HandlerNames, Operands, Arguments, FrameNames, MayStand}
+use Rattle.grain_means.proofs.Containing.Keeping.{HoldsNone, Kept, Since}
+use Rattle.grain_means.proofs.Containing.Leaving.{Bases, Holds, Leaves, cell_set, lowers, root_put, takes_operation}
 
--- what the walk stands on: a lawful host, constants that name no cell from `least` on, and are
--- clean where `clean` says so, and where the stretch of the run began
+-- the same where an instruction of a frame is done: no entry has to stay plain
 pub record Grounds {S : Type 0} (m : Setup S) : Type 0 where
   pub lawful : IsLawful m.law
   pub clean : Bool
   pub least : ℕ
   pub constants : ConstantsName clean least m.program
   pub since : Since
+  pub free : since.plain ≡ []
 
--- what is so of a world since its stretch began, and of what a run stands at
-abbrev pub Holds : {S : Type 0} → Setup S → Bool → Since → ℕ → World S → Type 0
-Holds m clean since n w = Kept m.law clean n since w.scope w.cells w.host w.roots
-
-abbrev pub SeatedAt : Bool → ℕ → Todo → Type 0
-SeatedAt clean n (InFrame f) = FrameNames clean n f
-SeatedAt clean n (InCatch f h x) =
-    FrameNames clean n f × ProblemNames clean n x × (catchable x ≡ true)
-
--- What is left of a run, which has k cells at least. A run inside another is a stretch of its own.
-abbrev pub Leaves : {S : Type 0} → Setup S → Bool → Since → ℕ → Act S → Type 0
-Leaves m clean since k (Go t w) =
-    (n : ℕ) × (k ≤ n) × Holds m clean since n w × SeatedAt clean n t
-Leaves m clean since k (End a w) =
-    (n : ℕ) × (k ≤ n) × Holds m clean since n w × AnswerNames clean n a
-Leaves {S = S} m clean since k (Then first rest) =
-    (j : ℕ) × (k ≤ j) × (inner : Since) × Leaves m clean inner j first × ((a : Answer) (w : World S)
-    (n : ℕ) → j ≤ n → Holds m clean inner n w → AnswerNames clean n a →
-    Leaves m clean since k (rest a w))
-
-pub lowers : {S : Type 0} (m : Setup S) (clean : Bool) (since : Since) (k j : ℕ) (act : Act S) →
-    k ≤ j → Leaves m clean since j act → Leaves m clean since k act
-lowers m clean since k j (Go t w) le h = (h.0, omega (arith, le, h.1), h.2, h.3)
-lowers m clean since k j (End a w) le h = (h.0, omega (arith, le, h.1), h.2, h.3)
-lowers m clean since k j (Then first rest) le h = (
-  h.0,
-  omega (arith, le, h.1),
-  h.2,
-  h.3,
-  λ a w n more at names. lowers m clean since k j (rest a w) le (h.4 a w n more at names),
-)
+abbrev pub bases : {S : Type 0} {m : Setup S} → Grounds m → Bases m
+bases on = record {
+  lawful = on.lawful;
+  clean = on.clean;
+  least = on.least;
+  constants = on.constants;
+  since = on.since;
+}
 
 module _ {S : Type 0} {m : Setup S} (on : Grounds m) where
-  open on use {lawful, clean, least, since}
+  open on use {clean, least, since}
 
   abbrev pub At : ℕ → World S → Type 0
   At n w = Holds m clean since n w
-
-  abbrev pub Seated : ℕ → Todo → Type 0
-  Seated n t = SeatedAt clean n t
 
   abbrev pub Within : ℕ → Act S → Type 0
   Within k act = Leaves m clean since k act
@@ -86,76 +59,8 @@ module _ {S : Type 0} {m : Setup S} (on : Grounds m) where
   pub lower : (k j : ℕ) (act : Act S) → k ≤ j → Within j act → Within k act
   lower k j act le h = lowers m clean since k j act le h
 
-  -- What goes on to a stretch of its own, or comes back from one: what follows is said of where `to`
-  -- began.
-  module _ (to : Since) (n : ℕ) (out : World S → Act S)
-      (outs : (w : World S) → At n w → Leaves m clean to n (out w)) where
-    abbrev pub Reaches : Act S → Type 0
-    Reaches act = Leaves m clean to n act
-
-    pub marks_or : (w : World S) (go : World S → Act S) → At n w →
-        Reaches (go (record w { passed = w.passed + 1 })) → Reaches (rules.marked_or m out w go)
-    marks_or w go at h =
-        by_test Reaches (is_stop m.stop w.passed) (out w) (go (record w { passed = w.passed + 1 }))
-        (λ stop. outs w at) (λ clear. h)
-
-    module _ (fails : Problem → World S → Act S)
-        (failing : (x : Problem) (w : World S) → At n w → ProblemNames clean n x →
-        Reaches (fails x w)) where
-      -- a fault follows a mark
-      pub fails_or : (x : Problem) (w : World S) → At n w → ProblemNames clean n x →
-          Reaches (rules.marked_or m out w (fails x))
-      fails_or x w at bound =
-          marks_or w (fails x) at (failing x (record w { passed = w.passed + 1 }) at bound)
-
-      -- an operation is taken, of which the host hears
-      module _ (p : Position) (go : World S → Act S)
-          (going : (w : World S) → At n w → Reaches (go w)) where
-        judges : (v : Verdict) (w : World S) → At n w → VerdictNames clean n v →
-            Reaches (rules.on_verdict_or m out v p fails w go)
-        judges GoOn w at bound = going w at
-        judges (Stop v) w at bound =
-            fails_or (Plain (Terminated v) p) w at (sole_names clean n v bound)
-
-        hears : (w : World S) → At n w → Reaches (rules.progressed_or m out p fails w go)
-        hears w at =
-            let later : World S = record w {
-              passed = w.passed + 1 + 1;
-              host = m.law.progress_after w.host w.count;
-            } in
-            let heard : At n later = record {
-              size = at.size;
-              entries = at.entries;
-              contents = at.contents;
-              reaches = omega (arith, lawful.hears_within w.host w.count, at.reaches);
-              hands = λ s. lawful.hears_clean w.host w.count (at.hands s);
-              lends = at.lends;
-              stand = at.stand;
-            } in
-            marks_or w (λ w1. rules.marked_or m out
-            (record w1 { host = m.law.progress_after w1.host w1.count }) (λ w2.
-            rules.on_verdict_or m out (m.law.progress_reply w1.host w1.count) p fails w2 go)) at
-            (marks_or (record w {
-              passed = w.passed + 1;
-              host = m.law.progress_after w.host w.count;
-            }) (λ w2. rules.on_verdict_or m out (m.law.progress_reply w.host w.count) p fails w2 go)
-            heard
-            (judges (m.law.progress_reply w.host w.count) later heard (
-              omega (arith, lawful.stops_within w.host w.count, at.reaches),
-              λ s. lawful.stops_clean w.host w.count (at.hands s),
-            )))
-
-        pub takes_operation : (w : World S) → At n w →
-            Reaches (rules.operation_taken m out p fails w go)
-        takes_operation w at =
-            by_test Reaches (nat_lt w.count m.engine.limits.operations)
-            (rules.marked_or m out w
-            (λ w1. rules.progressed_or m out p fails (record w1 { count = w1.count + 1 }) go))
-            (rules.marked_or m out w (fails (Plain TooManyOperations p)))
-            (λ few. marks_or w
-            (λ w1. rules.progressed_or m out p fails (record w1 { count = w1.count + 1 }) go) at
-            (hears (record w { passed = w.passed + 1; count = w.count + 1 }) at))
-            (λ many. fails_or (Plain TooManyOperations p) w at (omega arith, λ s. refl))
+  pub none_plain : (scope : List Entry) → AllByRecursion (HoldsNone scope) since.plain
+  none_plain scope = subst (AllByRecursion (HoldsNone scope)) (sym on.free) tt
 
   -- the rules at a store of n cells
   module _ (n : ℕ) (low : least ≤ n) where
@@ -172,11 +77,13 @@ module _ {S : Type 0} {m : Setup S} (on : Grounds m) where
       contents = at.contents;
       reaches = at.reaches;
       hands = at.hands;
+      waits = at.waits;
       lends = at.lends;
       stand = at.stand;
+      plain = none_plain scope;
     }
 
-    -- an entry, a cell or a root is set
+    -- an entry is set
     pub entry_set : (w : World S) (i : ℕ) (h : Held) → At n w → HeldNames clean n h →
         Kept m.law clean n since (set_held w.scope i h) w.cells w.host w.roots
     entry_set w i h at held = record {
@@ -185,42 +92,17 @@ module _ {S : Type 0} {m : Setup S} (on : Grounds m) where
       contents = at.contents;
       reaches = at.reaches;
       hands = at.hands;
+      waits = at.waits;
       lends = at.lends;
       stand = at.stand;
-    }
-
-    pub cell_set : (w : World S) (i : ℕ) (h : Held) → At n w → HeldNames clean n h →
-        cell_of h.value ≡ None →
-        Kept m.law clean n since w.scope (slice_set w.cells i (idle h)) w.host w.roots
-    cell_set w i h at held plain = record {
-      size = length-set w.cells i (idle h) ∙ at.size;
-      entries = at.entries;
-      contents = all_set (CellHolds clean n) w.cells i (idle h) at.contents
-          (record { flat = plain; names = held });
-      reaches = at.reaches;
-      hands = at.hands;
-      lends = lends_set w.cells since.cells i h at.lends;
-      stand = at.stand;
-    }
-
-    pub root_put : (w : World S) (p : Place) (v : Dynamic) → At n w → Names clean n v →
-        MayPut clean n p.path v →
-        Kept m.law clean n since w.scope w.cells w.host (put w.roots p v)
-    root_put w p v at named may = record {
-      size = at.size;
-      entries = at.entries;
-      contents = at.contents;
-      reaches = at.reaches;
-      hands = at.hands;
-      lends = at.lends;
-      stand = put_roots clean n w.roots since.roots p v at.stand named may;
+      plain = none_plain (set_held w.scope i h);
     }
 
     pub ends : (a : Answer) (w : World S) → At n w → AnswerNames clean n a → Keeps (End a w)
     ends a w at names = (n, omega arith, at, names)
 
-    pub goes : (t : Todo) (w : World S) → At n w → Seated n t → Keeps (Go t w)
-    goes t w at seated = (n, omega arith, at, seated)
+    pub goes : (f : Frame) (w : World S) → At n w → FrameNames clean n f → Keeps (Go (InFrame f) w)
+    goes f w at names = (n, omega arith, at, names, on.free)
 
     pub leaves : (f : Frame) (x : Problem) (w : World S) → At n w →
         ProblemNames clean n x → Keeps (rules.leave_by_fault m f x w)
@@ -253,8 +135,7 @@ module _ {S : Type 0} {m : Setup S} (on : Grounds m) where
         (λ y. rules.offered_to m hs f (thrown_anew y x) w)
         (λ none. by_test Keeps (catchable x) (Go (InCatch (record f { handlers = hs }) h x) w)
         (rules.leave_by_fault m f x w)
-        (λ may. goes (InCatch (record f { handlers = hs }) h x) w at
-        ((ops, names.1), bound, may))
+        (λ may. (n, omega arith, at, ((ops, names.1), bound, may), on.free))
         (λ may. leaves f x w at bound))
         (λ y is. offers hs f (thrown_anew y x) w at ops names.1
         (anew y x (subst (CaughtNames clean n) is names.0) bound))
@@ -281,7 +162,7 @@ module _ {S : Type 0} {m : Setup S} (on : Grounds m) where
           Keeps (rules.onward m f g w)
       onward g w at new =
           marks (record g { address = f.address }) w (Go (InFrame g)) at
-          (goes (InFrame g) (record w { passed = w.passed + 1 }) at new)
+          (goes g (record w { passed = w.passed + 1 }) at new)
 
       -- an operation is taken
       pub charges : (p : Position) (fails : Problem → World S → Act S) (go : World S → Act S) →
@@ -289,7 +170,7 @@ module _ {S : Type 0} {m : Setup S} (on : Grounds m) where
           ((w : World S) → At n w → Keeps (go w)) → (w : World S) → At n w →
           Keeps (rules.charged_or m p f fails w go)
       charges p fails go failing going w at =
-          takes_operation since n (rules.leave_by_fault m f NoMemory)
+          takes_operation (bases on) since n (rules.leave_by_fault m f NoMemory)
           (λ v there. leaves f NoMemory v there (omega arith, λ s. refl)) fails failing p go going w at
 
       pub charged : (go : World S → Act S) → ((w : World S) → At n w → Keeps (go w)) →
@@ -345,7 +226,7 @@ module _ {S : Type 0} {m : Setup S} (on : Grounds m) where
           (λ busy. races name w at)
           (λ free. marks f w (λ w1. go (record w1 { cells = slice_set w1.cells i (idle h) })) at
           (going (record w { passed = w.passed + 1; cells = slice_set w.cells i (idle h) })
-          (cell_set w i h at held plain)))
+          (cell_set (bases on) n low w i h at held plain)))
 
       pub writes : (a : Home) (h : Held) (name : List ℕ) (w : World S) → At n w →
           HeldNames clean n h → MayStand a h.value → (go : World S → Act S) →
@@ -359,7 +240,7 @@ module _ {S : Type 0} {m : Setup S} (on : Grounds m) where
       writes (AtPlace p) h name w at held plain go going =
           marks f w (λ w1. go (record w1 { roots = put w1.roots p h.value })) at
           (going (record w { passed = w.passed + 1; roots = put w.roots p h.value })
-          (root_put w p h.value at held (may_put clean n p.path h.value plain)))
+          (root_put (bases on) n low w p h.value at held (may_put clean n p.path h.value plain)))
 
       pub pushes : (next : ℕ) (ops : List Held) (v : Dynamic) (w : World S) → At n w →
           Operands clean n ops → Names clean n v → Keeps (rules.pushed m f next ops v w)

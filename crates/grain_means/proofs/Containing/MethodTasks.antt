@@ -25,7 +25,8 @@ use Rattle.grain_means.specs.Worlds.{Place, Answer}
 use Rattle.grain_means.proofs.Inside.{entry_names}
 use Rattle.grain_means.proofs.Naming.{more_names, values_curry}
 use Rattle.grain_means.proofs.Containing.Parts.{pointer_names}
-use Rattle.grain_means.proofs.Containing.Tasks.{Follows, Goes, LendsSolid, MethodNames, Reading, Solid, TaskNames, ValuesName, by, fails, follows_wider, given, into_answer, out, reads}
+use Rattle.grain_means.proofs.Containing.Asking.{into_answer}
+use Rattle.grain_means.proofs.Containing.Tasks.{Follows, Goes, LendsSolid, MethodNames, Reading, Solid, TaskNames, ValuesName, by, fails, follows_wider, given, out, reads}
 
 -- the walk further on, also where the store has grown
 abbrev pub GoesOn : Bool → Bool → ℕ → Next → Type 0
@@ -109,7 +110,7 @@ module _ (clean bare : Bool) (n : ℕ) (k : ℕ) (g : Setting) (q : Position) (a
       by_method : (o : Option ℕ) (name : List ℕ) →
           TaskNames clean bare n (walks.by_method g k q args last next p done o name)
       by_method None name =
-          (out clean bare n done k f, (values, solid, answered n (omega arith)))
+          (out clean bare n done k f, (values, solid, answered))
       by_method (Some i) name = invokes (Numbered i) tt (Some p) solid args values
 
       by_own : (text : List ℕ) (name argc : ℕ) (d : Dynamic) → Names clean n d → (o : Option FnPtr) →

@@ -16,11 +16,11 @@ use Rattle.grain_means.specs.Places.{look}
 use Rattle.grain_means.specs.Worlds.{Act, Frame, Place, Setup, World}
 use Rattle.grain_means.proofs.CellFree.{none_names}
 use Rattle.grain_means.proofs.Footing.{by_test}
-use Rattle.grain_means.proofs.Naming.{Stands, held_at_names}
+use Rattle.grain_means.proofs.Naming.{Stands, all_wider, held_at_names, held_wider}
 use Rattle.grain_means.proofs.Containing.Roots.{firm_look, look_stands}
 use Rattle.grain_means.proofs.Plain.{NamesNone, no_cell, op_assigned_plain}
 use Rattle.grain_means.proofs.Containing.Parts.{Operands, Arguments, FrameNames, HoldsPlain, home_plain, standing_names, may_stand}
-use Rattle.grain_means.proofs.Containing.Steps.{Stays, Here, raising, pushing, going_on, reading, looking, last, less, moves, asking, giving}
+use Rattle.grain_means.proofs.Containing.Steps.{Stays, Here, frame_wider, raising, pushing, going_on, reading, looking, last, less, moves, asking, giving}
 use Rattle.grain_means.proofs.Containing.Entries.{assigns_at, refuses}
 use Rattle.grain_means.proofs.Containing.Frames.{Grounds}
 
@@ -36,9 +36,12 @@ module _ {S : Type 0} {m : Setup S} (on : Grounds m) where
         giving on n low f names
         (λ r w1. rules.flattened m (read_write r) name f w1 (λ q.
         rules.assigned_at m b (record h { value = q }) name next f w1))
-        (λ r w1 there named. reading on n low f names (read_write r) name w1 there named
+        (λ k le r w1 there named.
+        let more : least ≤ k = omega (arith, low, le) in
+        let wide : FrameNames clean k f = frame_wider on n k f le names in
+        reading on k more f wide (read_write r) name w1 there named
         (λ q. rules.assigned_at m b (record h { value = q }) name next f w1)
-        (λ q read plain. assigns_at on n low f names b (record h { value = q }) name next w1 there
+        (λ q read plain. assigns_at on k more f wide b (record h { value = q }) name next w1 there
         read (may_stand b q plain)))
         op (u ∷ v ∷ []) w at (left, (right, tt))
 
@@ -68,14 +71,26 @@ module _ {S : Type 0} {m : Setup S} (on : Grounds m) where
     by_host_failed b name a h v next x w at own plain right bound =
         let u : Held = record h { value = content_now b h w } in
         by_test (Stays on n low f names) (says_missing (name_of m.program a.op_assign_name) x)
-        (rules.operator_at m b name (name_of m.program a.op_name) h u v next f w)
+        (rules.operator_at m b name (name_of m.program a.op_name) h u v next f
+        (record w { trace = [] }))
         (rules.raised m f x w)
-        (λ missing. by_operator b name (name_of m.program a.op_name) h u v next w at
-        (content_names b h w at own plain) right)
+        (λ missing. by_operator b name (name_of m.program a.op_name) h u v next (record w { trace = [] })
+        at (content_names b h w at own plain) right)
         (λ other. raising on n low f names x w at bound)
 
+  -- once the store has grown
+  stands_wider : (n k : ℕ) → n ≤ k → (h : Held) → Stands clean n h → Stands clean k h
+  stands_wider n k le h p = (held_wider clean n k le h p.0, p.1)
+
+  module _ (n : ℕ) (low : least ≤ n) (f : Frame) (names : FrameNames clean n f) where
+    owns_wider : (k : ℕ) (le : n ≤ k) (more : least ≤ k) (wide : FrameNames clean k f) (b : Home)
+        (h : Held) → Owns n low f names b h → Owns k more f wide b h
+    owns_wider k le more wide (InScope i) h own = stands_wider n k le h own
+    owns_wider k le more wide (InCell i) h own = tt
+    owns_wider k le more wide (AtPlace p) h own = tt
+
     by_host : (b : Home) (name : List ℕ) (a : AssignOp) (h : Held) (u : Dynamic) (v : Held)
-        (next : ℕ) (w : World S) → Here on n low f names w → Owns b h →
+        (next : ℕ) (w : World S) → Here on n low f names w → Owns n low f names b h →
         HoldsPlain b w.scope w.roots → Names clean n u → cell_of u ≡ None →
         Stands clean n v →
         Stays on n low f names (rules.native_assigned_at m b name a h u v next f w)
@@ -83,16 +98,22 @@ module _ {S : Type 0} {m : Setup S} (on : Grounds m) where
         asking on n low f names (Some (record { home = b; held = record h { value = u } }))
         (λ r w1. rules.onward m f (stepped f next (below f.operands)) w1)
         (rules.op_assign_failed_at m b name a h v next f)
-        (λ r w1 there result. going_on on n low f names (stepped f next (below f.operands)) w1 there
-        (moves on n low f names next (below f.operands) (less on n low f names)))
-        (λ x w1 there lends bound. by_host_failed b name a h v next x w1 there own lends right
-        bound)
+        (λ k le r w1 there result.
+        let more : least ≤ k = omega (arith, low, le) in
+        let wide : FrameNames clean k f = frame_wider on n k f le names in
+        going_on on k more f wide (stepped f next (below f.operands)) w1 there
+        (moves on k more f wide next (below f.operands) (less on k more f wide)))
+        (λ k le x w1 there lends bound.
+        let more : least ≤ k = omega (arith, low, le) in
+        let wide : FrameNames clean k f = frame_wider on n k f le names in
+        by_host_failed k more f wide b name a h v next x w1 there (owns_wider k le more wide b h own)
+        lends (stands_wider n k le v right) bound)
         (name_of m.program a.op_assign_name)
         (v ∷ []) w at (home_plain clean n b (record h { value = u }) (left, plain)) stands (right, tt)
 
     pub stores_outcome : (b : Home) (name : List ℕ) (o : Outcome) → NamesNone o → (a : AssignOp)
         (h : Held) (u : Dynamic) (v : Held) (next : ℕ) (w : World S) → Here on n low f names w →
-        Owns b h → HoldsPlain b w.scope w.roots → Names clean n u →
+        Owns n low f names b h → HoldsPlain b w.scope w.roots → Names clean n u →
         cell_of u ≡ None → Stands clean n v →
         Stays on n low f names (rules.outcome_at m b name o a h u v next f w)
     stores_outcome b name NotBuiltIn none a h u v next w at own stands left plain right =
@@ -113,7 +134,7 @@ module _ {S : Type 0} {m : Setup S} (on : Grounds m) where
 
     -- an entry that is no cell holds none
     entry_owns : (h : Held) (i : ℕ) → HeldNames clean n h → (c : Option ℕ) → cell_of h.value ≡ c →
-        Owns (in_entry i c) h
+        Owns n low f names (in_entry i c) h
     entry_owns h i named None is = (named, λ s. is)
     entry_owns h i named (Some j) is = tt
 
@@ -151,7 +172,7 @@ module _ {S : Type 0} {m : Setup S} (on : Grounds m) where
         (right, λ s. plain)))))
 
     -- a place at which no cell stands is firm, and a cell is none of the roots
-    pub place_owns : (h : Held) (p : Place) (c : Option ℕ) → Owns (at_place_of p c) h
+    pub place_owns : (h : Held) (p : Place) (c : Option ℕ) → Owns n low f names (at_place_of p c) h
     place_owns h p None = tt
     place_owns h p (Some j) = tt
 
@@ -166,7 +187,9 @@ module _ {S : Type 0} {m : Setup S} (on : Grounds m) where
         w)
     pushes_outcome NotBuiltIn none name args next ops w at given left =
         giving on n low f names (λ v w1. rules.pushed m f next ops v w1)
-        (λ v w1 there named. pushing on n low f names next ops v w1 there left named)
+        (λ k le v w1 there named. pushing on k (omega (arith, low, le)) f (frame_wider on n k f le names)
+        next ops v w1 there
+        (all_wider (HeldNames clean n) (HeldNames clean k) (held_wider clean n k le) ops left) named)
         name args w at given
     pushes_outcome (Gave v) none name args next ops w at given left =
         pushing on n low f names next ops v w at left (none_names clean n v none)

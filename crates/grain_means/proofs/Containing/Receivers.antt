@@ -23,13 +23,14 @@ use Rattle.grain_means.proofs.Footing.{by_test}
 use Rattle.grain_means.proofs.Inside.{may_put}
 use Rattle.grain_means.proofs.Naming.{CellHolds, all_got, all_joined, arguments_name, curried_names, flat_all_names, under_names}
 use Rattle.grain_means.proofs.Containing.Calls.{calls_pointed, no_pointer, under_it}
-use Rattle.grain_means.proofs.Containing.Frames.{Grounds, At, Leaves, entry_set, offered, root_put}
+use Rattle.grain_means.proofs.Containing.Frames.{Grounds, bases, entry_set, offered}
+use Rattle.grain_means.proofs.Containing.Leaving.{Bases, At, Leaves, root_put}
 use Rattle.grain_means.proofs.Containing.Keeping.{Since, cell_back, cell_lent, joined_on, root_gone, with_root}
 use Rattle.grain_means.proofs.Containing.Parts.{Arguments, FrameNames, Operands, pointer_names}
 use Rattle.grain_means.proofs.Containing.Roots.{FirmAt, firm_look, look_names, look_whole, new_root_plain}
 use Rattle.grain_means.proofs.Containing.Steps.{Stays, Here, frame_wider, marking, pushing, raising, reading}
 use Rattle.grain_means.proofs.Containing.Tasks.{ValuesName}
-use Rattle.grain_means.proofs.Containing.Walks.{Hears, HearsNow, calls, fails_so, held_values, lends_native}
+use Rattle.grain_means.proofs.Containing.Walks.{Hears, calls, fails_so, held_values, lends_native}
 
 -- the values of operands
 values_name : (clean : Bool) (n : ℕ) (hs : List Held) → Operands clean n hs →
@@ -43,7 +44,7 @@ no_cell None b e = refl
 no_cell (Some i) b e = absurd cc
 
 -- what is called on a receiver
-module _ {S : Type 0} {m : Setup S} (on : Grounds m) (to : Since) (n : ℕ)
+module _ {S : Type 0} {m : Setup S} (on : Bases m) (to : Since) (n : ℕ)
     (low : on.least ≤ n) (f : Frame) (heard : Answer → World S → Act S)
     (hears : Hears on to n heard) where
   open on use {clean, least, since}
@@ -53,14 +54,14 @@ module _ {S : Type 0} {m : Setup S} (on : Grounds m) (to : Since) (n : ℕ)
       Arguments clean n args → (w : World S) → slice_get w.cells i ≡ o → At on n w →
       Leaves m clean to n (rules.native_lent_cell m o i read_only name args f heard w)
   lends_cell None i read_only name args given w is at =
-      fails_so on to n low heard (hears n (omega arith))
+      fails_so on to n low heard hears
       (Plain (DataRace (race_text [])) (rules.position m f)) w at (omega arith, λ s. refl)
   lends_cell (Some c) i read_only name args given w is at =
       by_test (Leaves m clean to n) c.busy
       (rules.failed_so m heard (Plain (DataRace (race_text [])) (rules.position m f)) w)
       (rules.native_lent m name args f back (new_root w.roots)
       (record w { roots = w.roots ++ content ∷ []; cells = lents }))
-      (λ busy. fails_so on to n low heard (hears n (omega arith))
+      (λ busy. fails_so on to n low heard hears
       (Plain (DataRace (race_text [])) (rules.position m f)) w at (omega arith, λ s. refl))
       (λ free. lends_native inner to n low back backs name args f given (Some (new_root w.roots))
       (new_root_plain w.roots content here.flat)
@@ -75,22 +76,22 @@ module _ {S : Type 0} {m : Setup S} (on : Grounds m) (to : Since) (n : ℕ)
         here : CellHolds clean n c
         here = all_got (CellHolds clean n) w.cells i c at.contents is
 
-        inner : Grounds m
-        inner = record on { since = record { cells = lents; roots = w.roots ++ content ∷ [] } }
+        inner : Bases m
+        inner = record on { since = record since { cells = lents; roots = w.roots ++ content ∷ [] } }
 
         back : Answer → World S → Act S
         back = rules.cell_given_back m i c.held (length w.roots) heard
 
-        backs : HearsNow inner to n back
-        backs a v named there =
+        backs : Hears inner to n back
+        backs j le a v named there =
             let r : Held = look v.roots (root_at (length w.roots)) in
-            hears n (omega arith) a (record v {
+            hears j le a (record v {
               cells = slice_set v.cells i (idle (record c.held { value = r.value }));
               roots = take (length w.roots) v.roots;
             }) named
             (cell_back i c.held (record c.held { value = r.value })
-            (look_names clean n v.roots (w.roots ++ content ∷ []) (root_at (length w.roots)) there.stand)
-            (look_whole clean n v.roots (w.roots ++ content ∷ []) (length w.roots) there.stand
+            (look_names clean j v.roots (w.roots ++ content ∷ []) (root_at (length w.roots)) there.stand)
+            (look_whole clean j v.roots (w.roots ++ content ∷ []) (length w.roots) there.stand
             (new_root_plain w.roots content here.flat)) at (root_gone w.roots content there))
 
   module _ (p : Place) (w : World S) (at : At on n w)
@@ -99,7 +100,7 @@ module _ {S : Type 0} {m : Setup S} (on : Grounds m) (to : Since) (n : ℕ)
         (args : List Held) → Arguments clean n args →
         Leaves m clean to n (rules.native_on m o (look w.roots p) name args f heard p w)
     calls_native None is name args given =
-        lends_native on to n low heard (hears n (omega arith)) name args f given (Some p) (firm is) w at
+        lends_native on to n low heard hears name args f given (Some p) (firm is) w at
     calls_native (Some i) is name args given =
         lends_cell (slice_get w.cells i) i (look w.roots p).read_only name args given w refl at
 
@@ -107,7 +108,7 @@ module _ {S : Type 0} {m : Setup S} (on : Grounds m) (to : Since) (n : ℕ)
         flat_all w.cells args ≡ o → (name : List ℕ) →
         Leaves m clean to n (rules.native_on_read m o name f heard p w)
     reads_native None args given is name =
-        fails_so on to n low heard (hears n (omega arith))
+        fails_so on to n low heard hears
         (Plain (DataRace (race_text [])) (rules.position m f)) w at (omega arith, λ s. refl)
     reads_native (Some read) args given is name =
         calls_native (cell_of (look w.roots p).value) refl name read
@@ -159,7 +160,7 @@ module _ {S : Type 0} {m : Setup S} (on : Grounds m) where
       in_this None = call_over a named w at
       in_this (Some p) =
           call_over a named (record w { roots = put w.roots p h.value })
-          (root_put on n low w p h.value at held (may_put clean n p.path h.value plain))
+          (root_put (bases on) n low w p h.value at held (may_put clean n p.path h.value plain))
 
       goes_to : (d : Destination) → Stays on n low f names (rules.over_at m d h next f a w)
       goes_to Nowhere = call_over a named w at
@@ -182,8 +183,8 @@ module _ {S : Type 0} {m : Setup S} (on : Grounds m) where
         Stays on n low f names (rules.receiver_called m d r values h next f w)
     calls_receiver d r pointer values given h held next w at =
         marking on n low f names w begins at
-        (calls_callee inner since n low f over overs (new_root w.roots) grown (with_root receiver held at)
-        (firm_look grown.roots (new_root w.roots))
+        (calls_callee (bases inner) since n low f over overs (new_root w.roots) grown
+        (with_root receiver held at) (firm_look grown.roots (new_root w.roots))
         (function_by_name m.program r.name (length r.curry + length values)) r
         (curried_in r ++ map read_write values)
         (all_joined (HeldNames clean n) (curried_in r) (map read_write values)
@@ -195,7 +196,7 @@ module _ {S : Type 0} {m : Setup S} (on : Grounds m) where
           grown = record w { passed = w.passed + 1; roots = w.roots ++ receiver ∷ [] }
 
           inner : Grounds m
-          inner = record on { since = record { cells = w.cells; roots = w.roots ++ receiver ∷ [] } }
+          inner = record on { since = record since { cells = w.cells; roots = w.roots ++ receiver ∷ [] } }
 
           over : Answer → World S → Act S
           over = rules.root_over m d next f (length w.roots)
@@ -207,7 +208,7 @@ module _ {S : Type 0} {m : Setup S} (on : Grounds m) where
               (new_root w1.roots)
               (record w1 { roots = w1.roots ++ record h { read_only = is_read_only w1 h } ∷ [] })
 
-          overs : Hears inner since n over
+          overs : Hears (bases inner) since n over
           overs j le a v named there =
               receiver_over j (omega (arith, low, le)) f (frame_wider on n j f le names) next a named d
               (look v.roots (root_at (length w.roots)))

@@ -22,16 +22,17 @@ use Rattle.grain_program.specs.View.{name_of}
 use Rattle.grain_program.specs.declared.code.parts.AssignOp.{AssignOp}
 use Rattle.grain_program.specs.declared.code.chains.Step.{Step}
 use Rattle.grain_program.specs.declared.code.chains.Step.TheVariants as step
-use Rattle.grain_means.specs.Contained.{HeldNames, Names, ProblemNames}
+use Rattle.grain_means.specs.Contained.{AnswerNames, HeldNames, Names, ProblemNames}
 use Rattle.grain_means.specs.Tasks.{WalkEnded, Task, Done}
 use Rattle.grain_means.specs.Walks as walks
 use Rattle.grain_means.specs.Walks.{Setting, Course, Rest, Next, Role, Passes, Reads, Writes, Operates, Origin, OfIndex, OfProperty, OfNothing, assigning, flattening, is_indexed, origin_of_part, out_of_bounds, role_at_end, skips, with_key}
 use Rattle.grain_means.specs.Rules.{asks_root}
-use Rattle.grain_means.specs.Worlds.{Place}
+use Rattle.grain_means.specs.Worlds.{Answer, Place}
 use Rattle.grain_means.proofs.Inside.{TreeNames, entry_put}
 use Rattle.grain_means.proofs.Naming.{all_drop, all_take, all_wider}
 use Rattle.grain_means.proofs.Containing.MethodTasks.{GoesOn, asks_shared_step, method_step}
-use Rattle.grain_means.proofs.Containing.Tasks.{part_none, PlainValue, Solid, TaskNames, ValuesName, Follows, Goes, OriginNames, by, now, out, unit_names, names_wider, assigned, fails, reads, sets_index, given, index_read, sets_property, gets_property, operates, roots, into_answer}
+use Rattle.grain_means.proofs.Containing.Asking.{gets_property, index_read, into_answer, operates, origin_wider, roots, sets_index, sets_property}
+use Rattle.grain_means.proofs.Containing.Tasks.{part_none, PlainValue, Solid, TaskNames, ValuesName, Follows, Goes, OriginNames, Reading, ReadsOn, by, now, out, unit_names, names_wider, follows_wider, assigned, fails, reads, given}
 
 -- an index that nothing stands at is a number
 bounds_none : (d : Dynamic) (size : ℕ) (i : _) (q : Position) (clean : Bool) (n : ℕ) →
@@ -71,26 +72,40 @@ module _ (clean bare : Bool) (n : ℕ) where
         (roots clean bare n k g o p from (record h { value = dynamic.Unit })
         ((omega arith, λ s. refl), refl) next on done f))
 
+    -- what an index names, with the store as it is once a native was asked
+    index_answer : (q : Position) (own : Bool) (i : Dynamic) → Names clean n i → (bracket : Position) →
+        (next : Next) → GoesOn clean bare n next → (p : Place) → Solid bare p → (done : Rest) →
+        Follows clean bare n done → (j : ℕ) → n ≤ j →
+        Reading clean bare j (walks.into_answer g k q own (OfIndex i bracket) next p done)
+    index_answer q own i index bracket next on p solid done f j le =
+        into_answer clean bare j k g q own (OfIndex i bracket) p (names_wider clean n j le i index, solid)
+        next (on j le) done (follows_wider clean bare n j le done f)
+
+    index_given : (q : Position) (own : Bool) (i : Dynamic) → Names clean n i → (bracket : Position) →
+        (next : Next) → GoesOn clean bare n next → (p : Place) → Solid bare p → (done : Rest) →
+        Follows clean bare n done → (j : ℕ) → n ≤ j → (a : Answer) → AnswerNames clean j a →
+        TaskNames clean bare j
+        (walks.was_given k done (walks.into_answer g k q own (OfIndex i bracket) next p done) a)
+    index_given q own i index bracket next on p solid done f j le =
+        given clean bare j k done (walks.into_answer g k q own (OfIndex i bracket) next p done)
+        (follows_wider clean bare n j le done f)
+        (index_answer q own i index bracket next on p solid done f j le)
+
+    operates_on : (q : Position) (a : AssignOp) (v : Dynamic) → Names clean n v →
+        GoesOn clean bare n (walks.operating g k q a v)
+    operates_on q a v value = λ j le.
+        operates clean bare j k g q a v (names_wider clean n j le v value)
+
     by_indexer : (q bracket : Position) (role : Role) → RoleNames role → (i : Dynamic) →
-        Names clean n i → (next : Next) → Goes clean bare n next →
+        Names clean n i → (next : Next) → GoesOn clean bare n next →
         Goes clean bare n (walks.by_indexer g k q bracket role i next)
     by_indexer q bracket Passes value i index next on p solid done f = (
       out clean bare n done k f,
-      (
-        (index, tt),
-        solid,
-        given clean bare n k done (walks.into_answer g k q false (OfIndex i bracket) next p done) f
-            (into_answer clean bare n k g q false (OfIndex i bracket) p (index, solid) next on done f),
-      ),
+      ((index, tt), solid, index_given q false i index bracket next on p solid done f),
     )
     by_indexer q bracket Reads value i index next on p solid done f = (
       out clean bare n done k f,
-      (
-        (index, tt),
-        solid,
-        given clean bare n k done (walks.into_answer g k q true (OfIndex i bracket) next p done) f
-            (into_answer clean bare n k g q true (OfIndex i bracket) p (index, solid) next on done f),
-      ),
+      ((index, tt), solid, index_given q true i index bracket next on p solid done f),
     )
     by_indexer q bracket (Writes v) value i index next on p solid done f =
         sets_index clean bare n k bracket p i v dynamic.Unit done solid f index value
@@ -100,11 +115,12 @@ module _ (clean bare : Bool) (n : ℕ) where
       (
         (index, tt),
         solid,
-        index_read clean bare n k bracket p i v done
+        λ j le. index_read clean bare j k bracket p i v done
             (walks.into_answer g k bracket false (OfIndex i bracket) (walks.operating g k bracket a v) p
-            done) solid f index value
-            (into_answer clean bare n k g bracket false (OfIndex i bracket) p (index, solid)
-            (walks.operating g k bracket a v) (operates clean bare n k g bracket a v value) done f),
+            done) solid (follows_wider clean bare n j le done f) (names_wider clean n j le i index)
+            (names_wider clean n j le v value)
+            (index_answer bracket false i index bracket (walks.operating g k bracket a v)
+            (operates_on bracket a v value) p solid done f j le),
       ),
     )
 
@@ -116,21 +132,22 @@ module _ (clean bare : Bool) (n : ℕ) where
 
     indexed : (q bracket : Position) (role : Role) → RoleNames role → (i v : Dynamic) →
         Names clean n i → (h : Held) → HeldNames clean n h → cell_of h.value ≡ None →
-        (next : Next) → Goes clean bare n next → (p : Place) → Solid bare p → (done : Rest) →
+        (next : Next) → GoesOn clean bare n next → (p : Place) → Solid bare p → (done : Rest) →
         Follows clean bare n done → (r : Result Spot ValueFault) →
         TaskNames clean bare n (walks.indexed g k q bracket role i v h next p done r)
     indexed q bracket role value i v index h held plain next on p solid done f (Ok (spot.Item j)) =
-        (out clean bare n done k f, on _ solid done f)
+        (out clean bare n done k f, on n (omega arith) _ solid done f)
     indexed q bracket role value i v index h held plain next on p solid done f (Ok spot.Key) =
-        (out clean bare n done k f, on _ solid done f)
+        (out clean bare n done k f, on n (omega arith) _ solid done f)
     indexed q bracket role value i v index h held plain next on p solid done f (Ok s) =
         roots clean bare n k g (origin_of_part role s) p (part_origin role s p)
-        (record h { value = part h.value s }) (part_none h.value s clean n) next on done f
+        (record h { value = part h.value s }) (part_none h.value s clean n) next (on n (omega arith)) done f
     indexed q bracket role value i v index h held plain next on p solid done f
         (Err (fault.Bounds size j)) =
         fails clean bare n k _ done f (bounds_none h.value size j q clean n)
     indexed q bracket role value i v index h held plain next on p solid done f (Err fault.NoKey) =
-        missing_key q (OfIndex i bracket) role _ h held plain next on p solid (index, solid) done f
+        missing_key q (OfIndex i bracket) role _ h held plain next (on n (omega arith)) p solid
+        (index, solid) done f
     indexed q bracket role value i v index h held plain next on p solid done f
         (Err fault.WrongType) = fails clean bare n k _ done f (omega arith, λ s. refl)
     indexed q bracket role value i v index h held plain next on p solid done f (Err e) =
@@ -146,7 +163,7 @@ module _ (clean bare : Bool) (n : ℕ) where
     indexed_plain d e = absurd cc
 
     index_step : (i : Dynamic) → Names clean n i → (q bracket : Position) (role : Role) →
-        RoleNames role → (next : Next) → Goes clean bare n next →
+        RoleNames role → (next : Next) → GoesOn clean bare n next →
         Goes clean bare n (walks.index_step g k i q bracket role next)
     index_step i index q bracket role value next on p solid done f = λ h held.
         by_kind h held (is_indexed h.value) refl where
@@ -161,34 +178,45 @@ module _ (clean bare : Bool) (n : ℕ) where
               (indexed_plain h.value e) next on p solid done f (locate h.value v))
           by_kind h held false e = by_indexer q bracket role value i index next on p solid done f
 
+    property_answer : (own : Bool) (o : Origin) (q : Position) (p : Place) →
+        OriginNames clean bare n o p → (next : Next) → GoesOn clean bare n next → (done : Rest) →
+        Follows clean bare n done → ReadsOn clean bare n (walks.into_answer g k q own o next p done)
+    property_answer own o q p from next on done f = λ j le.
+        into_answer clean bare j k g q own o p (origin_wider clean bare n j le o p from) next (on j le)
+        done (follows_wider clean bare n j le done f)
+
     by_accessor : (name getter setter : ℕ) (q : Position) (role : Role) → RoleNames role →
-        (next : Next) → Goes clean bare n next →
+        (next : Next) → GoesOn clean bare n next →
         Goes clean bare n (walks.by_accessor g k name getter setter q role next)
     by_accessor name getter setter q Passes value next on p solid done f =
-        gets_property clean bare n k g name getter q p done _ solid f
-        (into_answer clean bare n k g q false (OfProperty name setter q false) p solid next on done f)
+        gets_property clean bare n k g name getter q p done
+        (walks.into_answer g k q false (OfProperty name setter q false) next p done) solid f
+        (property_answer false (OfProperty name setter q false) q p solid next on done f)
     by_accessor name getter setter q Reads value next on p solid done f =
-        gets_property clean bare n k g name getter q p done _ solid f
-        (into_answer clean bare n k g q true (OfProperty name setter q false) p solid next on done f)
+        gets_property clean bare n k g name getter q p done
+        (walks.into_answer g k q true (OfProperty name setter q false) next p done) solid f
+        (property_answer true (OfProperty name setter q false) q p solid next on done f)
     by_accessor name getter setter q (Writes v) value next on p solid done f =
         sets_property clean bare n k g name setter q true p v dynamic.Unit done solid f value
         (unit_names clean bare n)
     by_accessor name getter setter q (Operates v a) value next on p solid done f =
-        gets_property clean bare n k g name getter q p done _ solid f
-        (into_answer clean bare n k g q false (OfProperty name setter q true) p solid
-        (walks.operating g k q a v) (operates clean bare n k g q a v value) done f)
+        gets_property clean bare n k g name getter q p done
+        (walks.into_answer g k q false (OfProperty name setter q true) (walks.operating g k q a v) p done)
+        solid f
+        (property_answer false (OfProperty name setter q true) q p solid (walks.operating g k q a v)
+        (operates_on q a v value) done f)
 
     at_key : (q : Position) (role : Role) (name : List ℕ) (h : Held) → HeldNames clean n h →
-        cell_of h.value ≡ None → (next : Next) → Goes clean bare n next → (p : Place) →
+        cell_of h.value ≡ None → (next : Next) → GoesOn clean bare n next → (p : Place) →
         Solid bare p → (done : Rest) → Follows clean bare n done → (t : Option Tree) →
         TaskNames clean bare n (walks.at_key g k q role name h next p done t)
     at_key q role name h held plain next on p solid done f (Some t) =
-        (out clean bare n done k f, on _ solid done f)
+        (out clean bare n done k f, on n (omega arith) _ solid done f)
     at_key q role name h held plain next on p solid done f None =
-        missing_key q OfNothing role name h held plain next on p solid tt done f
+        missing_key q OfNothing role name h held plain next (on n (omega arith)) p solid tt done f
 
     property_step : (name getter setter : ℕ) (q : Position) (role : Role) → RoleNames role →
-        (next : Next) → Goes clean bare n next →
+        (next : Next) → GoesOn clean bare n next →
         Goes clean bare n (walks.property_step g k name getter setter q role next)
     property_step name getter setter q role value next on p solid done f = λ h held.
         at h held h.value refl where
@@ -261,10 +289,9 @@ module _ (clean bare : Bool) (c : Course) where
         GoesOn clean bare n next → Goes clean bare n (walks.taken c s k role next)
     takes k (step.Index i flags q bracket) role named next on =
         index_step clean bare n k c.setting (walks.operand c i)
-        (trees_got clean n c.operands i names.0) q bracket role named next (on n (omega arith))
+        (trees_got clean n c.operands i names.0) q bracket role named next on
     takes k (step.Property name getter setter flags q) role named next on =
-        property_step clean bare n k c.setting name getter setter q role named next
-        (on n (omega arith))
+        property_step clean bare n k c.setting name getter setter q role named next on
     takes k (step.Method name argc i flags q) role named next on =
         method_step clean bare n k c.setting q (walks.operands_from c i argc)
         (method_operands i argc) (walks.reads role) next on name argc

@@ -11,7 +11,7 @@ use Rattle.grain_means.specs.Rules.{Home, Receiver, bound, given, held_at, stepp
 use Rattle.grain_means.specs.Worlds.{Act, Frame, Handler, Setup, World}
 use Rattle.grain_means.proofs.Naming.{all_wider, held_wider, top_names, under_names}
 use Rattle.grain_means.proofs.Containing.Parts.{CaughtNames, HandlerNames, Operands, Arguments, FrameNames, MayStand, ReceiverNames, LendsPlain}
-use Rattle.grain_means.proofs.Containing.Frames.{Grounds, At, Within, leaves, marks, raises, onward, reads, looks, writes, pushes}
+use Rattle.grain_means.proofs.Containing.Frames.{Grounds, At, Within, bases, leaves, marks, raises, onward, reads, looks, writes, pushes}
 use Rattle.grain_means.proofs.Containing.Natives.{natives}
 
 module _ {S : Type 0} {m : Setup S} (on : Grounds m) where
@@ -79,24 +79,29 @@ module _ {S : Type 0} {m : Setup S} (on : Grounds m) where
         (stepped f next ops)
     moves next ops held = (held, names.1)
 
+  module _ (n : ℕ) (low : least ≤ n) (f : Frame) (names : FrameNames clean n f) where
     pub asking : (r : Option Receiver) (go : Dynamic → World S → Act S)
         (fails : Problem → World S → Act S) →
-        ((v : Dynamic) (w : World S) → Here w → Names clean n v → Stays (go v w)) →
-        ((x : Problem) (w : World S) → Here w → LendsPlain r w.scope w.roots →
-        ProblemNames clean n x → Stays (fails x w)) →
-        (name : List ℕ) (args : List Held) (w : World S) → Here w → ReceiverNames clean n r →
+        ((k : ℕ) → n ≤ k → (v : Dynamic) (w : World S) → At on k w → Names clean k v →
+        Within on k (go v w)) →
+        ((k : ℕ) → n ≤ k → (x : Problem) (w : World S) → At on k w → LendsPlain r w.scope w.roots →
+        ProblemNames clean k x → Within on k (fails x w)) →
+        (name : List ℕ) (args : List Held) (w : World S) → At on n w → ReceiverNames clean n r →
         LendsPlain r w.scope w.roots → Arguments clean n args →
-        Stays (rules.native m name r args f w go fails)
+        Within on n (rules.native m name r args f w go fails)
     asking r go fails going failing name args w at receiver plain given =
-        natives on on.since n low (rules.leave_by_fault m f NoMemory)
-        (λ v there. leaves on n low f NoMemory v there (omega arith, λ s. refl)) f r go fails going
-        failing name args w at receiver plain given
+        natives (bases on) on.since n low (rules.leave_by_fault m f NoMemory)
+        (λ k le v there. leaves on k (omega (arith, low, le)) f NoMemory v there (omega arith, λ s. refl))
+        f r go fails going failing name args w at receiver plain given
 
     -- a native that is lent nothing
     pub giving : (go : Dynamic → World S → Act S) →
-        ((v : Dynamic) (w : World S) → Here w → Names clean n v → Stays (go v w)) →
-        (name : List ℕ) (args : List Held) (w : World S) → Here w → Arguments clean n args →
-        Stays (rules.native m name None args f w go (rules.raised m f))
+        ((k : ℕ) → n ≤ k → (v : Dynamic) (w : World S) → At on k w → Names clean k v →
+        Within on k (go v w)) →
+        (name : List ℕ) (args : List Held) (w : World S) → At on n w → Arguments clean n args →
+        Within on n (rules.native m name None args f w go (rules.raised m f))
     giving go going name args w at given =
-        asking None go (rules.raised m f) going (λ x w1 there plain bound. raising x w1 there bound)
+        asking None go (rules.raised m f) going
+        (λ k le x w1 there plain bound. raises on k (omega (arith, low, le)) f
+        (frame_wider n k f le names) x w1 there bound)
         name args w at tt tt given

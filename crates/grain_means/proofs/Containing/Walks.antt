@@ -9,11 +9,12 @@ use Rattle.grain_value.specs.declared.values.FnPtr.{FnPtr}
 use Rattle.grain_value.specs.declared.values.Held.{Held}
 use Rattle.grain_fault.specs.Problems.{Problem, Plain, DataRace, NoMemory}
 use Rattle.grain_fault.specs.declared.places.Position.{Position}
+use Rattle.grain_fault.specs.declared.traces.Fault.{Fault}
 use Rattle.grain_program.specs.declared.code.functions.Function.{Function}
 use Rattle.grain_means.specs.Contained.{AnswerNames, HeldNames, Names, ProblemNames}
 use Rattle.grain_means.specs.Places.{look, put}
 use Rattle.grain_means.specs.Rules as rules
-use Rattle.grain_means.specs.Rules.{at_step, curried_in, flat_all, function_by_name, function_numbered, is_stop, lent_at, placed, pointed_native, race_text}
+use Rattle.grain_means.specs.Rules.{at_step, curried_in, flat_all, function_by_name, function_numbered, is_stop, lent_at, missed_by, placed, pointed_native, race_text, trace_of}
 use Rattle.grain_means.specs.Tasks.{Task, Done, Mark, Look, Flatten, Write, Root, Drop, Need, Invoke, Call, Invocation, Method, Numbered, Pointed, Walked}
 use Rattle.grain_means.specs.Worlds.{Act, Answer, Came, Failed, Frame, Place, Setup, World}
 use Rattle.grain_means.proofs.Footing.{by_test}
@@ -21,7 +22,7 @@ use Rattle.grain_means.proofs.Inside.{may_put}
 use Rattle.grain_means.proofs.Naming.{all_joined, curried_names, curry_values, flat_all_names, flat_names}
 use Rattle.grain_means.proofs.Containing.Parts.{Arguments, LendsPlain, Operands, ReceiverNames}
 use Rattle.grain_means.proofs.Containing.Bodies.{body_calls, body_fails}
-use Rattle.grain_means.proofs.Containing.Frames.{Grounds, At, Leaves, fails_or, root_put}
+use Rattle.grain_means.proofs.Containing.Leaving.{Bases, At, Leaves, fails_or, root_put}
 use Rattle.grain_means.proofs.Containing.Natives.{natives}
 use Rattle.grain_means.proofs.Containing.Roots.{FirmAt, firm_still, look_back, look_names, roots_added, roots_taken}
 use Rattle.grain_means.proofs.Containing.Keeping.{Since, joined_on, root_gone, with_root}
@@ -33,7 +34,7 @@ pub held_values : (clean : Bool) (n : ℕ) (vs : List Dynamic) → ValuesName cl
 held_values clean n [] h = tt
 held_values clean n (v ∷ vs) h = (h.0, held_values clean n vs h.1)
 
-module _ {S : Type 0} {m : Setup S} (on : Grounds m) (to : Since) where
+module _ {S : Type 0} {m : Setup S} (on : Bases m) (to : Since) where
   open on use {clean, least, since}
 
   -- what follows from an answer, also where the store has grown
@@ -42,28 +43,26 @@ module _ {S : Type 0} {m : Setup S} (on : Grounds m) (to : Since) where
       (j : ℕ) → n ≤ j → (a : Answer) (w : World S) → AnswerNames clean j a → At on j w →
       Leaves m clean to j (heard a w)
 
-  abbrev pub HearsNow : ℕ → (Answer → World S → Act S) → Type 0
-  HearsNow n heard =
-      (a : Answer) (w : World S) → AnswerNames clean n a → At on n w → Leaves m clean to n (heard a w)
-
   -- what a place has to be so that it may be lent
   abbrev pub LendsFirm : Option Place → Type 0
   LendsFirm None = Unit {0}
   LendsFirm (Some p) = FirmAt since.roots p
 
   module _ (n : ℕ) (low : least ≤ n) (heard : Answer → World S → Act S)
-      (hears : HearsNow n heard) where
-    outs : (w : World S) → At on n w → Leaves m clean to n (heard (Failed NoMemory) w)
-    outs w at = hears (Failed NoMemory) w (omega arith, λ s. refl) at
+      (hears : Hears n heard) where
+    outs : (j : ℕ) → n ≤ j → (w : World S) → At on j w →
+        Leaves m clean to j (heard (Failed NoMemory) w)
+    outs j le w at = hears j le (Failed NoMemory) w (omega arith, λ s. refl) at
 
-    failing : (x : Problem) (w : World S) → At on n w → ProblemNames clean n x →
-        Leaves m clean to n (heard (Failed x) w)
-    failing x w at bound = hears (Failed x) w bound at
+    pub fails_later : (j : ℕ) → n ≤ j → (x : Problem) (w : World S) → At on j w →
+        ProblemNames clean j x → Leaves m clean to j (rules.failed_so m heard x w)
+    fails_later j le x w at bound =
+        fails_or on to j (heard (Failed NoMemory)) (outs j le) (λ y. heard (Failed y))
+        (λ y v there within. hears j le (Failed y) v within there) x w at bound
 
     pub fails_so : (x : Problem) (w : World S) → At on n w → ProblemNames clean n x →
         Leaves m clean to n (rules.failed_so m heard x w)
-    fails_so x w at bound =
-        fails_or on to n (heard (Failed NoMemory)) outs (λ y. heard (Failed y)) failing x w at bound
+    fails_so x w at bound = fails_later n (omega arith) x w at bound
 
     -- what is lent at a place
     lent_names : (o : Option Place) → LendsFirm o → (w : World S) → At on n w →
@@ -88,8 +87,8 @@ module _ {S : Type 0} {m : Setup S} (on : Grounds m) (to : Since) where
     lends_native name args e given o firm w at =
         natives on to n low (heard (Failed NoMemory)) outs e (lent_at w.roots o)
         (λ v w1. heard (Came v) w1) (rules.failed_so m heard)
-        (λ v w1 there named. hears (Came v) w1 named there)
-        (λ x w1 there plain bound. fails_so x w1 there bound) name args w at
+        (λ j le v w1 there named. hears j le (Came v) w1 named there)
+        (λ j le x w1 there plain bound. fails_later j le x w1 there bound) name args w at
         (lent_names o firm w at) (lent_plain o firm w at) given
 
     -- a native that a walk calls
@@ -127,7 +126,7 @@ module _ {S : Type 0} {m : Setup S} (on : Grounds m) (to : Since) where
       (λ x. heard (Failed x)) (λ x v there bound. hears n (omega arith) (Failed x) v bound there) q g
       args given this (rules.body_over m q g heard) (overs q g n low heard hears) w at
 
-module _ {S : Type 0} {m : Setup S} (on : Grounds m) (to : Since) where
+module _ {S : Type 0} {m : Setup S} (on : Bases m) (to : Since) where
   open on use {clean, least, since}
 
   module _ (n : ℕ) (low : least ≤ n) (heard : Answer → World S → Act S)
@@ -138,7 +137,7 @@ module _ {S : Type 0} {m : Setup S} (on : Grounds m) (to : Since) where
         Leaves m clean to n (rules.function_under m q g args
         (rules.copy_dropped m (length w.roots) heard) this (record w { roots = w.roots ++ h ∷ [] }))
     copied q g args given h held this w at =
-        under (record on { since = record { cells = w.cells; roots = w.roots ++ h ∷ [] } }) to q g args
+        under (record on { since = record since { cells = w.cells; roots = w.roots ++ h ∷ [] } }) to q g args
         n low given (rules.copy_dropped m (length w.roots) heard)
         (λ j le a v named there. hears j le a (record v { roots = take (length w.roots) v.roots }) named
         (joined_on at (root_gone w.roots h there))) this (record w { roots = w.roots ++ h ∷ [] })
@@ -164,7 +163,7 @@ module _ {S : Type 0} {m : Setup S} (on : Grounds m) (to : Since) where
       calls_pointed : (r : FnPtr) → Names clean n (dynamic.Pointer r) → (g : Option Function)
           (w : World S) → At on n w → Leaves m clean to n (rules.pointed_called m k f i o heard r g w)
       calls_pointed r named None w at =
-          performs on to n low heard (hears n (omega arith)) k f (pointed_native i r) o firm
+          performs on to n low heard hears k f (pointed_native i r) o firm
           (all_joined (Names clean n) (map value_of r.curry) i.values
           (curry_values clean n r.curry named) values) w at
       calls_pointed r named (Some g) w at =
@@ -193,8 +192,8 @@ module _ {S : Type 0} {m : Setup S} (on : Grounds m) (to : Since) where
       (done : Walked → World S → Act S) (first : ℕ)
       (over : (n : ℕ) → first ≤ n → (o : Walked) (w : World S) → WalkedNames clean n o → At on n w →
       Leaves m clean to n (done o w)) where
-    abbrev Walks : ℕ → Task → World S → Type 0
-    Walks n t w = Leaves m clean to n (rules.walks m k f p i t done w)
+    abbrev Walks : ℕ → Option (List Fault) → Task → World S → Type 0
+    Walks n missed t w = Leaves m clean to n (rules.walks m k f p i missed t done w)
 
     lends : (o : Option Place) → LendsSolid bare o →
         LendsFirm on to (option_map (placed p i) o)
@@ -202,57 +201,64 @@ module _ {S : Type 0} {m : Setup S} (on : Grounds m) (to : Since) where
     lends (Some q) solid = firm q solid
 
     pub walks_within : (t : Task) (n : ℕ) → least ≤ n → first ≤ n → TaskNames clean bare n t →
-        (w : World S) → At on n w → Walks n t w
-    walks_within (Done o) n low le h w at = over n le o w h at
-    walks_within (Mark out go) n low le h w at =
-        by_test (Leaves m clean to n) (is_stop m.stop w.passed) (rules.walks m k f p i out done w)
-        (rules.walks m k f p i go done (record w { passed = w.passed + 1 }))
-        (λ stop. walks_within out n low le h.0 w at)
-        (λ clear. walks_within go n low le h.1 (record w { passed = w.passed + 1 }) at)
-    walks_within (Look q go) n low le h w at =
+        (missed : Option (List Fault)) (w : World S) → At on n w → Walks n missed t w
+    walks_within (Done o) n low le h missed w at = over n le o w h at
+    walks_within (Mark out go) n low le h missed w at =
+        by_test (Leaves m clean to n) (is_stop m.stop w.passed) (rules.walks m k f p i missed out done w)
+        (rules.walks m k f p i missed go done (record w { passed = w.passed + 1 }))
+        (λ stop. walks_within out n low le h.0 missed w at)
+        (λ clear. walks_within go n low le h.1 missed (record w { passed = w.passed + 1 }) at)
+    walks_within (Look q go) n low le h missed w at =
         let r : Held = look w.roots (placed p i q) in
         walks_within (go r) n low le
-        (h r (look_names clean n w.roots since.roots (placed p i q) at.stand)) w at
-    walks_within (Flatten v go) n low le h w at =
-        by_content (flat w.cells v) refl (λ o names. walks_within (go o) n low le names w at) where
+        (h r (look_names clean n w.roots since.roots (placed p i q) at.stand)) missed w at
+    walks_within (Flatten v go) n low le h missed w at =
+        by_content (flat w.cells v) refl (λ o names. walks_within (go o) n low le names missed w at) where
           by_content : (o : Option Dynamic) → flat w.cells v ≡ o →
-              ((o : Option Dynamic) → TaskNames clean bare n (go o) → Walks n (go o) w) →
-              Walks n (go o) w
+              ((o : Option Dynamic) → TaskNames clean bare n (go o) → Walks n missed (go o) w) →
+              Walks n missed (go o) w
           by_content None is later = later None h.1
           by_content (Some u) is later =
               later (Some u) (h.2 u (flat_names clean n w.cells v u at.contents h.0 is))
-    walks_within (Write q v t) n low le h w at =
-        walks_within t n low le h.1 (record w { roots = put w.roots (placed p i q) v })
+    walks_within (Write q v t) n low le h missed w at =
+        walks_within t n low le h.1 missed (record w { roots = put w.roots (placed p i q) v })
         (root_put on n low w (placed p i q) v at h.0.0 (may_put clean n (placed p i q).path v h.0.1))
-    walks_within (Root g t) n low le h w at =
-        walks_within t n low le h.1 (record w { roots = w.roots ++ g ∷ [] }) (record {
+    walks_within (Root g t) n low le h missed w at =
+        walks_within t n low le h.1 missed (record w { roots = w.roots ++ g ∷ [] }) (record {
           size = at.size;
           entries = at.entries;
           contents = at.contents;
           reaches = at.reaches;
           hands = at.hands;
+          waits = at.waits;
           lends = at.lends;
           stand = roots_added clean n w.roots since.roots g at.stand h.0;
+          plain = at.plain;
         })
-    walks_within (Drop j go) n low le h w at =
+    walks_within (Drop j go) n low le h missed w at =
         let r : Held = look w.roots (record { root = i + j; path = [] }) in
         walks_within (go r) n low le
         (h r (look_names clean n w.roots since.roots (record { root = i + j; path = [] }) at.stand))
-        (record w { roots = take (i + j) w.roots }) (record {
+        missed (record w { roots = take (i + j) w.roots }) (record {
           size = at.size;
           entries = at.entries;
           contents = at.contents;
           reaches = at.reaches;
           hands = at.hands;
+          waits = at.waits;
           lends = at.lends;
           stand = roots_taken clean n (i + j) w.roots since.roots at.stand;
+          plain = at.plain;
         })
-    walks_within (Need c go) n low le h w at =
-        performs on to n low (λ a w1. rules.walks m k f p i (go a) done w1)
-        (λ a w1 bound in1. walks_within (go a) n low le (h.2 a bound) w1 in1) k f c
-        (option_map (placed p i) c.receiver) (lends c.receiver h.1) h.0 w at
-    walks_within (Invoke c go) n low le h w at =
-        invokes n low (λ a w1. rules.walks m k f p i (go a) done w1)
+    walks_within (Need c go) n low le h missed w at =
+        performs on to n low (λ a w1. rules.walks m k f p i (missed_by a w1.trace) (go a) done
+        (record w1 { trace = trace_of missed a w1.trace }))
         (λ j more a w1 bound in1. walks_within (go a) j (omega (arith, low, more))
-        (omega (arith, le, more)) (h.3 j more a bound) w1 in1) k f c h.1
-        (option_map (placed p i) c.this) (lends c.this h.2) c.method h.0 w at
+        (omega (arith, le, more)) (h.2 j more a bound) (missed_by a w1.trace)
+        (record w1 { trace = trace_of missed a w1.trace }) in1) k f c
+        (option_map (placed p i) c.receiver) (lends c.receiver h.1) h.0 (record w { trace = [] }) at
+    walks_within (Invoke c go) n low le h missed w at =
+        invokes n low (λ a w1. rules.walks m k f p i None (go a) done w1)
+        (λ j more a w1 bound in1. walks_within (go a) j (omega (arith, low, more))
+        (omega (arith, le, more)) (h.3 j more a bound) None w1 in1) k f c h.1
+        (option_map (placed p i) c.this) (lends c.this h.2) c.method h.0 (record w { trace = [] }) at
