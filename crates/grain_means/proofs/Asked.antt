@@ -76,31 +76,31 @@ module _ {S : Type 0} (m : Setup S) {first : Callback} {start : World S} where
       at_position_if_none (position m first.frame) x ≡ x
   host_placed {x = x} h =
       subst (λ (f : Frame). at_position_if_none (position m f) x ≡ x) (same_frame h.on) (of_why h.why)
-      where
-        p : Position
-        p = position m h.callback.frame
+    where
+      p : Position
+      p = position m h.callback.frame
 
-        of_kind : (k : FaultKind) → x ≡ Plain k p → at_position_if_none p x ≡ x
-        of_kind k is = subst (λ (y : Problem). at_position_if_none p y ≡ y) (sym is) (filled_here p k)
+      of_kind : (k : FaultKind) → x ≡ Plain k p → at_position_if_none p x ≡ x
+      of_kind k is = subst (λ (y : Problem). at_position_if_none p y ≡ y) (sym is) (filled_here p k)
 
-        of_answer : (y : Problem) → x ≡ at_position_if_none p y → at_position_if_none p x ≡ x
-        of_answer y is =
-            subst (λ (z : Problem). at_position_if_none p z ≡ z) (sym is) (filled_twice p y)
+      of_answer : (y : Problem) → x ≡ at_position_if_none p y → at_position_if_none p x ≡ x
+      of_answer y is =
+          subst (λ (z : Problem). at_position_if_none p z ≡ z) (sym is) (filled_twice p y)
 
-        kept_out : (n : ℕ) (w : World S) → IsKeptOut m p n w x → at_position_if_none p x ≡ x
-        kept_out n w (inl a) = of_kind _ a.1
-        kept_out n w (inr (inl a)) = of_kind _ a.3
-        kept_out n w (inr (inr (inl a))) = of_kind _ a.2
-        kept_out n w (inr (inr (inr a))) = of_kind _ a.3
+      kept_out : (n : ℕ) (w : World S) → IsKeptOut m p n w x → at_position_if_none p x ≡ x
+      kept_out n w (inl a) = of_kind _ a.1
+      kept_out n w (inr (inl a)) = of_kind _ a.3
+      kept_out n w (inr (inr (inl a))) = of_kind _ a.2
+      kept_out n w (inr (inr (inr a))) = of_kind _ a.3
 
-        of_why : IsKeptOut m p (parameters (function_back m.program m.engine.callbacks h.callback))
-            h.world x
-            ⊎ (((o : Outcome) × (u : World S) × (y : Problem) × HearsOf m h.callback h.world o u
-            × (reply_again m h.callback o u ≡ reply.Failed y) × (x ≡ at_position_if_none p y))
-            ⊎ ((b : NativeBack m h.callback h.world) × (y : Problem) × IsCalledBack m b
-            × (reply_to m (question_back m b) b.native.key ≡ reply.Failed y) × (is_told x ≡ false)
-            × (x ≡ at_position_if_none p y))) → at_position_if_none p x ≡ x
-        of_why (inl a) =
-            kept_out (parameters (function_back m.program m.engine.callbacks h.callback)) h.world a
-        of_why (inr (inl a)) = of_answer a.2 a.5
-        of_why (inr (inr a)) = of_answer a.1 a.5
+      of_why : IsKeptOut m p (parameters (function_back m.program m.engine.callbacks h.callback))
+          h.world x
+          ⊎ (((o : Outcome) × (u : World S) × (y : Problem) × HearsOf m h.callback h.world o u
+          × (reply_again m h.callback o u ≡ reply.Failed y) × (x ≡ at_position_if_none p y))
+          ⊎ ((b : NativeBack m h.callback h.world) × (y : Problem) × IsCalledBack m b
+          × (reply_to m (question_back m b) b.native.key ≡ reply.Failed y) × (is_told x ≡ false)
+          × (x ≡ at_position_if_none p y))) → at_position_if_none p x ≡ x
+      of_why (inl a) =
+          kept_out (parameters (function_back m.program m.engine.callbacks h.callback)) h.world a
+      of_why (inr (inl a)) = of_answer a.2 a.5
+      of_why (inr (inr a)) = of_answer a.1 a.5

@@ -127,10 +127,15 @@ module _ {S : Type 0} {m : Setup S} (walk : Walk m) where
             unlent = lent_out k.cells now.cells i (lent a.held) keeps.unlent;
           }) in_cell
           (λ h. record {
-            stays = λ n w s. (s.0, s.1, s.2, record {
-              keeps = s.3.keeps;
-              unlent = lent_back k.cells w.cells i (record a.held { value = h.value }) s.3.unlent;
-            });
+            stays = λ n w s. (
+              s.0,
+              s.1,
+              s.2,
+              record {
+                keeps = s.3.keeps;
+                unlent = lent_back k.cells w.cells i (record a.held { value = h.value }) s.3.unlent;
+              },
+            );
             marks = λ w. refl;
           })) where
             in_cell : Held → World S → World S

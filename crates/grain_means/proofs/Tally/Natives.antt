@@ -305,4 +305,3 @@ module _ {S : Type 0} {m : Setup S} (walk : Walk m) where
             (answers first (record second { passed = second.passed + 1 }))
             (λ stop. even_unheard (says first) second stop (after_answer n.key))
             (λ _. even_answered n e called (says w) refl)))
-

@@ -109,8 +109,8 @@ module _ {S : Type 0} {m : Setup S} (walk : Walk m) where
         abbrev now_held : Held
         now_held = record h { value = content_now home h w }
 
-        abbrev args : List Held
-        args = now_held ∷ v ∷ []
+        abbrev copies : List Held
+        copies = now_held ∷ v ∷ []
 
         abbrev question : Question S
         question = record {
@@ -118,7 +118,7 @@ module _ {S : Type 0} {m : Setup S} (walk : Walk m) where
           cells = w.cells;
           name = name_of m.program a.op_name;
           lent = None;
-          args = args;
+          args = copies;
         }
 
         asks_again : AsksAgain m a home h u v question (point walk o)
@@ -133,7 +133,7 @@ module _ {S : Type 0} {m : Setup S} (walk : Walk m) where
         -- the operator gave a value, which is written
         given : (n : Native) → native_asked m question ≡ Some n → IsCalled question n →
             (z : Dynamic) (l : ℕ) (w1 : World S) →
-            HasGiven walk w (name_of m.program a.op_name) None args n z w1 →
+            HasGiven walk w (name_of m.program a.op_name) None copies n z w1 →
             Steady walk l w1 → w1.trace ≡ [] → Readable w1 →
             Even walk l (flattened m (read_write z) name f w1 (λ y.
             assigned_at m home (record h { value = y }) name (f.address + width) f w1))
@@ -143,7 +143,7 @@ module _ {S : Type 0} {m : Setup S} (walk : Walk m) where
             (λ y. even_written_at walk o width stands w1 l s1 t1 h name (record h { value = y }) sits_on
             (λ none. absurd (none_some (sym none ∙ reads.1))) home is_home)
             (flat w1.cells z) refl where
-              lends : HasGiven walk w (name_of m.program a.op_name) None args n z w1 →
+              lends : HasGiven walk w (name_of m.program a.op_name) None copies n z w1 →
                   flat w1.cells z ≡ None → AnswersLent m name (point walk o)
               lends (inl (is, left)) none =
                   answers_lent question asked_so n e called z
@@ -154,7 +154,7 @@ module _ {S : Type 0} {m : Setup S} (walk : Walk m) where
         even_operator : Even walk r
             (operator_at m home name (name_of m.program a.op_name) h now_held v (f.address + width) f w)
         even_operator =
-            even_native walk o width stands w r s t (name_of m.program a.op_name) None args asks
+            even_native walk o width stands w r s t (name_of m.program a.op_name) None copies asks
             (λ y. inr (a, home, h, u, v, by_host, inr asks_again))
             (λ z w1. flattened m (read_write z) name f w1 (λ y.
             assigned_at m home (record h { value = y }) name (f.address + width) f w1))

@@ -131,10 +131,15 @@ module _ {S : Type 0} {m : Setup S} (walk : Walk m) where
                 (cell_given_back m i c.held size heard) (new_root begun.roots) v)
                 (λ busy. races (inr (lent_cell now.cells h.value i (Some c) at e (busy_content c busy))))
                 (λ free. native_asks (Some i) (cell_given_back m i c.held size heard)
-                (hears_cell walk i size c.held heard hears) v (refl, tokens, level, record {
-                  keeps = keeps.keeps;
-                  unlent = lent_out k.cells now.cells i (lent c.held) keeps.unlent;
-                }) trace refl p.name
+                (hears_cell walk i size c.held heard hears) v (
+                  refl,
+                  tokens,
+                  level,
+                  record {
+                    keeps = keeps.keeps;
+                    unlent = lent_out k.cells now.cells i (lent c.held) keeps.unlent;
+                  },
+                ) trace refl p.name
                 (new_root begun.roots) values (record {
                   n = n;
                   is = is;

@@ -82,11 +82,16 @@ module _ {S : Type 0} {m : Setup S} (walk : Walk m) where
             (idle (record held { value = (look u.roots (root_at size)).value }));
         roots = take size u.roots;
       } in
-      hears n a v (s.0, s.1, s.2, record {
-        keeps = s.3.keeps;
-        unlent = lent_back k.cells u.cells i
-            (record held { value = (look u.roots (root_at size)).value }) s.3.unlent;
-      }) same (ended_on a u v refl refl e)
+      hears n a v (
+        s.0,
+        s.1,
+        s.2,
+        record {
+          keeps = s.3.keeps;
+          unlent = lent_back k.cells u.cells i
+              (record held { value = (look u.roots (root_at size)).value }) s.3.unlent;
+        },
+      ) same (ended_on a u v refl refl e)
 
   -- The rules of an instruction that stands where the frame does, which then has these operands, and goes
   -- on with one more.
