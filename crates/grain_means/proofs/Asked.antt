@@ -1,6 +1,6 @@
 -- The calls that a native asks for: the frame of each is that of the first, calls that are asked for inside
 -- others, and the position of a fault with which they end.
-use Rattle.std.proofs.Common.{◌≡◌, ◌⊎◌, ℕ, Bool, true, false, Option, Some, None, if◌then◌else◌, refl, sym, subst, ap, ◌∙◌, inl, inr}
+use Rattle.std.proofs.Common.{◌≡◌, ◌⊎◌, ℕ, Bool, true, false, if◌then◌else◌, refl, sym, subst, inl, inr}
 use Rattle.grain_fault.specs.Places.{is_nowhere}
 use Rattle.grain_fault.specs.Positions.{at_position, at_position_if_none, position_of_problem}
 use Rattle.grain_fault.specs.declared.places.Position.{Position}
@@ -8,8 +8,8 @@ use Rattle.grain_fault.specs.Problems.{FaultKind, Problem, Plain}
 use Rattle.grain_host.specs.Law.{Outcome}
 use Rattle.grain_host.specs.Law as reply
 use Rattle.grain_means.specs.Rules.{function_back, is_told, position}
-use Rattle.grain_means.specs.Worlds.{Callback, Frame, Receiver, Setup, World}
-use Rattle.grain_means.specs.Causes.{AsksOn, HearsOf, HostFails, IsCalledBack, IsKeptOut, LeavesBack, NativeBack, RunsBack, again, at_first, inside, parameters, question_back, reply_again, reply_to}
+use Rattle.grain_means.specs.Worlds.{Callback, Frame, Setup, World}
+use Rattle.grain_means.specs.Causes.{AsksOn, HearsOf, HostFails, IsCalledBack, IsKeptOut, NativeBack, again, at_first, inside, parameters, question_back, reply_again, reply_to}
 use Rattle.grain_means.proofs.Choices.{if_false}
 use Rattle.grain_means.proofs.Moving.{placed_twice}
 use Rattle.grain_means.proofs.Roles.{NativeFails}

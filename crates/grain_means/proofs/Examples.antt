@@ -18,7 +18,7 @@ use Rattle.grain_program.specs.declared.code.chains.Step.TheVariants as step
 use Rattle.grain_program.specs.declared.code.chains.StepFlags.{StepFlags}
 use Rattle.grain_means.specs.Worlds.{Answer, Came, Failed, Place}
 use Rattle.grain_means.specs.Places.{put}
-use Rattle.grain_means.specs.Tasks.{Walked, WalkEnded, WalkFailed, Invocation, Method, Numbered, Pointed, Play, Over, Asks, Calls, play}
+use Rattle.grain_means.specs.Tasks.{Walked, WalkEnded, WalkFailed, Method, Pointed, Play, Over, Asks, Calls, play}
 use Rattle.grain_means.specs.Walks.{Course, whole_walk}
 
 abbrev here : Position

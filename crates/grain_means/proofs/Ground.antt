@@ -1,6 +1,6 @@
 -- What a run keeps of the world on which it stands: its tokens and its level, the names of the entries below
 -- a base, and that no cell is lent which was not.
-use Rattle.std.proofs.Common.{◌≡◌, ◌≤◌, ℕ, List, [], ◌∷◌, ◌++◌, Option, Some, None, take}
+use Rattle.std.proofs.Common.{◌≤◌, ℕ, List, [], ◌∷◌, ◌++◌, Option, take}
 use Rattle.std.specs.Prelude.{slice_set}
 use Rattle.grain_value.specs.Cells.{idle}
 use Rattle.grain_value.specs.Scopes.{set_held}

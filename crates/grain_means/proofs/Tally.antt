@@ -1,10 +1,10 @@
 -- One walk over the rules for all that holds of every run: `ran` counts the instructions that are
 -- begun, the tokens that are out are those that were, the level is what it was, the entries below
--- the base keep their names, a fault that leaves a frame cuts the scope, each fault has its cause,
--- and in a valid program an instruction with its operands stands at each frame, and each handler
--- that catches finds its operands. Here is each instruction, of which the parts stand in the files
--- of
--- `Tally`; `Catching` has the rule of a catch, and `Called` whole runs.
+-- the base keep their names, no cell is lent that was not, a fault that leaves a frame cuts the scope,
+-- each fault has its cause, and in a valid program an instruction with its operands stands at each
+-- frame, and each handler that catches finds its operands. Here is each instruction, of which the parts
+-- stand in the files of `Tally`; `Catching` has the rule of a catch, `Tally/Callbacks` that of a call that
+-- a native asked for, and `Called` whole runs.
 pub mod Frames
 pub mod Faults
 pub mod Functions
@@ -12,6 +12,7 @@ pub mod Asking
 pub mod Natives
 pub mod NativeCalls
 pub mod Telling
+pub mod NativesBack
 pub mod Callbacks
 pub mod Entries
 pub mod Operators
@@ -23,6 +24,7 @@ pub mod Calling
 pub mod Needs
 pub mod Walks
 pub mod Roots
+pub mod ChainWalks
 pub mod Chains
 pub mod Methods
 pub mod Returns

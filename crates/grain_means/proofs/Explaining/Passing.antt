@@ -15,17 +15,8 @@ use Rattle.grain_means.specs.Tasks.{Task, WalkEnded, WalkFailed}
 use Rattle.grain_means.specs.Walks as walks
 use Rattle.grain_means.specs.Walks.{Rest}
 use Rattle.grain_means.specs.Causes.Spots.{ChainWalk, Falls}
+pub use Rattle.grain_means.proofs.Choices.{if_false, if_true}
 use Rattle.grain_means.proofs.Explaining.Ways.{Follows, LetsPass}
-
-pub if_false : {A : Type 0} (P : A → Type 0) (b : Bool) (x y : A) → b ≡ false → P y →
-    P (if b then x else y)
-if_false P true x y e p = absurd cc
-if_false P false x y e p = p
-
-pub if_true : {A : Type 0} (P : A → Type 0) (b : Bool) (x y : A) → b ≡ true → P x →
-    P (if b then x else y)
-if_true P true x y e p = p
-if_true P false x y e p = absurd cc
 
 -- that there is no such property, index or function, a script may catch
 abbrev Caught : Bool → Problem → Type 0

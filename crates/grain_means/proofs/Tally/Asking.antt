@@ -1,5 +1,5 @@
 -- The walk over the rules where a native asks for calls: these go first, and what follows from their end.
-use Rattle.std.proofs.Common.{◌≡◌, ◌+◌, ℕ, List, [], Option, Some, None, refl, length}
+use Rattle.std.proofs.Common.{◌≡◌, ℕ, List, [], Option, Some, None, refl, length}
 use Rattle.grain_host.specs.Law.{Law}
 use Rattle.grain_value.specs.Tree.{Tree}
 use Rattle.grain_value.specs.declared.scopes.Entry.{Entry}

@@ -92,8 +92,8 @@ module _ {S : Type 0} {m : Setup S} (walk : Walk m) where
             walk.level,
             inr (inl (
               calls.step,
-              body_fails begun x (wrapped walk o width stands q g args this w called fits away r s t x) ends fails
-                  is,
+              body_fails begun x (wrapped walk o width stands q g args this w called fits away r s t x)
+                  ends fails is,
               refl,
             )),
           )) heard said (λ u n stop at. out u n stop at.0) (λ x u n because at. fault x u n because at.0)

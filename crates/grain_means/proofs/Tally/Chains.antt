@@ -1,6 +1,5 @@
 -- The walk over the rules through a chain.
-use Rattle.std.proofs.Common.{◌≡◌, ◌+◌, ℕ, List, [], ◌∷◌, ◌++◌, Option, Some, None, Bool, true, false, ◌&&◌, length, take, refl, sym, subst, ap, ◌∙◌, arith, inl, inr, ◌⊎◌}
-use Rattle.std.proofs.lemmas.List.{length-append}
+use Rattle.std.proofs.Common.{◌≡◌, ◌+◌, ℕ, List, [], ◌∷◌, ◌++◌, Option, Some, None, false, ◌&&◌, length, refl, sym, subst, inl, ◌⊎◌}
 use Rattle.std.specs.Prelude.{slice_get, slice_set}
 use Rattle.grain_value.specs.Cells.{flat, idle, lent}
 use Rattle.grain_value.specs.Operands.{read_write, top, under}
@@ -24,23 +23,21 @@ use Rattle.grain_program.specs.declared.code.instruction_set.Op.TheVariants as o
 use Rattle.grain_means.specs.Places.{look}
 use Rattle.grain_means.specs.Rules as rules
 use Rattle.grain_means.specs.Rules.{assigned_operand, back_from, course_of, held_at, is_read_only, is_stop, leave_by_fault, new_root, offered, position, race_text, root_name, root_position, stepped, without}
-use Rattle.grain_means.specs.Tasks.{Task, WalkEnded, WalkFailed}
+use Rattle.grain_means.specs.Tasks.{Task}
 use Rattle.grain_means.specs.Walks.{whole_walk}
 use Rattle.grain_means.specs.Worlds.{Act, Frame, Place, Setup, World}
 use Rattle.grain_means.specs.Causes.{Cause}
-use Rattle.grain_means.specs.Causes.Chains.{AssignsValue, ChainReads, ChainRow, LeavesNative, RootHolds, RootLends, by_walk, constant, past_scope, root_lent, unbound, value_lent, walk_of, walk_place, walk_roots}
-use Rattle.grain_means.specs.Causes.Spots.{BackFails, ChainWalk, PointedLeft, WalkRow, here}
-use Rattle.grain_means.proofs.Explaining.{explained}
+use Rattle.grain_means.specs.Causes.Chains.{AssignsValue, ChainReads, ChainRow, LeavesNative, RootHolds, RootLends, constant, past_scope, root_lent, unbound, value_lent, walk_of, walk_place, walk_roots}
 use Rattle.grain_means.proofs.Footing.{Sits, by_test}
-use Rattle.grain_means.proofs.Ground.{Stays, stays_set}
+use Rattle.grain_means.proofs.Ground.{stays_set}
 use Rattle.grain_means.proofs.Unlent.{lent_back, lent_out}
 use Rattle.grain_means.proofs.Lengths.{past_scope as scope_passed}
 use Rattle.grain_means.proofs.Tally.Calling.{CallsOf}
 use Rattle.grain_means.proofs.Tally.Entries.{busy_content}
 use Rattle.grain_means.proofs.Tally.Faults.{even_raised_at}
-use Rattle.grain_means.proofs.Tally.Frames.{Enough, Even, ReasonAt, Steady, SteadyBut, Walk, all_there, stepping, even_left_at, even_marked_at, even_onward, point, start, steady}
-use Rattle.grain_means.proofs.Tally.Roots.{IsAdded, added_cell, added_place, added_root}
-use Rattle.grain_means.proofs.Tally.Walks.{even_walks}
+use Rattle.grain_means.proofs.Tally.Frames.{Enough, Even, ReasonAt, Steady, Walk, all_there, even_marked_at, point, start, steady}
+use Rattle.grain_means.proofs.Tally.Roots.{IsAdded, added_cell}
+use Rattle.grain_means.proofs.Tally.ChainWalks.{Returns, even_added, even_walked, moved, steps_at}
 
 module _ {S : Type 0} {m : Setup S} (walk : Walk m) where
   open walk use {root as whole_run, footing as k, frame as f, now, tokens, level, trace, keeps, sits}
@@ -74,119 +71,8 @@ module _ {S : Type 0} {m : Setup S} (walk : Walk m) where
     abbrev walking : Frame
     walking = without (chain_takes c) f
 
-    -- the walk is over
-    over_well : (u : Dynamic) (changed : Bool) (n : ℕ) (w : World S) → Steady walk n w →
-        Even walk n (rules.chain_over m index next walking (WalkEnded u changed) w)
-    over_well u changed n w s =
-        even_onward walk n (stepped walking next (walking.operands ++ read_write u ∷ []))
-        (record w { trace = [] }) s refl (inl refl) (on u)
-
-    over_ill : (j : ℕ) (x : Problem) (n : ℕ) (w : World S) →
-        ReasonAt walk (Some (slot_of m.program index j)) x → Steady walk n w →
-        Even walk n (rules.chain_over m index next walking (WalkFailed j x) w)
-    over_ill j x n w because s =
-        even_raised_at walk o width stands (Some (slot_of m.program index j)) f.position
-        walking.operands after n x w s because
-
-    over_out : (j n : ℕ) (w : World S) → is_stop m.stop w.passed ≡ true → Steady walk n w →
-        Even walk n (rules.chain_over m index next walking (WalkFailed j NoMemory) w)
-    over_out j n w stop s =
-        let g : Frame = stepping walk (Some (slot_of m.program index j)) f.position walking.operands in
-        by_test (Even walk n) (is_stop m.stop w.passed) (leave_by_fault m g NoMemory w)
-        (offered m g NoMemory (record w { passed = w.passed + 1 }))
-        (λ yes. even_left_at walk g n NoMemory w refl (inl refl) sits.1 (inl refl) s
-        (inl (refl, stop)))
-        (λ no. absurd cc)
-
-    -- what is done with the roots once the walk is over, which may have the content of a cell
-    record Returns (away : Option ℕ) (back : World S → World S) : Type 0 where
-      pub stays : (n : ℕ) (w : World S) → SteadyBut walk away n w → Steady walk n (back w)
-      pub marks : (w : World S) → (back w).passed ≡ w.passed
-
-    -- the walk of the chain, from its first root and beside these cells
-    module _ (so_far : ChainReads m c (point walk o)) (r : Held) (cells : List Cell)
-        (lends : RootLends (rules.lent_cell m.program c.steps so_far.held) so_far.held now r cells)
-      where
-        abbrev steps : ChainWalk S
-        steps = walk_of m c (point walk o) so_far.value
-            (rules.lent_cell m.program c.steps so_far.held) r cells
-
-        -- the same at a place, with this number of other roots
-        abbrev steps_at : Place → ℕ → List Held → ChainWalk S
-        steps_at place others roots = record {
-          course = course_of m c f so_far.value;
-          steps = c.steps;
-          place = place;
-          others = others;
-          start = record now {
-            ran = ran;
-            passed = now.passed + 1 + 1;
-            cells = cells;
-            roots = roots;
-          };
-        }
-
-        moved : (p q : Place) (n : ℕ) (xs ys : List Held) → p ≡ q → xs ≡ ys → length ys ≡ n →
-            steps_at p (length xs) xs ≡ steps_at q n ys
-        moved p q n xs ys place roots size =
-            ap (λ (x : Place). steps_at x (length xs) xs) place
-            ∙ ap (λ (x : List Held). steps_at q (length x) x) roots
-            ∙ ap (λ (x : ℕ). steps_at q x ys) size
-
-        -- a function that a native called back was left by the fault
-        left_so : (s : ChainWalk S) → steps ≡ s → (j : ℕ) (x : Problem) →
-            (x ≡ NoMemory) ⊎ (BackFails m s j x ⊎ PointedLeft m s j x) →
-            Cause m whole_run k.level x → catchable x ≡ false →
-            ReasonAt walk (Some (slot_of m.program index j)) x
-        left_so s same j x (inl out) cause passes = reason_left j x (inl out) cause passes
-        left_so s same j x (inr how) cause passes =
-            reason_left j x (inr (record {
-              so_far = so_far;
-              root = r;
-              cells = cells;
-              lends = lends;
-              fails = subst (λ (t : ChainWalk S). BackFails m t j x ⊎ PointedLeft m t j x) (sym same) how;
-            })) cause passes
-
-        even_walked : (away : Option ℕ) (s : ChainWalk S) → steps ≡ s →
-            (back : World S → World S) → Returns away back → SteadyBut walk away ran s.start →
-            Even walk ran (rules.walks m index walking s.place s.others None
-            (whole_walk s.course s.steps)
-            (λ u w. rules.chain_over m index next walking u (back w)) s.start)
-        even_walked away s same back home kept =
-            even_walks walk o width stands away index walking refl s
-            (λ u w. rules.chain_over m index next walking u (back w))
-            (λ u changed n w at. over_well u changed n (back w) (home.stays n w at))
-            (λ j x n w because at. over_ill j x n (back w) because (home.stays n w at))
-            (λ j n w stop at. over_out j n (back w) (rw (home.marks w) stop) (home.stays n w at))
-            (λ j x row. reason j x (by_walk so_far r cells lends
-            (subst (λ (t : ChainWalk S). WalkRow m t j x) (sym same) row)))
-            (left_so s same) (subst (CallsOf walk o index) same (calls so_far r cells lends))
-            (whole_walk s.course s.steps) s.start (explained m true s) here ran None kept
-
-        -- from a root that is added, and then goes back
-        even_added : IsAdded c.root (rules.lent_cell m.program c.steps so_far.held) f.this →
-            (away : Option ℕ) → Stays k away now.scope cells → (back : Held → World S → World S) →
-            ((h : Held) → Returns away (back h)) →
-            Even walk ran (rules.walk_from m index (whole_walk (course_of m c f so_far.value) c.steps)
-            next walking r back (record now { ran = ran; passed = now.passed + 1 + 1; cells = cells }))
-        even_added is away there back home =
-            let cell = rules.lent_cell m.program c.steps so_far.held in
-            let out : World S → World S = λ w. record w { roots = take (length now.roots) w.roots } in
-            let held : World S → Held = λ w. look w.roots (new_root now.roots) in
-            even_walked away (steps_at (new_root now.roots) (length now.roots + 1) (now.roots ++ r ∷ []))
-            (moved (walk_place c.root cell f.this now.roots) (new_root now.roots)
-            (length now.roots + 1) (walk_roots c.root cell f.this r now.roots) (now.roots ++ r ∷ [])
-            (added_place c.root cell f.this now.roots is)
-            (added_root c.root cell f.this r now.roots is)
-            (omega (arith, length-append now.roots (r ∷ []))))
-            (λ w. back (held w) (out w)) (record {
-              stays = λ n w s. (home (held w)).stays n (out w) s;
-              marks = λ w. (home (held w)).marks (out w);
-            }) (refl, tokens, level, there)
-
     -- a root goes back to its entry
-    entry_back : (a : Root) (h : Held) → Returns None (back_from a walking h)
+    entry_back : (a : Root) (h : Held) → Returns walk None (back_from a walking h)
     entry_back (root.Local name slot) h = record {
       stays = λ n w s.
           (s.0, s.1, s.2, stays_set w.scope w.cells (f.base + slot) h s.3);
@@ -228,7 +114,8 @@ module _ {S : Type 0} {m : Setup S} (walk : Walk m) where
           (record begun { cells = slice_set now.cells i (lent a.held) }))
           (λ busy. even_rooting _ (root_lent so_far i is (rw e (busy_content a busy))) begun
           (refl, tokens, level, keeps))
-          (λ free. even_added so_far
+          (λ free. even_added walk o width stands index c after on reason reason_left calls
+          so_far
           (record { value = a.held.value; read_only = is_read_only now so_far.held })
           (slice_set now.cells i (lent a.held))
           (subst (λ (x : Option ℕ). RootLends x so_far.held now
@@ -267,7 +154,8 @@ module _ {S : Type 0} {m : Setup S} (walk : Walk m) where
             Even walk ran (rules.walk_from m index task next walking so_far.held
             (back_from c.root walking) begun)
         even_as_added added =
-            even_added so_far so_far.held now.cells lends_nothing
+            even_added walk o width stands index c after on reason reason_left calls
+            so_far so_far.held now.cells lends_nothing
             (subst (λ (x : Option ℕ). IsAdded c.root x f.this) (sym is) added) None keeps
             (back_from c.root walking) (entry_back c.root)
 
@@ -275,9 +163,12 @@ module _ {S : Type 0} {m : Setup S} (walk : Walk m) where
         even_at_place : (q : Position) → c.root ≡ root.This q → (p : Place) → f.this ≡ Some p →
             Even walk ran (rules.walk_at m index task next walking p begun)
         even_at_place q at p e =
-            even_walked so_far so_far.held now.cells lends_nothing None
-            (steps_at so_far so_far.held now.cells lends_nothing p (length now.roots) now.roots)
-            (moved so_far so_far.held now.cells lends_nothing
+            even_walked walk o width stands index c after on reason reason_left calls
+            so_far so_far.held now.cells lends_nothing None
+            (steps_at walk o width stands index c after on reason reason_left calls so_far so_far.held
+            now.cells lends_nothing p (length now.roots) now.roots)
+            (moved walk o width stands index c after on reason reason_left calls so_far so_far.held
+            now.cells lends_nothing
             (walk_place c.root cell f.this now.roots) p (length now.roots)
             (walk_roots c.root cell f.this so_far.held now.roots) now.roots
             (rw (at, is, e) refl) (rw (at, is, e) refl) refl) (λ w. w)

@@ -1,6 +1,6 @@
 -- The walk over the rules through an operation that is taken for a call, and through a function that is
 -- called: for any run, whatever follows.
-use Rattle.std.proofs.Common.{◌≡◌, ◌≤◌, ◌<◌, ◌⊎◌, ◌+◌, ℕ, List, [], Option, true, false, refl, sym, subst, ap, ◌∙◌, inl, inr, arith, length, nat_le, nat_lt}
+use Rattle.std.proofs.Common.{◌≡◌, ◌<◌, ◌⊎◌, ◌+◌, ℕ, List, [], Option, true, false, refl, sym, subst, inl, inr, arith, length, nat_le, nat_lt}
 use Rattle.std.proofs.lemmas.Bool.{ltb-true, ltb-false, leb-true, leb-false}
 use Rattle.grain_value.specs.declared.values.Dynamic.{Dynamic}
 use Rattle.grain_value.specs.declared.values.Held.{Held}
@@ -172,8 +172,8 @@ module _ {S : Type 0} (m : Setup S) (role : Role) (root turn : Act S) (k : Footi
       abbrev named : Problem → Problem
       named x = wrapped m root turn q g args this w x
 
-      module _ (over_body : (x y : Problem) → FromBody m root turn q g args this w x y → (u : World S) (n : ℕ) →
-          Whole (said (Failed y) u) → Beside w n u → Goes n (heard (Failed y) u))
+      module _ (over_body : (x y : Problem) → FromBody m root turn q g args this w x y →
+          (u : World S) (n : ℕ) → Whole (said (Failed y) u) → Beside w n u → Goes n (heard (Failed y) u))
           (over_value : (d : Dynamic) (u : World S) (n : ℕ) → Whole (said (Came d) u) →
           Beside w n u → u.trace ≡ [] → Goes n (heard (Came d) u)) where
         abbrev inside : World S

@@ -30,6 +30,12 @@ module _ {S : Type 0} {m : Setup S} (walk : Walk m) where
     abbrev question : Question S
     question = asked walk w name r args
 
+    -- this follows from each value
+    abbrev Goes : (Dynamic → World S → Act S) → Type 0
+    Goes go = (n : Native) → native_asked m question ≡ Some n → IsCalled question n → (v : Dynamic) (l : ℕ)
+        (u : World S) → Gave walk w name r args n v u → After walk w name r args None l u →
+        u.trace ≡ [] → Even walk l (go v u)
+
     -- the fault is raised, in the frame with operands of which no more are gone than the
     -- instruction takes
     module _ (operands : List Held) (enough : Enough walk o operands) where
@@ -40,7 +46,8 @@ module _ {S : Type 0} {m : Setup S} (walk : Walk m) where
           (not_found name (values_in (given r args)) (position m f)) w)
       none_raised last e =
           even_raised_in walk o width stands operands enough ran
-          (not_found name (values_in (given r args)) (position m f)) w s (none_why walk o width stands None w ran s t name r args asks last e)
+          (not_found name (values_in (given r args)) (position m f)) w s
+          (none_why walk o width stands None w ran s t name r args asks last e)
 
       pub refused_raised : (n : Native) → native_asked m question ≡ Some n → n.writes ≡ true →
           first_is_read_only (given r args) ≡ true →
@@ -48,13 +55,12 @@ module _ {S : Type 0} {m : Setup S} (walk : Walk m) where
           (raised m (holding walk operands) (Plain (problem.NonPureCall name) (position m f)) w)
       refused_raised n e writes only =
           even_raised_in walk o width stands operands enough ran
-          (Plain (problem.NonPureCall name) (position m f)) w s (refused_why walk o width stands None w ran s t name r args asks n e writes only)
+          (Plain (problem.NonPureCall name) (position m f)) w s
+          (refused_why walk o width stands None w ran s t name r args asks n e writes only)
 
     module _ (operands : List Held) (go : Dynamic → World S → Act S)
         (fails : Problem → World S → Act S)
-        (goes : (n : Native) → native_asked m question ≡ Some n → IsCalled question n →
-        (v : Dynamic) (l : ℕ) (u : World S) → Gave walk w name r args n v u → After walk w name r args None l u → u.trace ≡ [] →
-        Even walk l (go v u))
+        (goes : Goes go)
         (none : native_asked m question ≡ None →
         Even walk ran (fails (not_found name (values_in (given r args)) (position m f)) w))
         (refused : (n : Native) → native_asked m question ≡ Some n → n.writes ≡ true →
@@ -68,15 +74,13 @@ module _ {S : Type 0} {m : Setup S} (walk : Walk m) where
         -- the same where want of memory leaves the frame
         pub even_found : (found : Option Native) → native_asked m question ≡ found →
             Even walk ran (native_found m found name r args (holding walk operands) w go fails)
-        even_found = even_found_or walk o width stands None w ran s t name r args asks operands (leave_by_fault m (holding walk operands) NoMemory) go fails
+        even_found = even_found_or walk o width stands None w ran s t name r args asks operands
+            (leave_by_fault m (holding walk operands) NoMemory) go fails
             (λ l u cause after. even_left_at walk (holding walk operands) l NoMemory u refl (inl refl)
             sits.1 (inl refl) after.0 cause) goes none refused failed
 
     pub even_native_in : ((x : Problem) → AsksLast m x question (point walk o)) →
-        (operands : List Held) → Enough walk o operands → (go : Dynamic → World S → Act S) →
-        ((n : Native) → native_asked m question ≡ Some n → IsCalled question n →
-        (v : Dynamic) (l : ℕ) (u : World S) → Gave walk w name r args n v u → After walk w name r args None l u → u.trace ≡ [] →
-        Even walk l (go v u)) →
+        (operands : List Held) → Enough walk o operands → (go : Dynamic → World S → Act S) → Goes go →
         Even walk ran
         (native m name r args (holding walk operands) w go (raised m (holding walk operands)))
     even_native_in last operands enough go goes =
@@ -89,9 +93,6 @@ module _ {S : Type 0} {m : Setup S} (walk : Walk m) where
         (native_asked m question) refl
 
     pub even_native : ((x : Problem) → AsksLast m x question (point walk o)) →
-        (go : Dynamic → World S → Act S) →
-        ((n : Native) → native_asked m question ≡ Some n → IsCalled question n →
-        (v : Dynamic) (l : ℕ) (u : World S) → Gave walk w name r args n v u → After walk w name r args None l u → u.trace ≡ [] →
-        Even walk l (go v u)) →
+        (go : Dynamic → World S → Act S) → Goes go →
         Even walk ran (native m name r args f w go (raised m f))
     even_native last go goes = even_native_in last f.operands (all_there walk o) go goes

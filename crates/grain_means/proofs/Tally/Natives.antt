@@ -19,7 +19,7 @@ use Rattle.grain_host.specs.Law.{Reply}
 use Rattle.grain_host.specs.Law as reply
 use Rattle.grain_value.specs.declared.natives.Native.{Native}
 use Rattle.grain_means.proofs.Missing.{row_of_missing}
-use Rattle.grain_means.specs.Rules.{Receiver, lent_held, given, given_back, trees_in, first_is_read_only, answered, host_called_or, is_stop, leave_by_fault, marked_or, native_found, native_found_or, native_over, native, no_memory, raised, receiver_left, position, cells_given_back, roots_given_back, unheard}
+use Rattle.grain_means.specs.Rules.{Receiver, lent_held, given, given_back, trees_in, first_is_read_only, answered, host_called_or, is_stop, marked_or, native_found_or, native_over, no_memory, receiver_left, position, cells_given_back, roots_given_back, unheard}
 use Rattle.grain_means.specs.Causes.{AsksFirst, AsksLast, AsksNative, Cause, Caused, FindsNative, HostFails, IsCalled, LeavesBack, Question, asked_by, body_back, first_asked, from_native, native_asked, reply_to}
 use Rattle.grain_means.proofs.Asked.{host_placed}
 use Rattle.grain_means.proofs.Chainless.{asks_no_chain}
@@ -28,7 +28,7 @@ use Rattle.grain_means.proofs.Ground.{stays_given}
 use Rattle.grain_means.proofs.Unlent.{Unlent, beyond_on, unlent_given, unlent_on, unlent_same}
 use Rattle.grain_means.proofs.Moving.{caught_anywhere, unit_caught}
 use Rattle.grain_means.proofs.Roles.{Framed, NativeAnswers, NativeFails}
-use Rattle.grain_means.proofs.Tally.Asking.{IsOver, asking, even_asked, length_given}
+use Rattle.grain_means.proofs.Tally.Asking.{asking, even_asked, length_given}
 use Rattle.grain_means.proofs.Tally.Frames.{Walk, Even, Reason, SteadyBut, holding, point}
 use Rattle.grain_means.proofs.Tally.Faults.{blames_none, met, why, why_answered}
 
@@ -143,13 +143,15 @@ module _ {S : Type 0} {m : Setup S} (walk : Walk m) where
 
     failed_why : (n : Native) → native_asked m question ≡ Some n → IsCalled question n →
         (y : Problem) →
-        AsksLast m (at_position_if_none (position m f) y) question (point walk o) → Answers w name r args n y →
+        AsksLast m (at_position_if_none (position m f) y) question (point walk o) →
+        Answers w name r args n y →
         Reason walk (at_position_if_none (position m f) y)
     failed_why n e called y last is =
         why_answered walk o width stands y (name, n, finds n e, called, is, last)
 
     -- the body of a function that the native called back was left by the fault
-    left_why : (n : Native) (a : AsksThen w name r args n) (x : Problem) (l : LeavesBack m (asked_by m a) a.start x) →
+    left_why : (n : Native) (a : AsksThen w name r args n) (x : Problem)
+        (l : LeavesBack m (asked_by m a) a.start x) →
         Cause m (body_back m l.runs) (l.runs.world.level + 1) l.inner → Reason walk x
     left_why n a x l cause = (
       subst (Cause m root k.level) (sym l.is) (from_native (record {

@@ -22,8 +22,8 @@ use Rattle.grain_means.specs.Causes.Spots.{CallAsks, CallEnds, IsLeft, IsReason,
 use Rattle.grain_means.proofs.Footing.{by_test}
 use Rattle.grain_means.proofs.Ground.{stays_given}
 use Rattle.grain_means.proofs.Moving.{caught_anywhere}
-use Rattle.grain_means.proofs.Roles.{Framed, NativeAnswers, NativeFails}
-use Rattle.grain_means.proofs.Tally.Asking.{IsOver, asking, even_asked}
+use Rattle.grain_means.proofs.Roles.{Framed, NativeAnswers}
+use Rattle.grain_means.proofs.Tally.Asking.{even_asked}
 use Rattle.grain_means.proofs.Tally.Faults.{met}
 use Rattle.grain_means.proofs.Tally.Frames.{Even, SteadyBut, Walk, point}
 use Rattle.grain_means.proofs.Tally.Natives.{memory_only}

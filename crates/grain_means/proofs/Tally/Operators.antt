@@ -4,7 +4,6 @@ use Rattle.grain_value.specs.declared.values.Dynamic.{Dynamic}
 use Rattle.grain_value.specs.declared.values.Held.{Held}
 use Rattle.grain_value.specs.Looking.{cell_of}
 use Rattle.grain_value.specs.Operands.{top, below, read_write, values_in}
-use Rattle.grain_fault.specs.Positions.{at_position_if_none}
 use Rattle.grain_fault.specs.Problems.{Problem, Plain}
 use Rattle.grain_fault.specs.Problems as problem
 use Rattle.grain_program.specs.declared.code.parts.AssignOp.{AssignOp}
@@ -13,7 +12,6 @@ use Rattle.grain_program.specs.Decoding.{op_at}
 use Rattle.grain_program.specs.View.{name_of}
 use Rattle.grain_ops.specs.Outcomes.{Outcome, NotBuiltIn, Gave, ArithmeticFault, TooLarge}
 use Rattle.grain_value.specs.Cells.{flat}
-use Rattle.grain_value.specs.declared.stores.Cell.{Cell}
 use Rattle.grain_means.proofs.Readable.{IsHomeOf, home_in_entry}
 use Rattle.grain_means.proofs.Unlent.{flat_stays}
 use Rattle.grain_means.specs.Worlds.{World, Setup, Go, InHost, Came}
@@ -21,7 +19,7 @@ use Rattle.grain_means.specs.Ends.{Ends}
 use Rattle.grain_host.specs.Signatures.{not_found, says_missing}
 use Rattle.grain_host.specs.Law as reply
 use Rattle.grain_value.specs.declared.natives.Native.{Native}
-use Rattle.grain_means.specs.Rules.{Home, Receiver, assigned_at, assignment_to_constant, content_now, entry_of_slot, flattened, given as given_to, held_at, is_read_only, native_assigned_at, onward, op_assign_failed_at, op_assigned, operator_at, outcome_at, position, push_outcome, pushed, stepped, store_outcome, trees_in}
+use Rattle.grain_means.specs.Rules.{Home, Receiver, assigned_at, assignment_to_constant, content_now, entry_of_slot, flattened, given as given_to, held_at, is_read_only, native_assigned_at, onward, op_assign_failed_at, op_assigned, operator_at, outcome_at, position, push_outcome, pushed, stepped, store_outcome}
 use Rattle.grain_means.specs.Comes.{ProgramPoint}
 use Rattle.grain_means.specs.Causes.{Question, native_asked, reply_to, asks_first, EndsWith, HasNoBuiltIn, AssignsByHost, AsksAgain, AsksSecond, AsksNative, IsCalled, ReadsTop, Holds, AssignsConstant, Operates, ReadsLent, AnswersLent, IsLent, AssignsLent, AsksFirst, asked_by}
 use Rattle.grain_means.proofs.Footing.{Sits, by_test}
@@ -111,8 +109,8 @@ module _ {S : Type 0} {m : Setup S} (walk : Walk m) where
         abbrev now_held : Held
         now_held = record h { value = content_now home h w }
 
-        abbrev args : List Held
-        args = now_held ∷ v ∷ []
+        abbrev copies : List Held
+        copies = now_held ∷ v ∷ []
 
         abbrev question : Question S
         question = record {
@@ -120,7 +118,7 @@ module _ {S : Type 0} {m : Setup S} (walk : Walk m) where
           cells = w.cells;
           name = name_of m.program a.op_name;
           lent = None;
-          args = args;
+          args = copies;
         }
 
         asks_again : AsksAgain m a home h u v question (point walk o)
@@ -135,7 +133,7 @@ module _ {S : Type 0} {m : Setup S} (walk : Walk m) where
         -- the operator gave a value, which is written
         given : (n : Native) → native_asked m question ≡ Some n → IsCalled question n →
             (z : Dynamic) (l : ℕ) (w1 : World S) →
-            HasGiven walk w (name_of m.program a.op_name) None args n z w1 →
+            HasGiven walk w (name_of m.program a.op_name) None copies n z w1 →
             Steady walk l w1 → w1.trace ≡ [] → Readable w1 →
             Even walk l (flattened m (read_write z) name f w1 (λ y.
             assigned_at m home (record h { value = y }) name (f.address + width) f w1))
@@ -145,7 +143,7 @@ module _ {S : Type 0} {m : Setup S} (walk : Walk m) where
             (λ y. even_written_at walk o width stands w1 l s1 t1 h name (record h { value = y }) sits_on
             (λ none. absurd (none_some (sym none ∙ reads.1))) home is_home)
             (flat w1.cells z) refl where
-              lends : HasGiven walk w (name_of m.program a.op_name) None args n z w1 →
+              lends : HasGiven walk w (name_of m.program a.op_name) None copies n z w1 →
                   flat w1.cells z ≡ None → AnswersLent m name (point walk o)
               lends (inl (is, left)) none =
                   answers_lent question asked_so n e called z
@@ -156,7 +154,7 @@ module _ {S : Type 0} {m : Setup S} (walk : Walk m) where
         even_operator : Even walk r
             (operator_at m home name (name_of m.program a.op_name) h now_held v (f.address + width) f w)
         even_operator =
-            even_native walk o width stands w r s t (name_of m.program a.op_name) None args asks
+            even_native walk o width stands w r s t (name_of m.program a.op_name) None copies asks
             (λ y. inr (a, home, h, u, v, by_host, inr asks_again))
             (λ z w1. flattened m (read_write z) name f w1 (λ y.
             assigned_at m home (record h { value = y }) name (f.address + width) f w1))

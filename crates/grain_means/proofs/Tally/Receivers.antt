@@ -9,7 +9,6 @@ use Rattle.grain_value.specs.Cells.{flat, lent}
 use Rattle.grain_value.specs.Looking.{cell_of, pointer_of}
 use Rattle.grain_value.specs.Operands.{arguments, read_write, under, values_in}
 use Rattle.grain_value.specs.Writing.{type_name_of}
-use Rattle.grain_fault.specs.Positions.{at_position_if_none}
 use Rattle.grain_fault.specs.Problems.{Problem, Plain, DataRace, MismatchDataType, NoMemory, StackOverflow, Terminated, TooManyOperations, TooManyVariables}
 use Rattle.grain_host.specs.Signatures.{not_found}
 use Rattle.grain_program.specs.Decoding.{op_at}
@@ -30,7 +29,7 @@ use Rattle.grain_means.proofs.Tally.Bodies.{even_under}
 use Rattle.grain_means.proofs.Tally.Entries.{busy_content, lent_cell}
 use Rattle.grain_means.proofs.Tally.Calls.{even_called}
 use Rattle.grain_means.proofs.Tally.Faults.{blames_none, even_flat, even_raised, why}
-use Rattle.grain_means.proofs.Tally.Frames.{Enough, Even, Reason, Steady, SteadyBut, Walk, even_marked, holding, point, start, steady}
+use Rattle.grain_means.proofs.Tally.Frames.{Enough, Even, Reason, SteadyBut, Walk, even_marked, holding, point, start, steady}
 use Rattle.grain_means.proofs.Tally.Methods.{method_asks, method_calls, method_charges, method_fills, method_misses, method_no_chain, method_reads}
 use Rattle.grain_means.proofs.Tally.Natives.{even_found_or, none_why, refused_why}
 use Rattle.grain_means.proofs.Tally.Returns.{Hears, HearsBut, UsesSlot, caused_out, ended_on, fails_so, hears_cell, hears_root, out_ended}

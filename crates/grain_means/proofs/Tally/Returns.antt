@@ -118,8 +118,8 @@ module _ {S : Type 0} {m : Setup S} (walk : Walk m) where
             even_raised_in walk o width stands operands enough n x u s
             (why walk o width stands x refl (same, past_scope u.scope i none, uses))
 
-        no_entry : (n : ℕ) (a : Answer) (u : World S) → Steady walk n u → length u.scope ≡ length now.scope →
-            Ended a u → held_at u.scope i ≡ None →
+        no_entry : (n : ℕ) (a : Answer) (u : World S) → Steady walk n u →
+            length u.scope ≡ length now.scope → Ended a u → held_at u.scope i ≡ None →
             Even walk n (over_without_entry m i next (holding walk operands) a u)
         no_entry n (Came v) u s same e none = passed n u s same none
         no_entry n (Failed x) u s same e none =
@@ -128,7 +128,8 @@ module _ {S : Type 0} {m : Setup S} (walk : Walk m) where
             (λ _. over n (Failed x) u s e) (λ _. passed n (record u { trace = [] }) s same none)
 
         in_entry : (h : Held) (n : ℕ) (a : Answer) (u : World S) → Steady walk n u →
-            length u.scope ≡ length now.scope → Ended a u → (before : Option Held) → held_at u.scope i ≡ before →
+            length u.scope ≡ length now.scope → Ended a u → (before : Option Held) →
+            held_at u.scope i ≡ before →
             Even walk n (over_in_entry m before i h next (holding walk operands) a u)
         in_entry h n a u s same e None none = no_entry n a u s same e none
         in_entry h n a u s same e (Some before) is =

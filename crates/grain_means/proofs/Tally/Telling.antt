@@ -1,21 +1,20 @@
 -- The walk over the rules where a call is over that a native asked for: the host hears of it, and answers
 -- the native's call at last or asks for another; or the native is given up.
-use Rattle.std.proofs.Common.{◌≡◌, ◌⊎◌, ◌+◌, ℕ, List, [], ◌∷◌, Option, Some, None, Bool, true, false, refl, sym, subst, ap, ◌∙◌, inl, inr, length}
+use Rattle.std.proofs.Common.{◌≡◌, ◌+◌, ℕ, List, [], Option, Some, None, Bool, true, false, refl, sym, subst, ap, ◌∙◌, inl, inr, length}
 use Rattle.std.proofs.lemmas.Bool.{eqb-false}
 use Rattle.std.specs.Prelude.{nat_eq}
 use Rattle.grain_value.specs.Cells.{flat}
 use Rattle.grain_value.specs.declared.scopes.Entry.{Entry}
 use Rattle.grain_value.specs.declared.values.Dynamic.{Dynamic}
-use Rattle.grain_value.specs.declared.values.Held.{Held}
 use Rattle.grain_fault.specs.Positions.{at_position_if_none}
+use Rattle.grain_fault.specs.declared.places.Position.{Position}
 use Rattle.grain_fault.specs.Problems.{Problem, Plain, DataRace, NoMemory}
 use Rattle.grain_host.specs.Law.{Law, Outcome, Reply, Value, Fault}
 use Rattle.grain_host.specs.Law as reply
-use Rattle.grain_means.specs.Ends.{Ends}
 use Rattle.grain_means.specs.Leavings.{Keeps}
-use Rattle.grain_means.specs.Rules.{Home, InScope, InCell, AtPlace, Receiver, answered_again, back_in_scope, called_back_over, cells_with, ended_so, given_up, is_stop, is_told, lent_held, position, race_text, receiver_rewritten, roots_with, scope_with, told, unheard, value_told, went_on, with_token, without_token}
+use Rattle.grain_means.specs.Rules.{Home, InScope, InCell, AtPlace, Receiver, answered_again, back_in_scope, called_back_over, cells_with, ended_so, function_back, given_up, is_stop, is_told, lent_held, position, race_text, receiver_rewritten, roots_with, scope_with, told, unheard, value_told, went_on, with_token, without_token}
 use Rattle.grain_means.specs.Worlds.{Act, Answer, Came, Callback, Failed, Go, InHost, Setup, World}
-use Rattle.grain_means.specs.Causes.{AsksOn, BackEnds, HearsOf, again, reply_again}
+use Rattle.grain_means.specs.Causes.{AsksOn, BackEnds, IsKeptOut, parameters, HearsOf, again, reply_again}
 use Rattle.grain_means.specs.Causes.Callbacks.{of_fault, of_lent, of_value}
 use Rattle.grain_means.specs.Causes.Spots.{past}
 use Rattle.grain_means.proofs.Choices.{if_false}
@@ -24,6 +23,7 @@ use Rattle.grain_means.proofs.Ground.{Footing, Stays}
 use Rattle.grain_means.proofs.Kept.{keeps_set}
 use Rattle.grain_means.proofs.Roles.{Hosting, NativeAnswers, NativeFails}
 use Rattle.grain_means.proofs.Tally.Asking.{length_back}
+use Rattle.grain_means.proofs.Tally.Functions.{Beside}
 use Rattle.grain_means.proofs.Unlent.{Beyond, Unlent, beyond_on, cell_away, given_in}
 
 same_token : (token : ℕ) → nat_eq token token ≡ true
@@ -57,6 +57,14 @@ keeps_with base names (Some r) scope there = at r.home where
   at (InScope i) = keeps_set base names scope i r.held there
   at (InCell n) = there
   at (AtPlace p) = there
+
+-- it is not told of a call that fails before anything of it is done
+untold : {S : Type 0} (m : Setup S) (q : Position) (n : ℕ) (w : World S) (x : Problem) →
+    IsKeptOut m q n w x → is_told x ≡ false
+untold m q n w x (inl a) = ap is_told a.1
+untold m q n w x (inr (inl a)) = ap is_told a.3
+untold m q n w x (inr (inr (inl a))) = ap is_told a.2
+untold m q n w x (inr (inr (inr a))) = ap is_told a.3
 
 -- where the walk is: at a call that a native asked for, which came of the first one
 pub record Hosted {S : Type 0} (m : Setup S) : Type 0 where
@@ -253,3 +261,27 @@ module _ {S : Type 0} {m : Setup S} (hosted : Hosted m) where
   pub even_out : (u : World S) (n : ℕ) → is_stop m.stop u.passed ≡ true → Aside n u →
       Back n (called_back_over m c (Failed NoMemory) u)
   even_out u n stop at = gives_up (Failed NoMemory) n u at (inl (refl, stop))
+
+  -- a world beside the first
+  pub aside : (n : ℕ) (u : World S) → Beside now n u → Aside n u
+  aside n u at = record {
+    ran = at.0;
+    tokens = at.1;
+    level = at.2;
+    keeps = subst (Keeps k.base k.names) (sym at.3) stays.keeps;
+    size = ap length at.3;
+    unlent = at.4;
+  }
+
+  pub out_so : (u : World S) (n : ℕ) → is_stop m.stop u.passed ≡ true → Beside now n u →
+      Back n (called_back_over m c (Failed NoMemory) u)
+  out_so u n stop at = even_out u n stop (aside n u at)
+
+  -- the call fails before anything of it is done
+  pub kept_out : (r : ℕ) (x : Problem) → IsKeptOut m (position m c.frame)
+      (parameters (function_back m.program m.engine.callbacks c)) now x →
+      (u : World S) → Beside now r u → Back r (called_back_over m c (Failed x) u)
+  kept_out r x why u at =
+      even_untold x u r
+      (untold m (position m c.frame) (parameters (function_back m.program m.engine.callbacks c)) now x why)
+      (inl (record { callback = c; world = now; on = on; why = inl why })) (aside r u at)

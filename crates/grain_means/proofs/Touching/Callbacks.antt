@@ -1,9 +1,8 @@
 -- Roots through the calls that a native asks for: what it was lent is written, and nothing else.
-use Rattle.std.proofs.Common.{◌≡◌, ◌+◌, ◌∙◌, ℕ, List, [], ◌∷◌, ◌++◌, true, Option, Some, None, if◌then◌else◌, nat_le, length, map}
+use Rattle.std.proofs.Common.{◌+◌, ◌∙◌, ℕ, List, [], true, Option, Some, None, if◌then◌else◌, nat_le, length}
 use Rattle.grain_value.specs.Cells.{flat}
 use Rattle.grain_value.specs.declared.values.Dynamic.{Dynamic}
 use Rattle.grain_value.specs.declared.values.Held.{Held}
-use Rattle.grain_fault.specs.Positions.{at_position_if_none}
 use Rattle.grain_fault.specs.Problems.{Problem, Plain, DataRace, StackOverflow, NoMemory}
 use Rattle.grain_fault.specs.declared.places.Position.{Position}
 use Rattle.grain_host.specs.Law.{Law, Outcome, Reply, Value, Fault}
