@@ -1,6 +1,7 @@
 //! Op-assignments that no built-in does, so that the host does them.
 
-ghost use Rattle.std.specs.Prelude.{◌≡◌, ◌<◌, ◌≤◌, ◌+◌, ◌-◌, ◌∷◌, [], ℕ, List, Option, Some, None, length, IfOk, OnTrue, OnFalse, false};
+ghost use Rattle.std.specs.Prelude.{◌≡◌, ◌<◌, ◌≤◌, ◌+◌, ◌-◌, ◌∷◌, [], ℕ, List, Option, Some, None, length, IfOk, false};
+ghost use Rattle.std.specs.Bool.{OnTrue, OnFalse};
 ghost use Rattle.grain_value.specs.declared.values.Dynamic.{Dynamic};
 ghost use Rattle.grain_value.specs.declared.values.Held.{Held};
 ghost use Rattle.grain_value.specs.Cells.{flat};

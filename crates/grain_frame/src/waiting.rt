@@ -2,7 +2,7 @@
 
 ghost use Rattle.std.specs.Prelude.{◌≡◌, [], Option, Some, None, is_some, slice_set, true};
 ghost use Rattle.grain_value.specs.Cells.{idle};
-ghost use Rattle.grain_host.specs.Answers.{Resumed, outcome_of as host_outcome_of, reply_of};
+ghost use Rattle.grain_host.specs.Answers.{Resumed as HostResumed, outcome_of as host_outcome_of, reply_of};
 ghost use Rattle.grain_frame.specs.Targets.{CanBeLent};
 ghost use Rattle.grain_frame.specs.Waiting.{IsKept, KeepsLent, ResumesWith, TellsHost, apart_of, given_back_run, lent_of, performed_of};
 
@@ -212,7 +212,7 @@ fn resume<H: Host>(
     told: Result<Dynamic, HostFault>,
     receiver: Option<Held>,
 ) -> (HostAnswer, Option<Held>)
-    ensures { Resumed H.law host.old token (host_outcome_of told)
+    ensures { HostResumed H.law host.old token (host_outcome_of told)
         (record { receiver = receiver; values = [] }) (reply_of result.0) host.new
         (record { receiver = result.1; values = [] }) }
 {
