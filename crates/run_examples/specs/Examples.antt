@@ -10,7 +10,7 @@ use Rattle.run_examples.specs.declared.ExampleHost.TheVariants as host
 use Rattle.run_examples.specs.declared.prices.PriceList.{PriceList}
 use Rattle.run_examples.specs.declared.rules.Rule.{Rule}
 
--- the price list over which the example `prices` runs
+-- the price list over which three examples run
 abbrev pub shipped_list : PriceList
 shipped_list = listed (codes "plum") (pos 250) (listed (codes "pear") (pos 120) empty)
 

@@ -41,7 +41,7 @@ enum ExampleHost {
 
 /// The examples, with their hosts. NAME.grain is the listing, and NAME.out the report that is
 /// expected.
-const EXAMPLES: [(&str, ExampleHost); 11] = [
+const EXAMPLES: [(&str, ExampleHost); 12] = [
     ("sum", ExampleHost::Table),
     ("fibonacci", ExampleHost::Table),
     ("limit", ExampleHost::Table),
@@ -51,6 +51,7 @@ const EXAMPLES: [(&str, ExampleHost); 11] = [
     ("account", ExampleHost::Table),
     ("prices", ExampleHost::Prices),
     ("properties", ExampleHost::Prices),
+    ("discounts", ExampleHost::Prices),
     ("budget", ExampleHost::Budget),
     ("work", ExampleHost::Budget),
 ];
