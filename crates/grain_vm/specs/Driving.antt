@@ -22,7 +22,7 @@ use Rattle.grain_means.specs.Rules.Natives.{Receiver}
 use Rattle.grain_means.specs.Rules.Chains.{chain_over}
 use Rattle.grain_means.specs.Driving.{all_given}
 use Rattle.grain_means.specs.Rules.{flat_all, kinds_in, race_text, trees_in, first_is_read_only}
-use Rattle.grain_means.specs.Simulation.{LocalState, Binds, Simulates, puts}
+use Rattle.grain_means.specs.Simulation.{Binds, Computation, LocalState, Simulates, puts}
 use Rattle.grain_means.specs.lemmas.Spreading.{Rooted}
 use Rattle.grain_global.specs.StepsView.{StepsView}
 use Rattle.grain_chain.specs.Walking.{is_want, no_memory, outcome_of, still}
@@ -37,7 +37,13 @@ use Rattle.grain_frame.specs.Abstraction.{abstraction}
 use Rattle.grain_frame.specs.Natives.{Seeks}
 use Rattle.grain_frame.specs.declared.native_calls.Arguments.{Arguments}
 use Rattle.grain_frame.specs.declared.native_calls.Sought.TheVariants as sought
-use Rattle.grain_vm.specs.Seats.{Rests, Seat, Seated, first_held, walk_seated}
+use Rattle.grain_frame.specs.Natives.{IsAt}
+use Rattle.grain_frame.specs.Waiting.{apart_of}
+use Rattle.grain_fault.specs.declared.traces.Fault.{Fault}
+use Rattle.grain_means.specs.Rules.InWorld.{missed_by, trace_of}
+use Rattle.grain_vm.specs.Seats.{Rests, Seat, Seated, first_held, walk_asking, walk_seated}
+use Rattle.grain_vm.specs.declared.driving.Answered.{Answered}
+use Rattle.grain_vm.specs.declared.driving.Answered.TheVariants as answered
 use Rattle.grain_vm.specs.declared.driving.WalkEnd.{WalkEnd}
 use Rattle.grain_vm.specs.declared.driving.WalkEnd.TheVariants as walk_end
 use Rattle.grain_frame.specs.declared.runs.Run.{Run}
@@ -143,18 +149,31 @@ DoesRequest law r home cells n host o n' host' left =
     ⊎ ((args : List Held) × (flat_all cells (map read_write (map value_of r.arguments)) ≡ Some args)
     × AsksHost law host (name_in r.what) home r.receiver args r.pos n o n' host' left)
 
--- A call that a walk needs was done, with this outcome, and this is what is left of what was lent to it.
--- So it is in each walk that has the task, wherever the walk stands.
+-- what follows once a native of a walk was called
+abbrev pub AnsweredTo : {H : Type 0} → Setup H → LocalState H → Computation H → ℕ →
+    (Option Place → Frame) → Seat → Rests H → Option (List Fault) → Option Place → (Answer → Task) →
+    List Held → Answered → LocalState H → Type 0
+AnsweredTo m old start k f seat done missed q go rs (answered.Over o) new =
+    Simulates m old start (is_want o.0) (record new { trace = trace_of missed (outcome_of o.0) [] })
+    (walk_seated k f seat done (missed_by (outcome_of o.0) []) (go (outcome_of o.0)) (puts rs q o.1))
+AnsweredTo m old start k f seat done missed q go rs (answered.Asks native) new =
+    (g : Option Place → Frame) × IsAt m g native.pos
+    × Simulates m old start false (record new { trace = [] })
+    (walk_asking k f seat done native.asked g q (apart_of native.lent) missed go
+    (puts rs q (apart_of native.lent)))
+
+-- A call of a native that a walk needs was done, with this outcome, and this is what is left of what was lent
+-- to it; or the native asks for a call first. So it is in each walk that has the task, wherever the walk
+-- stands.
 abbrev pub Answers : {H : Type 0} → Setup H → (Option Place → (Answer → Task) → Task) →
-    Option Held → Run H → StepsView → H → Result Dynamic EvalAltResult → Option Held → Run H →
-    StepsView → H → Type 0
-Answers {H = H} m task lent s n host o left s' n' host' =
-    (k : ℕ) (f : Option Place → Frame) (seat : Seat) (done : Rests H) (q : Option Place)
-    (go : Answer → Task) (rs : List Held) (scope : List Entry) (this : Option Held) →
-    Seated seat this → Rooted (first_held seat).read_only rs → Binds rs q lent →
-    Simulates m (beside scope this s n host) (walk_seated k f seat done (task q go) rs) (is_want o)
-    (beside scope this s' n' host')
-    (walk_seated k f seat done (go (outcome_of o)) (puts rs q left))
+    Option Held → Run H → StepsView → H → Answered → Run H → StepsView → H → Type 0
+Answers {H = H} m task lent s n host r s' n' host' =
+    (k : ℕ) (f : Option Place → Frame) (seat : Seat) (done : Rests H) (missed : Option (List Fault))
+    (q : Option Place) (go : Answer → Task) (rs : List Held) (scope : List Entry)
+    (this : Option Held) → Seated seat this → Rooted (first_held seat).read_only rs →
+    Binds rs q lent →
+    AnsweredTo m (beside scope this s n host) (walk_seated k f seat done missed (task q go) rs) k f seat
+    done missed q go rs r (beside scope this s' n' host')
 
 -- what is done after a walk does not depend on whether something changed
 abbrev pub IgnoresChange : {H : Type 0} → Rests H → Type 0
