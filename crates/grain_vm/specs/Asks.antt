@@ -13,7 +13,8 @@ use Rattle.grain_host.specs.Law.{Value, Fault as FaultOf}
 use Rattle.grain_chain.specs.Walking.{is_want, no_memory, outcome_of}
 use Rattle.grain_global.specs.StepsView.{StepsView}
 use Rattle.grain_global.specs.declared.engines.Engine.{Engine}
-use Rattle.grain_means.specs.Worlds.{Act, Answer, Callback, Failed, Frame, Place, Setup, World}
+use Rattle.grain_fault.specs.Absences.{is_dot_expr, is_indexing_type}
+use Rattle.grain_means.specs.Worlds.{Act, Answer, Callback, Came, Failed, Frame, Place, Setup, World}
 use Rattle.grain_means.specs.Rules.{called_back, called_back_over, given_up, is_told, position, told}
 use Rattle.grain_means.specs.Simulation.{Computation, LocalState, Simulates, SimulatesExactly}
 use Rattle.grain_frame.specs.Natives.{IsAt}
@@ -116,3 +117,13 @@ EndsNative {H = H} m native s n host o left s' n' host' =
 abbrev pub IsMissed : Bool → List Fault → Option (List Fault) → Type 0
 IsMissed true trace missed = missed ≡ Some trace
 IsMissed false trace missed = missed ≡ None
+
+-- whether a native ended with the fault that there is no such property, and whether with the one that there is
+-- no such indexer
+abbrev pub has_missed : Answer → Bool
+has_missed (Came v) = false
+has_missed (Failed x) = is_dot_expr x
+
+abbrev pub has_no_indexer : Answer → Bool
+has_no_indexer (Came v) = false
+has_no_indexer (Failed x) = is_indexing_type x
