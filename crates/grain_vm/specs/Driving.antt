@@ -22,7 +22,7 @@ use Rattle.grain_means.specs.Rules.Natives.{Receiver}
 use Rattle.grain_means.specs.Rules.Chains.{chain_over}
 use Rattle.grain_means.specs.Driving.{all_given}
 use Rattle.grain_means.specs.Rules.{flat_all, kinds_in, race_text, trees_in, first_is_read_only}
-use Rattle.grain_means.specs.Simulation.{LocalState, Binds, Simulates, puts}
+use Rattle.grain_means.specs.Simulation.{Binds, Computation, LocalState, Simulates, puts}
 use Rattle.grain_means.specs.lemmas.Spreading.{Rooted}
 use Rattle.grain_global.specs.StepsView.{StepsView}
 use Rattle.grain_chain.specs.Walking.{is_want, no_memory, outcome_of, still}
@@ -37,7 +37,13 @@ use Rattle.grain_frame.specs.Abstraction.{abstraction}
 use Rattle.grain_frame.specs.Natives.{Seeks}
 use Rattle.grain_frame.specs.declared.native_calls.Arguments.{Arguments}
 use Rattle.grain_frame.specs.declared.native_calls.Sought.TheVariants as sought
-use Rattle.grain_vm.specs.Seats.{Rests, Seat, Seated, first_held, walk_seated}
+use Rattle.grain_frame.specs.Natives.{IsAt}
+use Rattle.grain_frame.specs.Waiting.{apart_of, lent_of}
+use Rattle.grain_fault.specs.declared.traces.Fault.{Fault}
+use Rattle.grain_means.specs.Rules.InWorld.{missed_by, trace_of}
+use Rattle.grain_vm.specs.Seats.{Rests, Seat, Seated, first_held, walk_asking, walk_seated}
+use Rattle.grain_vm.specs.declared.driving.Answered.{Answered}
+use Rattle.grain_vm.specs.declared.driving.Answered.TheVariants as answered
 use Rattle.grain_vm.specs.declared.driving.WalkEnd.{WalkEnd}
 use Rattle.grain_vm.specs.declared.driving.WalkEnd.TheVariants as walk_end
 use Rattle.grain_frame.specs.declared.runs.Run.{Run}
@@ -67,20 +73,38 @@ RaisesOne x e n n' =
 
 -- The host was called with a key, a receiver, if there is one, and values. Two marks are passed, and
 -- one more if its fault is raised. If memory is out, nothing has changed.
-abbrev pub HearsHost : {H : Type 0} → Law H → H → ℕ → Option Held → List Tree → Position →
+abbrev pub HearsEnd : {H : Type 0} → Law H → H → ℕ → Option Held → List Tree → Position →
     StepsView → Result Dynamic EvalAltResult → StepsView → H → Option Held → Type 0
-HearsHost law host key x values p n (Ok v) n' host' left =
+HearsEnd law host key x values p n (Ok v) n' host' left =
     (reply.Done v ≡ law.call_reply host key x values)
     × (host' ≡ law.call_after host key x values)
     × (left ≡ receiver_after law host key x values)
     × (n' ≡ record n { passed = n.passed + 1 + 1 })
-HearsHost law host key x values p n (Err e) n' host' left =
+HearsEnd law host key x values p n (Err e) n' host' left =
     ((problem_of e ≡ NoMemory) × (host' ≡ host) × (left ≡ x) × (n' ≡ n))
     ⊎ ((y : Problem) × (reply.Failed y ≡ law.call_reply host key x values)
     × (problem_of e ≡ at_position_if_none p y)
     × (host' ≡ law.call_after host key x values)
     × (left ≡ receiver_after law host key x values)
     × (n' ≡ record n { passed = n.passed + 1 + 1 + 1 }))
+
+-- The same of a native that may ask for a call first: then two marks are passed, and what it was lent stands
+-- nowhere in the run.
+abbrev pub HearsHost : {H : Type 0} → Law H → H → ℕ → Option Held → List Tree → Position →
+    StepsView → Answered → StepsView → H → Type 0
+HearsHost law host key x values p n (answered.Over o) n' host' =
+    HearsEnd law host key x values p n o.0 n' host' o.1
+HearsHost law host key x values p n (answered.Asks native) n' host' =
+    (reply.Ask native.asked.token native.asked.pointer native.asked.values
+    ≡ law.call_reply host key x values)
+    × (host' ≡ law.call_after host key x values)
+    × (native.lent ≡ lent_of (receiver_after law host key x values)) × (native.pos ≡ p)
+    × (n' ≡ record n { passed = n.passed + 1 + 1 })
+
+-- the native is over, and so
+abbrev pub IfOver : Answered → (Result Dynamic EvalAltResult → Option Held → Type 0) → Type 0
+IfOver (answered.Over o) P = P o.0 o.1
+IfOver (answered.Asks native) P = ⊥
 
 -- memory is out, and nothing has changed
 abbrev pub WantsMemory : {H : Type 0} → H → Option Held → StepsView → Result Dynamic EvalAltResult →
@@ -100,13 +124,13 @@ RefusesCall law host name home x args p n (Err e) n' host' left =
 -- The host was asked for its native of a name, for a receiver, if there is one, and arguments as they are
 -- read: memory is out, or there is none that may be called, or it was called.
 abbrev pub AsksHost : {H : Type 0} → Law H → H → List ℕ → Home → Option Held → List Held →
-    Position → StepsView → Result Dynamic EvalAltResult → StepsView → H → Option Held → Type 0
-AsksHost law host name home x args p n o n' host' left =
-    WantsMemory host x n o n' host' left
-    ⊎ RefusesCall law host name home x args p n o n' host' left
+    Position → StepsView → Answered → StepsView → H → Type 0
+AsksHost law host name home x args p n r n' host' =
+    IfOver r (λ o left. WantsMemory host x n o n' host' left)
+    ⊎ IfOver r (λ o left. RefusesCall law host name home x args p n o n' host' left)
     ⊎ ((key : ℕ) × (values : List Tree)
     × Seeks law host name (lent_from home x) args p (sought.Native key values)
-    × HearsHost law host key x values p n o n' host' left)
+    × HearsHost law host key x values p n r n' host')
 
 -- an argument is a cell whose content is lent: that is a fault
 abbrev pub MeetsRace : {H : Type 0} → H → Option Held → Position → StepsView →
@@ -135,26 +159,48 @@ name_in (what.Pointer f) = []
 
 -- the request for a native was done: memory is out, or an argument cannot be read, or the host was asked
 abbrev pub DoesRequest : {H : Type 0} → Law H → Request → Home → List Cell → StepsView → H →
-    Result Dynamic EvalAltResult → StepsView → H → Option Held → Type 0
-DoesRequest law r home cells n host o n' host' left =
-    WantsMemory host r.receiver n o n' host' left
+    Answered → StepsView → H → Type 0
+DoesRequest law r home cells n host a n' host' =
+    IfOver a (λ o left. WantsMemory host r.receiver n o n' host' left)
     ⊎ ((flat_all cells (map read_write (map value_of r.arguments)) ≡ None)
-    × MeetsRace host r.receiver r.pos n o n' host' left)
+    × IfOver a (λ o left. MeetsRace host r.receiver r.pos n o n' host' left))
     ⊎ ((args : List Held) × (flat_all cells (map read_write (map value_of r.arguments)) ≡ Some args)
-    × AsksHost law host (name_in r.what) home r.receiver args r.pos n o n' host' left)
+    × AsksHost law host (name_in r.what) home r.receiver args r.pos n a n' host')
 
--- A call that a walk needs was done, with this outcome, and this is what is left of what was lent to it.
--- So it is in each walk that has the task, wherever the walk stands.
+-- what is left of what was lent to a native, whether it is over or asks for a call
+abbrev pub left_by : Answered → Option Held
+left_by (answered.Over o) = o.1
+left_by (answered.Asks native) = apart_of native.lent
+
+abbrev pub answered_is_out : Answered → Bool
+answered_is_out (answered.Over o) = is_want o.0
+answered_is_out (answered.Asks native) = false
+
+-- what follows once a native of a walk was called
+abbrev pub AnsweredTo : {H : Type 0} → Setup H → LocalState H → Computation H → ℕ →
+    (Option Place → Frame) → Seat → Rests H → Option (List Fault) → Option Place → (Answer → Task) →
+    List Held → Answered → LocalState H → Type 0
+AnsweredTo m old start k f seat done missed q go rs (answered.Over o) new =
+    Simulates m old start (is_want o.0) (record new { trace = trace_of missed (outcome_of o.0) [] })
+    (walk_seated k f seat done (missed_by (outcome_of o.0) []) (go (outcome_of o.0)) (puts rs q o.1))
+AnsweredTo m old start k f seat done missed q go rs (answered.Asks native) new =
+    (g : Option Place → Frame) × IsAt m g native.pos
+    × Simulates m old start false (record new { trace = [] })
+    (walk_asking k f seat done native.asked g q (apart_of native.lent) missed go
+    (puts rs q (apart_of native.lent)))
+
+-- A call of a native that a walk needs was done, with this outcome, and this is what is left of what was lent
+-- to it; or the native asks for a call first. So it is in each walk that has the task, wherever the walk
+-- stands.
 abbrev pub Answers : {H : Type 0} → Setup H → (Option Place → (Answer → Task) → Task) →
-    Option Held → Run H → StepsView → H → Result Dynamic EvalAltResult → Option Held → Run H →
-    StepsView → H → Type 0
-Answers {H = H} m task lent s n host o left s' n' host' =
-    (k : ℕ) (f : Option Place → Frame) (seat : Seat) (done : Rests H) (q : Option Place)
-    (go : Answer → Task) (rs : List Held) (scope : List Entry) (this : Option Held) →
-    Seated seat this → Rooted (first_held seat).read_only rs → Binds rs q lent →
-    Simulates m (beside scope this s n host) (walk_seated k f seat done (task q go) rs) (is_want o)
-    (beside scope this s' n' host')
-    (walk_seated k f seat done (go (outcome_of o)) (puts rs q left))
+    Option Held → Run H → StepsView → H → Answered → Run H → StepsView → H → Type 0
+Answers {H = H} m task lent s n host r s' n' host' =
+    (k : ℕ) (f : Option Place → Frame) (seat : Seat) (done : Rests H) (missed : Option (List Fault))
+    (q : Option Place) (go : Answer → Task) (rs : List Held) (scope : List Entry)
+    (this : Option Held) → Seated seat this → Rooted (first_held seat).read_only rs →
+    Binds rs q lent →
+    AnsweredTo m (beside scope this s n host) (walk_seated k f seat done missed (task q go) rs) k f seat
+    done missed q go rs r (beside scope this s' n' host')
 
 -- what is done after a walk does not depend on whether something changed
 abbrev pub IgnoresChange : {H : Type 0} → Rests H → Type 0

@@ -29,7 +29,8 @@ use Rattle.grain_frame.specs.Receivers.{others_at}
 use Rattle.grain_frame.specs.declared.receivers.Bound.{Bound}
 use Rattle.grain_frame.specs.declared.runs.Run.{Run}
 use Rattle.grain_vm.specs.Calls.{WrapsSo, caller_of}
-use Rattle.grain_vm.specs.Driving.{Answers, SameFlag, beside}
+use Rattle.grain_vm.specs.Driving.{Answers, SameFlag, beside, left_by}
+use Rattle.grain_vm.specs.declared.driving.Answered.{Answered}
 use Rattle.grain_vm.specs.declared.calls.FrameEnd.{FrameEnd}
 use Rattle.grain_vm.specs.declared.calls.FrameEnd.TheVariants as frame_end
 use Rattle.grain_vm.specs.declared.methods.MethodCall.{MethodCall}
@@ -83,12 +84,12 @@ NeedsSo p r (Ok (needed.Native asked)) = AsksNative p r r.what asked
 NeedsSo p r (Ok (needed.Function c)) = CallsFunction p r c
 NeedsSo p r (Err back) = (back ≡ r) × IsPointer r.what
 
--- what came of a request: its call was done, or it calls this function, and nothing is done
+-- what came of a request: its native was called, or it calls this function, and nothing is done
 abbrev pub ServesRequest : {H : Type 0} → Setup H → Request → Run H → StepsView → H →
-    Result (Result Dynamic EvalAltResult × Option Held) MethodCall → Run H → StepsView → H → Type 0
-ServesRequest m r s n host (Ok o) s' n' host' =
-    SameFlag r.receiver o.1
-    × Answers m (λ q go. task_for r.what r q go) r.receiver s n host o.0 o.1 s' n' host'
+    Result Answered MethodCall → Run H → StepsView → H → Type 0
+ServesRequest m r s n host (Ok a) s' n' host' =
+    SameFlag r.receiver (left_by a)
+    × Answers m (λ q go. task_for r.what r q go) r.receiver s n host a s' n' host'
 ServesRequest m r s n host (Err c) s' n' host' =
     CallsFunction m.program r c × (n' ≡ n) × (host' ≡ host)
 

@@ -1,6 +1,6 @@
 -- A chain whose walk is under way: how it began, where the code has its root, and how far the walk
 -- has come.
-use Rattle.std.specs.Prelude.{◌≡◌, ◌<◌, ◌≤◌, ◌∷◌, [], ℕ, List, Bool, false, Option, Some, Result, Ok, Err, length, slice_get, slice_set}
+use Rattle.std.specs.Prelude.{◌≡◌, ◌<◌, ◌≤◌, ◌∷◌, [], ℕ, List, Bool, false, Option, Some, None, Result, Ok, Err, length, slice_get, slice_set}
 use Rattle.grain_value.specs.Cells.{idle}
 use Rattle.grain_value.specs.Operands.{under}
 use Rattle.grain_value.specs.Scopes.{set_held}
@@ -13,6 +13,7 @@ use Rattle.grain_program.specs.View.{View, chain_of, position_of}
 use Rattle.grain_global.specs.StepsView.{StepsView}
 use Rattle.grain_program.specs.declared.code.functions.Function.{Function}
 use Rattle.grain_program.specs.declared.code.instruction_set.Op.TheVariants as op
+use Rattle.grain_fault.specs.declared.traces.Fault.{Fault}
 use Rattle.grain_means.specs.Worlds.{Frame, Place, Setup}
 use Rattle.grain_means.specs.Tasks.{Done}
 use Rattle.grain_means.specs.Rules.{trees_in}
@@ -33,7 +34,11 @@ use Rattle.grain_frame.specs.declared.runs.Run.{Run}
 use Rattle.grain_vm.specs.Chains.{CanPutBack, value_taken, walked_frame}
 use Rattle.grain_vm.specs.Driving.{after_walk, beside, end_is_out, end_of}
 use Rattle.grain_vm.specs.Methods.{HasFunction, given_to}
-use Rattle.grain_vm.specs.Seats.{AtThis, Added, Rests, Seat, Seated, first_held, walk_calling, walk_seated}
+use Rattle.grain_frame.specs.Natives.{IsAt}
+use Rattle.grain_frame.specs.Waiting.{apart_of}
+use Rattle.grain_frame.specs.declared.waiting.Loan.{Loan}
+use Rattle.grain_frame.specs.declared.waiting.Loan.TheVariants as have
+use Rattle.grain_vm.specs.Seats.{AtThis, Added, Rests, Seat, Seated, first_held, walk_asking, walk_calling, walk_seated}
 use Rattle.grain_vm.specs.declared.chain_operands.Taken.{Taken}
 use Rattle.grain_vm.specs.declared.chains.Begun.{Begun}
 use Rattle.grain_vm.specs.declared.chains.Begun.TheVariants as begun
@@ -47,30 +52,48 @@ use Rattle.grain_vm.specs.declared.roots.Home.TheVariants as home
 
 -- ---- how far a walk is driven
 
+-- what a native of a walk was lent stands nowhere in the run, or it was lent nothing
+abbrev pub IsApart : Loan → Type 0
+IsApart have.Nothing = Unit {0}
+IsApart (have.Target t) = ⊥
+IsApart (have.Cell n h) = ⊥
+IsApart (have.Apart h) = Unit {0}
+
 -- whether memory ran out
 abbrev pub driven_is_out : Driven → Bool
 driven_is_out (driven.Over end) = end_is_out end
 driven_is_out (driven.Calls c) = false
+driven_is_out (driven.Asks native) = false
 
 -- the walk's first root has this flag
 abbrev pub RootedTo : Bool → Walk → Driven → Type 0
 RootedTo b w (driven.Over end) = w.trail.here.read_only ≡ b
 RootedTo b w (driven.Calls c) = Rooted b (with_receiver w c.receiver)
+RootedTo b w (driven.Asks native) = Rooted b (with_receiver w (apart_of native.lent))
 
 -- a walk that calls a function waits for its answer, and there are fewer requests than n after it
 abbrev pub WaitsFor : View → Walk → Driven → ℕ → Type 0
 WaitsFor p w (driven.Over end) n = Unit {0}
 WaitsFor p w (driven.Calls c) n =
     HasFunction p c × Waits p w c.receiver × (still p w w.awaits < n)
+WaitsFor p w (driven.Asks native) n =
+    IsApart native.lent × Waits p w (apart_of native.lent) × (still p w w.awaits < n)
 
--- what is left of a walk that was driven so far: nothing but its end, or the call of a function and
--- what follows from the call's answer
+-- What is left of a walk that was driven so far: nothing but its end; or the call of a function and what
+-- follows from the call's answer; or a native, which asks for a call first, and what follows from its
+-- answer. `missed` is what is now the trace of a property that was missed.
 abbrev pub DrivesTo : {H : Type 0} → Setup H → LocalState H → Computation H → ℕ →
-    (Option Place → Frame) → Seat → Rests H → Walk → Driven → LocalState H → Type 0
-DrivesTo m old start k f seat done w (driven.Over end) new =
+    (Option Place → Frame) → Seat → Rests H → Option (List Fault) → Walk → Driven → LocalState H →
+    Type 0
+DrivesTo m old start k f seat done missed w (driven.Over end) new =
     Simulates m old start (end_is_out end) new
-    (walk_seated k f seat done (Done (end_of end)) (w.trail.here ∷ []))
-DrivesTo m old start k f seat done w (driven.Calls c) new =
+    (walk_seated k f seat done missed (Done (end_of end)) (w.trail.here ∷ []))
+DrivesTo m old start k f seat done missed w (driven.Asks native) new =
+    (g : Option Place → Frame) × IsAt m g native.pos
+    × Simulates m old start false new
+    (walk_asking k f seat done native.asked g (lent w (apart_of native.lent)) (apart_of native.lent)
+    missed (resumed m.engine m.program w w.awaits) (with_receiver w (apart_of native.lent)))
+DrivesTo m old start k f seat done missed w (driven.Calls c) new =
     (g : Function) → slice_get m.program.functions c.number ≡ Some g →
     Simulates m old start false new
     (walk_calling k f seat done g c.pos (given_to c.arguments) (lent w c.receiver)
@@ -143,9 +166,9 @@ pub record UnderWay {H : Type 0} (p : View) (s : Run H) (k next : ℕ) (blamed :
 -- what is left of the chain c of index k, whose root was taken from this home, if its walk stands at
 -- this answer
 abbrev pub chain_left : {H : Type 0} → Setup H → (Option Place → Frame) → ℕ → ℕ → Home → Bool →
-    Seat → Walk → WalkAnswer → Computation H
-chain_left m g k next home b seat w a =
-    walk_seated k g seat (after_chain k next home b g) (left_to_do m.engine m.program w a)
+    Seat → Option (List Fault) → Walk → WalkAnswer → Computation H
+chain_left m g k next home b seat missed w a =
+    walk_seated k g seat (after_chain k next home b g) missed (left_to_do m.engine m.program w a)
     (roots_at w a)
 
 -- A chain's root was taken, and its walk has come to an answer.
@@ -168,7 +191,7 @@ pub record Starts {H : Type 0} (m : Setup H) (f : Activation) (s : Run H) (n : S
       (assigned_operand (chain_of m.program k) s.stacks.operands))) (steps_of m.program k))
       next (frame_in f s place) (walked_frame f s (chain_of m.program k) blamed place) v)
       (is_out a) (beside scope this s' n' host)
-      (chain_left m (walked_frame f s (chain_of m.program k) blamed) k next root.home flag seat w a)
+      (chain_left m (walked_frame f s (chain_of m.program k) blamed) k next root.home flag seat None w a)
   pub rooted : Rooted (first_held seat).read_only (roots_at w a)
   pub long : length s'.scope ≡ length s.scope
   pub others : s' ≡ record s {
@@ -188,7 +211,7 @@ pub record Walks {H : Type 0} (m : Setup H) (a : Moment H) (rule : Computation H
     pub same : Simulates m (abstraction a.run a.counts a.host) rule (is_out answer)
         (beside under_way.scope under_way.this s' n' a.host)
         (chain_left m (walked_frame a.frame a.run (chain_of m.program k) blamed) k next w.home
-        w.was_read_only under_way.seat w.walk answer)
+        w.was_read_only under_way.seat None w.walk answer)
     pub rooted : Rooted (first_held under_way.seat).read_only (roots_at w.walk answer)
     pub before : n'.before ≡ a.counts.before
 
@@ -215,12 +238,12 @@ BeginsWaiting p (Err e) = Unit {0}
 pub record Finishes {H : Type 0} (m : Setup H) (f : Activation) (s : Run H) (n : StepsView) (host : H)
     (w : Walking) (end : WalkEnd) (r : Result Progress OutOfMemory) (f' : Activation) (s' : Run H)
     (n' : StepsView) : Type 0 where
-  pub same : (seat : Seat) (scope : List Entry) (this : Option Held) →
+  pub same : (seat : Seat) (scope : List Entry) (this : Option Held) (missed : Option (List Fault)) →
       IsAway w.home w.was_read_only seat scope this s → Seated seat this →
       Rooted (first_held seat).read_only (w.walk.trail.here ∷ []) →
       Simulates m (beside scope this s n host)
       (walk_seated w.index (over_frame f s w.blamed) seat
-      (after_chain w.index w.next w.home w.was_read_only (over_frame f s w.blamed)) (Done (end_of end))
+      (after_chain w.index w.next w.home w.was_read_only (over_frame f s w.blamed)) missed (Done (end_of end))
       (w.walk.trail.here ∷ [])) (frames.is_out r) (abstraction s' n' host)
       (continuation r s'.fault (frame_in f' s'))
   pub kept : KeepsFrame f s f' s'

@@ -29,7 +29,18 @@ pub(crate) fn wait_for_native<H: Host, L: Ledger>(
     steps: &mut Steps<L>,
     frame: &mut Activation,
     waiting: Waiting,
-) -> Result<Progress, OutOfMemory> {
+) -> Result<Progress, OutOfMemory>
+    requires runs { IsWaiting context.program.now frame.old run.old waiting }
+    requires none { NoneAbove run.old.level run.old.receivers }
+    ensures goes { (takes gives : ℕ) (targets : List ℕ) →
+        LeadsTo context.program.now frame.old run.old waiting.rest takes gives targets →
+        ImplementsBound (setup_of H.law context.entry)
+        (moment frame.old run.old steps.old host.old)
+        (λ m place w. asking (home_of to.This) run.old waiting.asked waiting.lent
+        (frame_in frame.old run.old) (rest_of waiting.rest (frame_in frame.old run.old)) m place w)
+        targets takes gives run.old.stacks.handlers result
+        (moment frame.new run.new steps.new host.new) }
+{
     let mut waiting = waiting;
     'natives: loop {
         let Waiting { asked, lent, rest } = waiting;
@@ -47,7 +58,9 @@ pub(crate) fn wait_for_native<H: Host, L: Ledger>(
 }
 
 // Whether memory ran out in a call.
-fn is_out(outcome: &Result<Dynamic, EvalAltResult>) -> bool {
+fn is_out(outcome: &Result<Dynamic, EvalAltResult>) -> bool
+    ensures { result ≡ is_want outcome.now }
+{
     match outcome {
         Ok(_) => false,
         Err(fault) => is_want(fault),
@@ -201,7 +214,15 @@ fn end_of_native<H: Host, L: Ledger>(
     host: &mut H,
     steps: &mut Steps<L>,
     native: AskingNative,
-) -> Outcome {
+) -> Outcome
+    requires kept { IsKept run.old native.lent }
+    requires none { NoneAbove run.old.level run.old.receivers }
+    ensures ends { EndsNative (setup_of H.law context.entry) native run.old steps.old host.old result.0
+        result.1 run.new steps.new host.new }
+    ensures over { NativeOver native.lent run.old run.new }
+    ensures left { SameFlag (apart_of native.lent) result.1 }
+    ensures before { steps.new.before ≡ steps.old.before }
+{
     let AskingNative { asked, lent, pos } = native;
     let mut asked = asked;
     let mut lent = lent;
@@ -233,7 +254,10 @@ fn told<H: Host, L: Ledger>(
     steps: &mut Steps<L>,
     pos: Position,
     came: Result<Dynamic, EvalAltResult>,
-) -> Result<Result<Dynamic, HostFault>, EvalAltResult> {
+) -> Result<Result<Dynamic, HostFault>, EvalAltResult>
+    ensures { (m : Setup H) → TellsOf m pos came run.now steps.old result steps.new }
+    ensures before { steps.new.before ≡ steps.old.before }
+{
     let fault = match came {
         Ok(value) => match run.read_of(value) {
             Err(OutOfMemory) => return Err(EvalAltResult::Memory),
@@ -263,7 +287,14 @@ fn call_back<H: Host, L: Ledger>(
     pos: Position,
     pointer: FnPtr,
     values: Array,
-) -> Result<Dynamic, EvalAltResult> {
+) -> Result<Dynamic, EvalAltResult>
+    requires none { NoneAbove run.old.level run.old.receivers }
+    ensures called { CallsBack (setup_of H.law context.entry) pos pointer values run.old steps.old
+        host.old result run.new steps.new host.new }
+    ensures over { MethodOver run.old run.new }
+    ensures took { TookOne context.entry.engine.now run.old result run.new }
+    ensures before { steps.new.before ≡ steps.old.before }
+{
     match find_back(run, context, pos, pointer, values) {
         Err(OutOfMemory) => Err(EvalAltResult::Memory),
         Ok(Needed::Function(call)) => {

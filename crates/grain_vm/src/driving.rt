@@ -16,7 +16,10 @@ ghost use Rattle.grain_means.specs.Rules.{race_text, trees_in};
 ghost use Rattle.grain_chain.specs.Walking.{call_for, CanCall, is_out, is_want, left_to_do, outcome_of, resumed, roots_at, roots_of, still, with_receiver, Did, Falls, Waits};
 ghost use Rattle.grain_frame.specs.Abstraction.{setup_of};
 ghost use Rattle.grain_frame.specs.Natives.{Seeks};
-ghost use Rattle.grain_vm.specs.Driving.{beside, left_of, name_in, Answers, DescribesAfter, IsNative, ReadsAll, lent_from, RaisesOne, AsksHost, DoesRequest, HearsHost, SameFlag, IgnoresChange};
+ghost use Rattle.grain_means.specs.Rules.InWorld.{missed_by, trace_of};
+ghost use Rattle.grain_fault.specs.declared.traces.Fault.{Fault as Entered};
+ghost use Rattle.grain_vm.specs.Asks.{IsMissed, has_missed, has_no_indexer};
+ghost use Rattle.grain_vm.specs.Driving.{beside, left_by, left_of, name_in, Answers, DescribesAfter, IsNative, ReadsAll, lent_from, RaisesOne, AsksHost, DoesRequest, HearsHost, SameFlag, IgnoresChange};
 ghost use Rattle.grain_vm.specs.Methods.{ServesRequest};
 ghost use Rattle.grain_vm.specs.Seats.{Rests, Seat, Seated, first_held, walk_seated};
 ghost use Rattle.grain_vm.specs.Underway.{DrivesTo, RootedTo, WaitsFor, driven_is_out};
@@ -210,12 +213,12 @@ pub(crate) fn perform_request<H: Host, L: Ledger>(
     requires native { IsNative request.what }
     ensures same { (m : Setup H) → m.law ≡ H.law → Answers m
         (λ q go. Need (call_for (name_in request.what) request q) go) request.receiver run.old
-        steps.old host.old result.0 result.1 run.new steps.new host.new }
+        steps.old host.old result run.new steps.new host.new }
     ensures does { (home : Home) → DoesRequest H.law request home run.old.cells steps.old host.old
-        result.0 steps.new host.new result.1 }
+        result steps.new host.new }
     ensures run { run.new ≡ run.old }
     ensures before { steps.new.before ≡ steps.old.before }
-    ensures lent { SameFlag request.receiver result.1 }
+    ensures lent { SameFlag request.receiver (left_by result) }
 {
     let Request {
         step: _,
@@ -248,11 +251,11 @@ pub(crate) fn ask_host<H: Host, L: Ledger>(
     position: Position,
 ) -> Answered
     ensures asked { (args : List Held) (home : Home) → DescribesAfter receiver arguments args →
-        AsksHost H.law host.old name.now home receiver args position steps.old result.0 steps.new
-        host.new result.1 }
+        AsksHost H.law host.old name.now home receiver args position steps.old result steps.new
+        host.new }
     ensures run { run.new ≡ run.old }
     ensures before { steps.new.before ≡ steps.old.before }
-    ensures lent { SameFlag receiver result.1 }
+    ensures lent { SameFlag receiver (left_by result) }
 {
     match seek_lending(run.alloc, host, name, &receiver, arguments, position) {
         Err(OutOfMemory) => Answered::Over((Err(EvalAltResult::Memory), receiver)),
@@ -278,8 +281,8 @@ fn call_lending<H: Host, L: Ledger>(
     receiver: Option<Held>,
     position: Position,
 ) -> Answered
-    ensures heard { HearsHost H.law host.old key receiver values position steps.old result.0
-        steps.new host.new result.1 }
+    ensures heard { HearsHost H.law host.old key receiver values position steps.old result
+        steps.new host.new }
     ensures run { run.new ≡ run.old }
     ensures before { steps.new.before ≡ steps.old.before }
 {
@@ -351,14 +354,18 @@ pub(crate) fn drive<H: Host, L: Ledger>(
 ) -> Driven
     requires waits { (n : ℕ) × Falls context.program.now walk.old answer n }
     ensures same { (k : ℕ) (f : Option Place → Frame) (seat : Seat) (done : Rests H)
-        (scope : List Entry) (this : Option Held) → Seated seat this →
-        Rooted (first_held seat).read_only (roots_at walk.old answer) → IgnoresChange done →
-        DrivesTo (setup_of H.law context.entry) (beside scope this run.old steps.old host.old)
-        (walk_seated k f seat done
+        (before : Option (List Entered)) (scope : List Entry) (this : Option Held) →
+        Seated seat this → Rooted (first_held seat).read_only (roots_at walk.old answer) →
+        IgnoresChange done → IsMissed missed.old run.old.stacks.trace before →
+        (now : Option (List Entered)) × IsMissed missed.new run.new.stacks.trace now
+        × DrivesTo (setup_of H.law context.entry) (beside scope this run.old steps.old host.old)
+        (walk_seated k f seat done before
         (left_to_do context.entry.engine.now context.entry.program.now walk.old answer)
-        (roots_at walk.old answer)) k f seat done walk.new result
+        (roots_at walk.old answer)) k f seat done now walk.new result
         (beside scope this run.new steps.new host.new) }
-    ensures run { run.new ≡ run.old }
+    ensures run { run.new ≡ record run.old {
+      stacks = record run.old.stacks { trace = run.new.stacks.trace };
+    } }
     ensures before { steps.new.before ≡ steps.old.before }
     // Want of memory is handed on.
     ensures carries { StopPersists (is_out answer) steps.old.passed (driven_is_out result)
@@ -394,7 +401,14 @@ fn keep_missed<H: Host>(
     run: &mut Run<H>,
     missed: &mut bool,
     outcome: &Result<Dynamic, EvalAltResult>,
-) {
+)
+    ensures kept { (before : Option (List Entered)) → IsMissed missed.old run.old.stacks.trace before →
+        (run.new.stacks.trace ≡ trace_of before (outcome_of outcome.now) [])
+        × IsMissed missed.new run.new.stacks.trace (missed_by (outcome_of outcome.now) []) }
+    ensures run { run.new ≡ record run.old {
+      stacks = record run.old.stacks { trace = run.new.stacks.trace };
+    } }
+{
     if !(*missed && lacks_indexer(outcome)) {
         run.stacks.cut_trace(0);
     }
@@ -402,7 +416,9 @@ fn keep_missed<H: Host>(
 }
 
 // Whether a call ended with the fault that there is no such property.
-pub(crate) fn misses_property(outcome: &Result<Dynamic, EvalAltResult>) -> bool {
+pub(crate) fn misses_property(outcome: &Result<Dynamic, EvalAltResult>) -> bool
+    ensures { result ≡ has_missed (outcome_of outcome.now) }
+{
     match outcome {
         Ok(_) => false,
         Err(fault) => fault.is_dot_expr(),
@@ -410,7 +426,9 @@ pub(crate) fn misses_property(outcome: &Result<Dynamic, EvalAltResult>) -> bool 
 }
 
 // Whether a call ended with the fault that there is no such indexer.
-pub(crate) fn lacks_indexer(outcome: &Result<Dynamic, EvalAltResult>) -> bool {
+pub(crate) fn lacks_indexer(outcome: &Result<Dynamic, EvalAltResult>) -> bool
+    ensures { result ≡ has_no_indexer (outcome_of outcome.now) }
+{
     match outcome {
         Ok(_) => false,
         Err(fault) => fault.is_indexing_type(),
