@@ -15,6 +15,7 @@ pub mod Chains
 pub mod Methods
 pub mod Underway
 pub mod Receivers
+pub mod Asks
 pub use Rattle.grain_global.specs.StepsView
 pub use Rattle.grain_means.specs.Worlds
 pub use Rattle.grain_means.specs.Rules

@@ -46,7 +46,7 @@ pub(crate) fn wait_for_native<H: Host, L: Ledger>(
         let Waiting { asked, lent, rest } = waiting;
         let pos = context.program.position(frame.address);
         let native = AskingNative { asked, lent, pos };
-        let (outcome, _) = end_of_native(run, context, host, steps, native);
+        let (outcome, _receiver) = end_of_native(run, context, host, steps, native);
         if is_out(&outcome) {
             return Err(OutOfMemory);
         }
@@ -190,8 +190,8 @@ pub(crate) fn native_on<H: Host, L: Ledger>(
     match call_native_on(run, host, steps, request) {
         OnReceiver::Over(outcome) => outcome,
         OnReceiver::Asks(native, cell) => {
-            let (outcome, left) = end_of_native(run, context, host, steps, native);
-            let outcome = raised_in_walk(run, steps, outcome, None);
+            let answered = Answered::Asks(native);
+            let (outcome, left) = finish_native(run, context, host, steps, answered);
             match cell {
                 None => (outcome, left),
                 Some(cell) => {
@@ -199,6 +199,26 @@ pub(crate) fn native_on<H: Host, L: Ledger>(
                     (outcome, receiver)
                 }
             }
+        }
+    }
+}
+
+// Goes on with a native that was called, until it is over; its fault is then raised.
+#[cycle(run)]
+#[cold]
+#[inline(never)]
+fn finish_native<H: Host, L: Ledger>(
+    run: &mut Run<H>,
+    context: Context<'_>,
+    host: &mut H,
+    steps: &mut Steps<L>,
+    answered: Answered,
+) -> Outcome {
+    match answered {
+        Answered::Over(outcome) => outcome,
+        Answered::Asks(native) => {
+            let (outcome, receiver) = end_of_native(run, context, host, steps, native);
+            (raised_in_walk(run, steps, outcome, None), receiver)
         }
     }
 }
@@ -255,7 +275,7 @@ fn told<H: Host, L: Ledger>(
     pos: Position,
     came: Result<Dynamic, EvalAltResult>,
 ) -> Result<Result<Dynamic, HostFault>, EvalAltResult>
-    ensures { (m : Setup H) → TellsOf m pos came run.now steps.old result steps.new }
+    ensures tells { (m : Setup H) → TellsOf m pos came run.now steps.old result steps.new }
     ensures before { steps.new.before ≡ steps.old.before }
 {
     let fault = match came {
@@ -298,7 +318,7 @@ fn call_back<H: Host, L: Ledger>(
     match find_back(run, context, pos, pointer, values) {
         Err(OutOfMemory) => Err(EvalAltResult::Memory),
         Ok(Needed::Function(call)) => {
-            let (outcome, _) = call_method(run, context, host, steps, call);
+            let (outcome, _receiver) = call_method(run, context, host, steps, call);
             outcome
         }
         Ok(Needed::Native(request)) => native_back(run, context, host, steps, request),
@@ -351,13 +371,8 @@ fn native_back<H: Host, L: Ledger>(
     match begin_native_back(run, context, host, steps, pos) {
         Some(fault) => Err(fault),
         None => {
-            let outcome = match perform_request(run, host, steps, request) {
-                Answered::Over((outcome, _)) => outcome,
-                Answered::Asks(native) => {
-                    let (outcome, _) = end_of_native(run, context, host, steps, native);
-                    raised_in_walk(run, steps, outcome, None)
-                }
-            };
+            let answered = perform_request(run, host, steps, request);
+            let (outcome, _receiver) = finish_native(run, context, host, steps, answered);
             run.level -= 1;
             outcome
         }

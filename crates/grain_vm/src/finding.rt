@@ -66,6 +66,7 @@ pub(crate) fn find_named<H: Host, L: Ledger>(
 // `call_fn_ptr`: finds the function that the pointer under the last `count` operands names, with as many
 // parameters as the pointer has values and there are operands, taken together. The pointer's values take
 // its place. If there is no such function, the native of that name is called on all of them.
+#[cycle(run)]
 #[cold]
 #[inline(never)]
 pub(crate) fn find_pointed<H: Host, L: Ledger>(
