@@ -40,7 +40,7 @@ use Rattle.grain_frame.specs.declared.targets.Target.{Target}
 use Rattle.grain_frame.specs.lemmas.Bound.{while_bound}
 use Rattle.grain_frame.proofs.Homes.{put_binds, put_world}
 use Rattle.grain_frame.proofs.Lending.{written_flag}
-use Rattle.grain_frame.proofs.Serving.{kept_on, later_lands}
+use Rattle.grain_frame.proofs.Serving.{kept_on, later_lands, same_but_trace}
 
 module _ {H : Type 0} (law : Law H) (s : Run H) (n : StepsView) (host : H) (q : Position)
     (m : Setup H) (name : List ℕ) (t : Target) (h : Held) (args : List Held)
@@ -159,7 +159,8 @@ module _ {H : Type 0} (law : Law H) (p : View) (engine : Engine) (f : Activation
       does = record {
         same = compose first does.same tt;
         kept = kept_on f f f' s t s' kept does.kept;
-        lands = later_lands engine f f' s t s' ts takes gives hs r kept.later stacks does.lands;
+        lands = later_lands engine f f' s t s' ts takes gives hs r kept.later
+            (same_but_trace s.stacks t.stacks stacks) does.lands;
         before = does.before ∙ before;
       }
 
