@@ -115,14 +115,14 @@ pub native_waits : {H : Type 0} (law : Law H) (p : View) (engine : Engine) (f : 
     (moment f t k mid)
 native_waits {H = H} law p engine f s t n k host mid {rule} {ts} {takes} {gives} run before inside
     g plain c r lends leads does = subst (λ (q : Run H). Asks q → Waits q) (sym run) at does where
-      abbrev Asks : Run H → Type 0
+      Asks : Run H → Type 0
       Asks q = SimulatesExactly (setup law p engine) (abstraction s n host) rule false
           (abstraction q k mid)
           (native_continuation (Ok (native_end.Asks c)) (λ place. None) (frame_in f s)
           (λ m place v w. value_rest r (frame_in f s) m place v w)
           (λ m place x w. fault_rest g r (frame_in f s) m place x w))
 
-      abbrev Waits : Run H → Type 0
+      Waits : Run H → Type 0
       Waits q = ImplementsOrWaits (setup law p engine) (moment f s n host) rule ts takes gives
           s.stacks.handlers
           (Ok (performed.Waits (record { asked = c; lent = have.Nothing; rest = r })))
