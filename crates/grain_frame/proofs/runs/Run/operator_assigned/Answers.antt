@@ -262,4 +262,4 @@ returns-in_err-sought g c =
     }
 
 pub assign_answer-requires : goal.assign_answer-requires
-assign_answer-requires g c = rw c.call_native.ensures.run c.requires.can
+assign_answer-requires g c = rw c.call_native.ensures.run (record { can = c.requires.can })
