@@ -148,7 +148,7 @@ kept_lends t a l end writable kept = at a.target refl writable kept where
   at to.This is writable kept = rw kept.0 (sym is)
 
 pub kept_there : {H : Type 0} (t : Run H) (target : Target) (l : Loan) (end : Run H) →
-    CanBeLent t target → KeepsLent t target l end → IsKept end l
+    HoldsWritable t target → KeepsLent t target l end → IsKept end l
 kept_there t (to.Entry i) l end can kept = rw (kept.0, kept.1) can
 kept_there t (to.Cell n) l end can kept = rw kept.2 tt
 kept_there t to.This l end can kept = rw (kept.0, kept.1) can
@@ -204,7 +204,7 @@ module _ {H : Type 0} (law : Law H) (p : View) (engine : Engine) (f : Activation
     lands = (
       (goes_end, refl, refl, refl),
       kept_lends t a l end writable kept,
-      kept_there t a.target l end again kept,
+      kept_there t a.target l end writable kept,
       ap (λ (v : StacksView). v.operands) same_stacks,
       ap (λ (v : StacksView). v.handlers) same_stacks,
       ap (λ (v : StacksView). v.handlers) same_stacks,

@@ -26,7 +26,7 @@ use Rattle.grain_means.specs.Worlds.{Act, Answer, Callback, Frame, Go, Home, InC
 use Rattle.grain_means.specs.Rules.{assigned_at, flattened, instr, leave_by_fault, native_over, no_memory, onward, op_assign_failed_at, pushed, raised, stepped, told, with_token}
 use Rattle.grain_means.specs.Simulation.{Computation, LocalState, Simulates, SimulatesExactly}
 use Rattle.grain_frame.specs.Abstraction.{ContinuesAt, KeepsFrame, Moment, abstraction, continuation, frame_in, is_out, this_of}
-use Rattle.grain_frame.specs.Targets.{CanBeWritten, HoldsAt, assigned_name, content_at, home_of, kept_operand, put_in, receiver_at, taken_out}
+use Rattle.grain_frame.specs.Targets.{CanBeWritten, HoldsAt, HoldsWritable, assigned_name, content_at, home_of, kept_operand, put_in, receiver_at, taken_out}
 use Rattle.grain_frame.specs.declared.activations.Activation.{Activation}
 use Rattle.grain_frame.specs.declared.assignments.Assignment.{Assignment}
 use Rattle.grain_frame.specs.declared.native_calls.Asked.{Asked}
@@ -156,10 +156,16 @@ IsBack s (rest.Push count next) = Unit {0}
 IsBack s (rest.Assign a) = IsNotLent s a.target
 IsBack s (rest.Operate a) = Unit {0}
 
+-- what stands at a target that is no cell, and can be written
+abbrev pub IsKeptAt : {H : Type 0} → Run H → Target → Type 0
+IsKeptAt s (to.Entry i) = HoldsWritable s (to.Entry i)
+IsKeptAt s (to.Cell n) = ⊥
+IsKeptAt s to.This = HoldsWritable s to.This
+
 -- what a native has that asks for a call stands in the run, or nowhere
 abbrev pub IsKept : {H : Type 0} → Run H → Loan → Type 0
 IsKept s have.Nothing = Unit {0}
-IsKept s (have.Target t) = CanHold s t
+IsKept s (have.Target t) = IsKeptAt s t
 IsKept s (have.Cell n h) = Unit {0}
 IsKept s (have.Apart h) = Unit {0}
 
@@ -327,7 +333,7 @@ abbrev pub StaysLent : {H : Type 0} → Loan → Resumed → Run H → Type 0
 StaysLent have.Nothing (went.Over o left) s = left ≡ None
 StaysLent have.Nothing (went.Asks a l) s = l ≡ have.Nothing
 StaysLent (have.Target t) (went.Over o left) s = left ≡ None
-StaysLent (have.Target t) (went.Asks a l) s = (l ≡ have.Target t) × CanHold s t
+StaysLent (have.Target t) (went.Asks a l) s = (l ≡ have.Target t) × IsKeptAt s t
 StaysLent (have.Cell n h) (went.Over o left) s = (left ≡ None) × IsNotLent s (to.Cell n)
 StaysLent (have.Cell n h) (went.Asks a l) s =
     (g : Held) × (l ≡ have.Cell n g) × (g.read_only ≡ h.read_only)

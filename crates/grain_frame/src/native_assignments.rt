@@ -252,12 +252,11 @@ impl<H: Host> Run<H> {
             × LeadsTo context.program.now frame.old self.old rest takes gives targets }
         requires back { IsBack self.old rest }
         ensures implements { (takes gives : ℕ) (targets : List ℕ) (h : Held) →
-            LeadsTo context.program.now frame.old self.old rest takes gives targets →
+            LeadsTo context.entry.program.now frame.old self.old rest takes gives targets →
             h.read_only ≡ false → ImplementsOrWaits (setup_of H.law context.entry)
             (moment frame.old self.old steps.old host.old)
             (λ m place w. rest_of h rest (frame_in frame.old self.old) m place (answer_of outcome)
-            w)
-            targets takes gives self.old.stacks.handlers result
+            w) targets takes gives self.old.stacks.handlers result
             (moment frame.new self.new steps.new host.new) }
     {
         match outcome {
@@ -283,7 +282,7 @@ impl<H: Host> Run<H> {
         requires leads { (takes gives : ℕ) × (targets : List ℕ)
             × LeadsTo context.program.now frame.old self.old rest takes gives targets }
         ensures implements { (takes gives : ℕ) (targets : List ℕ) (host : H) →
-            LeadsTo context.program.now frame.old self.old rest takes gives targets →
+            LeadsTo context.entry.program.now frame.old self.old rest takes gives targets →
             ImplementsBound (setup_of H.law context.entry)
             (moment frame.old self.old steps.old host)
             (λ m place w. value_rest rest (frame_in frame.old self.old) m place value w)
