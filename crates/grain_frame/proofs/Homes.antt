@@ -1,5 +1,5 @@
 -- A target in the meaning: where its value is held, and what is written there.
-use Rattle.std.proofs.Common.{◌≡◌, ◌∙◌, ℕ, List, Option, Some, None, Bool, false, refl, ap, subst, sym, true}
+use Rattle.std.proofs.Common.{◌≡◌, ◌∙◌, ℕ, List, [], Option, Some, None, Bool, false, refl, ap, subst, sym, true}
 use Rattle.std.specs.Prelude.{is_some, option_map, slice_get, slice_set}
 use Rattle.grain_value.specs.Cells.{idle, is_busy}
 use Rattle.grain_value.specs.Operands.{read_write}
@@ -19,6 +19,7 @@ use Rattle.grain_means.specs.lemmas.PlaceLaws.{find-put}
 use Rattle.grain_means.specs.lemmas.Roots.{puts-bound}
 use Rattle.grain_frame.specs.Abstraction.{abstraction, this_of}
 use Rattle.grain_frame.specs.Targets.{CanBeLent, CanBeWritten, content_at, home_of, put_in, target_in, value_or_unit}
+use Rattle.grain_frame.specs.Waiting.{CanHold}
 use Rattle.grain_frame.specs.declared.runs.Run.{Run}
 use Rattle.grain_frame.specs.declared.targets.Target.{Target}
 use Rattle.grain_frame.specs.declared.targets.Target.TheVariants as to
@@ -128,7 +129,7 @@ module _ {H : Type 0} (s : Run H) (u : Environment) (place : Option Place)
         }) bound can))
 
     -- what is held where the target's value is, is what the target holds
-    content_same : (t : Target) (h : Held) → CanBeLent s t →
+    content_same : (t : Target) (h : Held) → CanHold s t →
         content_now (home_of t place) h (world (abstraction s n host) u) ≡ content_at s t
     content_same (to.Entry i) h can =
         let there = entry_at s.scope i can in
@@ -146,14 +147,15 @@ module _ {H : Type 0} (s : Run H) (u : Environment) (place : Option Place)
 
     -- where the host has no op-assignment of its name, its operator is asked
     pub failed_is : (m : Setup H) (a : AssignOp) (t : Target) (name : List ℕ) (h v : Held)
-        (next : ℕ) (f : Frame) (x : Problem) → h.read_only ≡ false → CanBeLent s t →
+        (next : ℕ) (f : Frame) (x : Problem) → h.read_only ≡ false → CanHold s t →
         says_missing (name_of m.program a.op_assign_name) x ≡ true →
         op_assign_failed_at m (home_of t place) name a h v next f x (world (abstraction s n host) u)
         ≡ operator_at m (home_of t place) name (name_of m.program a.op_name) h
-        (read_write (content_at s t)) v next f (world (abstraction s n host) u)
+        (read_write (content_at s t)) v next f
+        (record (world (abstraction s n host) u) { trace = [] })
     failed_is m a t name h v next f x plain can missing =
         asked ∙ ap (λ (g : Held). operator_at m (home_of t place) name
-        (name_of m.program a.op_name) h g v next f w) held_same where
+        (name_of m.program a.op_name) h g v next f (record w { trace = [] })) held_same where
           w : World H
           w = world (abstraction s n host) u
 
@@ -162,7 +164,7 @@ module _ {H : Type 0} (s : Run H) (u : Environment) (place : Option Place)
 
           asked : op_assign_failed_at m (home_of t place) name a h v next f x w
               ≡ operator_at m (home_of t place) name (name_of m.program a.op_name) h
-              (record h { value = now }) v next f w
+              (record h { value = now }) v next f (record w { trace = [] })
           asked = rw missing refl
 
           held_same : record h { value = now } ≡ read_write (content_at s t)

@@ -142,12 +142,22 @@ module _ {H : Type 0} (law : Law H) (s : Run H) (n : StepsView) (host : H) (key 
         held_back (written law host key values h) follows.2,
         ends.3,
       )
+  by_reply (Some x) follows (Ok (native_end.Asks a)) ends =
+      let said = ends.0 in
+      let is : x ≡ reply.Ask a.token a.pointer a.values = cc in (
+        sym is ∙ follows.0,
+        follows.1,
+        held_back (written law host key values h) follows.2,
+        ends.1,
+      )
   by_reply (Some x) follows (Err e) ends =
       let said = ends.0 in absurd cc
   by_reply None same (Ok (native_end.Value v)) ends =
       let said = ends.0 in absurd cc
   by_reply None same (Ok (native_end.Fault f)) ends =
       let said = ends.1 in absurd cc
+  by_reply None same (Ok (native_end.Asks a)) ends =
+      let said = ends.0 in absurd cc
   by_reply None same (Err e) ends = (
     same.0,
     held_back h same.1 ∙ put_same s t h there,

@@ -7,7 +7,7 @@ use Rattle.grain_value.specs.declared.values.Held.{Held}
 use Rattle.grain_value.specs.declared.scopes.Entry.{Entry}
 use Rattle.grain_value.specs.declared.stores.Cell.{Cell}
 use Rattle.grain_value.specs.declared.memory.OutOfMemory.{OutOfMemory}
-use Rattle.grain_value.specs.Operands.{below}
+use Rattle.grain_value.specs.Operands.{below, read_write}
 use Rattle.grain_fault.specs.declared.places.Position.{Position}
 use Rattle.grain_fault.specs.declared.faults.EvalAltResult.{EvalAltResult}
 use Rattle.grain_fault.specs.Positions.{at_position_if_none}
@@ -27,8 +27,9 @@ use Rattle.grain_means.specs.lemmas.Stretches.{compose, same}
 use Rattle.grain_frame.specs.Abstraction.{ImplementsBound, KeepsFrame, abstraction, continuation, frame_in, is_out, marked_once, moment, moved, native_continuation, this_of}
 use Rattle.grain_frame.specs.Natives.{IsAt, Seeks, ServesAt}
 use Rattle.grain_frame.specs.Receivers.{KeepsBound}
-use Rattle.grain_frame.specs.Targets.{CanBeLent, HoldsAt, home_of, put_in, receiver_at}
+use Rattle.grain_frame.specs.Targets.{CanBeLent, HoldsAt, content_at, home_of, put_in, receiver_at}
 use Rattle.grain_frame.specs.declared.activations.Activation.{Activation}
+use Rattle.grain_frame.specs.declared.native_calls.Asked.{Asked}
 use Rattle.grain_frame.specs.declared.native_calls.NativeEnd.{NativeEnd}
 use Rattle.grain_frame.specs.declared.native_calls.NativeEnd.TheVariants as native_end
 use Rattle.grain_frame.specs.declared.native_calls.Sought.TheVariants as sought
@@ -38,9 +39,10 @@ use Rattle.grain_frame.specs.declared.runs.Progress.TheVariants as progress
 use Rattle.grain_frame.specs.declared.runs.Run.{Run}
 use Rattle.grain_frame.specs.declared.targets.Target.{Target}
 use Rattle.grain_frame.specs.lemmas.Bound.{while_bound}
+use Rattle.grain_frame.proofs.Holding.{put_content}
 use Rattle.grain_frame.proofs.Homes.{put_binds, put_world}
 use Rattle.grain_frame.proofs.Lending.{written_flag}
-use Rattle.grain_frame.proofs.Serving.{kept_on, later_lands}
+use Rattle.grain_frame.proofs.Serving.{kept_on, later_lands, same_but_trace}
 
 module _ {H : Type 0} (law : Law H) (s : Run H) (n : StepsView) (host : H) (q : Position)
     (m : Setup H) (name : List ℕ) (t : Target) (h : Held) (args : List Held)
@@ -52,7 +54,8 @@ module _ {H : Type 0} (law : Law H) (s : Run H) (n : StepsView) (host : H) (q : 
   CallsLent r s' n' host' = Simulates m (abstraction s n host)
       (λ m place w. native m name (Some (receiver_at t place h)) args (f place) w (go m place)
       (fails m place))
-      (is_out r) (abstraction s' n' host') (native_continuation r f go fails)
+      (is_out r) (abstraction s' n' host') (native_continuation r
+      (λ place. Some (receiver_at t place (read_write (content_at s' t)))) f go fails)
 
   -- there is none
   pub lent_refuses : (x : EvalAltResult) →
@@ -101,8 +104,8 @@ module _ {H : Type 0} (law : Law H) (s : Run H) (n : StepsView) (host : H) (q : 
         said ≡ law.call_reply host key (Some h) values →
         native (stopped m stop) name (Some (receiver_at t place h)) args (f place)
         (world (abstraction s n host) u) (go (stopped m stop) place) (fails (stopped m stop) place)
-        ≡ answered (stopped m stop) said (f place)
-        (served u place) (go (stopped m stop) place) (fails (stopped m stop) place)
+        ≡ answered (stopped m stop) (leave_by_fault (stopped m stop) (f place) NoMemory)
+        (Some (receiver_at t place left)) said (f place) (served u place) (go (stopped m stop) place) (fails (stopped m stop) place)
     replies stop clear u place said is =
         let found = seeks place in
         rw (
@@ -135,6 +138,21 @@ module _ {H : Type 0} (law : Law H) (s : Run H) (n : StepsView) (host : H) (q : 
               ∙ ap (λ (w : World H). fails (stopped m stop) place (problem_of x) w)
               (sym (put_world s u place bound twice mid t left can left_plain))),
         )))
+    lent_serves (Ok (native_end.Asks a)) s' n' host' did =
+        rw (did.2, did.3, did.1) (while_bound (omega arith) (λ stop clear halts u place bound. (
+          put_binds s u place bound t left can left_plain,
+          replies stop clear u place (reply.Ask a.token a.pointer a.values) did.0
+              ∙ (ap (λ (g : Held). asks stop place a g (served u place))
+              (sym (put_content s t left can left_plain))
+              ∙ ap (λ (w : World H). asks stop place a
+              (read_write (content_at (put_in s t left) t)) w)
+              (sym (put_world s u place bound twice mid t left can left_plain))),
+        ))) where
+          asks : Option ℕ → Option Place → Asked → Held → World H → Act H
+          asks stop place a g w =
+              answered (stopped m stop) (leave_by_fault (stopped m stop) (f place) NoMemory)
+              (Some (receiver_at t place g)) (reply.Ask a.token a.pointer a.values) (f place) w
+              (go (stopped m stop) place) (fails (stopped m stop) place)
     lent_serves (Err e) s' n' host' did = rw (did.0, did.1, did.2) (same (record {
       this = refl;
       order = omega arith;
@@ -159,7 +177,8 @@ module _ {H : Type 0} (law : Law H) (p : View) (engine : Engine) (f : Activation
       does = record {
         same = compose first does.same tt;
         kept = kept_on f f f' s t s' kept does.kept;
-        lands = later_lands engine f f' s t s' ts takes gives hs r kept.later stacks does.lands;
+        lands = later_lands engine f f' s t s' ts takes gives hs r kept.later
+            (same_but_trace s.stacks t.stacks stacks) does.lands;
         before = does.before ∙ before;
       }
 
@@ -167,7 +186,7 @@ module _ {H : Type 0} (law : Law H) (p : View) (engine : Engine) (f : Activation
       (run : t ≡ record s { scope = scope; cells = cells; receivers = bs })
       (long : length scope ≡ length s.scope) (this : KeepsBound s.level s.receivers bs)
       (before : k.before ≡ n.before) (inside : f.base ≤ length s.scope) where
-    lent_kept : KeepsFrame f s f t
+    pub lent_kept : KeepsFrame f s f t
     lent_kept = rw run (record {
       chunk = refl;
       base = refl;
@@ -190,7 +209,8 @@ module _ {H : Type 0} (law : Law H) (p : View) (engine : Engine) (f : Activation
         {ts : List ℕ} {takes gives : ℕ} {hs : List Handler} (e : OutOfMemory)
         (r : Result Progress OutOfMemory) → is_out r ≡ true →
         Simulates (setup law p engine) (abstraction s n host) rule true
-        (abstraction t k mid) (native_continuation (Err e) (frame_in f s) go fails) →
+        (abstraction t k mid)
+        (native_continuation (Err e) (λ place. None) (frame_in f s) go fails) →
         ImplementsBound (setup law p engine) (moment f s n host) rule ts takes gives hs r
         (moment f t k mid)
     lent_wants go fails e (Ok y) er does = absurd cc

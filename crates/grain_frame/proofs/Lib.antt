@@ -11,4 +11,6 @@ mod Sharing
 mod Lending
 mod Handled
 mod Homes
+mod Holding
+mod Asking
 mod Lent

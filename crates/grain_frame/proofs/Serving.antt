@@ -16,7 +16,7 @@ use Rattle.grain_host.specs.Law.{Law, native_of}
 use Rattle.grain_global.specs.declared.engines.Engine.{Engine}
 use Rattle.grain_stack.specs.declared.handlers.Handler.{Handler}
 use Rattle.grain_means.specs.Worlds.{Act, Frame, Place, Setup, World}
-use Rattle.grain_means.specs.Rules.{Home, Receiver, native, kinds_in, trees_in, raised}
+use Rattle.grain_means.specs.Rules.{Home, native, kinds_in, trees_in, raised}
 use Rattle.grain_host.specs.Signatures.{not_found}
 use Rattle.grain_value.specs.View.{value_of}
 use Rattle.grain_value.specs.laws.Same.{value_of-tree}
@@ -26,7 +26,7 @@ use Rattle.grain_means.specs.Means.{setup}
 use Rattle.grain_means.specs.lemmas.Stretches.{then_exactly}
 use Rattle.grain_global.specs.StepsView.{StepsView}
 use Rattle.grain_frame.specs.Abstraction.{abstraction, frame_in, is_out, continuation, native_continuation, KeepsFrame, ContinuesAt, Progresses, Implements, moment}
-use Rattle.grain_frame.specs.Natives.{Describes, IsAt, KeepsRoots, Seeks, Serves}
+use Rattle.grain_frame.specs.Natives.{Describes, IsAt, Seeks, Serves}
 use Rattle.grain_frame.specs.declared.activations.Activation.{Activation}
 use Rattle.grain_frame.specs.declared.native_calls.NativeEnd.{NativeEnd}
 use Rattle.grain_frame.specs.declared.native_calls.NativeEnd.TheVariants as native_end
@@ -70,18 +70,18 @@ lent_none law host name word home h v kinds values q x kinds_are trees_are none 
 )
 
 module _ {H : Type 0} (law : Law H) (s : Run H) (n : StepsView) (host : H) (q : Position)
-    (m : Setup H) (name : List ℕ) (lend : Option Receiver) (args : List Held)
-    (f : Option Place → Frame) (go : Setup H → Option Place → Dynamic → World H → Act H)
+    (m : Setup H) (name : List ℕ) (args : List Held) (f : Option Place → Frame)
+    (go : Setup H → Option Place → Dynamic → World H → Act H)
     (fails : Setup H → Option Place → Problem → World H → Act H) (own : m.law ≡ law)
     (at : IsAt m f q) where
-  -- what the code says of a native that it was to call
+  -- what the code says of a native that it was to call, which is lent nothing
   abbrev pub Calls : Result NativeEnd OutOfMemory → Run H → StepsView → H → Type 0
   Calls r s' n' host' = SimulatesExactly m (abstraction s n host)
-      (λ m place w. native m name lend args (f place) w (go m place) (fails m place))
-      (is_out r) (abstraction s' n' host') (native_continuation r f go fails)
+      (λ m place w. native m name None args (f place) w (go m place) (fails m place))
+      (is_out r) (abstraction s' n' host') (native_continuation r (λ place. None) f go fails)
 
   -- there is none, or it may not be called
-  pub refuses : (x : EvalAltResult) → Seeks law host name lend args q (sought.Fault x) →
+  pub refuses : (x : EvalAltResult) → Seeks law host name None args q (sought.Fault x) →
       Calls (Ok (native_end.Fault x)) s n host
   refuses x (inl none) = record {
     this = refl;
@@ -95,16 +95,15 @@ module _ {H : Type 0} (law : Law H) (s : Run H) (n : StepsView) (host : H) (q : 
   }
 
   -- it is called
-  pub serves : KeepsRoots law lend → (key : ℕ) (values : List Tree) (r : Result NativeEnd OutOfMemory)
-      (s' : Run H)
-      (n' : StepsView) (host' : H) → Seeks law host name lend args q (sought.Native key values) →
-      Serves law s n host key lend values q r s' n' host' → Calls r s' n' host'
-  serves still key values r s' n' host' seeks did =
-      called r (subst (λ (ts : List Tree). Serves law s n host seeks.0.key lend ts q r s' n' host')
+  pub serves : (key : ℕ) (values : List Tree) (r : Result NativeEnd OutOfMemory) (s' : Run H)
+      (n' : StepsView) (host' : H) → Seeks law host name None args q (sought.Native key values) →
+      Serves law s n host key None values q r s' n' host' → Calls r s' n' host'
+  serves key values r s' n' host' seeks did =
+      called r (subst (λ (ts : List Tree). Serves law s n host seeks.0.key None ts q r s' n' host')
       seeks.4
-      (subst (λ (k : ℕ). Serves law s n host k lend values q r s' n' host') seeks.3 did)) where
+      (subst (λ (k : ℕ). Serves law s n host k None values q r s' n' host') seeks.3 did)) where
         called : (r : Result NativeEnd OutOfMemory) →
-            Serves law s n host seeks.0.key lend (trees_in args) q r s' n' host' →
+            Serves law s n host seeks.0.key None (trees_in args) q r s' n' host' →
             Calls r s' n' host'
         called (Ok (native_end.Value v)) did = rw (did.2, did.3, did.1) (record {
           this = refl;
@@ -115,7 +114,6 @@ module _ {H : Type 0} (law : Law H) (s : Run H) (n : StepsView) (host : H) (q : 
             seeks.2,
             clear n.passed (omega arith) (omega arith),
             clear (n.passed + 1) (omega arith) (omega arith),
-            still host seeks.0.key (trees_in args) u.roots,
             ← did.0,
           ) refl;
         })
@@ -128,10 +126,21 @@ module _ {H : Type 0} (law : Law H) (s : Run H) (n : StepsView) (host : H) (q : 
             seeks.2,
             clear n.passed (omega arith) (omega arith),
             clear (n.passed + 1) (omega arith) (omega arith),
-            still host seeks.0.key (trees_in args) u.roots,
             ← did.1,
             did.3,
             at place,
+          ) refl;
+        })
+        called (Ok (native_end.Asks a)) did = rw (did.1, did.3, did.2) (record {
+          this = refl;
+          order = omega arith;
+          equal = λ stop clear halts u place. rw (
+            own,
+            seeks.1,
+            seeks.2,
+            clear n.passed (omega arith) (omega arith),
+            clear (n.passed + 1) (omega arith) (omega arith),
+            ← did.0,
           ) refl;
         })
         called (Err e) did = rw (did.0, did.1, did.2) (record {
@@ -157,9 +166,14 @@ kept_on f g h s t u one two = record {
   later = omega (arith, one.later, two.later);
 }
 
+-- the same stacks are the same but for a trace
+pub same_but_trace : (v q : StacksView) → q ≡ v → q ≡ record v { trace = q.trace }
+same_but_trace v q same = rw same refl
+
 pub later_lands : {H : Type 0} (engine : Engine) (f f' : Activation) (s t s' : Run H) (ts : List ℕ)
     (takes gives : ℕ) (hs : List Handler) (r : Result Progress OutOfMemory) → s.count ≤ t.count →
-    t.stacks ≡ s.stacks → ContinuesAt engine t f s' f' ts takes gives hs r →
+    t.stacks ≡ record s.stacks { trace = t.stacks.trace } →
+    ContinuesAt engine t f s' f' ts takes gives hs r →
     ContinuesAt engine s f s' f' ts takes gives hs r
 later_lands engine f f' s t s' ts takes gives hs (Ok progress.Continues) le es l = (
   l.0,
@@ -194,7 +208,8 @@ module _ {H : Type 0} (law : Law H) (p : View) (engine : Engine) (f : Activation
       does = record {
         same = then_exactly first does.same;
         kept = kept_on f f f' s t s' kept does.kept;
-        lands = later_lands engine f f' s t s' ts takes gives hs r kept.later stacks does.lands;
+        lands = later_lands engine f f' s t s' ts takes gives hs r kept.later
+            (same_but_trace s.stacks t.stacks stacks) does.lands;
         before = does.before ∙ before;
       }
 
@@ -224,7 +239,8 @@ module _ {H : Type 0} (law : Law H) (p : View) (engine : Engine) (f : Activation
     -- memory is out
     pub native_wants : (e : OutOfMemory) (r : Result Progress OutOfMemory) → is_out r ≡ true →
         SimulatesExactly (setup law p engine) (abstraction s n host) rule true
-        (abstraction t k mid) (native_continuation (Err e) (frame_in f s) go fails) →
+        (abstraction t k mid)
+        (native_continuation (Err e) (λ place. None) (frame_in f s) go fails) →
         Implements (setup law p engine) (moment f s n host) rule ts takes gives hs r
         (moment f t k mid)
     native_wants e (Ok y) er does = absurd cc

@@ -84,7 +84,7 @@ put_same s (to.Cell n) h is =
 put_same s to.This h is =
     ap (λ (bs : List Bound). record s { receivers = bs }) (newest_same s.level s.receivers h is)
 
-set_is_there : (cs : List Cell) (n : ℕ) (b : Bool) (d : Cell) →
+pub set_is_there : (cs : List Cell) (n : ℕ) (b : Bool) (d : Cell) →
     option_map is_busy (slice_get cs n) ≡ Some b → slice_get (slice_set cs n d) n ≡ Some d
 set_is_there [] n b d is = absurd cc
 set_is_there (c ∷ cs) zero b d is = refl

@@ -12,7 +12,7 @@ use Rattle.grain_host.specs.Law.{Law, Reply, native_of, written}
 use Rattle.grain_host.specs.Law as reply
 use Rattle.grain_host.specs.Signatures.{not_found}
 use Rattle.grain_means.specs.Worlds.{Frame, Place, Setup}
-use Rattle.grain_means.specs.Rules.{Receiver, lent_held, given, given_back, cells_given_back, roots_given_back, kinds_in, trees_in, first_is_read_only, position}
+use Rattle.grain_means.specs.Rules.{Receiver, lent_held, given, given_back, cells_given_back, kinds_in, trees_in, first_is_read_only, position}
 use Rattle.grain_global.specs.StepsView.{StepsView}
 use Rattle.grain_frame.specs.declared.native_calls.Arguments.{Arguments}
 use Rattle.grain_frame.specs.declared.native_calls.Sought.{Sought}
@@ -60,11 +60,6 @@ EndsBy said p (Err e) n n' = (said ≡ None) × (n' ≡ n)
 -- whatever its `this` is, what the frame does has this position
 abbrev pub IsAt : {H : Type 0} → Setup H → (Option Place → Frame) → Position → Type 0
 IsAt m f p = (place : Option Place) → position m (f place) ≡ p
-
--- what is lent, if anything, stands at no place among the roots
-abbrev pub KeepsRoots : {S : Type 0} → Law S → Option Receiver → Type 0
-KeepsRoots {S = S} law r = (s : S) (key : ℕ) (values : List Tree) (roots : List Held) →
-    roots_given_back law s key values r roots ≡ roots
 
 -- the run once the host has answered; what is lent stands in its scope
 abbrev pub served_run : {H : Type 0} → Law H → Run H → H → ℕ → Option Receiver → List Tree → Run H

@@ -1,6 +1,6 @@
 -- Instructions that wait for a native, which asks for a call first.
-use Rattle.std.specs.Prelude.{◌≡◌, ◌<◌, ◌≤◌, ◌-◌, ℕ, List, [], ◌∷◌, Option, Some, None, Bool, false, Result, Ok, Err, IfSome, length, slice_get, slice_set}
-use Rattle.grain_value.specs.Cells.{content, idle}
+use Rattle.std.specs.Prelude.{◌≡◌, ◌<◌, ◌≤◌, ◌-◌, ℕ, List, [], ◌∷◌, Option, Some, None, Bool, false, true, Result, Ok, Err, IfSome, length, option_map, slice_get, slice_set}
+use Rattle.grain_value.specs.Cells.{content, idle, is_busy}
 use Rattle.grain_value.specs.declared.scopes.Entry.{Entry}
 use Rattle.grain_fault.specs.declared.places.Position.{Position}
 use Rattle.grain_host.specs.Law.{Law, Outcome}
@@ -26,7 +26,7 @@ use Rattle.grain_means.specs.Worlds.{Act, Answer, Callback, Frame, Go, Home, InC
 use Rattle.grain_means.specs.Rules.{assigned_at, flattened, instr, leave_by_fault, native_over, no_memory, onward, op_assign_failed_at, pushed, raised, stepped, told, with_token}
 use Rattle.grain_means.specs.Simulation.{Computation, LocalState, Simulates, SimulatesExactly}
 use Rattle.grain_frame.specs.Abstraction.{ContinuesAt, KeepsFrame, Moment, abstraction, continuation, frame_in, is_out, this_of}
-use Rattle.grain_frame.specs.Targets.{CanBeWritten, HoldsAt, assigned_name, content_at, home_of, kept_operand, put_in, receiver_at, taken_out}
+use Rattle.grain_frame.specs.Targets.{CanBeWritten, HoldsAt, HoldsWritable, assigned_name, content_at, home_of, kept_operand, put_in, receiver_at, taken_out}
 use Rattle.grain_frame.specs.declared.activations.Activation.{Activation}
 use Rattle.grain_frame.specs.declared.assignments.Assignment.{Assignment}
 use Rattle.grain_frame.specs.declared.native_calls.Asked.{Asked}
@@ -86,30 +86,30 @@ value_rest (rest.Operate a) f m place v w =
     (λ q. assigned_at m (home_of a.target place) (read_write q) (assigned_name m.program a.variable)
     a.next (f place) w)
 
--- and with its fault
-abbrev pub fault_rest : {H : Type 0} → Rest → (Option Place → Frame) → Setup H → Option Place →
-    Problem → World H → Act H
-fault_rest (rest.Push count next) f m place x w = raised m (f place) x w
-fault_rest (rest.Assign a) f m place x w =
+-- and with its fault, if it assigns to what held this when it began
+abbrev pub fault_rest : {H : Type 0} → Held → Rest → (Option Place → Frame) → Setup H →
+    Option Place → Problem → World H → Act H
+fault_rest g (rest.Push count next) f m place x w = raised m (f place) x w
+fault_rest g (rest.Assign a) f m place x w =
     op_assign_failed_at m (home_of a.target place) (assigned_name m.program a.variable) a.operator
-    (read_write dynamic.Unit) (kept_operand a.kept (f place).operands) a.next (f place) x w
-fault_rest (rest.Operate a) f m place x w = raised m (f place) x w
+    g (kept_operand a.kept (f place).operands) a.next (f place) x w
+fault_rest g (rest.Operate a) f m place x w = raised m (f place) x w
 
 -- what follows in an instruction from how its native ends
-abbrev pub rest_of : {H : Type 0} → Rest → (Option Place → Frame) → Setup H → Option Place →
+abbrev pub rest_of : {H : Type 0} → Held → Rest → (Option Place → Frame) → Setup H → Option Place →
     Answer → World H → Act H
-rest_of r f m place a w =
+rest_of g r f m place a w =
     native_over (leave_by_fault m (f place) NoMemory) (value_rest r f m place)
-    (fault_rest r f m place) a w
+    (fault_rest g r f m place) a w
 
 -- where an instruction led, or what its native asks for; what is lent stands apart nowhere
-abbrev pub performed_continuation : {H : Type 0} → Result Performed OutOfMemory → Run H →
+abbrev pub performed_continuation : {H : Type 0} → Held → Result Performed OutOfMemory → Run H →
     (Option Place → Frame) → Computation H
-performed_continuation (Ok (performed.Leads p)) s f m place w =
+performed_continuation g (Ok (performed.Leads p)) s f m place w =
     continuation (Ok p) s.fault f m place w
-performed_continuation (Ok (performed.Waits w)) s f m place v =
-    asking (home_of to.This) s w.asked w.lent f (rest_of w.rest f) m place v
-performed_continuation (Err e) s f m place w = leave_by_fault m (f place) NoMemory w
+performed_continuation g (Ok (performed.Waits w)) s f m place v =
+    asking (home_of to.This) s w.asked w.lent f (rest_of g w.rest f) m place v
+performed_continuation g (Err e) s f m place w = leave_by_fault m (f place) NoMemory w
 
 -- the same where a native is over, or asks for a call: what follows is this
 abbrev pub end_continuation : {H : Type 0} → Result NativeEnd OutOfMemory →
@@ -144,10 +144,28 @@ CanHold s (to.Entry i) = i < length s.scope
 CanHold s (to.Cell n) = Unit {0}
 CanHold s to.This = CanBeWritten (this_of s)
 
+-- it is no cell that is lent
+abbrev pub IsNotLent : {H : Type 0} → Run H → Target → Type 0
+IsNotLent s (to.Entry i) = Unit {0}
+IsNotLent s (to.Cell n) = option_map is_busy (slice_get s.cells n) ≡ Some true → ⊥
+IsNotLent s to.This = Unit {0}
+
+-- what the instruction's native was lent is back
+abbrev pub IsBack : {H : Type 0} → Run H → Rest → Type 0
+IsBack s (rest.Push count next) = Unit {0}
+IsBack s (rest.Assign a) = IsNotLent s a.target
+IsBack s (rest.Operate a) = Unit {0}
+
+-- what stands at a target that is no cell, and can be written
+abbrev pub IsKeptAt : {H : Type 0} → Run H → Target → Type 0
+IsKeptAt s (to.Entry i) = HoldsWritable s (to.Entry i)
+IsKeptAt s (to.Cell n) = ⊥
+IsKeptAt s to.This = HoldsWritable s to.This
+
 -- what a native has that asks for a call stands in the run, or nowhere
 abbrev pub IsKept : {H : Type 0} → Run H → Loan → Type 0
 IsKept s have.Nothing = Unit {0}
-IsKept s (have.Target t) = CanHold s t
+IsKept s (have.Target t) = IsKeptAt s t
 IsKept s (have.Cell n h) = Unit {0}
 IsKept s (have.Apart h) = Unit {0}
 
@@ -200,9 +218,12 @@ LandsOrWaits m a b targets takes gives handlers (Err e) = Unit {0}
 pub record ImplementsOrWaits {H : Type 0} (m : Setup H) (a : Moment H) (rule : Computation H)
     (targets : List ℕ) (takes gives : ℕ) (handlers : List Handler)
     (result : Result Performed OutOfMemory) (b : Moment H) : Type 0 where
+  -- what an assignment's target held when the instruction began, of which no more is known
+  pub held : Held
+  pub plain : held.read_only ≡ false
   pub same : Simulates m (abstraction a.run a.counts a.host) rule (is_out result)
       (abstraction b.run b.counts b.host)
-      (performed_continuation result b.run (frame_in b.frame b.run))
+      (performed_continuation held result b.run (frame_in b.frame b.run))
   pub kept : KeepsFrame a.frame a.run b.frame b.run
   pub lands : LandsOrWaits m a b targets takes gives handlers result
   pub before : b.counts.before ≡ a.counts.before
@@ -312,8 +333,8 @@ abbrev pub StaysLent : {H : Type 0} → Loan → Resumed → Run H → Type 0
 StaysLent have.Nothing (went.Over o left) s = left ≡ None
 StaysLent have.Nothing (went.Asks a l) s = l ≡ have.Nothing
 StaysLent (have.Target t) (went.Over o left) s = left ≡ None
-StaysLent (have.Target t) (went.Asks a l) s = (l ≡ have.Target t) × CanHold s t
-StaysLent (have.Cell n h) (went.Over o left) s = left ≡ None
+StaysLent (have.Target t) (went.Asks a l) s = (l ≡ have.Target t) × IsKeptAt s t
+StaysLent (have.Cell n h) (went.Over o left) s = (left ≡ None) × IsNotLent s (to.Cell n)
 StaysLent (have.Cell n h) (went.Asks a l) s =
     (g : Held) × (l ≡ have.Cell n g) × (g.read_only ≡ h.read_only)
 StaysLent (have.Apart h) (went.Over o left) s = (g : Held) × (left ≡ Some g) × (g.read_only ≡ h.read_only)

@@ -1,6 +1,6 @@
 //! Op-assignments that no built-in does, so that the host does them.
 
-ghost use Rattle.std.specs.Prelude.{◌≡◌, ◌<◌, ◌≤◌, ◌+◌, ◌-◌, ◌∷◌, [], ℕ, List, Option, Some, None, length, IfOk, false};
+ghost use Rattle.std.specs.Prelude.{◌≡◌, ◌<◌, ◌≤◌, ◌+◌, ◌-◌, ◌∷◌, ◌++◌, [], ℕ, List, Option, Some, None, length, IfOk, false};
 ghost use Rattle.std.specs.Bool.{OnTrue, OnFalse};
 ghost use Rattle.grain_value.specs.declared.values.Dynamic.{Dynamic};
 ghost use Rattle.grain_value.specs.declared.values.Held.{Held};
@@ -14,8 +14,8 @@ ghost use Rattle.grain_means.specs.Worlds.{Setup, Frame, Place, World, Act};
 ghost use Rattle.grain_means.specs.Rules.{assigned_at, flattened, native, native_assigned_at, op_assign_failed_at, operator_at};
 ghost use Rattle.grain_means.specs.Simulation.{Simulates};
 ghost use Rattle.grain_frame.specs.Abstraction.{abstraction, frame_in, is_out, native_continuation, ImplementsBound, setup_of, moment};
-ghost use Rattle.grain_frame.specs.Waiting.{CanHold, GoesOn, ImplementsOrWaits, IsLentCell, LeadsTo, answer_of, no_memory_came, rest_of, value_rest};
-ghost use Rattle.grain_frame.specs.Natives.{IsAt, Seeks, ServesAt};
+ghost use Rattle.grain_frame.specs.Waiting.{CanHold, GoesOn, ImplementsOrWaits, IsBack, IsLentCell, IsNotLent, LeadsTo, answer_of, no_memory_came, rest_of, value_rest};
+ghost use Rattle.grain_frame.specs.Natives.{Describes, IsAt, Seeks, ServesAt};
 ghost use Rattle.grain_frame.specs.Receivers.{KeepsBound};
 ghost use Rattle.grain_frame.specs.Targets.{CanAssign, CanBeLent, HoldsAt, HoldsWritable, assigned_name, content_at, home_of, kept_operand, receiver_at};
 ghost use Rattle.grain_frame.specs.declared.targets.Target.{Target};
@@ -102,6 +102,7 @@ impl<H: Host> Run<H> {
         ensures long { length self.new.scope ≡ length self.old.scope }
         ensures this { KeepsBound self.old.level self.old.receivers self.new.receivers }
         ensures again { CanBeLent self.new target }
+        ensures writable { HoldsWritable self.old target → HoldsWritable self.new target }
         ensures before { steps.new.before ≡ steps.old.before }
     {
         let held = self.take_out(target);
@@ -152,6 +153,7 @@ impl<H: Host> Run<H> {
         ensures long { length self.new.scope ≡ length self.old.scope }
         ensures this { KeepsBound self.old.level self.old.receivers self.new.receivers }
         ensures again { CanBeLent self.new target }
+        ensures writable { HoldsWritable self.old target → HoldsWritable self.new target }
         ensures before { steps.new.before ≡ steps.old.before }
     {
         match sought {
@@ -197,6 +199,7 @@ impl<H: Host> Run<H> {
     ) -> Result<Performed, OutOfMemory>
         requires can { CanAssign context.program.now frame.old self.old assignment }
         requires writable { HoldsWritable self.old assignment.target }
+        requires untraced { self.old.stacks.trace ≡ [] }
         ensures implements { (h : Held) → h.read_only ≡ false →
             ImplementsOrWaits (setup_of H.law context.entry)
             (moment frame.old self.old steps.old host.old)
@@ -232,8 +235,9 @@ impl<H: Host> Run<H> {
         }
     }
 
-    // What follows once the native is over for which an instruction waited: what the instruction does
-    // with the value or with the fault. It may ask the host for another native, and wait for that.
+    /// What follows once the native is over for which an instruction waited, and what that was lent is
+    /// back: what the instruction does with the value or with the fault. It may ask the host for another
+    /// native, and wait for that.
     pub fn native_over<L: Ledger>(
         &mut self,
         context: Context<'_>,
@@ -244,14 +248,15 @@ impl<H: Host> Run<H> {
         outcome: Result<Dynamic, EvalAltResult>,
     ) -> Result<Performed, OutOfMemory>
         requires not_out { no_memory_came outcome ≡ false }
-        requires unlent { (takes gives : ℕ) × (targets : List ℕ)
+        requires leads { (takes gives : ℕ) × (targets : List ℕ)
             × LeadsTo context.program.now frame.old self.old rest takes gives targets }
-        ensures implements { (takes gives : ℕ) (targets : List ℕ) →
-            LeadsTo context.program.now frame.old self.old rest takes gives targets →
-            ImplementsOrWaits (setup_of H.law context.entry)
+        requires back { IsBack self.old rest }
+        ensures implements { (takes gives : ℕ) (targets : List ℕ) (h : Held) →
+            LeadsTo context.entry.program.now frame.old self.old rest takes gives targets →
+            h.read_only ≡ false → ImplementsOrWaits (setup_of H.law context.entry)
             (moment frame.old self.old steps.old host.old)
-            (λ m place w. rest_of rest (frame_in frame.old self.old) m place (answer_of outcome) w)
-            targets takes gives self.old.stacks.handlers result
+            (λ m place w. rest_of h rest (frame_in frame.old self.old) m place (answer_of outcome)
+            w) targets takes gives self.old.stacks.handlers result
             (moment frame.new self.new steps.new host.new) }
     {
         match outcome {
@@ -274,10 +279,10 @@ impl<H: Host> Run<H> {
         rest: Rest,
         value: Dynamic,
     ) -> Result<Progress, OutOfMemory>
-        requires unlent { (takes gives : ℕ) × (targets : List ℕ)
+        requires leads { (takes gives : ℕ) × (targets : List ℕ)
             × LeadsTo context.program.now frame.old self.old rest takes gives targets }
         ensures implements { (takes gives : ℕ) (targets : List ℕ) (host : H) →
-            LeadsTo context.program.now frame.old self.old rest takes gives targets →
+            LeadsTo context.entry.program.now frame.old self.old rest takes gives targets →
             ImplementsBound (setup_of H.law context.entry)
             (moment frame.old self.old steps.old host)
             (λ m place w. value_rest rest (frame_in frame.old self.old) m place value w)
@@ -313,6 +318,7 @@ impl<H: Host> Run<H> {
         fault: EvalAltResult,
     ) -> Result<Performed, OutOfMemory>
         requires can { GoesOn context.program.now frame.old self.old assignment }
+        requires back { IsNotLent self.old assignment.target }
         ensures implements { (h : Held) → h.read_only ≡ false →
             ImplementsOrWaits (setup_of H.law context.entry)
             (moment frame.old self.old steps.old host.old)
@@ -343,6 +349,7 @@ impl<H: Host> Run<H> {
         assignment: Assignment,
     ) -> Result<Performed, OutOfMemory>
         requires can { GoesOn context.program.now frame.old self.old assignment }
+        requires back { IsNotLent self.old assignment.target }
         ensures implements { (h : Held) → h.read_only ≡ false →
             ImplementsOrWaits (setup_of H.law context.entry)
             (moment frame.old self.old steps.old host.old)
@@ -356,7 +363,7 @@ impl<H: Host> Run<H> {
             (moment frame.new self.new steps.new host.new) }
     {
         let mut arguments = Arguments::new(self.alloc);
-        arguments.push(self.alloc, self.content(assignment.target), false)?;
+        self.push_content(&mut arguments, assignment.target)?;
         let value = operand(&self.stacks, &assignment.kept);
         arguments.push(self.alloc, value, self.stacks.top().read_only)?;
         let name = context.program.name(assignment.operator.op_name);
@@ -372,6 +379,23 @@ impl<H: Host> Run<H> {
                 lent: Loan::Nothing,
                 rest: Rest::Operate(assignment),
             })),
+        }
+    }
+
+    // One argument more: what the target holds, which is no lent cell. A cell that is not there holds unit.
+    fn push_content(&self, arguments: &mut Arguments, target: Target) -> Result<(), OutOfMemory>
+        requires target { CanHold self.now target }
+        requires back { IsNotLent self.now target }
+        ensures { IfOk result (λ _. (args : List Held) → Describes arguments.old args →
+            Describes arguments.new (args ++ read_write (content_at self.now target) ∷ [])) }
+    {
+        match target {
+            Target::Entry(_) => arguments.push(self.alloc, self.content(target), false),
+            Target::Cell(cell) => match self.cells.find(cell) {
+                Some(value) => arguments.push(self.alloc, value, false),
+                None => arguments.push(self.alloc, &Dynamic::Unit, false),
+            },
+            Target::This => arguments.push(self.alloc, self.content(target), false),
         }
     }
 

@@ -1,5 +1,5 @@
 -- The entry, or its cell, is the target of the op-assignment.
-use Rattle.std.proofs.Common.{◌≡◌, ◌∙◌, ◌+◌, true, refl, ap, rules}
+use Rattle.std.proofs.Common.{◌≡◌, ◌∙◌, ◌+◌, Err, true, refl, ap, rules}
 use Rattle.std.specs.Prelude.{length}
 use Rattle.grain_value.specs.Cells.{flat}
 use Rattle.grain_value.specs.Looking.{cell_of}
@@ -12,8 +12,9 @@ use Rattle.grain_frame.specs.Abstraction.{abstraction, frame_in, is_out}
 use Rattle.grain_frame.specs.Refusals.{refusal_fault}
 use Rattle.grain_frame.specs.Targets.{content_at}
 use Rattle.grain_frame.specs.declared.targets.Target.TheVariants as to
-use Rattle.grain_frame.specs.lemmas.Bound.{as_bound, bound_as}
+use Rattle.grain_frame.specs.lemmas.Bound.{as_bound}
 use Rattle.grain_frame.specs.lemmas.Failing.{raises_here, store_stops, wants_memory}
+use Rattle.grain_frame.specs.lemmas.Performing.{led_exactly, led_out, waits_as}
 use Rattle.grain_frame.proofs.Flattening.{value_there}
 use Rattle.grain_frame.proofs.Refusing.{entry_content, entry_holds, entry_is_home, entry_lends, found_plain, op_refused}
 use Rattle.grain_frame.proofs.runs.Run.assign_local_op.Goals as goal
@@ -33,15 +34,17 @@ returns-in_err-kept g c =
     let u = content_at s t in
     let out : is_out c.from_residual.result ≡ true = search rules in
     record {
-      performs = as_bound (wants_memory g.H.Host.law p engine f s c.args.steps.now
-          c.args.host.now c.from_residual.result out c.requires.ready.inside
+      performs = led_out c.in_err-kept.field-0.0 c.from_residual.result out
+          (as_bound (wants_memory g.H.Host.law p engine f s c.args.steps.now
+          c.args.host.now (Err c.in_err-kept.field-0.0) refl c.requires.ready.inside
           (λ stop w place halts. rw (found.there, read.1, found.writable, holds) (store_stops
           (stopped (setup g.H.Host.law p engine) stop)
           (in_entry (f.base + c.args.slot) (cell_of held.value)) (name_of p c.args.name)
           (op_assigned engine a u read.0) a held u
           (record { value = read.0; read_only = (top s.stacks.operands).read_only })
           c.args.next (frame_in f s place)
-          (world (abstraction s c.args.steps.now c.args.host.now) w) halts)));
+          (world (abstraction s c.args.steps.now c.args.host.now) w) halts
+          c.requires.untraced))));
     }
 
 pub returns-in-Err : goal.returns-in-Err
@@ -51,7 +54,7 @@ returns-in-Err g c =
     let s = c.args.self.now in
     let f = c.args.frame.now in
     record {
-      performs = as_bound (raises_here g.H.Host.law p engine f s c.refuse.new.self
+      performs = led_exactly c.refuse.result c.of.result c.of.ensures (raises_here g.H.Host.law p engine f s c.refuse.new.self
           c.args.steps.now c.refuse.new.steps c.args.host.now
           (refusal_fault p (length s.scope) f.address (name_of p c.args.name) c.in-Err.refusal)
           c.refuse.result c.refuse.ensures c.requires.ready.inside
@@ -78,6 +81,7 @@ op_assign_target-requires g c =
         variable = search rules;
       };
       writable = entry_holds s i c.in-Ok.target c.in-Ok.ensures.0 c.in-Ok.ensures.1;
+      untraced = c.requires.untraced;
     }
 
 pub returns : goal.returns
@@ -93,7 +97,7 @@ returns g c =
     let same_op : c.assign_op.result.now ≡ assign_op_of p c.args.assign_op =
     c.assign_op.ensures ∙ ap (assign_op_of p) c.from.ensures in
     record {
-      performs = bound_as (c.op_assign_target.ensures.implements held
+      performs = waits_as (c.op_assign_target.ensures.implements held
           (found_plain s (to.Entry i) t held found))
           (λ stop u place bound. rw (
             found.there,

@@ -1,5 +1,5 @@
 -- `this`, or its cell, is the target of the op-assignment.
-use Rattle.std.proofs.Common.{◌≡◌, ◌∙◌, [], true, refl, ap, rules}
+use Rattle.std.proofs.Common.{◌≡◌, ◌∙◌, [], Err, true, refl, ap, rules}
 use Rattle.std.specs.Prelude.{length}
 use Rattle.grain_value.specs.Cells.{flat}
 use Rattle.grain_value.specs.Operands.{top}
@@ -14,6 +14,7 @@ use Rattle.grain_frame.specs.Targets.{content_at, home_of}
 use Rattle.grain_frame.specs.declared.targets.Target.TheVariants as to
 use Rattle.grain_frame.specs.lemmas.Bound.{as_bound, bound_as, bound_at_place}
 use Rattle.grain_frame.specs.lemmas.Failing.{raises_here, store_stops, wants_memory}
+use Rattle.grain_frame.specs.lemmas.Performing.{led_out, led_so, waits_as}
 use Rattle.grain_frame.proofs.Flattening.{value_there}
 use Rattle.grain_frame.proofs.Refusing.{found_plain, this_content, this_holds, this_is_home, this_lends, this_op_refused, this_op_written}
 use Rattle.grain_frame.proofs.runs.Run.assign_this_op.Goals as goal
@@ -33,17 +34,19 @@ returns-in_err-kept g c =
     let v : Held = record { value = read.0; read_only = (top s.stacks.operands).read_only } in
     let out : is_out c.from_residual.result ≡ true = search rules in
     record {
-      performs = bound_as (as_bound (wants_memory g.H.Host.law p engine f s c.args.steps.now
+      performs = led_out c.in_err-kept.field-0.0 c.from_residual.result out
+          (bound_as (as_bound (wants_memory g.H.Host.law p engine f s c.args.steps.now
           c.args.host.now
           {rule = λ m place w. outcome_at m (home_of t place) [] (op_assigned m.engine a u read.0)
           a held u v c.args.next (frame_in f s place) w}
-          c.from_residual.result out c.requires.ready.inside
+          (Err c.in_err-kept.field-0.0) refl c.requires.ready.inside
           (λ stop w place halts. store_stops
           (stopped (setup g.H.Host.law p engine) stop) (home_of t place) []
           (op_assigned engine a u read.0) a held u v c.args.next (frame_in f s place)
-          (world (abstraction s c.args.steps.now c.args.host.now) w) halts)))
+          (world (abstraction s c.args.steps.now c.args.host.now) w) halts
+          c.requires.untraced)))
           (λ stop w place bound. this_op_written (stopped (setup g.H.Host.law p engine) stop) f s
-          c.args.steps.now c.args.host.now w place bound c.args.next a t held read.0 found read.1);
+          c.args.steps.now c.args.host.now w place bound c.args.next a t held read.0 found read.1));
     }
 
 pub returns-in-Err : goal.returns-in-Err
@@ -54,7 +57,7 @@ returns-in-Err g c =
     let f = c.args.frame.now in
     let x = refusal_fault p (length s.scope) f.address [] c.in-Err.refusal in
     record {
-      performs = bound_as (as_bound
+      performs = led_so c.refuse_this.result c.of.result c.of.ensures (bound_as (as_bound
           (raises_here g.H.Host.law p engine f s c.refuse_this.new.self
           c.args.steps.now c.refuse_this.new.steps c.args.host.now x
           {rule = λ m place w. raised m (frame_in f s place) x w}
@@ -62,7 +65,7 @@ returns-in-Err g c =
           (λ stop u place. refl)))
           (λ stop u place bound. this_op_refused (stopped (setup g.H.Host.law p engine) stop) f s
           c.args.steps.now c.args.host.now u place bound c.args.next
-          (assign_op_of p c.args.assign_op) c.in-Err.refusal c.in-Err.ensures);
+          (assign_op_of p c.args.assign_op) c.in-Err.refusal c.in-Err.ensures));
     }
 
 pub kept_operand-requires-clause-readable : goal.kept_operand-requires-clause-readable
@@ -82,6 +85,7 @@ op_assign_target-requires g c =
         variable = search rules;
       };
       writable = this_holds s c.in-Ok.target c.in-Ok.ensures.0 c.in-Ok.ensures.1;
+      untraced = c.requires.untraced;
     }
 
 pub returns : goal.returns
@@ -94,7 +98,7 @@ returns g c =
     let same_op : c.assign_op.result.now ≡ assign_op_of p c.args.assign_op =
     c.assign_op.ensures ∙ ap (assign_op_of p) c.from.ensures in
     record {
-      performs = bound_as (c.op_assign_target.ensures.implements held
+      performs = waits_as (c.op_assign_target.ensures.implements held
           (found_plain s to.This t held found))
           (λ stop u place bound.
           let at = bound_at_place u.roots place (this_of s) held found.there bound in rw (

@@ -13,3 +13,9 @@ returns-in-Native-clause-same g c = λ m name h args f go fails own at there pla
     name c.args.target h args f go fails own at c.in-Native.key c.in-Native.values
     (λ place. rw c.in-Native.is at (seeks place)) c.requires.target plain
     c.lend.result c.lend.new.self c.lend.new.steps c.lend.new.host (c.lend.ensures.same h there)
+
+pub returns-in-Fault-clause-writable : goal.returns-in-Fault-clause-writable
+returns-in-Fault-clause-writable g c = λ writable. writable
+
+pub returns-in-Native-clause-writable : goal.returns-in-Native-clause-writable
+returns-in-Native-clause-writable g c = λ writable. c.lend.ensures.writable writable

@@ -1,4 +1,4 @@
-use Rattle.std.proofs.Common.{rules, refl, sym, ap, subst, arith, ◌≡◌, ◌∙◌, ◌-◌, ℕ, [], None, Some, length}
+use Rattle.std.proofs.Common.{rules, refl, sym, ap, subst, arith, ◌≡◌, ◌∙◌, ◌-◌, ℕ, [], None, Ok, Some, length}
 use Rattle.grain_value.specs.Operands.{under, arguments}
 use Rattle.grain_fault.specs.Problems.{Plain, DataRace}
 use Rattle.grain_ops.specs.Answers.{FailsSo}
@@ -10,6 +10,8 @@ use Rattle.grain_program.specs.View.{name_of, position_of}
 use Rattle.grain_means.specs.Means.{setup}
 use Rattle.grain_means.specs.Simulation.{stopped, world}
 use Rattle.grain_frame.specs.Abstraction.{abstraction, frame_in}
+use Rattle.grain_frame.specs.lemmas.Bound.{as_bound}
+use Rattle.grain_frame.specs.lemmas.Performing.{led, led_exactly, waits_as}
 use Rattle.grain_frame.specs.lemmas.Failing.{outcome_raises, raises_here}
 use Rattle.grain_frame.proofs.Flattening.{all_there}
 use Rattle.grain_frame.proofs.Handing.{operator_is, operator_raises, operator_wants}
@@ -28,14 +30,14 @@ returns-in-Done g c =
     length-take (length c.args.self.now.stacks.operands - c.args.count)
     c.args.self.now.stacks.operands in
     record {
-      performs = implements_after g.H.Host.law c.args.context.program.now c.args.context.engine.now
-          c.args.frame.now c.push_on.new.frame c.args.self.now c.push_on.new.self c.args.steps.now
+      performs = led (Ok c.push_on.result) (as_bound (implements_after g.H.Host.law
+          c.args.context.program.now c.args.context.engine.now c.args.frame.now c.push_on.new.frame c.args.self.now c.push_on.new.self c.args.steps.now
           c.push_on.new.steps c.cut.new.self (under c.args.count c.args.self.now.stacks.operands)
           c.args.host.now c.args.host.now cut
           (c.push_on.ensures.implements c.args.context.program.now c.args.context.engine.now
           c.args.host.now)
           (λ stop u place. rw (read.1, gives, cut) refl) (λ b i. i) (omega (arith, long))
-          (omega (arith, long));
+          (omega (arith, long))));
     }
 
 pub returns-in-Failed : goal.returns-in-Failed
@@ -50,7 +52,8 @@ returns-in-Failed g c =
     let o = operated p engine c.args.token read.0 in
     let fails : FailsSo c.in-Failed.fault o = search rules in
     record {
-      performs = outcome_raises g.H.Host.law p engine f s c.operator_failed.new.self
+      performs = led_exactly c.operator_failed.result c.of-in-Failed.result
+          c.of-in-Failed.ensures (outcome_raises g.H.Host.law p engine f s c.operator_failed.new.self
           c.args.steps.now c.operator_failed.new.steps c.args.host.now o c.operator_failed.result
           (c.operator_failed.ensures o fails) c.requires.ready.inside
           (λ stop u place is. operator_raises (stopped (setup g.H.Host.law p engine) stop)
@@ -58,7 +61,7 @@ returns-in-Failed g c =
           (world (abstraction s c.args.steps.now c.args.host.now) u) read.0 read.1 is)
           (λ stop u place halts. operator_wants (stopped (setup g.H.Host.law p engine) stop)
           c.args.name c.args.count c.args.token c.args.next (frame_in f s place)
-          (world (abstraction s c.args.steps.now c.args.host.now) u) read.0 read.1 halts);
+          (world (abstraction s c.args.steps.now c.args.host.now) u) read.0 read.1 halts));
     }
 
 pub returns-in-NotBuiltIn : goal.returns-in-NotBuiltIn
@@ -76,15 +79,13 @@ returns-in-NotBuiltIn g c =
     subst (λ (k : ℕ). flat_all s.cells (arguments k ops) ≡ Some read.0)
     (sym c.from-arguments.ensures) read.1 in
     record {
-      performs = implements_after g.H.Host.law p engine f c.native_on.new.frame s
-          c.native_on.new.self c.args.steps.now c.native_on.new.steps s.stacks ops c.args.host.now
-          c.native_on.new.host refl (c.native_on.ensures.implements read.0 here)
-          (λ stop u place.
+      performs = waits_as (rw c.from-arguments.ensures at
+          (c.native_on.ensures.implements read.0 here))
+          (λ stop u place bound.
           operator_is (stopped (setup g.H.Host.law p engine) stop) c.args.name c.args.count
           c.args.token c.args.next (frame_in f s place)
           (world (abstraction s c.args.steps.now c.args.host.now) u) read.0 read.1 gives
-          ∙ rw (named, c.from-arguments.ensures) refl) (λ b i. i)
-          (rw c.from-arguments.ensures refl) (rw c.from-arguments.ensures (omega arith));
+          ∙ rw named refl);
     }
 
 pub returns-then-not-are_readable : goal.returns-then-not-are_readable
@@ -95,8 +96,9 @@ returns-then-not-are_readable g c =
     let none : flat_all s.cells (arguments c.args.count s.stacks.operands) ≡ None =
     search rules in
     record {
-      performs = raises_here g.H.Host.law p c.args.context.engine.now f s
+      performs = led_exactly c.data_race.result c.of.result c.of.ensures
+          (raises_here g.H.Host.law p c.args.context.engine.now f s
           c.data_race.new.self c.args.steps.now c.data_race.new.steps c.args.host.now
           (Plain (DataRace (race_text [])) (position_of p f.address)) c.data_race.result
-          c.data_race.ensures c.requires.ready.inside (λ stop u place. rw none refl);
+          c.data_race.ensures c.requires.ready.inside (λ stop u place. rw none refl));
     }

@@ -6,7 +6,7 @@ use Rattle.grain_means.specs.Rules.{flat_all, race_text}
 use Rattle.grain_fault.specs.Problems.{Plain, DataRace}
 use Rattle.grain_program.specs.View.{position_of}
 use Rattle.grain_frame.specs.lemmas.Failing.{raises_here}
-use Rattle.grain_frame.specs.lemmas.Arms.{implements_as}
+use Rattle.grain_frame.specs.lemmas.Performing.{led_exactly, waits_as}
 use Rattle.grain_means.specs.Means.{setup}
 use Rattle.grain_means.specs.Simulation.{stopped, world}
 use Rattle.grain_frame.specs.Abstraction.{abstraction, frame_in}
@@ -22,11 +22,8 @@ returns g c =
     search rules in
     let read = all_there (flat_all s.cells (arguments c.args.count s.stacks.operands)) readable in
     record {
-      implements = implements_as g.H.Host.law c.args.context.program.now
-          c.args.context.engine.now f c.native_on.new.frame s s c.native_on.new.self
-          c.args.steps.now c.native_on.new.steps c.args.host.now c.native_on.new.host refl
-          (c.native_on.ensures.implements read.0 read.1)
-          (λ stop u place.
+      implements = waits_as (c.native_on.ensures.implements read.0 read.1)
+          (λ stop u place bound.
           native_is (stopped (setup g.H.Host.law c.args.context.program.now
           c.args.context.engine.now) stop) c.args.name.now c.args.count c.args.next
           (frame_in f s place) (world (abstraction s c.args.steps.now c.args.host.now) u) read.0
@@ -41,8 +38,9 @@ returns-then-not-are_readable g c =
     let none : flat_all s.cells (arguments c.args.count s.stacks.operands) ≡ None =
     search rules in
     record {
-      implements = raises_here g.H.Host.law p c.args.context.engine.now f s
+      implements = led_exactly c.data_race.result c.of.result c.of.ensures
+          (raises_here g.H.Host.law p c.args.context.engine.now f s
           c.data_race.new.self c.args.steps.now c.data_race.new.steps c.args.host.now
           (Plain (DataRace (race_text [])) (position_of p f.address)) c.data_race.result
-          c.data_race.ensures c.requires.inside (λ stop u place. rw none refl);
+          c.data_race.ensures c.requires.inside (λ stop u place. rw none refl));
     }

@@ -12,7 +12,21 @@ use Rattle.grain_frame.proofs.runs.Run.perform.Goals as goal
 
 pub unreachable-requires : goal.unreachable-requires
 unreachable-requires g c =
+    (rw c.in-AssignLocalOp.is at c.requires.asks_nothing).0 c.in-AssignLocalOp.field-0
+    c.in-AssignLocalOp.field-1 c.in-AssignLocalOp.field-2 refl
+
+pub unreachable-requires-in-AssignThisOp : goal.unreachable-requires-in-AssignThisOp
+unreachable-requires-in-AssignThisOp g c =
+    (rw c.in-AssignThisOp.is at c.requires.asks_nothing).1 c.in-AssignThisOp.field-0 refl
+
+pub unreachable-requires-in-Call : goal.unreachable-requires-in-Call
+unreachable-requires-in-Call g c =
     (rw c.in-Call.is at c.requires.calls_nothing).0 c.in-Call.field-0 c.in-Call.field-1 refl
+
+pub unreachable-requires-in-CallOp : goal.unreachable-requires-in-CallOp
+unreachable-requires-in-CallOp g c =
+    (rw c.in-CallOp.is at c.requires.asks_nothing).2 c.in-CallOp.field-0 c.in-CallOp.field-1
+    c.in-CallOp.field-2 refl
 
 pub unreachable-requires-in-CallFnPtr : goal.unreachable-requires-in-CallFnPtr
 unreachable-requires-in-CallFnPtr g c =
@@ -98,12 +112,6 @@ returns-in-AssignLocal g c = record {
       (c.assign_local.ensures.performs c.args.host.now);
 }
 
-pub returns-in-AssignLocalOp : goal.returns-in-AssignLocalOp
-returns-in-AssignLocalOp g c = record {
-  stepped = arm_bound c.in-AssignLocalOp.is refl c.requires.stands c.requires.runs
-      c.assign_local_op.ensures.performs;
-}
-
 pub returns-in-LoadThis : goal.returns-in-LoadThis
 returns-in-LoadThis g c =
     let p = c.args.context.program.now in
@@ -161,12 +169,6 @@ returns-in-AssignThis g c = record {
       (c.assign_this.ensures.performs c.args.host.now);
 }
 
-pub returns-in-AssignThisOp : goal.returns-in-AssignThisOp
-returns-in-AssignThisOp g c = record {
-  stepped = arm_bound c.in-AssignThisOp.is refl c.requires.stands c.requires.runs
-      c.assign_this_op.ensures.performs;
-}
-
 pub returns-in-Pop : goal.returns-in-Pop
 returns-in-Pop g c = record {
   stepped = arm c.in-Pop.is refl c.requires.stands c.requires.runs
@@ -203,12 +205,6 @@ pub returns-in-SkipIfNotUnit : goal.returns-in-SkipIfNotUnit
 returns-in-SkipIfNotUnit g c = record {
   stepped = arm c.in-SkipIfNotUnit.is refl c.requires.stands c.requires.runs
       c.skip_if_not_unit.ensures.performs;
-}
-
-pub returns-in-CallOp : goal.returns-in-CallOp
-returns-in-CallOp g c = record {
-  stepped = arm c.in-CallOp.is refl c.requires.stands c.requires.runs
-      c.call_op.ensures.performs;
 }
 
 pub returns-in-UnwindTo : goal.returns-in-UnwindTo
