@@ -1,7 +1,7 @@
-use Rattle.std.proofs.Common.{◌≡◌, ◌∙◌, ◌<◌, ◌-◌, arith, rules, ℕ, Option, Ok, length, refl, subst}
+use Rattle.std.proofs.Common.{◌≡◌, ◌∙◌, ◌<◌, ◌-◌, arith, rules, ℕ, Option, Ok, length, refl, subst, None, ap, ◌+◌, ◌++◌, ◌∷◌, [], Some, map, sym}
 use Rattle.grain_means.specs.Means.{setup}
-use Rattle.grain_frame.specs.Abstraction.{frame_in, this_of, moment}
-use Rattle.grain_vm.proofs.Found.{call_found, done_here, found_stepped, is_function, other_found, pointer_found}
+use Rattle.grain_frame.specs.Abstraction.{frame_in, this_of, moment, abstraction, Implements}
+use Rattle.grain_vm.proofs.Found.{call_found, done_here, found_stepped, is_function, other_found, pointer_found, finds_of, named_found, call_refused, none_numbered, pointed_done, pointed_found}
 use Rattle.grain_vm.proofs.Calling.{call_ran, has_begun, not_begun, entered_with, kept_with, refused_here, refused_this, there_is, outer_is}
 use Rattle.grain_vm.proofs.ChainAhead.{chain_stepped}
 use Rattle.grain_vm.proofs.ReceiverAhead.{receiver_stepped}
@@ -12,7 +12,7 @@ use Rattle.grain_vm.specs.Catching.{activation_at, StopsSo, Caught}
 use Rattle.grain_vm.specs.declared.loops.Stop.{Stop}
 use Rattle.grain_vm.proofs.CaughtFrames.{offered_so, stopped_so}
 use Rattle.grain_means.specs.lemmas.Stretches.{compose, same}
-use Rattle.grain_program.specs.View.{chain_of}
+use Rattle.grain_program.specs.View.{chain_of, name_of, position_of}
 use Rattle.grain_vm.specs.Chains.{walked_frame}
 use Rattle.grain_vm.specs.Seats.{first_held}
 use Rattle.grain_vm.specs.Underway.{after_chain}
@@ -21,6 +21,19 @@ use Rattle.grain_vm.specs.Finding.{found_of, op_on}
 use Rattle.grain_vm.specs.Receivers.{called}
 use Rattle.grain_vm.proofs.OnFrames.{callee_out, callee_refused, finds_on_of, first_found, first_on, one_less, function_performed, on_function, pointed_on, target_found, two_there}
 use Rattle.grain_vm.proofs.OnCalls.{call_out, function_done, native_done}
+use Rattle.grain_program.specs.declared.code.instruction_set.Op.TheVariants as op
+use Rattle.grain_means.specs.Rules.{function_found, call_function, function_by_name, operand_under, race_text}
+use Rattle.grain_frame.specs.lemmas.Arms.{implements_after}
+use Rattle.std.specs.Prelude.{codes}
+use Rattle.grain_value.specs.Cells.{flat}
+use Rattle.grain_value.specs.Operands.{arguments, read_write, under}
+use Rattle.grain_value.specs.Writing.{type_name_of}
+use Rattle.grain_fault.specs.Problems.{Plain, DataRace, MismatchDataType}
+use Rattle.grain_program.specs.Lookups.{CalledByText, function_by_text}
+use Rattle.grain_stack.specs.Views.{StacksView}
+use Rattle.grain_means.specs.Simulation.{stopped, world}
+use Rattle.grain_frame.specs.declared.runs.Run.{Run}
+use Rattle.grain_frame.specs.lemmas.Failing.{raises_here}
 use Rattle.grain_vm.proofs.+run.Goals as goal
 
 pub loops::call-returns-in-Err-clause-goes : goal.loops::call-returns-in-Err-clause-goes
@@ -560,3 +573,163 @@ method_runs::call_on-returns-in-Native g t c =
           (called.ensures.called m refl) called.ensures.run called.ensures.lent called.ensures.before
           ended.ensures.implements ended.ensures.carries;
     }
+
+pub finding::find_named-returns-in-None : goal.finding::find_named-returns-in-None
+finding::find_named-returns-in-None g t c =
+    let p = c.args.context.program.now in
+    let engine = c.args.context.engine.now in
+    let s = c.args.run.now in
+    let f = c.args.frame.now in
+    let none : function_found p c.args.name c.args.count ≡ None = search rules in
+    let named : c.name-name.result.now ≡ name_of p c.args.name =
+    c.name-name.ensures ∙ ap (name_of p) c.from-in-None.ensures in
+    rw c.of.ensures (record {
+      finds = finds_of g.H.Host.law p engine f c.native_by_name_on_copy.new.frame s
+          c.native_by_name_on_copy.new.self c.args.steps.now c.native_by_name_on_copy.new.steps
+          (op.Call c.args.name c.args.count) c.args.next c.args.host.now c.native_by_name_on_copy.new.host
+          c.native_by_name_on_copy.result
+          (implements_after g.H.Host.law p engine f c.native_by_name_on_copy.new.frame s
+          c.native_by_name_on_copy.new.self c.args.steps.now c.native_by_name_on_copy.new.steps s.stacks
+          s.stacks.operands c.args.host.now c.native_by_name_on_copy.new.host refl
+          c.native_by_name_on_copy.ensures.implements
+          (λ stop u place. rw (none, named, c.from-count.ensures) refl) (λ b i. i)
+          (rw c.from-count.ensures refl) (rw c.from-count.ensures (omega arith)));
+    })
+
+pub finding::find_named-returns-in-Some : goal.finding::find_named-returns-in-Some
+finding::find_named-returns-in-Some g t c = record {
+  finds = (
+    refl,
+    named_found g.H.Host.law c.args.context.program.now c.args.context.engine.now
+        c.args.frame.now c.args.run.now c.args.steps.now c.args.name c.args.count c.args.next
+        c.in-Some.number c.args.host.now
+        (rw (c.from.ensures, c.from-count.ensures) at c.in-Some.ensures.exact)
+        (rw (c.from.ensures, c.from-count.ensures) at c.in-Some.ensures.called)
+        c.requires.ready.operands,
+  );
+}
+
+pub finding::find_pointed-returns-in-Lent : goal.finding::find_pointed-returns-in-Lent
+finding::find_pointed-returns-in-Lent g t c =
+    let p = c.args.context.program.now in
+    let engine = c.args.context.engine.now in
+    let s = c.args.run.now in
+    let f = c.args.frame.now in
+    let n = c.args.count in
+    let none : flat s.cells (operand_under n s.stacks.operands).value ≡ None =
+    rw c.from-count.ensures at c.in-Lent.ensures in
+    rw c.of.ensures (record {
+      finds = finds_of g.H.Host.law p engine f f s c.data_race.new.self c.args.steps.now
+          c.data_race.new.steps (op.CallFnPtr n) c.args.next c.args.host.now c.args.host.now
+          c.data_race.result
+          (raises_here g.H.Host.law p engine f s c.data_race.new.self c.args.steps.now
+          c.data_race.new.steps c.args.host.now
+          (Plain (DataRace (race_text [])) (position_of p f.address)) c.data_race.result
+          c.data_race.ensures c.requires.ready.inside (λ stop u place. rw none refl));
+    })
+
+pub finding::find_pointed-returns-in-Other : goal.finding::find_pointed-returns-in-Other
+finding::find_pointed-returns-in-Other g t c =
+    let p = c.args.context.program.now in
+    let engine = c.args.context.engine.now in
+    let s = c.args.run.now in
+    let f = c.args.frame.now in
+    let n = c.args.count in
+    let ops = s.stacks.operands in
+    let stands = c.in-Other.ensures in
+    let v = stands.0 in
+    let read : flat s.cells (operand_under n ops).value ≡ Some v =
+    rw c.from-count.ensures at stands.1 in
+    let x = Plain (MismatchDataType (codes "Fn") (type_name_of v)) (position_of p f.address) in
+    rw c.of-in-Other.ensures (record {
+      finds = finds_of g.H.Host.law p engine f f s c.not_a_pointer.new.self c.args.steps.now
+          c.not_a_pointer.new.steps (op.CallFnPtr n) c.args.next c.args.host.now c.args.host.now
+          c.not_a_pointer.result
+          (raises_here g.H.Host.law p engine f s c.not_a_pointer.new.self c.args.steps.now
+          c.not_a_pointer.new.steps c.args.host.now x c.not_a_pointer.result
+          (c.not_a_pointer.ensures v stands.1) c.requires.ready.inside
+          (λ stop u place. call_refused (stopped (setup g.H.Host.law p engine) stop) n c.args.next
+          (frame_in f s place) (world (abstraction s c.args.steps.now c.args.host.now) u) v read
+          stands.2));
+    })
+
+pub finding::find_pointed-returns-in-Some : goal.finding::find_pointed-returns-in-Some
+finding::find_pointed-returns-in-Some g t c =
+    let p = c.args.context.program.now in
+    let engine = c.args.context.engine.now in
+    let s = c.args.run.now in
+    let f = c.args.frame.now in
+    let n = c.args.count in
+    let ops = s.stacks.operands in
+    let there = c.in_ok-name-in-Pointer.ensures in
+    let q = c.in_ok-name-in-Pointer.field-0 in
+    let v = there.0 in
+    let read : flat s.cells (operand_under n ops).value ≡ Some v =
+    rw c.from-count.ensures at there.1 in
+    let values = c.into_vec.result.items in
+    let s1 : Run g.row.H.Denot = record s { stacks = c.spread.new.self } in
+    let enough : n < length ops = omega (arith, c.requires.ready.operands) in
+    let spreads : s1.stacks.operands ≡ under (n + 1) ops ++ map read_write values
+    ++ arguments n ops = rw c.from-count.ensures at c.in_ok-spread-in-Pointer.ensures.operands in
+    let others : s1 ≡ record s { stacks = record s.stacks { operands = s1.stacks.operands } } =
+    ap (λ (k : StacksView). record s { stacks = k }) c.in_ok-spread-in-Pointer.ensures.others in
+    let total : c.len.result + c.from-count.result ≡ length q.curry + n =
+    rw (c.len.ensures.value, c.from-count.ensures) refl in
+    let word : c.as_str.result.now ≡ q.name = search rules in
+    let exact : Some c.in-Some.number ≡ function_by_text p q.name (length q.curry + n) =
+    subst (λ (k : ℕ). Some c.in-Some.number ≡ function_by_text p q.name k) total
+    (rw word at c.in-Some.ensures.exact) in
+    let called : CalledByText p q.name (length q.curry + n) c.in-Some.number =
+    subst (λ (k : ℕ). CalledByText p q.name k c.in-Some.number) total
+    (rw word at c.in-Some.ensures.called) in
+    record {
+      finds = (
+        refl,
+        pointed_found g.H.Host.law p engine f s s1 c.args.steps.now n c.args.next c.args.host.now v
+            q values read there.2 c.into_vec.ensures enough spreads others c.in-Some.number exact
+            called,
+      );
+    }
+
+pub finding::find_pointed-returns : goal.finding::find_pointed-returns
+finding::find_pointed-returns g t c =
+    let p = c.args.context.program.now in
+    let engine = c.args.context.engine.now in
+    let s = c.args.run.now in
+    let f = c.args.frame.now in
+    let n = c.args.count in
+    let ops = s.stacks.operands in
+    let there = c.in_ok-name-in-Pointer.ensures in
+    let q = c.in_ok-name-in-Pointer.field-0 in
+    let v = there.0 in
+    let read : flat s.cells (operand_under n ops).value ≡ Some v =
+    rw c.from-count.ensures at there.1 in
+    let values = c.into_vec.result.items in
+    let s1 : Run g.row.H.Denot = record s { stacks = c.spread.new.self } in
+    let enough : n < length ops = omega (arith, c.requires.ready.operands) in
+    let spreads : s1.stacks.operands ≡ under (n + 1) ops ++ map read_write values
+    ++ arguments n ops = rw c.from-count.ensures at c.in_ok-spread-in-Pointer.ensures.operands in
+    let others : s1 ≡ record s { stacks = record s.stacks { operands = s1.stacks.operands } } =
+    ap (λ (k : StacksView). record s { stacks = k }) c.in_ok-spread-in-Pointer.ensures.others in
+    let total : c.len.result + c.from-count.result ≡ length q.curry + n =
+    rw (c.len.ensures.value, c.from-count.ensures) refl in
+    let word : c.as_str.result.now ≡ q.name = search rules in
+    let missing : None ≡ function_by_text p q.name (length q.curry + n) =
+    subst (λ (k : ℕ). None ≡ function_by_text p q.name k) total
+    (rw word at (sym c.in-None.is ∙ c.function_named.ensures.exact)) in
+    let none : function_by_name p q.name (length q.curry + n) ≡ None =
+    none_numbered p (function_by_text p q.name (length q.curry + n)) missing in
+    let did = subst (λ (k : ℕ). Implements (setup g.H.Host.law p engine) (moment f s1
+    c.args.steps.now c.args.host.now) (λ m place w. call_function m None q.name k (frame_in f s1
+    place) c.args.next w) (c.args.next ∷ []) k 1 s1.stacks.handlers c.native_by_name.result (moment
+    c.native_by_name.new.frame c.native_by_name.new.self c.native_by_name.new.steps
+    c.native_by_name.new.host)) total c.native_by_name.ensures.implements in
+    rw c.of-in-None.ensures (record {
+      finds = finds_of g.H.Host.law p engine f c.native_by_name.new.frame s
+          c.native_by_name.new.self c.args.steps.now c.native_by_name.new.steps (op.CallFnPtr n)
+          c.args.next c.args.host.now c.native_by_name.new.host c.native_by_name.result
+          (pointed_done g.H.Host.law p engine f s s1 c.args.steps.now n c.args.next
+          c.args.host.now v q values read there.2 c.into_vec.ensures enough spreads others
+          c.native_by_name.new.frame c.native_by_name.new.self c.native_by_name.new.steps
+          c.native_by_name.new.host none did);
+    })
