@@ -295,22 +295,36 @@ ResumesWith law token o l s host said l' s' host' =
 abbrev pub beside : {H : Type 0} → List Entry → Option Held → Run H → StepsView → H → LocalState H
 beside scope this s n host = record (abstraction s n host) { scope = scope; this = this }
 
--- The state of the code where a native has this: what stands at a target stands in the run, and what stands
--- nowhere in it is what the meaning has at the place. Else the scope and the `this` may be any.
+-- The scope and the `this` where a native has this: what stands at a target stands in the run, and what
+-- stands nowhere in it is what the meaning has at the place. Else they may be any.
+abbrev pub scope_where : {H : Type 0} → Loan → List Entry → Run H → List Entry
+scope_where have.Nothing scope s = scope
+scope_where (have.Target t) scope s = s.scope
+scope_where (have.Cell c h) scope s = scope
+scope_where (have.Apart h) scope s = scope
+
+abbrev pub this_where : {H : Type 0} → Loan → Option Held → Run H → Option Held
+this_where have.Nothing x s = x
+this_where (have.Target t) x s = this_of s
+this_where (have.Cell c h) x s = x
+this_where (have.Apart h) x s = Some h
+
+-- the state of the code there
 abbrev pub state_with : {H : Type 0} → Loan → List Entry → Option Held → Run H → StepsView → H →
     LocalState H
-state_with have.Nothing scope x s n host = beside scope x s n host
-state_with (have.Target t) scope x s n host = abstraction s n host
-state_with (have.Cell c h) scope x s n host = beside scope x s n host
-state_with (have.Apart h) scope x s n host = beside scope (Some h) s n host
+state_with l scope x s n host = beside (scope_where l scope s) (this_where l x s) s n host
 
 -- The state once the native is over that had this: what stands nowhere in the run is now this.
+abbrev pub this_after : {H : Type 0} → Loan → Option Held → Option Held → Run H → Option Held
+this_after have.Nothing left x s = x
+this_after (have.Target t) left x s = this_of s
+this_after (have.Cell c h) left x s = x
+this_after (have.Apart h) left x s = left
+
 abbrev pub state_after : {H : Type 0} → Loan → Option Held → List Entry → Option Held → Run H →
     StepsView → H → LocalState H
-state_after have.Nothing left scope x s n host = beside scope x s n host
-state_after (have.Target t) left scope x s n host = abstraction s n host
-state_after (have.Cell c h) left scope x s n host = beside scope x s n host
-state_after (have.Apart h) left scope x s n host = beside scope left s n host
+state_after l left scope x s n host =
+    beside (scope_where l scope s) (this_after l left x s) s n host
 
 -- what a native came to: it is over, and then what follows from how it ended, or it asks for a call
 abbrev pub resumed_continuation : {H : Type 0} → Resumed → Run H → (Option Place → Frame) →

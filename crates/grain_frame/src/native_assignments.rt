@@ -265,7 +265,8 @@ impl<H: Host> Run<H> {
                 Rest::Assign(assignment) => {
                     self.op_assign_failed(context, host, steps, frame, assignment, fault)
                 }
-                _ => Ok(Performed::Leads(self.raise(steps, fault))),
+                Rest::Push { .. } => Ok(Performed::Leads(self.raise(steps, fault))),
+                Rest::Operate(_) => Ok(Performed::Leads(self.raise(steps, fault))),
             },
         }
     }
