@@ -25,13 +25,13 @@ use Rattle.grain_frame.specs.Targets.{content_at, home_of, put_in}
 use Rattle.grain_frame.specs.Waiting.{IsKept, LeavesLent, TellsHost, answer_of, apart_of, asking, callback_in, given_back_run, held_of_lent, receiver_in, state_after, state_with}
 use Rattle.grain_frame.specs.declared.native_calls.Asked.{Asked}
 use Rattle.grain_frame.specs.declared.runs.Run.{Run}
+use Rattle.grain_frame.specs.declared.targets.Target.{Target}
 use Rattle.grain_frame.specs.declared.targets.Target.TheVariants as to
 use Rattle.grain_frame.specs.declared.waiting.Loan.{Loan}
 use Rattle.grain_frame.specs.declared.waiting.Loan.TheVariants as have
 use Rattle.grain_frame.specs.declared.waiting.Resumed.TheVariants as went
 use Rattle.grain_frame.specs.lemmas.Bound.{while_bound}
 use Rattle.grain_frame.proofs.Returning.{KeepsFlag, asks_world, out_world, over_world, with_left}
-use Rattle.grain_frame.proofs.Targeting.{put_keeps}
 use Rattle.grain_frame.proofs.Telling.{told_out, told_so}
 use Rattle.grain_frame.proofs.ToldRuns.{asks_run, over_run}
 
@@ -66,7 +66,7 @@ module _ {H : Type 0} (law : Law H) (token : ℕ) (o : Outcome) (s : Run H) (hos
       left ≡ option_map (rewritten law host token o) (held_of_lent s l) →
       with_left (receiver_in (home_of to.This) s l place) left
       ≡ receiver_rewritten law host token o (receiver_in (home_of to.This) s l place)
-  left_is have.Nothing left place is = rw is refl
+  left_is have.Nothing left place is = refl
   left_is (have.Target t) left place is = rw is refl
   left_is (have.Cell n g) left place is = rw is refl
   left_is (have.Apart g) left place is = rw is refl
@@ -78,12 +78,18 @@ flag_still s (have.Target t) left is = rw is refl
 flag_still s (have.Cell n g) left is = rw is refl
 flag_still s (have.Apart g) left is = rw is refl
 
+put_trace : {H : Type 0} (s : Run H) (t : Target) (h : Held) → put_in s t h
+    ≡ record (put_in s t h) { stacks = record (put_in s t h).stacks { trace = s.stacks.trace } }
+put_trace s (to.Entry i) h = refl
+put_trace s (to.Cell n) h = refl
+put_trace s to.This h = refl
+
 -- the trace is as it was
 pub same_trace : {H : Type 0} (s : Run H) (l : Loan) (left : Option Held) (l' : Loan) (s1 : Run H) →
     LeavesLent s l left l' s1 →
     s1 ≡ record s1 { stacks = record s1.stacks { trace = s.stacks.trace } }
 same_trace s have.Nothing left l' s1 leaves = rw leaves.2 refl
-same_trace s (have.Target t) left l' s1 leaves = rw leaves.3 (rw (put_keeps s t leaves.0) refl)
+same_trace s (have.Target t) left l' s1 leaves = rw leaves.3 (put_trace s t leaves.0)
 same_trace s (have.Cell n g) left l' s1 leaves = rw leaves.3 refl
 same_trace s (have.Apart g) left l' s1 leaves = rw leaves.3 refl
 
@@ -98,7 +104,7 @@ module _ {H : Type 0} (law : Law H) (token : ℕ) (o : Outcome) (l : Loan) (q : 
 
   -- the host answered
   module _ (said : Reply) (says : said ≡ law.resume_reply host token o (held_of_lent s l))
-      (then : mid ≡ law.resume_after host token o (held_of_lent s l))
+      (mid_is : mid ≡ law.resume_after host token o (held_of_lent s l))
       (left_told : left ≡ option_map (rewritten law host token o) (held_of_lent s l)) where
     -- up to what follows from the answer
     answered : (m : Setup H) (f : Option Place → Frame) (a : Asked) (scope : List Entry)
@@ -125,7 +131,7 @@ module _ {H : Type 0} (law : Law H) (token : ℕ) (o : Outcome) (l : Loan) (q : 
         let left_so : with_left r left ≡ receiver_rewritten m.law host a.token o r =
         rw (own, is) (left_is law token o s host l left place left_told) in
         let goes : m.law.resume_after host a.token o (lent_held r) ≡ mid =
-        rw (own, is, lent_is law token o s host l place) (sym then) in
+        rw (own, is, lent_is law token o s host l place) (sym mid_is) in
         ap (λ (k : ℕ). told m c o (record w { tokens = with_token k u.tokens })) (sym is)
         ∙ (told_so m c o w said (with_left r left) first second says_so left_so
         ∙ ap (λ (h : H). went_on m (record c { receiver = with_left r left }) said (record w {
@@ -186,7 +192,7 @@ module _ {H : Type 0} (law : Law H) (token : ℕ) (o : Outcome) (l : Loan) (q : 
       mid ≡ law.resume_after host token o (held_of_lent s l) →
       left ≡ option_map (rewritten law host token o) (held_of_lent s l) → e ≡ traced [] →
       TellsHost law token o l q s n host (went.Asks b l') e heard_counts mid
-  tells_asks b e says then left_told is = record {
+  tells_asks b e says mid_is left_told is = record {
     same = λ m f a heard scope x own at is_token.
         while_bound (omega arith) (λ stop clear halts u place bound.
         again m f a heard scope x own is_token stop
@@ -216,7 +222,7 @@ module _ {H : Type 0} (law : Law H) (token : ℕ) (o : Outcome) (l : Loan) (q : 
         kept leaves (flag_told law token o s host l left left_told) is bound in (
           back.0,
           ap (λ (t : Act H). Then t (heard (stopped m stop) place))
-              (answered (reply.Ask b.token b.pointer b.values) says then left_told
+              (answered (reply.Ask b.token b.pointer b.values) says mid_is left_told
               (stopped m stop) f a scope x own is_token u place first second)
               ∙ (ap (λ (g : Option Receiver). asks (stopped m stop) place g (record w {
                 host = mid;

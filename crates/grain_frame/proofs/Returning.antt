@@ -132,17 +132,21 @@ module _ {H : Type 0} (s : Run H) (u : Environment) (place : Option Place) (scop
   lends_traced t can = lends_beside s (record s.stacks { trace = trace }) t can
 
   target_back : (t : Target) (h : Held) → IsKeptAt s t → h.read_only ≡ false →
-      Binds u.roots place (this_of s) → Binds (puts u.roots place (this_of (put_in (traced s) t h)))
-      place (this_of (put_in (traced s) t h))
+      Binds u.roots place (this_of s) → Binds (puts u.roots place (this_of (traced (put_in s t h))))
+      place (this_of (traced (put_in s t h)))
       × (back_world (world (abstraction s n host) u)
       (Some (record { home = home_of t place; held = h }))
-      ≡ world (abstraction (put_in (traced s) t h) counts host')
-      (after u place (this_of (put_in (traced s) t h))))
-  target_back t h kept plain bound = (
-    put_binds (traced s) u place bound t h (lends_traced t (kept_again s t kept)) plain,
-    sym (put_world (traced s) u place bound counts host' t h
-        (lends_traced t (kept_again s t kept)) plain),
-  )
+      ≡ world (abstraction (traced (put_in s t h)) counts host')
+      (after u place (this_of (traced (put_in s t h)))))
+  target_back t h kept plain bound =
+      subst (λ (q : Run H). Binds (puts u.roots place (this_of q)) place (this_of q)
+      × (back_world (world (abstraction s n host) u)
+      (Some (record { home = home_of t place; held = h }))
+      ≡ world (abstraction q counts host') (after u place (this_of q)))) (sym (traced_put t h)) (
+        put_binds (traced s) u place bound t h (lends_traced t (kept_again s t kept)) plain,
+        sym (put_world (traced s) u place bound counts host' t h
+            (lends_traced t (kept_again s t kept)) plain),
+      )
 
   cells_same : (t : Target) (h : Held) (place : Option Place) (cells : List Cell) → IsKeptAt s t →
       cells_with (Some (record { home = home_of t place; held = h })) cells ≡ cells
@@ -165,8 +169,7 @@ module _ {H : Type 0} (s : Run H) (u : Environment) (place : Option Place) (scop
       rw (is, leaves.1, leaves.2) (same_roots x bound, unchanged x (traced s) bound)
   over_world (have.Target t) left l' s1 e kept leaves flag is bound =
       let h = leaves.0 in
-      rw (is, leaves.2, leaves.3, leaves.1, traced_put t h)
-      (target_back t h kept (rw leaves.1 at flag) bound)
+      rw (is, leaves.2, leaves.3, leaves.1) (target_back t h kept (rw leaves.1 at flag) bound)
   over_world (have.Cell c g) left l' s1 e kept leaves flag is bound =
       rw (is, leaves.2, leaves.3, leaves.1) (
         same_roots x bound,
@@ -196,15 +199,17 @@ module _ {H : Type 0} (s : Run H) (u : Environment) (place : Option Place) (scop
       let h = leaves.0 in
       let plain : h.read_only ≡ false = rw leaves.1 at flag in
       let back = target_back t h kept plain bound in
-      let can = lends_traced t (kept_again s t kept) in
-      rw (is, leaves.2, leaves.3, leaves.1, traced_put t h) (
+      let stands : h ≡ read_write (content_at (traced (put_in s t h)) t) =
+      sym (ap (λ (v : Dynamic). read_write v) (content_beside (put_in s t h)
+      (record (put_in s t h).stacks { trace = trace }) t)
+      ∙ put_content s t h (kept_again s t kept) plain) in
+      rw (is, leaves.2, leaves.3, leaves.1) (
         back.0,
         ap (λ (cells : List Cell).
             record (back_world (world (abstraction s n host) u)
             (Some (record { home = home_of t place; held = h }))) { cells = cells })
             (sym (cells_same t h place s.cells kept)) ∙ back.1,
-        ap (λ (g : Held). Some (record { home = home_of t place; held = g }))
-            (sym (put_content (traced s) t h can plain)),
+        ap (λ (g : Held). Some (record { home = home_of t place; held = g })) stands,
       )
   asks_world (have.Cell c g) left l' s1 e kept leaves flag is bound =
       rw (is, leaves.2, leaves.3, leaves.1)

@@ -34,7 +34,7 @@ returns-in-Ok-Fault-clause-tells g c =
     let s1 = c.resume_with-answer.new.self in
     let mid = c.resume_with-answer.new.host in
     let o = host_outcome_of c.args.told in
-    let ends = c.in-Ok-Fault.ensures.ends in
+    let ends = rw c.in-Ok-Fault.field-0-is at c.in-Ok-Fault.ensures.ends in
     let said = rw ends.1 at resumed.2 in
     rw ends.3 (tells_over law c.args.token o c.args.lent c.args.position s c.args.steps.now
     c.args.host.now c.requires.kept resumed.0 l' s1 mid resumed.1 (reply.Failed ends.0) said.0
@@ -56,7 +56,7 @@ returns-in-Ok-Value-clause-tells g c =
     let s1 = c.resume_with-answer.new.self in
     let mid = c.resume_with-answer.new.host in
     let o = host_outcome_of c.args.told in
-    let ends = c.in-Ok-Value.ensures.ends in
+    let ends = rw c.in-Ok-Value.field-0-is at c.in-Ok-Value.ensures.ends in
     let said = rw ends.0 at resumed.2 in
     rw ends.1 (tells_over law c.args.token o c.args.lent c.args.position s c.args.steps.now
     c.args.host.now c.requires.kept resumed.0 l' s1 mid resumed.1 (reply.Done c.in-Ok-Value.value)
@@ -75,7 +75,7 @@ returns-in-Ok-Asks-clause-tells g c =
     let s1 = c.resume_with-answer.new.self in
     let mid = c.resume_with-answer.new.host in
     let o = host_outcome_of c.args.told in
-    let ends = c.in-Ok-Asks.ensures.ends in
+    let ends = rw c.in-Ok-Asks.field-0-is at c.in-Ok-Asks.ensures.ends in
     let said = rw ends.0 at resumed.2 in
     rw ends.1 (tells_asks law c.args.token o c.args.lent c.args.position s c.args.steps.now
     c.args.host.now c.requires.kept resumed.0 l' s1 mid resumed.1 c.in-Ok-Asks.asked
