@@ -1,8 +1,6 @@
 -- What a run keeps where a native is told what came of a call.
-use Rattle.std.proofs.Common.{◌≡◌, ◌∙◌, ℕ, zero, suc, List, [], ◌∷◌, Option, Some, None, Bool, true, false, Result, length, refl, sym, ap, subst}
-use Rattle.std.specs.Prelude.{option_map, slice_get, slice_set}
-use Rattle.grain_value.specs.Cells.{idle, is_busy}
-use Rattle.grain_value.specs.declared.stores.Cell.{Cell}
+use Rattle.std.proofs.Common.{◌≡◌, ◌∙◌, List, [], ◌∷◌, Option, None, false, Result, length, refl}
+use Rattle.grain_value.specs.Cells.{idle}
 use Rattle.grain_value.specs.declared.values.Dynamic.{Dynamic}
 use Rattle.grain_value.specs.declared.values.Held.{Held}
 use Rattle.grain_fault.specs.declared.faults.EvalAltResult.{EvalAltResult}
@@ -18,16 +16,10 @@ use Rattle.grain_frame.specs.declared.targets.Target.TheVariants as to
 use Rattle.grain_frame.specs.declared.waiting.Loan.{Loan}
 use Rattle.grain_frame.specs.declared.waiting.Loan.TheVariants as have
 use Rattle.grain_frame.specs.declared.waiting.Resumed.TheVariants as went
+use Rattle.grain_frame.specs.lemmas.Resting.{put_idle}
 use Rattle.grain_frame.proofs.Holding.{holds_plainly, put_holds}
 use Rattle.grain_frame.proofs.Returning.{KeepsFlag, kept_again}
 use Rattle.grain_frame.proofs.Targeting.{put_keeps_this}
-
--- a cell that something was put into is not lent
-put_idle : (cs : List Cell) (n : ℕ) (h : Held) →
-    option_map is_busy (slice_get (slice_set cs n (idle h)) n) ≡ Some true → ⊥
-put_idle [] n h is = absurd cc
-put_idle (c ∷ cs) zero h is = absurd cc
-put_idle (c ∷ cs) (suc n) h is = put_idle cs n h is
 
 module _ {H : Type 0} (s : Run H) (trace : List Fault) where
   abbrev traced : Run H → Run H
@@ -44,25 +36,36 @@ module _ {H : Type 0} (s : Run H) (trace : List Fault) where
         this = (refl, refl);
         size = refl;
         left = refl;
+        same = refl;
       })
   over_run o (have.Target t) left l' s1 e given kept leaves flag is gives =
-      rw (is, gives, leaves.2, leaves.3) (at t leaves.0 kept) where
-        at : (t : Target) (h : Held) → IsKeptAt s t →
+      rw (is, gives, leaves.2, leaves.3) (at t leaves.0 kept (rw leaves.1 at flag)) where
+        at : (t : Target) (h : Held) → IsKeptAt s t → h.read_only ≡ false →
             ToldRun (have.Target t) s (went.Over o None) (traced (put_in s t h))
-        at (to.Entry i) h kept = record {
+        at (to.Entry i) h kept plain = record {
           others = refl;
           long = length_set_held s.scope i h;
           this = (refl, refl);
           size = refl;
-          left = refl;
+          left = (
+            refl,
+            holds_plainly (put_in s (to.Entry i) h) (to.Entry i) h
+                (put_holds s (to.Entry i) h (kept_again s (to.Entry i) kept)) plain,
+          );
+          same = tt;
         }
-        at (to.Cell c) h kept = absurd kept
-        at to.This h kept = record {
+        at (to.Cell c) h kept plain = absurd kept
+        at to.This h kept plain = record {
           others = refl;
           long = refl;
           this = put_keeps_this s to.This h (kept_again s to.This kept);
           size = refl;
-          left = refl;
+          left = (
+            refl,
+            holds_plainly (put_in s to.This h) to.This h
+                (put_holds s to.This h (kept_again s to.This kept)) plain,
+          );
+          same = tt;
         }
   over_run o (have.Cell c g) left l' s1 e given kept leaves flag is gives =
       rw (is, gives, leaves.2, leaves.3) (record {
@@ -71,6 +74,7 @@ module _ {H : Type 0} (s : Run H) (trace : List Fault) where
         this = (refl, refl);
         size = length-set s.cells c (idle leaves.0);
         left = (refl, put_idle s.cells c leaves.0);
+        same = refl;
       })
   over_run o (have.Apart g) left l' s1 e given kept leaves flag is gives =
       rw (is, gives, leaves.2, leaves.3) (record {
@@ -79,6 +83,7 @@ module _ {H : Type 0} (s : Run H) (trace : List Fault) where
         this = (refl, refl);
         size = refl;
         left = (leaves.0, refl, rw leaves.1 at flag);
+        same = refl;
       })
 
   pub asks_run : (a : Asked) (l : Loan) (left : Option Held) (l' : Loan) (s1 e : Run H) →
@@ -91,6 +96,7 @@ module _ {H : Type 0} (s : Run H) (trace : List Fault) where
         this = (refl, refl);
         size = refl;
         left = refl;
+        same = refl;
       })
   asks_run a (have.Target t) left l' s1 e kept leaves flag is =
       rw (is, leaves.2, leaves.3) (at t leaves.0 kept (rw leaves.1 at flag)) where
@@ -106,6 +112,7 @@ module _ {H : Type 0} (s : Run H) (trace : List Fault) where
             holds_plainly (put_in s (to.Entry i) h) (to.Entry i) h
                 (put_holds s (to.Entry i) h (kept_again s (to.Entry i) kept)) plain,
           );
+          same = tt;
         }
         at (to.Cell c) h kept plain = absurd kept
         at to.This h kept plain = record {
@@ -118,6 +125,7 @@ module _ {H : Type 0} (s : Run H) (trace : List Fault) where
             holds_plainly (put_in s to.This h) to.This h
                 (put_holds s to.This h (kept_again s to.This kept)) plain,
           );
+          same = tt;
         }
   asks_run a (have.Cell c g) left l' s1 e kept leaves flag is =
       rw (is, leaves.2, leaves.3) (record {
@@ -126,6 +134,7 @@ module _ {H : Type 0} (s : Run H) (trace : List Fault) where
         this = (refl, refl);
         size = refl;
         left = (leaves.0, refl, rw leaves.1 at flag);
+        same = refl;
       })
   asks_run a (have.Apart g) left l' s1 e kept leaves flag is =
       rw (is, leaves.2, leaves.3) (record {
@@ -134,4 +143,5 @@ module _ {H : Type 0} (s : Run H) (trace : List Fault) where
         this = (refl, refl);
         size = refl;
         left = (leaves.0, refl, rw leaves.1 at flag);
+        same = refl;
       })

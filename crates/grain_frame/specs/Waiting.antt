@@ -346,7 +346,7 @@ resumed_is_out (went.Asks a l) = false
 abbrev pub StaysLent : {H : Type 0} → Loan → Resumed → Run H → Type 0
 StaysLent have.Nothing (went.Over o left) s = left ≡ None
 StaysLent have.Nothing (went.Asks a l) s = l ≡ have.Nothing
-StaysLent (have.Target t) (went.Over o left) s = left ≡ None
+StaysLent (have.Target t) (went.Over o left) s = (left ≡ None) × IsKeptAt s t
 StaysLent (have.Target t) (went.Asks a l) s = (l ≡ have.Target t) × IsKeptAt s t
 StaysLent (have.Cell n h) (went.Over o left) s = (left ≡ None) × IsNotLent s (to.Cell n)
 StaysLent (have.Cell n h) (went.Asks a l) s =
@@ -354,6 +354,18 @@ StaysLent (have.Cell n h) (went.Asks a l) s =
 StaysLent (have.Apart h) (went.Over o left) s = (g : Held) × (left ≡ Some g) × (g.read_only ≡ h.read_only)
 StaysLent (have.Apart h) (went.Asks a l) s =
     (g : Held) × (l ≡ have.Apart g) × (g.read_only ≡ h.read_only)
+
+-- where nothing of the run was lent, only the trace may differ, and where a cell was, it and the cells
+abbrev pub Untouched : {H : Type 0} → Loan → (s s' : Run H) → Type 0
+Untouched have.Nothing s s' =
+    s' ≡ record s { stacks = record s.stacks { trace = s'.stacks.trace } }
+Untouched (have.Target t) s s' = Unit {0}
+Untouched (have.Cell n h) s s' = s' ≡ record s {
+  cells = s'.cells;
+  stacks = record s.stacks { trace = s'.stacks.trace };
+}
+Untouched (have.Apart h) s s' =
+    s' ≡ record s { stacks = record s.stacks { trace = s'.stacks.trace } }
 
 -- the run once a native was told: only what it was lent, the cells and the trace may differ
 pub record ToldRun {H : Type 0} (l : Loan) (s : Run H) (r : Resumed) (s' : Run H) : Type 0 where
@@ -367,6 +379,7 @@ pub record ToldRun {H : Type 0} (l : Loan) (s : Run H) (r : Resumed) (s' : Run H
   pub this : KeepsBound s.level s.receivers s'.receivers
   pub size : length s'.cells ≡ length s.cells
   pub left : StaysLent l r s'
+  pub same : Untouched l s s'
 
 -- The host was told, and the code did what the rule says, wherever the frame stands and whatever follows.
 -- `start` is the rule with the token still out.

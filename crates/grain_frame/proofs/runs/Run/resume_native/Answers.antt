@@ -5,6 +5,7 @@ use Rattle.grain_host.specs.Law as reply
 use Rattle.grain_stack.specs.Views.{StacksView}
 use Rattle.grain_frame.specs.Waiting.{given_back_run}
 use Rattle.grain_frame.specs.declared.runs.Run.{Run}
+use Rattle.grain_frame.specs.lemmas.Resting.{leads_told}
 use Rattle.grain_frame.proofs.Resuming.{fails_so, same_trace, tells_asks, tells_out, tells_over}
 use Rattle.grain_frame.proofs.runs.Run.resume_native.Goals as goal
 
