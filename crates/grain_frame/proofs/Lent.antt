@@ -105,7 +105,8 @@ module _ {H : Type 0} (law : Law H) (s : Run H) (n : StepsView) (host : H) (q : 
         native (stopped m stop) name (Some (receiver_at t place h)) args (f place)
         (world (abstraction s n host) u) (go (stopped m stop) place) (fails (stopped m stop) place)
         ≡ answered (stopped m stop) (leave_by_fault (stopped m stop) (f place) NoMemory)
-        (Some (receiver_at t place left)) said (f place) (served u place) (go (stopped m stop) place) (fails (stopped m stop) place)
+        (Some (receiver_at t place left)) said (f place) (served u place)
+        (go (stopped m stop) place) (fails (stopped m stop) place)
     replies stop clear u place said is =
         let found = seeks place in
         rw (

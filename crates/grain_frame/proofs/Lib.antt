@@ -13,4 +13,8 @@ mod Handled
 mod Homes
 mod Holding
 mod Asking
+mod Telling
+mod Returning
+mod ToldRuns
 mod Lent
+mod Resuming

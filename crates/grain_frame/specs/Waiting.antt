@@ -295,22 +295,36 @@ ResumesWith law token o l s host said l' s' host' =
 abbrev pub beside : {H : Type 0} → List Entry → Option Held → Run H → StepsView → H → LocalState H
 beside scope this s n host = record (abstraction s n host) { scope = scope; this = this }
 
--- The state of the code where a native has this: what stands at a target stands in the run, and what stands
--- nowhere in it is what the meaning has at the place. Else the scope and the `this` may be any.
+-- The scope and the `this` where a native has this: what stands at a target stands in the run, and what
+-- stands nowhere in it is what the meaning has at the place. Else they may be any.
+abbrev pub scope_where : {H : Type 0} → Loan → List Entry → Run H → List Entry
+scope_where have.Nothing scope s = scope
+scope_where (have.Target t) scope s = s.scope
+scope_where (have.Cell c h) scope s = scope
+scope_where (have.Apart h) scope s = scope
+
+abbrev pub this_where : {H : Type 0} → Loan → Option Held → Run H → Option Held
+this_where have.Nothing x s = x
+this_where (have.Target t) x s = this_of s
+this_where (have.Cell c h) x s = x
+this_where (have.Apart h) x s = Some h
+
+-- the state of the code there
 abbrev pub state_with : {H : Type 0} → Loan → List Entry → Option Held → Run H → StepsView → H →
     LocalState H
-state_with have.Nothing scope x s n host = beside scope x s n host
-state_with (have.Target t) scope x s n host = abstraction s n host
-state_with (have.Cell c h) scope x s n host = beside scope x s n host
-state_with (have.Apart h) scope x s n host = beside scope (Some h) s n host
+state_with l scope x s n host = beside (scope_where l scope s) (this_where l x s) s n host
 
 -- The state once the native is over that had this: what stands nowhere in the run is now this.
+abbrev pub this_after : {H : Type 0} → Loan → Option Held → Option Held → Run H → Option Held
+this_after have.Nothing left x s = x
+this_after (have.Target t) left x s = this_of s
+this_after (have.Cell c h) left x s = x
+this_after (have.Apart h) left x s = left
+
 abbrev pub state_after : {H : Type 0} → Loan → Option Held → List Entry → Option Held → Run H →
     StepsView → H → LocalState H
-state_after have.Nothing left scope x s n host = beside scope x s n host
-state_after (have.Target t) left scope x s n host = abstraction s n host
-state_after (have.Cell c h) left scope x s n host = beside scope x s n host
-state_after (have.Apart h) left scope x s n host = beside scope left s n host
+state_after l left scope x s n host =
+    beside (scope_where l scope s) (this_after l left x s) s n host
 
 -- what a native came to: it is over, and then what follows from how it ended, or it asks for a call
 abbrev pub resumed_continuation : {H : Type 0} → Resumed → Run H → (Option Place → Frame) →
@@ -332,7 +346,7 @@ resumed_is_out (went.Asks a l) = false
 abbrev pub StaysLent : {H : Type 0} → Loan → Resumed → Run H → Type 0
 StaysLent have.Nothing (went.Over o left) s = left ≡ None
 StaysLent have.Nothing (went.Asks a l) s = l ≡ have.Nothing
-StaysLent (have.Target t) (went.Over o left) s = left ≡ None
+StaysLent (have.Target t) (went.Over o left) s = (left ≡ None) × IsKeptAt s t
 StaysLent (have.Target t) (went.Asks a l) s = (l ≡ have.Target t) × IsKeptAt s t
 StaysLent (have.Cell n h) (went.Over o left) s = (left ≡ None) × IsNotLent s (to.Cell n)
 StaysLent (have.Cell n h) (went.Asks a l) s =
@@ -340,6 +354,18 @@ StaysLent (have.Cell n h) (went.Asks a l) s =
 StaysLent (have.Apart h) (went.Over o left) s = (g : Held) × (left ≡ Some g) × (g.read_only ≡ h.read_only)
 StaysLent (have.Apart h) (went.Asks a l) s =
     (g : Held) × (l ≡ have.Apart g) × (g.read_only ≡ h.read_only)
+
+-- where nothing of the run was lent, only the trace may differ, and where a cell was, it and the cells
+abbrev pub Untouched : {H : Type 0} → Loan → (s s' : Run H) → Type 0
+Untouched have.Nothing s s' =
+    s' ≡ record s { stacks = record s.stacks { trace = s'.stacks.trace } }
+Untouched (have.Target t) s s' = Unit {0}
+Untouched (have.Cell n h) s s' = s' ≡ record s {
+  cells = s'.cells;
+  stacks = record s.stacks { trace = s'.stacks.trace };
+}
+Untouched (have.Apart h) s s' =
+    s' ≡ record s { stacks = record s.stacks { trace = s'.stacks.trace } }
 
 -- the run once a native was told: only what it was lent, the cells and the trace may differ
 pub record ToldRun {H : Type 0} (l : Loan) (s : Run H) (r : Resumed) (s' : Run H) : Type 0 where
@@ -353,6 +379,7 @@ pub record ToldRun {H : Type 0} (l : Loan) (s : Run H) (r : Resumed) (s' : Run H
   pub this : KeepsBound s.level s.receivers s'.receivers
   pub size : length s'.cells ≡ length s.cells
   pub left : StaysLent l r s'
+  pub same : Untouched l s s'
 
 -- The host was told, and the code did what the rule says, wherever the frame stands and whatever follows.
 -- `start` is the rule with the token still out.

@@ -10,6 +10,7 @@ mod handlers;
 mod locals;
 mod native_assignments;
 mod native_calls;
+mod native_ends;
 mod operands;
 mod operated;
 mod pointers;

@@ -54,7 +54,8 @@ returns-in-Err g c =
     let s = c.args.self.now in
     let f = c.args.frame.now in
     record {
-      performs = led_exactly c.refuse.result c.of.result c.of.ensures (raises_here g.H.Host.law p engine f s c.refuse.new.self
+      performs = led_exactly c.refuse.result c.of.result c.of.ensures
+          (raises_here g.H.Host.law p engine f s c.refuse.new.self
           c.args.steps.now c.refuse.new.steps c.args.host.now
           (refusal_fault p (length s.scope) f.address (name_of p c.args.name) c.in-Err.refusal)
           c.refuse.result c.refuse.ensures c.requires.ready.inside

@@ -31,7 +31,8 @@ returns-in-Done g c =
     c.args.self.now.stacks.operands in
     record {
       performs = led (Ok c.push_on.result) (as_bound (implements_after g.H.Host.law
-          c.args.context.program.now c.args.context.engine.now c.args.frame.now c.push_on.new.frame c.args.self.now c.push_on.new.self c.args.steps.now
+          c.args.context.program.now c.args.context.engine.now c.args.frame.now
+          c.push_on.new.frame c.args.self.now c.push_on.new.self c.args.steps.now
           c.push_on.new.steps c.cut.new.self (under c.args.count c.args.self.now.stacks.operands)
           c.args.host.now c.args.host.now cut
           (c.push_on.ensures.implements c.args.context.program.now c.args.context.engine.now

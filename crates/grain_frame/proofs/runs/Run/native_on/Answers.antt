@@ -124,9 +124,15 @@ returns-in-Asks g c =
           native_waits g.H.Host.law p engine f s c.call_native.new.self c.args.steps.now
           c.call_native.new.steps c.args.host.now c.call_native.new.host
           c.call_native.ensures.run c.call_native.ensures.before c.requires.inside
-          (read_write dynamic.Unit) refl c.in-Asks.asked (rest.Push count c.args.next) refl
-          (c.requires.inside, c.requires.operands, c.requires.room, c.requires.ahead, refl, refl,
-          refl) (rw c.in-Asks.is at did);
+          (read_write dynamic.Unit) refl c.in-Asks.asked (rest.Push count c.args.next) refl (
+            c.requires.inside,
+            c.requires.operands,
+            c.requires.room,
+            c.requires.ahead,
+            refl,
+            refl,
+            refl,
+          ) (rw c.in-Asks.is at did);
     }
 
 pub returns-in_err-arguments : goal.returns-in_err-arguments

@@ -51,7 +51,8 @@ returns-else-says_missing g c =
       c.raise.ensures.marked,
     ) in
     record {
-      implements = λ h plain. led (Ok c.raise.result) (as_bound (raises_here g.H.Host.law p engine f s c.raise.new.self
+      implements = λ h plain. led (Ok c.raise.result) (as_bound
+          (raises_here g.H.Host.law p engine f s c.raise.new.self
           c.args.steps.now c.raise.new.steps c.args.host.now x (Ok c.raise.result) raises
           c.requires.can.inside (λ stop u place. rw there refl)));
     }

@@ -54,7 +54,8 @@ returns-in-Done g c =
     (c.assign_target.ensures.assigned (read_write (content_at s t)) c.requires.writable) in
     rw (c.mark-in-Done.ensures, c.mark.ensures) (record {
       implements = λ h plain.
-          led (Ok progress.Continues) (writes_first g.H.Host.law p engine f s c.args.steps.now c.args.host.now t
+          led (Ok progress.Continues) (writes_first g.H.Host.law p engine f s c.args.steps.now
+          c.args.host.now t
           c.args.assignment.next c.requires.can.target c.requires.can.inside
           c.requires.can.operand c.requires.can.ahead (read_write said.0)
           (λ n. assigned_name n.program c.args.assignment.variable)

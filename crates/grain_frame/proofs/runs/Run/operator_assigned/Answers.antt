@@ -97,7 +97,8 @@ returns-in-Fault g c =
           (λ n place x w. raised n (frame_in f s place) x w) refl
           (λ place. sym c.position-position.ensures) seeks in
           waits_as
-          (led (Ok progress.Failed) (as_bound (native_raised g.H.Host.law p engine f s c.call_native.new.self c.args.steps.now
+          (led (Ok progress.Failed) (as_bound (native_raised g.H.Host.law p engine f s
+          c.call_native.new.self c.args.steps.now
           c.call_native.new.steps c.args.host.now c.call_native.new.host
           (λ n place r w. flattened n (read_write r)
           (assigned_name n.program c.args.assignment.variable) (frame_in f s place) w
