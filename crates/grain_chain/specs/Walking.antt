@@ -7,7 +7,7 @@ use Rattle.grain_value.specs.declared.values.Dynamic.{Dynamic}
 use Rattle.grain_value.specs.declared.values.Held.{Held}
 use Rattle.grain_value.specs.declared.values.paths.PathStep.{PathStep}
 use Rattle.grain_value.specs.declared.stores.Cell.{Cell}
-use Rattle.grain_fault.specs.Problems.{Problem, problem_of, NoMemory, Plain, InFunctionCall, InModule, SystemError}
+use Rattle.grain_fault.specs.Problems.{problem_of}
 use Rattle.grain_fault.specs.declared.places.Position.{Position}
 use Rattle.grain_fault.specs.declared.faults.EvalAltResult.{EvalAltResult}
 use Rattle.grain_program.specs.View.{View, chain_of, assign_op_of}
