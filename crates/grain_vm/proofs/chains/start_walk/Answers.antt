@@ -60,7 +60,8 @@ returns-clause-starts g c = λ h blamed next host found.
     (can_put_back s0 s1 root.home operand held (can_still s s0 ops root.home gone c.requires.home) took)
     (bound_from s s0 s1 root.home (ap (λ (q : Run g.row.H.Denot). q.receivers) gone)
     (bound_away s0 s1 root.home operand held took))
-    (rw (c.requires.copies.0, valued, c.position.ensures) at c.start-walk.ensures.did) c.start-walk.ensures.rooted
+    (rw (c.requires.copies.0, valued, c.position.ensures) at c.start-walk.ensures.did)
+    c.start-walk.ensures.rooted
     (rw c.marks.ensures at c.mark_all.ensures)
     (long_still s0 s1 root.home operand held took
     ∙ ap (λ (q : Run g.row.H.Denot). length q.scope) gone)
