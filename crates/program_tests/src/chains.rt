@@ -19,9 +19,11 @@ fn listing_with(rt: &impl Abort, alloc: Global, lines: &str, code: &str) -> List
 fn reason_of(rt: &impl Abort, alloc: Global, lines: &str, line: usize) -> &'static str {
     let text = format!(in alloc; "grain 1\n{lines}\n").expect(rt, "memory");
     let answer = read(alloc, text.as_str().as_bytes()).expect(rt, "memory");
-    match answer.err() {
+    let refusal = answer.err();
+    drop(text);
+    match refusal {
         Some(bad) => {
-            assert!(rt; bad.line == line);
+            assert!(rt; bad.line == line, "{lines}");
             bad.reason.text()
         }
         None => "none",
@@ -55,6 +57,7 @@ fn check_lines(
     for last in lines.lines() {
         let both = format!(in alloc; "{before}{last}").expect(rt, "memory");
         let found = reason_of(rt, alloc, both.as_str(), line);
+        drop(both);
         assert!(rt; found == reason, "{last}: {found}");
     }
 }
@@ -90,10 +93,8 @@ fn steps_stand_after_their_chain(rt: HostRuntime) {
 fn steps_stand_after_lines_that_say_nothing(rt: HostRuntime) {
     let spaced = "chain 1 temporary read\n\n ; a comment\nstep index 0\n\t\nstep index 0\n";
     let setup = listing_with(&rt, rt.alloc(), spaced, "");
-    match setup.parts.chains.get(0) {
-        Some(chain) => assert!(rt; chain.steps.len() == 2),
-        None => assert!(rt; false),
-    }
+    let chain = setup.parts.chains.get(0).expect(&rt, "a chain");
+    assert!(rt; chain.steps.len() == 2);
     drop(setup);
 }
 
@@ -132,14 +133,11 @@ fn check_first(rt: &impl Abort, chain: &Chain) {
 /// Looks at the chains of `CHAINS`.
 fn check_chains(rt: &impl Abort, chains: &Chains) {
     assert!(rt; chains.len() == 3);
-    let (Some(first), Some(second), Some(third)) = (chains.get(0), chains.get(1), chains.get(2))
-    else {
-        assert!(rt; false);
-        return;
-    };
-    check_first(rt, first);
+    check_first(rt, chains.get(0).expect(rt, "a chain"));
+    let second = chains.get(1).expect(rt, "a chain");
     assert!(rt; second.root == Root::Temporary && second.tail == Tail::Read);
     assert!(rt; second.steps.is_empty());
+    let third = chains.get(2).expect(rt, "a chain");
     assert!(rt; third.tail == Tail::Assign { op: None } && third.steps.len() == 1);
 }
 
@@ -169,24 +167,16 @@ fn check_method(rt: &impl Abort, chain: &Chain) {
 fn methods_of_a_listing(rt: HostRuntime) {
     let lines = "chain 3 this @7:0 read\nstep method 4294967295 255 1 ? @1:2\nstep method 0 0 0\n";
     let setup = listing_with(&rt, rt.alloc(), lines, "");
-    match setup.parts.chains.get(0) {
-        Some(chain) => check_method(&rt, chain),
-        None => assert!(rt; false),
-    }
+    check_method(&rt, setup.parts.chains.get(0).expect(&rt, "a chain"));
     drop(setup);
 }
 
 /// Writes to one of the chains of `CHAINS`, which has the number 1, and reads it.
 fn check_written(rt: &impl Abort, chains: &mut Chains) {
-    match chains.get_mut(1) {
-        Some(chain) => chain.operands = 9,
-        None => assert!(rt; false),
-    }
+    chains.get_mut(1).expect(rt, "a chain").operands = 9;
     assert!(rt; chains.get_mut(3).is_none());
-    match chains.get(1) {
-        Some(chain) => assert!(rt; chain.operands == 9 && chain.root == Root::Temporary),
-        None => assert!(rt; false),
-    }
+    let chain = chains.get(1).expect(rt, "a chain");
+    assert!(rt; chain.operands == 9 && chain.root == Root::Temporary);
 }
 
 #[test]

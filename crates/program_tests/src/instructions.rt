@@ -70,14 +70,24 @@ fn write_line(rt: &impl Abort, alloc: Global, text: &mut String, op: &Op) {
     text.push_str(line.as_str()).expect(rt, "memory");
 }
 
+fn check_bytes(rt: &impl Abort, code: &Blob) {
+    assert!(rt; code.as_slice() == BYTES);
+}
+
+fn check_written(rt: &impl Abort, alloc: Global, ops: &[Op]) {
+    let text = written(rt, alloc, ops);
+    assert!(rt; text.as_str() == OPS);
+}
+
 /// Looks at the code that the lines make.
 fn check_code(rt: &impl Abort, alloc: Global, code: &Blob) {
-    assert!(rt; code.as_slice() == BYTES);
+    check_bytes(rt, code);
     let ops = decoded(rt, alloc, code);
-    let text = written(rt, alloc, ops.as_slice());
-    assert!(rt; text.as_str() == OPS);
-    let bytes = assemble(alloc, ops.as_slice()).expect(rt, "memory");
-    assert!(rt; bytes.as_slice() == BYTES);
+    check_written(rt, alloc, ops.as_slice());
+    let again = assemble(alloc, ops.as_slice()).expect(rt, "memory");
+    check_bytes(rt, &again);
+    drop(again);
+    drop(ops);
 }
 
 #[test]

@@ -17,14 +17,10 @@ fn refusal_of(rt: &impl Abort, alloc: Global, listing: &[u8]) -> Option<BadLine>
 fn check_refused(rt: &impl Abort, alloc: Global, listing: &[u8], line: usize, reason: &str) {
     match refusal_of(rt, alloc, listing) {
         Some(bad) => {
-            assert!(rt;
-                bad.line == line,
-                "line {} and not {line}: {reason}",
-                bad.line
-            );
-            assert_eq!(rt; bad.reason.text(), reason);
+            assert!(rt; bad.line == line, "not line {line}");
+            assert!(rt; bad.reason.text() == reason, "not {reason}");
         }
-        None => assert!(rt; false, "no refusal at {line}: {reason}"),
+        None => assert!(rt; false, "no refusal: {reason}"),
     }
 }
 
@@ -52,7 +48,7 @@ fn repeated(
 
 #[test]
 fn most_bytes(rt: HostRuntime) {
-    assert_eq!(rt; MOST_BYTES, 16_777_216);
+    assert!(rt; MOST_BYTES == 16_777_216);
     let bytes = vec![in rt.alloc(); 0xffu8; 16_777_217].expect(&rt, "memory");
     check_refused(&rt, rt.alloc(), bytes.as_slice(), 0, "too long");
     let (most, _) = bytes.as_slice().split_at(16_777_216);
@@ -294,7 +290,7 @@ fn check_without_lines(rt: &impl Abort, setup: &Listing) {
         array: 0,
         map: 0,
     };
-    assert_eq!(rt; setup.limits, limits);
+    assert!(rt; setup.limits == limits);
     assert!(rt; setup.fast_operators);
     assert!(rt; !setup.strict_properties);
     assert!(rt; setup.parts.source.is_none());
@@ -314,29 +310,21 @@ const ENTRIES: &str = "\
 
 /// Looks at the entries that the lines of `ENTRIES` make.
 fn check_scope(rt: &impl Abort, scope: &Scope) {
-    assert_eq!(rt; scope.len(), 2);
-    assert_eq!(rt; scope.search("x"), Some(0));
-    match scope.get(0) {
-        Some(held) => assert!(rt; !held.read_only),
-        None => assert!(rt; false),
-    }
-    match scope.get(1) {
-        Some(held) => {
-            assert!(rt; held.read_only);
-            assert!(rt; matches!(&held.value, Dynamic::Bool(true)));
-        }
-        None => assert!(rt; false),
-    }
+    assert!(rt; scope.len() == 2);
+    assert!(rt; scope.search("x") == Some(0));
+    let first = scope.get(0).expect(rt, "an entry");
+    assert!(rt; !first.read_only);
+    let second = scope.get(1).expect(rt, "an entry");
+    assert!(rt; second.read_only);
+    assert!(rt; matches!(&second.value, Dynamic::Bool(true)));
 }
 
 /// Looks at the positions that the lines of `ENTRIES` make.
 fn check_positions(rt: &impl Abort, parts: &Parts) {
-    assert_eq!(rt; parts.main.max_stack, 65_535);
-    assert_eq!(rt; parts.positions.len(), 3);
-    match parts.positions.get(1) {
-        Some(entry) => assert_eq!(rt; entry.address, 3),
-        None => assert!(rt; false),
-    }
+    assert!(rt; parts.main.max_stack == 65_535);
+    assert!(rt; parts.positions.len() == 3);
+    let second = parts.positions.get(1).expect(rt, "a position");
+    assert!(rt; second.address == 3);
 }
 
 /// Asks the host that the lines of `ENTRIES` make whether a run goes on.
@@ -355,8 +343,8 @@ fn check_stops(rt: &impl Abort, alloc: Global, host: &mut TableHost) {
 fn entries_positions_and_stops(rt: HostRuntime) {
     let alloc = rt.alloc();
     let mut setup = accepted(&rt, alloc, ENTRIES);
-    assert_eq!(rt; setup.limits.levels, 0);
-    assert_eq!(rt; setup.limits.variables, usize::MAX);
+    assert!(rt; setup.limits.levels == 0);
+    assert!(rt; setup.limits.variables == usize::MAX);
     check_scope(&rt, &setup.scope);
     check_positions(&rt, &setup.parts);
     check_stops(&rt, alloc, &mut setup.host);
