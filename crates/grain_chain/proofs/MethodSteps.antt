@@ -1,5 +1,5 @@
 -- Method steps: what they do by their names, and what they give.
-use Rattle.std.proofs.Common.{◌≡◌, ℕ, zero, suc, ◌+◌, ◌-◌, ◌<◌, ◌≤◌, List, [], ◌∷◌, ◌++◌, Bool, true, false, Option, Some, None, Result, Ok, Err, drop, map, take, refl, sym, ap, ◌∙◌, subst, arith, add-one}
+use Rattle.std.proofs.Common.{◌≡◌, ℕ, zero, suc, ◌+◌, ◌-◌, ◌<◌, List, [], ◌∷◌, ◌++◌, Bool, true, false, Option, Some, None, Result, Ok, Err, drop, map, take, refl, sym, ap, ◌∙◌, subst, arith, add-one}
 use Rattle.std.specs.Prelude.{IfOk, bytes_eq, codes, is_none, is_some, slice_get, slice_index_or, if◌then◌else◌}
 use Rattle.grain_value.specs.Cells.{flat}
 use Rattle.grain_value.specs.Looking.{cell_of, pointer_of}

@@ -1,10 +1,13 @@
--- An operand, and that there is none.
-use Rattle.std.proofs.Common.{◌≡◌, ◌∙◌, ℕ, zero, suc, List, [], ◌∷◌, Some, None, slice_index_or, refl, sym, ap}
+-- An operand, that there is none, and that there are enough for a step.
+use Rattle.std.proofs.Common.{◌≡◌, ◌≤◌, ◌∙◌, ℕ, zero, suc, List, [], ◌∷◌, Some, None, slice_index_or, refl, sym, ap, arith}
 use Rattle.std.specs.Prelude.{slice_get}
 use Rattle.grain_value.specs.Tree.{Tree, unit}
 use Rattle.grain_value.specs.View.{tree, value_of}
 use Rattle.grain_value.specs.laws.Same.{value_of-tree}
 use Rattle.grain_value.specs.declared.values.Dynamic.{Dynamic}
+use Rattle.grain_program.specs.Chains.{HasOperands}
+use Rattle.grain_program.specs.declared.code.chains.Step.{Step}
+use Rattle.grain_program.specs.declared.code.chains.Step.TheVariants as step
 use Rattle.grain_means.specs.lemmas.PlaceLaws.{some-inj}
 
 pub found : (ts : List Tree) (i : ℕ) (v : Dynamic) → Some (tree v) ≡ slice_get ts i →
@@ -17,3 +20,9 @@ pub missing : (ts : List Tree) (i : ℕ) → None ≡ slice_get ts i → slice_i
 missing [] i h = refl
 missing (t ∷ ts) zero h = cc
 missing (t ∷ ts) (suc i) h = missing ts i h
+
+-- what is enough for a step is so where there are more
+pub enough : (n m : ℕ) (s : Step) → HasOperands n s → n ≤ m → HasOperands m s
+enough n m (step.Index operand flags q bracket) h le = omega (arith, h, le)
+enough n m (step.Property name getter setter flags q) h le = tt
+enough n m (step.Method name argc operand flags q) h le = omega (arith, h, le)

@@ -1,6 +1,6 @@
 -- Method steps of the code: what they do by their names, and the rules of a method step where a walk of the
 -- code stands.
-use Rattle.std.specs.Prelude.{ℕ, List, Option, Some, None, bytes_eq, codes, drop, is_some, map, take, if◌then◌else◌}
+use Rattle.std.specs.Prelude.{ℕ, ◌+◌, ◌≤◌, List, Option, Some, None, bytes_eq, codes, drop, is_some, length, map, take, if◌then◌else◌}
 use Rattle.grain_value.specs.Tree.{Tree}
 use Rattle.grain_value.specs.View.{value_of}
 use Rattle.grain_value.specs.Looking.{cell_of, pointer_of}
@@ -35,6 +35,10 @@ kind_named text argc =
 -- the operands of a walk from this one on, at most `count` of them
 abbrev pub operands_of : Walk → ℕ → ℕ → List Tree
 operands_of w first count = take count (drop first w.operands)
+
+-- the operands that are a method step's arguments are there
+abbrev pub HasArguments : Walk → MethodStep → Type 0
+HasArguments w s = s.operand + s.argc ≤ length w.operands
 
 -- what is called for a value of this kind: the program's method, if there is one, or else the native
 abbrev pub typed_method : View → ℕ → Option ℕ → What

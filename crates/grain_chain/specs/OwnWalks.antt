@@ -1,5 +1,5 @@
 -- How the code is compared with a walk by itself, which `play` defines.
-use Rattle.std.specs.Prelude.{◌≡◌, ◌≤◌, ℕ, List, Option, Bool, true, false}
+use Rattle.std.specs.Prelude.{◌≡◌, ◌≤◌, ℕ, List, Option, Bool}
 use Rattle.grain_value.specs.declared.values.Held.{Held}
 use Rattle.grain_value.specs.declared.stores.Cell.{Cell}
 use Rattle.grain_means.specs.Simulation.{NoStopWithin, StopsHere}

@@ -1,5 +1,5 @@
 -- What a walk of the code is: its roots, its place, and what is left to do.
-use Rattle.std.specs.Prelude.{◌≡◌, ℕ, suc, ◌+◌, ◌-◌, ◌*◌, ◌<◌, List, [], ◌∷◌, ◌++◌, Option, Some, None, Bool, true, false, Result, Ok, Err, length, map, drop, is_some, slice_get, slice_index_or}
+use Rattle.std.specs.Prelude.{◌≡◌, ℕ, suc, ◌+◌, ◌-◌, ◌*◌, ◌<◌, ◌≤◌, List, [], ◌∷◌, ◌++◌, Option, Some, None, Bool, true, false, Result, Ok, Err, length, map, drop, is_some, slice_get, slice_index_or}
 use Rattle.grain_value.specs.Tree.{Tree, unit}
 use Rattle.grain_value.specs.View.{tree, value_of}
 use Rattle.grain_value.specs.Paths.{Leads}
@@ -7,7 +7,7 @@ use Rattle.grain_value.specs.declared.values.Dynamic.{Dynamic}
 use Rattle.grain_value.specs.declared.values.Held.{Held}
 use Rattle.grain_value.specs.declared.values.paths.PathStep.{PathStep}
 use Rattle.grain_value.specs.declared.stores.Cell.{Cell}
-use Rattle.grain_fault.specs.Problems.{Problem, problem_of, NoMemory, Plain, InFunctionCall, InModule, SystemError}
+use Rattle.grain_fault.specs.Problems.{problem_of}
 use Rattle.grain_fault.specs.declared.places.Position.{Position}
 use Rattle.grain_fault.specs.declared.faults.EvalAltResult.{EvalAltResult}
 use Rattle.grain_program.specs.View.{View, chain_of, assign_op_of}
@@ -265,18 +265,26 @@ operand_of w i = value_of (slice_index_or w.operands i unit)
 abbrev pub count : View → Walk → ℕ
 count p w = count_of p w.chain
 
--- If the walk may go on with what it awaits, its present step is one of the chain's.
+-- a walk has as many operands as its chain takes for its steps
+abbrev pub HasAllOperands : View → Walk → Type 0
+HasAllOperands p w = (chain_of p w.chain).operands ≤ length w.operands
+
+-- a walk's present step is one of its chain's, and its operands are there
+abbrev pub AtStep : View → Walk → Type 0
+AtStep p w = (w.step < count p w) × HasAllOperands p w
+
+-- If the walk may go on with what it awaits, it stands at one of the chain's steps.
 abbrev pub IsAtStep : View → Walk → Awaited → Type 0
 IsAtStep p w awaited.IndexSet = Unit {0}
 IsAtStep p w (awaited.PropertySet name q assigned v) = Unit {0}
 IsAtStep p w (awaited.SetInstead x assigned) = Unit {0}
-IsAtStep p w (awaited.PropertyGot name q i) = w.step < count p w
-IsAtStep p w (awaited.GotInstead x i) = w.step < count p w
-IsAtStep p w (awaited.IndexGot i) = w.step < count p w
-IsAtStep p w (awaited.IndexRead q i n) = w.step < count p w
+IsAtStep p w (awaited.PropertyGot name q i) = AtStep p w
+IsAtStep p w (awaited.GotInstead x i) = AtStep p w
+IsAtStep p w (awaited.IndexGot i) = AtStep p w
+IsAtStep p w (awaited.IndexRead q i n) = AtStep p w
 IsAtStep p w (awaited.OpAssigned q a) = Unit {0}
 IsAtStep p w (awaited.Operator q) = Unit {0}
-IsAtStep p w (awaited.Called b i) = w.step < count p w
+IsAtStep p w (awaited.Called b i) = AtStep p w
 
 -- how many requests there are at most on the way back over all roots but the first
 abbrev pub backs : Walk → ℕ

@@ -1,6 +1,6 @@
 //! What a walk does with the answers to its requests.
 
-ghost use Rattle.std.specs.Prelude.{◌≡◌, ◌<◌, ◌+◌, ℕ, true, if◌then◌else◌};
+ghost use Rattle.std.specs.Prelude.{◌≡◌, ◌+◌, ℕ, true, if◌then◌else◌};
 ghost use Rattle.grain_fault.specs.Problems.{problem_of};
 ghost use Rattle.grain_host.specs.Signatures.{says_missing};
 ghost use Rattle.grain_program.specs.View.{View as AnyProgram, name_of};
@@ -10,7 +10,7 @@ ghost use Rattle.grain_means.specs.Walks.{rooted, index_was_set, property_was_se
 ghost use Rattle.grain_value.specs.declared.values.Dynamic.{Dynamic as AnyValue};
 ghost use Rattle.grain_means.specs.Tasks.{Task, WalkEnded, WalkFailed};
 ghost use Rattle.grain_chain.specs.declared.contexts.Context.{Context as AnyContext};
-ghost use Rattle.grain_chain.specs.Walking.{resumed, gone_into, next_of, origin_of, place_of, still, IsAtStep, count, steps_left, backs};
+ghost use Rattle.grain_chain.specs.Walking.{resumed, gone_into, next_of, origin_of, place_of, still, IsAtStep, AtStep, steps_left, backs};
 ghost use Rattle.grain_chain.specs.Going.{Goes, Needs, setting, rest};
 
 use crate::asking::flat_copy;
@@ -63,7 +63,7 @@ impl Walk {
         into: AnswerUse,
         value: Dynamic,
     ) -> Result<WalkAnswer, OutOfMemory>
-        requires at { self.old.step < count context.program.now self.old }
+        requires at { AtStep context.program.now self.old }
         ensures goes { Goes context.entry self.old
             (gone_into context.entry.engine.now context.entry.program.now self.old into value)
             result self.new }
@@ -97,7 +97,7 @@ impl Walk {
         go: Onward,
         value: Dynamic,
     ) -> Result<WalkAnswer, OutOfMemory>
-        requires at { self.old.step < count context.program.now self.old }
+        requires at { AtStep context.program.now self.old }
         ensures goes { Goes context.entry self.old
             (rooted (setting context.entry self.old) self.old.step (origin_of origin)
             (read_write value)
@@ -213,7 +213,7 @@ impl Walk {
         into: AnswerUse,
         fault: EvalAltResult,
     ) -> Result<WalkAnswer, OutOfMemory>
-        requires at { self.old.step < count context.program.now self.old }
+        requires at { AtStep context.program.now self.old }
         ensures goes { Goes context.entry self.old
             (property_was_got self.old.step (named (setting context.entry self.old) name) pos
             (place_of self.old) (rest context.entry self.old)

@@ -1,6 +1,7 @@
 //! What a walk only reads: the engine, the program and the cells.
 
 ghost use Rattle.std.specs.Prelude.{◌≡◌, ◌<◌, Some, slice_get};
+ghost use Rattle.grain_program.specs.Chains.{HasOperands};
 ghost use Rattle.grain_program.specs.View.{name_of, chain_of};
 ghost use Rattle.grain_chain.specs.Walking.{steps_of, count_of, ending_in, HasOperator};
 
@@ -37,11 +38,14 @@ pub(crate) fn count_of_steps(program: &Program, chain: u32) -> usize
     }
 }
 
-/// Step `number` of the chain with this index.
+/// Step `number` of the chain with this index. Its operands are among the chain's.
 pub(crate) fn step_at(program: &Program, chain: u32, number: usize) -> Step
     requires { number < count_of program.now chain }
-    ensures { slice_get (steps_of program.now chain) number ≡ Some result }
+    ensures is { slice_get (steps_of program.now chain) number ≡ Some result }
+    ensures operands { HasOperands (chain_of program.now chain).operands result }
 {
+    // That the program obeys the rules of chains is said of its code.
+    let _ = program.code();
     match program.chains().get(chain as usize) {
         Some(chain) => *chain.steps.at(number),
         None => unreachable!(),

@@ -1,11 +1,11 @@
 //! What a walk asks of the host's indexers.
 
-ghost use Rattle.std.specs.Prelude.{◌<◌, ◌+◌, ◌∷◌, [], true, false, Some, codes};
+ghost use Rattle.std.specs.Prelude.{◌+◌, ◌∷◌, [], true, false, Some, codes};
 ghost use Rattle.grain_value.specs.View.{tree};
 ghost use Rattle.grain_value.specs.declared.values.Dynamic.TheVariants as dynamic;
 ghost use Rattle.grain_program.specs.View.{View as AnyProgram};
 ghost use Rattle.grain_means.specs.Walks.{by_indexer, Operates, was_given, into_answer, asking, index_get, OfIndex, set_by_index};
-ghost use Rattle.grain_chain.specs.Walking.{place_of, role_in, count, steps_left, backs};
+ghost use Rattle.grain_chain.specs.Walking.{place_of, role_in, AtStep, steps_left, backs};
 ghost use Rattle.grain_chain.specs.Going.{Goes, Needs, setting, rest, next_step, Asked};
 ghost use Rattle.grain_chain.specs.declared.contexts.Context.{Context as AnyContext};
 
@@ -30,7 +30,7 @@ impl Walk {
         ensures goes { (x : AnyContext) → Goes x self.old
             (by_indexer (setting x self.old) self.old.step pos bracket (role_in role self.old.value)
             index (next_step x self.old) (place_of self.old) (rest x self.old)) result self.new }
-        ensures needs { (p : AnyProgram) → self.old.step < count p self.old →
+        ensures needs { (p : AnyProgram) → AtStep p self.old →
             Needs p self.new result (steps_left p self.old + 3) }
     {
         match role {
@@ -54,7 +54,7 @@ impl Walk {
             (rest x self.old) (was_given self.old.step (rest x self.old)
             (into_answer (setting x self.old) self.old.step pos own (OfIndex index bracket)
             (next_step x self.old) (place_of self.old) (rest x self.old)))) result self.new }
-        ensures needs { (p : AnyProgram) → self.old.step < count p self.old →
+        ensures needs { (p : AnyProgram) → AtStep p self.old →
             Needs p self.new result (steps_left p self.old + 2) }
     {
         let argument = index.copy(self.alloc)?;
@@ -78,7 +78,7 @@ impl Walk {
             (by_indexer (setting x self.old) self.old.step bracket bracket
             (Operates self.old.value op) index (next_step x self.old) (place_of self.old)
             (rest x self.old)) result self.new }
-        ensures needs { (p : AnyProgram) → self.old.step < count p self.old →
+        ensures needs { (p : AnyProgram) → AtStep p self.old →
             Needs p self.new result (steps_left p self.old + 3) }
     {
         let kept = index.copy(self.alloc)?;

@@ -1,7 +1,7 @@
 //! Index steps: at values that have indices of their own, and at those for which the host's
 //! indexers are asked.
 
-ghost use Rattle.std.specs.Prelude.{◌≡◌, ◌<◌, ◌+◌, ℕ, true, false, Some, Ok, Err, IfOk};
+ghost use Rattle.std.specs.Prelude.{◌≡◌, ◌+◌, ℕ, true, false, Some, Ok, Err, IfOk};
 ghost use Rattle.grain_fault.specs.declared.places.Position.{Position as AnyPosition};
 ghost use Rattle.grain_value.specs.Cells.{flat};
 ghost use Rattle.grain_value.specs.Locating.{locate};
@@ -12,7 +12,7 @@ ghost use Rattle.grain_value.specs.declared.values.Dynamic.TheVariants as dynami
 ghost use Rattle.grain_program.specs.View.{View as AnyProgram};
 ghost use Rattle.grain_means.specs.Walks.{at_mark, index_step, indexed, is_indexed, origin_of_part, rooted, key_of, missing_key, OfIndex};
 ghost use Rattle.grain_chain.specs.Standings.{Stands};
-ghost use Rattle.grain_chain.specs.Walking.{place_of, role_in, origin_of, operand_of, count, steps_left};
+ghost use Rattle.grain_chain.specs.Walking.{place_of, role_in, origin_of, operand_of, AtStep, steps_left};
 ghost use Rattle.grain_chain.specs.Going.{Goes, Takes, NeedsOr, setting, rest, next_step, with_value};
 ghost use Rattle.grain_chain.specs.declared.contexts.Context.{Context as AnyContext};
 
@@ -37,7 +37,7 @@ impl Walk {
         pos: Position,
         bracket: Position,
     ) -> Result<Option<WalkAnswer>, OutOfMemory>
-        requires at { self.old.step < count context.program.now self.old }
+        requires at { AtStep context.program.now self.old }
         ensures takes { Takes context.entry self.old
             (at_mark self.old.step (rest context.entry self.old)
             (index_step (setting context.entry self.old) self.old.step (operand_of self.old operand)
@@ -62,7 +62,7 @@ impl Walk {
         pos: Position,
         bracket: Position,
     ) -> Result<Option<WalkAnswer>, OutOfMemory>
-        requires at { self.old.step < count context.program.now self.old }
+        requires at { AtStep context.program.now self.old }
         requires host { (v : AnyValue) × (Stands self.old.trail v × (is_indexed v ≡ false)) }
         ensures takes { Takes context.entry self.old
             (at_mark self.old.step (rest context.entry self.old)

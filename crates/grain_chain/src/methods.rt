@@ -1,6 +1,6 @@
 //! Method steps such as `a.m(x)`: `is_shared`, and calls of functions and natives.
 
-ghost use Rattle.std.specs.Prelude.{◌≡◌, ◌<◌, ◌≤◌, ◌+◌, ◌^◌, ◌++◌, IfOk, Some, true, length, map};
+ghost use Rattle.std.specs.Prelude.{◌≡◌, ◌≤◌, ◌+◌, ◌^◌, ◌++◌, IfOk, Some, true, length, map};
 ghost use Rattle.std.specs.Option.{option_copied};
 ghost use Rattle.grain_value.specs.Cells.{flat};
 ghost use Rattle.grain_value.specs.View.{value_of};
@@ -11,9 +11,9 @@ ghost use Rattle.grain_program.specs.View.{View as AnyProgram, name_of};
 ghost use Rattle.grain_means.specs.Tasks.{WalkEnded};
 ghost use Rattle.grain_means.specs.Walks.{at_mark, own_pointer};
 ghost use Rattle.grain_chain.specs.Standings.{Stands};
-ghost use Rattle.grain_chain.specs.Walking.{CanCall, count, steps_left, backs};
+ghost use Rattle.grain_chain.specs.Walking.{CanCall, AtStep, steps_left, backs};
 ghost use Rattle.grain_chain.specs.Going.{Takes, Goes, Needs, NeedsOr, rest, lent_place};
-ghost use Rattle.grain_chain.specs.MethodSteps.{kind_named, operands_of, typed_method, called_method, step_arguments, method_task, gave_task, own_task, asking_task};
+ghost use Rattle.grain_chain.specs.MethodSteps.{HasArguments, kind_named, operands_of, typed_method, called_method, step_arguments, method_task, gave_task, own_task, asking_task};
 ghost use Rattle.grain_chain.specs.declared.contexts.Context.{Context as AnyContext};
 
 use crate::contexts::{Context, name_at};
@@ -73,7 +73,8 @@ impl Walk {
         context: Context<'_>,
         step: MethodStep,
     ) -> Result<Option<WalkAnswer>, OutOfMemory>
-        requires at { self.old.step < count context.program.now self.old }
+        requires at { AtStep context.program.now self.old }
+        requires operands { HasArguments self.old step }
         ensures takes { Takes context.entry self.old
             (at_mark self.old.step (rest context.entry self.old)
             (method_task context.entry self.old step)) result self.new }
@@ -127,32 +128,29 @@ impl Walk {
         self.walk_back(context, true)
     }
 
-    // Puts copies of `argc` operands of the chain, from operand `first` on, after these values. The chains
-    // of a verified program have the operands that their steps take; fewer are refused as if memory were
-    // out.
+    // Puts copies of `argc` operands of the chain, from operand `first` on, after these values.
     pub(crate) fn copy_operands(
         &self,
         first: usize,
         argc: u8,
         values: &mut Array,
     ) -> Result<(), OutOfMemory>
-        requires { first ≤ 2 ^ 32 }
+        requires small { first ≤ 2 ^ 32 }
+        requires operands { first + argc ≤ length self.now.operands }
         ensures copied { IfOk result (λ _. values.new ≡ values.old ++ operands_of self.now first argc) }
         ensures counted { IfOk result (λ _. length values.new ≡ length values.old + argc) }
     {
         'copies: for index in 0..argc {
-            match self.operands.get(first + usize::from(index)) {
-                None => return Err(OutOfMemory),
-                Some(operand) => values.push(operand.copy(self.alloc)?)?,
-            }
+            let operand = self.operands.at(first + usize::from(index));
+            values.push(operand.copy(self.alloc)?)?;
         }
         Ok(())
     }
 
-    // Copies of `argc` operands of the chain, from operand `first` on. Fewer are refused as if memory were
-    // out.
+    // Copies of `argc` operands of the chain, from operand `first` on.
     pub(crate) fn operands_from(&self, first: usize, argc: u8) -> Result<Array, OutOfMemory>
-        requires { first ≤ 2 ^ 32 }
+        requires small { first ≤ 2 ^ 32 }
+        requires operands { first + argc ≤ length self.now.operands }
         ensures copied { IfOk result (λ values. values ≡ operands_of self.now first argc) }
         ensures counted { IfOk result (λ values. length values ≡ argc) }
     {
@@ -168,7 +166,8 @@ impl Walk {
         context: Context<'_>,
         step: MethodStep,
     ) -> Result<Option<WalkAnswer>, OutOfMemory>
-        requires at { self.old.step < count context.program.now self.old }
+        requires at { AtStep context.program.now self.old }
+        requires operands { HasArguments self.old step }
         ensures takes { (v : AnyValue) → Stands self.old.trail v → Takes context.entry self.old
             (at_mark self.old.step (rest context.entry self.old)
             (own_task context.entry self.old step
@@ -203,11 +202,12 @@ impl Walk {
         what: What,
         lends: bool,
     ) -> Result<WalkAnswer, OutOfMemory>
+        requires { HasArguments self.old step }
         ensures goes { (x : AnyContext) → Goes x self.old
             (at_mark self.old.step (rest x self.old)
             (asking_task x self.old step what (lent_place self.old lends)
             (step_arguments x self.old step))) result self.new }
-        ensures needs { (p : AnyProgram) → self.old.step < count p self.old →
+        ensures needs { (p : AnyProgram) → AtStep p self.old →
             CanCall p what step.argc → Needs p self.new result (steps_left p self.old + 2) }
     {
         let arguments = self.operands_from(step.operand as usize, step.argc)?;
@@ -227,7 +227,7 @@ impl Walk {
         ensures goes { (x : AnyContext) → Goes x self.old
             (asking_task x self.old step what (lent_place self.old lends) (map value_of arguments))
             result self.new }
-        ensures needs { (p : AnyProgram) → self.old.step < count p self.old →
+        ensures needs { (p : AnyProgram) → AtStep p self.old →
             CanCall p what (length arguments) → Needs p self.new result (steps_left p self.old + 2) }
     {
         let into = AnswerUse {

@@ -9,9 +9,9 @@ ghost use Rattle.grain_fault.specs.Problems.{MismatchDataType, Plain, problem_of
 ghost use Rattle.grain_program.specs.View.{View as AnyProgram};
 ghost use Rattle.grain_means.specs.Walks.{at_mark, failing};
 ghost use Rattle.grain_chain.specs.Standings.{Stands};
-ghost use Rattle.grain_chain.specs.Walking.{count, steps_left, backs};
+ghost use Rattle.grain_chain.specs.Walking.{AtStep, steps_left, backs};
 ghost use Rattle.grain_chain.specs.Going.{Takes, Goes, Needs, NeedsOr, PointerOr, rest};
-ghost use Rattle.grain_chain.specs.MethodSteps.{operands_of, step_arguments, first_task, called_task, call_task, curry_task};
+ghost use Rattle.grain_chain.specs.MethodSteps.{HasArguments, operands_of, step_arguments, first_task, called_task, call_task, curry_task};
 ghost use Rattle.grain_chain.specs.declared.contexts.Context.{Context as AnyContext};
 
 use crate::contexts::Context;
@@ -41,6 +41,7 @@ impl Walk {
         context: Context<'_>,
         step: MethodStep,
     ) -> Result<Option<WalkAnswer>, OutOfMemory>
+        requires { HasArguments self.old step }
         ensures takes { (v : AnyValue) → Stands self.old.trail v → Takes context.entry self.old
             (at_mark self.old.step (rest context.entry self.old)
             (curry_task context.entry self.old step (pointer_of v) v)) result self.new }
@@ -59,6 +60,7 @@ impl Walk {
         step: MethodStep,
         pointer: FnPtr,
     ) -> Result<Option<WalkAnswer>, OutOfMemory>
+        requires { HasArguments self.old step }
         ensures takes { (v : AnyValue) → Takes context.entry self.old
             (at_mark self.old.step (rest context.entry self.old)
             (curry_task context.entry self.old step (Some pointer) v)) result self.new }
@@ -78,7 +80,8 @@ impl Walk {
         context: Context<'_>,
         step: MethodStep,
     ) -> Result<Option<WalkAnswer>, OutOfMemory>
-        requires at { self.old.step < count context.program.now self.old }
+        requires at { AtStep context.program.now self.old }
+        requires operands { HasArguments self.old step }
         ensures takes { (v : AnyValue) → Stands self.old.trail v → Takes context.entry self.old
             (at_mark self.old.step (rest context.entry self.old)
             (call_task context.entry self.old step (pointer_of v) v)) result self.new }
@@ -98,7 +101,8 @@ impl Walk {
         context: Context<'_>,
         step: MethodStep,
     ) -> Result<WalkAnswer, OutOfMemory>
-        requires at { self.old.step < count context.program.now self.old }
+        requires at { AtStep context.program.now self.old }
+        requires operands { HasArguments self.old step }
         ensures goes { (v : AnyValue) → Stands self.old.trail v → Goes context.entry self.old
             (at_mark self.old.step (rest context.entry self.old)
             (called_task context.entry self.old step v (step_arguments context.entry self.old step)))
@@ -129,11 +133,12 @@ impl Walk {
 
     // Calls the first argument, as it is read, with the others.
     fn call_argument(&mut self, step: MethodStep, first: Dynamic) -> Result<WalkAnswer, OutOfMemory>
-        requires { 0 < step.argc }
+        requires some { 0 < step.argc }
+        requires operands { HasArguments self.old step }
         ensures goes { (x : AnyContext) → Goes x self.old
             (first_task x self.old step (pointer_of first) first
             (map value_of (operands_of self.old (step.operand + 1) (step.argc - 1)))) result self.new }
-        ensures needs { (p : AnyProgram) → self.old.step < count p self.old →
+        ensures needs { (p : AnyProgram) → AtStep p self.old →
             Needs p self.new result (steps_left p self.old + 2) }
     {
         match pointer_from(first) {

@@ -1,13 +1,13 @@
 //! Property steps: at maps, and at values for which the host's getters and setters are asked.
 
-ghost use Rattle.std.specs.Prelude.{◌≡◌, ◌<◌, ◌+◌, ◌∷◌, [], ℕ, Some, None, true, false};
+ghost use Rattle.std.specs.Prelude.{◌≡◌, ◌+◌, ◌∷◌, [], ℕ, Some, None, true, false};
 ghost use Rattle.grain_value.specs.declared.values.Dynamic.{Dynamic as AnyValue};
 ghost use Rattle.grain_program.specs.View.{name_of};
 ghost use Rattle.grain_chain.specs.Standings.{Stands, has_key};
 ghost use Rattle.grain_value.specs.declared.values.Dynamic.TheVariants as dynamic;
 ghost use Rattle.grain_fault.specs.Problems.{problem_of};
 ghost use Rattle.grain_means.specs.Walks.{at_mark, asking, index_get, index_set, property_step, by_accessor, get_property, got_instead, set_instead, set_property, into_answer, OfProperty, named};
-ghost use Rattle.grain_chain.specs.Walking.{place_of, role_in, gone_into, count, steps_left, backs};
+ghost use Rattle.grain_chain.specs.Walking.{place_of, role_in, gone_into, AtStep, steps_left, backs};
 ghost use Rattle.grain_chain.specs.Going.{Goes, Takes, Needs, NeedsOr, setting, rest, next_step};
 
 use crate::asking::{name_text, one_argument, two_arguments};
@@ -32,7 +32,7 @@ impl Walk {
         setter: u32,
         pos: Position,
     ) -> Result<Option<WalkAnswer>, OutOfMemory>
-        requires at { self.old.step < count context.program.now self.old }
+        requires at { AtStep context.program.now self.old }
         ensures takes { Takes context.entry self.old
             (at_mark self.old.step (rest context.entry self.old)
             (property_step (setting context.entry self.old) self.old.step name getter setter pos
@@ -85,7 +85,7 @@ impl Walk {
         setter: u32,
         pos: Position,
     ) -> Result<Option<WalkAnswer>, OutOfMemory>
-        requires at { self.old.step < count context.program.now self.old }
+        requires at { AtStep context.program.now self.old }
         requires host { (v : AnyValue) × (Stands self.old.trail v
             × (has_key v (name_of context.program.now name) ≡ None)) }
         ensures takes { Takes context.entry self.old
@@ -110,7 +110,7 @@ impl Walk {
         setter: u32,
         pos: Position,
     ) -> Result<WalkAnswer, OutOfMemory>
-        requires at { self.old.step < count context.program.now self.old }
+        requires at { AtStep context.program.now self.old }
         ensures goes { Goes context.entry self.old
             (by_accessor (setting context.entry self.old) self.old.step name getter setter pos
             (role_in role self.old.value) (next_step context.entry self.old) (place_of self.old)
@@ -149,7 +149,7 @@ impl Walk {
         pos: Position,
         own: bool,
     ) -> Result<WalkAnswer, OutOfMemory>
-        requires at { self.old.step < count context.program.now self.old }
+        requires at { AtStep context.program.now self.old }
         ensures goes { Goes context.entry self.old
             (get_property (setting context.entry self.old) self.old.step name getter pos
             (place_of self.old) (rest context.entry self.old)
@@ -182,7 +182,7 @@ impl Walk {
         pos: Position,
         into: AnswerUse,
     ) -> Result<WalkAnswer, OutOfMemory>
-        requires at { self.old.step < count context.program.now self.old }
+        requires at { AtStep context.program.now self.old }
         ensures goes { Goes context.entry self.old
             (get_property (setting context.entry self.old) self.old.step name getter pos
             (place_of self.old) (rest context.entry self.old)
@@ -210,7 +210,7 @@ impl Walk {
         fault: EvalAltResult,
         into: AnswerUse,
     ) -> Result<WalkAnswer, OutOfMemory>
-        requires at { self.old.step < count context.program.now self.old }
+        requires at { AtStep context.program.now self.old }
         ensures goes { Goes context.entry self.old
             (asking self.old.step pos index_get (Some (place_of self.old))
             (named (setting context.entry self.old) name ∷ []) (rest context.entry self.old)

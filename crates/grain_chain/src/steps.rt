@@ -1,15 +1,16 @@
 //! The loop of a walk over its steps, and what it asks of each step: its position, its `?` and its role.
 
-ghost use Rattle.std.specs.Prelude.{◌≡◌, ◌+◌, ◌<◌, ℕ, codes, drop, false};
+ghost use Rattle.std.specs.Prelude.{◌≡◌, ◌+◌, ◌<◌, ℕ, codes, drop, false, length};
 ghost use Rattle.grain_value.specs.declared.values.Dynamic.TheVariants as dynamic;
 ghost use Rattle.grain_value.specs.Cells.{flat};
 ghost use Rattle.grain_fault.specs.Problems.{Plain, DataRace};
+ghost use Rattle.grain_program.specs.Chains.{HasOperands};
 ghost use Rattle.grain_program.specs.View.{View as AnyProgram};
 ghost use Rattle.grain_value.specs.declared.values.Dynamic.{Dynamic as AnyValue};
 ghost use Rattle.grain_chain.specs.Standings.{Stands};
 ghost use Rattle.grain_means.specs.Tasks.{WalkEnded};
 ghost use Rattle.grain_means.specs.Walks.{walked, taken, role_before, at_mark, failing, reads, skips, step_position};
-ghost use Rattle.grain_chain.specs.Walking.{place_of, role_in, count, steps_left, backs};
+ghost use Rattle.grain_chain.specs.Walking.{place_of, role_in, count, AtStep, HasAllOperands, steps_left, backs};
 ghost use Rattle.grain_chain.specs.Going.{Goes, Takes, Needs, NeedsOr, ends_before, stopped, course, steps, rest, next_step};
 ghost use Rattle.grain_chain.specs.declared.contexts.Context.{Context as AnyContext};
 
@@ -27,6 +28,7 @@ impl Walk {
     // Takes the remaining steps until one needs a call. After the last step it does what the
     // chain does there.
     pub(crate) fn advance(&mut self, context: Context<'_>) -> Result<WalkAnswer, OutOfMemory>
+        requires { HasAllOperands context.program.now self.old }
         ensures goes { Goes context.entry self.old
             (walked (course context.entry self.old) (drop self.old.step (steps context.entry self.old))
             self.old.step (place_of self.old) (rest context.entry self.old)) result self.new }
@@ -104,7 +106,8 @@ impl Walk {
 
     // Takes a step. Returns None if the walk goes on at the next step.
     fn take(&mut self, context: Context<'_>, step: Step) -> Result<Option<WalkAnswer>, OutOfMemory>
-        requires at { self.old.step < count context.program.now self.old }
+        requires at { AtStep context.program.now self.old }
+        requires operands { HasOperands (length self.old.operands) step }
         ensures takes { Takes context.entry self.old
             (at_mark self.old.step (rest context.entry self.old)
             (taken (course context.entry self.old) step self.old.step

@@ -1,6 +1,6 @@
 //! A walk: what it holds, how it begins, how it goes on, and how it ends.
 
-ghost use Rattle.std.specs.Prelude.{◌≡◌, ◌+◌, ◌*◌, [], ◌∷◌, Bool};
+ghost use Rattle.std.specs.Prelude.{◌≡◌, ◌+◌, ◌*◌, ◌≤◌, [], ◌∷◌, Bool, length};
 ghost use Rattle.grain_means.specs.Walks.{whole_walk};
 ghost use Rattle.grain_means.specs.lemmas.Spreading.{Rooted};
 ghost use Rattle.grain_program.specs.View.{chain_of};
@@ -48,7 +48,8 @@ pub struct Walk {
 
 impl Walk {
     /// Begins a walk of a chain at a root, and walks until it needs a call, ends, or fails.
-    /// `operands` are those of its steps; `value` is what it assigns, or unit.
+    /// `operands` are those of its steps, all that the chain takes for them; `value` is what it
+    /// assigns, or unit.
     pub fn start(
         alloc: Global,
         engine: &Engine,
@@ -60,7 +61,8 @@ impl Walk {
         value: Dynamic,
         pos: Position,
     ) -> (Walk, WalkAnswer)
-        requires { HasOperator program.now ((chain_of program.now chain).tail) }
+        requires operator { HasOperator program.now ((chain_of program.now chain).tail) }
+        requires enough { (chain_of program.now chain).operands ≤ length operands }
         ensures did { Did engine.now program.now cells.now (root ∷ []) 0
             (whole_walk (new_course engine.now program.now pos chain operands value)
             (steps_of program.now chain)) result.0 result.1 }

@@ -1,9 +1,11 @@
 -- What a chain takes from the operands, and what is found of its root.
 use Rattle.std.proofs.Common.{◌≡◌, ◌∙◌, ◌<◌, ◌≤◌, ◌+◌, ◌-◌, ℕ, List, [], ◌∷◌, Option, Some, None, Bool, true, false, if◌then◌else◌, length, refl, sym, ap, arith}
 use Rattle.std.specs.Prelude.{◌==◌, is_some, option_map, slice_get, take}
-use Rattle.std.proofs.lemmas.List.{take_all, take-take, length-take-le}
+use Rattle.std.proofs.lemmas.List.{take_all, take-take, length-drop, length-map, length-take-le}
 use Rattle.grain_value.specs.Cells.{content, is_busy}
 use Rattle.grain_value.specs.Operands.{top, under}
+use Rattle.grain_value.specs.Tree.{Tree}
+use Rattle.grain_value.specs.View.{tree}
 use Rattle.grain_value.specs.declared.stores.Cell.{Cell}
 use Rattle.grain_value.specs.declared.values.Held.{Held}
 use Rattle.grain_program.specs.Chains.{assigns, chain_takes, is_temporary}
@@ -15,7 +17,8 @@ use Rattle.grain_program.specs.declared.code.chains.Root.TheVariants as root
 use Rattle.grain_program.specs.declared.code.chains.Tail.{Tail}
 use Rattle.grain_program.specs.declared.code.chains.Tail.TheVariants as tail
 use Rattle.grain_chain.specs.Walking.{HasOperator}
-use Rattle.grain_means.specs.Rules.Chains.{assigned_operand, root_operands}
+use Rattle.grain_means.specs.Rules.{trees_in}
+use Rattle.grain_means.specs.Rules.Chains.{assigned_operand, root_operands, steps_operands}
 use Rattle.grain_means.specs.lemmas.Scopes.{length_set_held}
 use Rattle.grain_frame.specs.Receivers.{bound_at, with_newest}
 use Rattle.grain_frame.specs.declared.receivers.Bound.{Bound}
@@ -115,6 +118,20 @@ steps_there c ops has =
     omega (
       arith,
       ap (λ (l : List Held). length l) (root_gone c.root ops),
+      length-take-le (length ops - root_operands c.root) ops (omega arith),
+      has.steps,
+    )
+
+-- as many are copied as the chain's steps use
+pub copied_enough : (c : Chain) (ops : List Held) (copies : List Tree) → HasChainOperands c ops →
+    copies ≡ trees_in (steps_operands c ops) → c.operands ≤ length copies
+copied_enough c ops copies has same =
+    let others = under (root_operands c.root) ops in
+    omega (
+      arith,
+      ap (λ (l : List Tree). length l) same,
+      length-map (steps_operands c ops) (λ (h : Held). tree h.value),
+      length-drop (length others - c.operands) others,
       length-take-le (length ops - root_operands c.root) ops (omega arith),
       has.steps,
     )

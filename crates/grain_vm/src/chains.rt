@@ -136,11 +136,11 @@ fn start_walk<H: Host, L: Ledger>(
 ) -> (Walk, WalkAnswer, bool)
     requires chain { HasChain context.program.now index }
     requires operands { HasChainOperands (chain_of context.program.now index) run.old.stacks.operands }
+    requires copies { TakesCopies run.old (chain_of context.program.now index) taken }
     requires home { CanTake run.old root.home }
     ensures starts { (h : Held) (blamed : Option ℕ) (next : ℕ) (host : H) →
         RootFound context.entry.program.now run.old frame.now.base
         (chain_of context.entry.program.now index) root h →
-        TakesCopies run.old (chain_of context.entry.program.now index) taken →
         Starts (setup_of H.law context.entry) frame.now run.old steps.old host root h taken index
         next blamed result.0 result.1 result.2 run.new steps.new }
     ensures waits { (n : ℕ) × Falls context.entry.program.now result.0 result.1 n }

@@ -3,7 +3,7 @@
 
 use grain_addresses::{Exit, where_args};
 use grain_streams::{CallNumbers, MemorySink, MemorySource};
-use grain_value::{Blob, OutOfMemory};
+use grain_value::Blob;
 use std::alloc::Global;
 use std::env::Args;
 use std::process::{Abort, ExitCode, Termination};
@@ -32,19 +32,35 @@ const TABLE: Call = Call {
 };
 
 /// The arguments of the program, with one word or none.
-fn args_of(alloc: Global, word: Option<&str>) -> Result<Args, OutOfMemory> {
+fn args_of(rt: &impl Abort, alloc: Global, word: Option<&str>) -> Args {
     let mut args = Vec::new(alloc);
-    args.push(String::from_str(alloc, "grain_where")?)?;
+    push_word(rt, alloc, &mut args, "grain_where");
     if let Some(word) = word {
-        args.push(String::from_str(alloc, word)?)?;
+        push_word(rt, alloc, &mut args, word);
     }
-    Ok(args.into_iter())
+    args.into_iter()
 }
 
-fn one_number(alloc: Global, number: u64) -> Result<CallNumbers, OutOfMemory> {
+fn push_word(rt: &impl Abort, alloc: Global, args: &mut Vec<String>, word: &str) {
+    let word = String::from_str(alloc, word).expect(rt, "memory");
+    args.push(word).expect(rt, "memory");
+}
+
+fn one_number(rt: &impl Abort, alloc: Global, number: u64) -> CallNumbers {
     let mut numbers = CallNumbers::new(alloc);
-    numbers.push(number)?;
-    Ok(numbers)
+    numbers.push(number).expect(rt, "memory");
+    numbers
+}
+
+/// A source of this text, which fails at this call.
+fn source_of(rt: &impl Abort, alloc: Global, text: &str, fails: u64) -> MemorySource {
+    let bytes = Vec::from_slice(alloc, text.as_bytes()).expect(rt, "memory");
+    MemorySource::new(Blob::from_vec(bytes), one_number(rt, alloc, fails))
+}
+
+/// A sink that fails at this call.
+fn sink_of(rt: &impl Abort, alloc: Global, fails: u64) -> MemorySink {
+    MemorySink::new(alloc, 1000, one_number(rt, alloc, fails)).expect(rt, "memory")
 }
 
 /// Compares the status of a call, and what it writes to the two sinks.
@@ -55,24 +71,31 @@ fn check(
     status: u8,
     text: &str,
     errors_text: &str,
-) -> Result<(), OutOfMemory> {
-    let args = args_of(alloc, call.word)?;
-    let bytes = Vec::from_slice(alloc, call.listing.as_bytes())?;
-    let source_fails = one_number(alloc, call.source_fails)?;
-    let mut source = MemorySource::new(Blob::from_vec(bytes), source_fails);
-    let sink_fails = one_number(alloc, call.sinks_fail)?;
-    let mut sink = MemorySink::new(alloc, 1000, sink_fails)?;
-    let errors_fail = one_number(alloc, call.sinks_fail)?;
-    let mut errors = MemorySink::new(alloc, 1000, errors_fail)?;
-    let exit: Exit = where_args(alloc, Ok(args), &mut source, &mut sink, &mut errors);
+) {
+    let args = args_of(rt, alloc, call.word);
+    let mut source = source_of(rt, alloc, call.listing, call.source_fails);
+    let mut sink = sink_of(rt, alloc, call.sinks_fail);
+    let mut errors = sink_of(rt, alloc, call.sinks_fail);
+    let exit = where_args(alloc, Ok(args), &mut source, &mut sink, &mut errors);
+    drop(source);
+    check_end(rt, exit, status);
+    check_bytes(rt, sink, text);
+    check_bytes(rt, errors, errors_text);
+}
+
+/// Compares the status with which a call ends.
+fn check_end(rt: &(impl Abort + Eprint), exit: Exit, status: u8) {
     assert!(rt; exit.report(rt) == ExitCode::from(status));
+}
+
+/// Compares what a sink has taken.
+fn check_bytes(rt: &impl Abort, sink: MemorySink, text: &str) {
     assert!(rt; sink.bytes() == text.as_bytes());
-    assert!(rt; errors.bytes() == errors_text.as_bytes());
-    Ok(())
+    drop(sink);
 }
 
 #[test]
-fn lines_are_found_or_not(rt: HostRuntime) -> Result<(), OutOfMemory> {
+fn lines_are_found_or_not(rt: HostRuntime) {
     let rows = [
         (
             None,
@@ -88,9 +111,8 @@ fn lines_are_found_or_not(rt: HostRuntime) -> Result<(), OutOfMemory> {
         ),
     ];
     for (word, status, text) in rows {
-        check(&rt, rt.alloc(), Call { word, ..TABLE }, status, text, "")?;
+        check(&rt, rt.alloc(), Call { word, ..TABLE }, status, text, "");
     }
-    Ok(())
 }
 
 /// A listing of two chains. The second one has the slots from 2 on: one for its property, and two for
@@ -100,7 +122,7 @@ const CHAINS: &str = "\
     step property 0 0 0\nstep index 0 ; last\nmain 1\nunit\nunit\nchain 1\nreturn\nend\n";
 
 #[test]
-fn steps_are_found_or_not(rt: HostRuntime) -> Result<(), OutOfMemory> {
+fn steps_are_found_or_not(rt: HostRuntime) {
     let rows = [
         (
             "2:2",
@@ -130,9 +152,8 @@ fn steps_are_found_or_not(rt: HostRuntime) -> Result<(), OutOfMemory> {
             listing: CHAINS,
             ..TABLE
         };
-        check(&rt, rt.alloc(), call, status, text, "")?;
+        check(&rt, rt.alloc(), call, status, text, "");
     }
-    Ok(())
 }
 
 /// A listing of two chains, of which the first begins at `this`. Its root has the slot 0, so its property
@@ -142,7 +163,7 @@ const THIS_CHAIN: &str = "\
     step index 0\nmain 1\nchain 0\nunit\nchain 1\nreturn\nend\n";
 
 #[test]
-fn a_root_this_has_a_slot(rt: HostRuntime) -> Result<(), OutOfMemory> {
+fn a_root_this_has_a_slot(rt: HostRuntime) {
     let rows = [
         (
             "4:2",
@@ -166,13 +187,12 @@ fn a_root_this_has_a_slot(rt: HostRuntime) -> Result<(), OutOfMemory> {
             listing: THIS_CHAIN,
             ..TABLE
         };
-        check(&rt, rt.alloc(), call, status, text, "")?;
+        check(&rt, rt.alloc(), call, status, text, "");
     }
-    Ok(())
 }
 
 #[test]
-fn words_that_are_no_addresses(rt: HostRuntime) -> Result<(), OutOfMemory> {
+fn words_that_are_no_addresses(rt: HostRuntime) {
     for word in [
         "",
         "x",
@@ -189,13 +209,12 @@ fn words_that_are_no_addresses(rt: HostRuntime) -> Result<(), OutOfMemory> {
             source_fails: 1,
             ..TABLE
         };
-        check(&rt, rt.alloc(), call, 2, "", USAGE)?;
+        check(&rt, rt.alloc(), call, 2, "", USAGE);
     }
-    Ok(())
 }
 
 #[test]
-fn listings_that_are_none(rt: HostRuntime) -> Result<(), OutOfMemory> {
+fn listings_that_are_none(rt: HostRuntime) {
     let rows = [
         ("", "listing line 1: missing header\n"),
         (
@@ -208,26 +227,25 @@ fn listings_that_are_none(rt: HostRuntime) -> Result<(), OutOfMemory> {
         ),
     ];
     for (listing, text) in rows {
-        check(&rt, rt.alloc(), Call { listing, ..TABLE }, 3, text, "")?;
+        check(&rt, rt.alloc(), Call { listing, ..TABLE }, 3, text, "");
     }
-    Ok(())
 }
 
 #[test]
-fn streams_fail(rt: HostRuntime) -> Result<(), OutOfMemory> {
+fn streams_fail(rt: HostRuntime) {
     let source = Call {
         source_fails: 1,
         ..TABLE
     };
-    check(&rt, rt.alloc(), source, 5, "", "")?;
+    check(&rt, rt.alloc(), source, 5, "", "");
     let sink = Call {
         sinks_fail: 1,
         ..TABLE
     };
-    check(&rt, rt.alloc(), sink, 6, "", "")?;
+    check(&rt, rt.alloc(), sink, 6, "", "");
     let errors = Call {
         word: Some("x"),
         ..sink
     };
-    check(&rt, rt.alloc(), errors, 6, "", "")
+    check(&rt, rt.alloc(), errors, 6, "", "");
 }

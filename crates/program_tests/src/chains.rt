@@ -3,34 +3,30 @@
 use bitflags::Flags;
 use grain_fault::Position;
 use grain_listing::{Listing, read};
-use grain_program::{Root, Step, StepFlags, Tail};
-use grain_value::OutOfMemory;
+use grain_program::{Chain, Chains, Root, Step, StepFlags, Tail};
 use std::alloc::Global;
 use std::process::Abort;
 
-/// What is read of a listing with these lines before its main block, if it is accepted.
-fn listing_with(alloc: Global, lines: &str, code: &str) -> Result<Option<Listing>, OutOfMemory> {
-    let text = format!(in alloc; "grain 1\n{lines}main 9\n{code}end\n")?;
-    match read(alloc, text.as_str().as_bytes())? {
-        Ok(setup) => Ok(Some(setup)),
-        Err(_) => Ok(None),
-    }
+/// What is read of a listing with these lines before its main block. Each test lends it to what looks at
+/// it, and drops it last.
+fn listing_with(rt: &impl Abort, alloc: Global, lines: &str, code: &str) -> Listing {
+    let text = format!(in alloc; "grain 1\n{lines}main 9\n{code}end\n").expect(rt, "memory");
+    let answer = read(alloc, text.as_str().as_bytes()).expect(rt, "memory");
+    answer.expect(rt, "refused")
 }
 
 /// The reason for which the last of these lines is refused, which has this number.
-fn reason_of(
-    rt: &impl Abort,
-    alloc: Global,
-    lines: &str,
-    line: usize,
-) -> Result<&'static str, OutOfMemory> {
-    let text = format!(in alloc; "grain 1\n{lines}\n")?;
-    match read(alloc, text.as_str().as_bytes())? {
-        Ok(_) => Ok("none"),
-        Err(bad) => {
-            assert!(rt; bad.line == line);
-            Ok(bad.reason.text())
+fn reason_of(rt: &impl Abort, alloc: Global, lines: &str, line: usize) -> &'static str {
+    let text = format!(in alloc; "grain 1\n{lines}\n").expect(rt, "memory");
+    let answer = read(alloc, text.as_str().as_bytes()).expect(rt, "memory");
+    let refusal = answer.err();
+    drop(text);
+    match refusal {
+        Some(bad) => {
+            assert!(rt; bad.line == line, "{lines}");
+            bad.reason.text()
         }
+        None => "none",
     }
 }
 
@@ -57,25 +53,25 @@ fn check_lines(
     lines: &str,
     line: usize,
     reason: &str,
-) -> Result<(), OutOfMemory> {
+) {
     for last in lines.lines() {
-        let both = format!(in alloc; "{before}{last}")?;
-        let found = reason_of(rt, alloc, both.as_str(), line)?;
+        let both = format!(in alloc; "{before}{last}").expect(rt, "memory");
+        let found = reason_of(rt, alloc, both.as_str(), line);
+        drop(both);
         assert!(rt; found == reason, "{last}: {found}");
     }
-    Ok(())
 }
 
 #[test]
-fn lines_that_are_refused(rt: HostRuntime) -> Result<(), OutOfMemory> {
+fn lines_that_are_refused(rt: HostRuntime) {
     let open = "chain 1 temporary read\n";
-    check_lines(&rt, rt.alloc(), "", BAD_OPERANDS, 2, "bad operand")?;
-    check_lines(&rt, rt.alloc(), "", NOT_BUILT, 2, "not built")?;
-    check_lines(&rt, rt.alloc(), open, BAD_STEPS, 3, "bad operand")
+    check_lines(&rt, rt.alloc(), "", BAD_OPERANDS, 2, "bad operand");
+    check_lines(&rt, rt.alloc(), "", NOT_BUILT, 2, "not built");
+    check_lines(&rt, rt.alloc(), open, BAD_STEPS, 3, "bad operand");
 }
 
 #[test]
-fn steps_stand_after_their_chain(rt: HostRuntime) -> Result<(), OutOfMemory> {
+fn steps_stand_after_their_chain(rt: HostRuntime) {
     let rows = [
         ("step index 0", 2),
         ("step method", 2),
@@ -88,18 +84,18 @@ fn steps_stand_after_their_chain(rt: HostRuntime) -> Result<(), OutOfMemory> {
         ("main 1\nend\nchain 0 temporary read", 4),
     ];
     for (lines, line) in &rows {
-        let reason = reason_of(&rt, rt.alloc(), lines, *line)?;
+        let reason = reason_of(&rt, rt.alloc(), lines, *line);
         assert!(rt; reason == "out of place", "{lines}: {reason}");
     }
+}
+
+#[test]
+fn steps_stand_after_lines_that_say_nothing(rt: HostRuntime) {
     let spaced = "chain 1 temporary read\n\n ; a comment\nstep index 0\n\t\nstep index 0\n";
-    match listing_with(rt.alloc(), spaced, "")? {
-        Some(setup) => match setup.parts.chains.get(0) {
-            Some(chain) => assert!(rt; chain.steps.len() == 2),
-            None => assert!(rt; false),
-        },
-        None => assert!(rt; false),
-    }
-    Ok(())
+    let setup = listing_with(&rt, rt.alloc(), spaced, "");
+    let chain = setup.parts.chains.get(0).expect(&rt, "a chain");
+    assert!(rt; chain.steps.len() == 2);
+    drop(setup);
 }
 
 /// Chains with all that their lines can say.
@@ -109,36 +105,21 @@ const CHAINS: &str = "\
     step property 1 2 3 ? @6:7\nstep property 4 5 6\nchain 0 temporary read\n\
     chain 0 local 1 2 assign\nstep index 0\n";
 
-#[test]
-fn chains_of_a_listing(rt: HostRuntime) -> Result<(), OutOfMemory> {
-    let Some(setup) = listing_with(rt.alloc(), CHAINS, "chain 2\n")? else {
-        assert!(rt; false);
-        return Ok(());
-    };
-    assert!(rt; setup.strict_properties);
-    let chains = &setup.parts.chains;
-    assert!(rt; chains.len() == 3);
-    let (Some(first), Some(second), Some(third)) = (chains.get(0), chains.get(1), chains.get(2))
-    else {
-        assert!(rt; false);
-        return Ok(());
-    };
+/// Looks at the first chain of `CHAINS`.
+fn check_first(rt: &impl Abort, chain: &Chain) {
     let root = Root::Local {
         name: u32::MAX,
         slot: u16::MAX,
     };
-    assert!(rt; first.root == root && first.tail == Tail::Assign { op: Some(7) });
-    assert!(rt; first.operands == 3 && first.steps.len() == 4);
-    assert!(rt; second.root == Root::Temporary && second.tail == Tail::Read);
-    assert!(rt; second.steps.is_empty());
-    assert!(rt; third.tail == Tail::Assign { op: None } && third.steps.len() == 1);
+    assert!(rt; chain.root == root && chain.tail == Tail::Assign { op: Some(7) });
+    assert!(rt; chain.operands == 3 && chain.steps.len() == 4);
     let index = Step::Index {
         operand: 2,
         flags: StepFlags::SKIP_IF_UNIT,
         pos: Position::new(1, 2),
         bracket: Position::new(3, 4),
     };
-    assert!(rt; first.steps.get(0) == Some(&index));
+    assert!(rt; chain.steps.get(0) == Some(&index));
     let property = Step::Property {
         name: 4,
         getter: 5,
@@ -146,21 +127,30 @@ fn chains_of_a_listing(rt: HostRuntime) -> Result<(), OutOfMemory> {
         flags: StepFlags::empty(),
         pos: Position::NONE,
     };
-    assert!(rt; first.steps.get(3) == Some(&property));
-    Ok(())
+    assert!(rt; chain.steps.get(3) == Some(&property));
+}
+
+/// Looks at the chains of `CHAINS`.
+fn check_chains(rt: &impl Abort, chains: &Chains) {
+    assert!(rt; chains.len() == 3);
+    check_first(rt, chains.get(0).expect(rt, "a chain"));
+    let second = chains.get(1).expect(rt, "a chain");
+    assert!(rt; second.root == Root::Temporary && second.tail == Tail::Read);
+    assert!(rt; second.steps.is_empty());
+    let third = chains.get(2).expect(rt, "a chain");
+    assert!(rt; third.tail == Tail::Assign { op: None } && third.steps.len() == 1);
 }
 
 #[test]
-fn methods_of_a_listing(rt: HostRuntime) -> Result<(), OutOfMemory> {
-    let lines = "chain 3 this @7:0 read\nstep method 4294967295 255 1 ? @1:2\nstep method 0 0 0\n";
-    let Some(setup) = listing_with(rt.alloc(), lines, "")? else {
-        assert!(rt; false);
-        return Ok(());
-    };
-    let Some(chain) = setup.parts.chains.get(0) else {
-        assert!(rt; false);
-        return Ok(());
-    };
+fn chains_of_a_listing(rt: HostRuntime) {
+    let setup = listing_with(&rt, rt.alloc(), CHAINS, "chain 2\n");
+    assert!(rt; setup.strict_properties);
+    check_chains(&rt, &setup.parts.chains);
+    drop(setup);
+}
+
+/// Looks at a chain from `this` whose first step is a method.
+fn check_method(rt: &impl Abort, chain: &Chain) {
     let pos = Position::new(7, 0);
     assert!(rt; chain.root == Root::This { pos } && chain.steps.len() == 2);
     let method = Step::Method {
@@ -171,23 +161,27 @@ fn methods_of_a_listing(rt: HostRuntime) -> Result<(), OutOfMemory> {
         pos: Position::new(1, 2),
     };
     assert!(rt; chain.steps.get(0) == Some(&method));
-    Ok(())
 }
 
 #[test]
-fn a_chain_is_lent_to_be_written(rt: HostRuntime) -> Result<(), OutOfMemory> {
-    let Some(mut setup) = listing_with(rt.alloc(), CHAINS, "")? else {
-        assert!(rt; false);
-        return Ok(());
-    };
-    match setup.parts.chains.get_mut(1) {
-        Some(chain) => chain.operands = 9,
-        None => assert!(rt; false),
-    }
-    assert!(rt; setup.parts.chains.get_mut(3).is_none());
-    match setup.parts.chains.get(1) {
-        Some(chain) => assert!(rt; chain.operands == 9 && chain.root == Root::Temporary),
-        None => assert!(rt; false),
-    }
-    Ok(())
+fn methods_of_a_listing(rt: HostRuntime) {
+    let lines = "chain 3 this @7:0 read\nstep method 4294967295 255 1 ? @1:2\nstep method 0 0 0\n";
+    let setup = listing_with(&rt, rt.alloc(), lines, "");
+    check_method(&rt, setup.parts.chains.get(0).expect(&rt, "a chain"));
+    drop(setup);
+}
+
+/// Writes to one of the chains of `CHAINS`, which has the number 1, and reads it.
+fn check_written(rt: &impl Abort, chains: &mut Chains) {
+    chains.get_mut(1).expect(rt, "a chain").operands = 9;
+    assert!(rt; chains.get_mut(3).is_none());
+    let chain = chains.get(1).expect(rt, "a chain");
+    assert!(rt; chain.operands == 9 && chain.root == Root::Temporary);
+}
+
+#[test]
+fn a_chain_is_lent_to_be_written(rt: HostRuntime) {
+    let mut setup = listing_with(&rt, rt.alloc(), CHAINS, "");
+    check_written(&rt, &mut setup.parts.chains);
+    drop(setup);
 }

@@ -9,7 +9,7 @@ use grain_commands::{Exit, run_args};
 use grain_streams::{
     CallNumbers, MemorySink, MemorySource, Put, Read, Sink, Source, Status, exit_code,
 };
-use grain_value::{Blob, OutOfMemory};
+use grain_value::Blob;
 use std::alloc::Global;
 use std::env::Args;
 use std::io;
@@ -54,12 +54,23 @@ const WALK: Call = Call {
     ..RUN
 };
 
-fn numbers(alloc: Global, all: &[u64]) -> Result<CallNumbers, OutOfMemory> {
+fn numbers(rt: &impl Abort, alloc: Global, all: &[u64]) -> CallNumbers {
     let mut numbers = CallNumbers::new(alloc);
     for number in all {
-        numbers.push(*number)?;
+        numbers.push(*number).expect(rt, "memory");
     }
-    Ok(numbers)
+    numbers
+}
+
+/// A source of this text, which fails at these calls.
+fn source_of(rt: &impl Abort, alloc: Global, text: &str, fails: &[u64]) -> MemorySource {
+    let bytes = Vec::from_slice(alloc, text.as_bytes()).expect(rt, "memory");
+    MemorySource::new(Blob::from_vec(bytes), numbers(rt, alloc, fails))
+}
+
+/// A sink with this room, which fails at these calls.
+fn sink_of(rt: &impl Abort, alloc: Global, room: usize, fails: &[u64]) -> MemorySink {
+    MemorySink::new(alloc, room, numbers(rt, alloc, fails)).expect(rt, "memory")
 }
 
 /// How the program ends over a source and a sink in memory.
@@ -73,50 +84,48 @@ fn exit_of<S: Source>(
 }
 
 /// The arguments of the program with one word.
-fn args_of(alloc: Global, word: &str) -> Result<Args, OutOfMemory> {
+fn args_of(rt: &impl Abort, alloc: Global, word: &str) -> Args {
+    let program = String::from_str(alloc, "grain_run").expect(rt, "memory");
+    let word = String::from_str(alloc, word).expect(rt, "memory");
     let mut args = Vec::new(alloc);
-    args.push(String::from_str(alloc, "grain_run")?)?;
-    args.push(String::from_str(alloc, word)?)?;
-    Ok(args.into_iter())
+    args.push(program).expect(rt, "memory");
+    args.push(word).expect(rt, "memory");
+    args.into_iter()
 }
 
 /// Compares the status of a call, and what it writes.
-fn check(
-    rt: &(impl Abort + Eprint),
-    alloc: Global,
-    call: Call,
-    status: u8,
-    text: &str,
-) -> Result<(), OutOfMemory> {
-    let args = args_of(alloc, call.word)?;
-    let bytes = Vec::from_slice(alloc, call.listing.as_bytes())?;
-    let source_fails = numbers(alloc, &call.source_fails)?;
-    let mut source = MemorySource::new(Blob::from_vec(bytes), source_fails);
-    let sink_fails = numbers(alloc, &call.sink_fails)?;
-    let mut sink = MemorySink::new(alloc, call.room, sink_fails)?;
+fn check(rt: &(impl Abort + Eprint), alloc: Global, call: Call, status: u8, text: &str) {
+    let args = args_of(rt, alloc, call.word);
+    let mut source = source_of(rt, alloc, call.listing, &call.source_fails);
+    let mut sink = sink_of(rt, alloc, call.room, &call.sink_fails);
     let exit = exit_of(alloc, Ok(args), &mut source, &mut sink);
-    assert_eq!(rt; exit.report(rt), ExitCode::from(status));
-    assert_eq!(rt; sink.bytes(), text.as_bytes());
-    Ok(())
+    drop(source);
+    check_end(rt, exit, &sink, status, text);
+    drop(sink);
+}
+
+/// Compares the status with which a call ends, and what it has written.
+fn check_end(rt: &(impl Abort + Eprint), exit: Exit, sink: &MemorySink, status: u8, text: &str) {
+    assert!(rt; exit.report(rt) == ExitCode::from(status));
+    assert!(rt; sink.bytes() == text.as_bytes());
 }
 
 /// A line that is not built yet stands here and not among the cases, which hold for good.
 #[test]
-fn words_and_lines_that_are_not_there(rt: HostRuntime) -> Result<(), OutOfMemory> {
+fn words_and_lines_that_are_not_there(rt: HostRuntime) {
     let not_built = Call {
         listing: "grain 1\nswitch 1\n",
         ..RUN
     };
     let text = "listing line 2: not built\n";
-    check(&rt, rt.alloc(), not_built, 3, text)?;
+    check(&rt, rt.alloc(), not_built, 3, text);
     for word in ["walk", "", "check", "Run"] {
-        check(&rt, rt.alloc(), Call { word, ..RUN }, 2, USAGE)?;
+        check(&rt, rt.alloc(), Call { word, ..RUN }, 2, USAGE);
     }
-    Ok(())
 }
 
 #[test]
-fn the_source_or_the_sink_fails(rt: HostRuntime) -> Result<(), OutOfMemory> {
+fn the_source_or_the_sink_fails(rt: HostRuntime) {
     let rows = [
         (RUN, [1, 0], [0, 0], 5, ""),
         (RUN, [2, 0], [0, 0], 5, ""),
@@ -133,13 +142,12 @@ fn the_source_or_the_sink_fails(rt: HostRuntime) -> Result<(), OutOfMemory> {
             sink_fails,
             ..call
         };
-        check(&rt, rt.alloc(), call, status, text)?;
+        check(&rt, rt.alloc(), call, status, text);
     }
-    Ok(())
 }
 
 #[test]
-fn the_sink_has_too_little_room(rt: HostRuntime) -> Result<(), OutOfMemory> {
+fn the_sink_has_too_little_room(rt: HostRuntime) {
     let rows = [
         ("run", SUM, 3, 6, "val"),
         ("run", SUM, 0, 6, ""),
@@ -163,23 +171,26 @@ fn the_sink_has_too_little_room(rt: HostRuntime) -> Result<(), OutOfMemory> {
             room,
             ..RUN
         };
-        check(&rt, rt.alloc(), call, status, text)?;
+        check(&rt, rt.alloc(), call, status, text);
     }
-    Ok(())
 }
 
 #[test]
-fn a_program_without_words_ends_with_9(rt: HostRuntime) -> Result<(), OutOfMemory> {
-    let mut source = MemorySource::new(Blob::new(rt.alloc()), CallNumbers::new(rt.alloc()));
-    let mut sink = MemorySink::new(rt.alloc(), 100, CallNumbers::new(rt.alloc()))?;
+fn a_program_without_words_ends_with_9(rt: HostRuntime) {
+    let mut source = source_of(&rt, rt.alloc(), "", &[]);
+    let mut sink = sink_of(&rt, rt.alloc(), 100, &[]);
     let no_words = Err(Error::from(ErrorKind::InvalidData));
     let exit = exit_of(rt.alloc(), no_words, &mut source, &mut sink);
-    assert_eq!(rt; exit.report(&rt), ExitCode::from(9));
-    assert_eq!(rt; sink.bytes(), b"".as_slice());
+    drop(source);
+    check_end(&rt, exit, &sink, 9, "");
+    drop(sink);
+}
+
+#[test]
+fn exit_codes_are_the_numbers_of_statuses(rt: HostRuntime) {
     for number in [0, 1, 2, 3, 4, 5, 6, 7, 9] {
-        assert_eq!(rt; exit_code(Status { number }), ExitCode::from(number));
+        assert!(rt; exit_code(Status { number }) == ExitCode::from(number));
     }
-    Ok(())
 }
 
 /// A source without an end. It counts the bytes that it was asked for.
@@ -202,21 +213,19 @@ impl Source for Endless {
 }
 
 #[test]
-fn reading_stops_after_16_777_217_bytes(rt: HostRuntime) -> Result<(), OutOfMemory> {
+fn reading_stops_after_16_777_217_bytes(rt: HostRuntime) {
     let mut source = Endless { asked: 0 };
-    let mut sink = MemorySink::new(rt.alloc(), 100, CallNumbers::new(rt.alloc()))?;
-    let args = args_of(rt.alloc(), "run")?;
+    let mut sink = sink_of(&rt, rt.alloc(), 100, &[]);
+    let args = args_of(&rt, rt.alloc(), "run");
     let exit = exit_of(rt.alloc(), Ok(args), &mut source, &mut sink);
-    assert_eq!(rt; exit.report(&rt), ExitCode::from(3));
-    assert_eq!(rt; sink.bytes(), b"listing line 0: too long\n".as_slice());
-    assert_eq!(rt; source.asked, 16_777_217);
-    Ok(())
+    check_end(&rt, exit, &sink, 3, "listing line 0: too long\n");
+    assert!(rt; source.asked == 16_777_217);
+    drop(sink);
 }
 
 #[test]
-fn streams_in_memory_fail_where_they_should(rt: HostRuntime) -> Result<(), OutOfMemory> {
-    let bytes = Vec::from_slice(rt.alloc(), b"abcde")?;
-    let mut source = MemorySource::new(Blob::from_vec(bytes), numbers(rt.alloc(), &[4, 2])?);
+fn sources_in_memory_fail_where_they_should(rt: HostRuntime) {
+    let mut source = source_of(&rt, rt.alloc(), "abcde", &[4, 2]);
     let mut buffer = [0u8; 2];
     let answers = [
         Read::Got(2),
@@ -228,11 +237,16 @@ fn streams_in_memory_fail_where_they_should(rt: HostRuntime) -> Result<(), OutOf
         Read::End,
     ];
     for answer in answers {
-        assert_eq!(rt; source.read(&mut buffer), answer);
+        assert!(rt; source.read(&mut buffer) == answer);
     }
-    assert_eq!(rt; source.read(&mut buffer[..0]), Read::Got(0));
-    assert_eq!(rt; buffer, *b"ed");
-    let mut sink = MemorySink::new(rt.alloc(), 4, numbers(rt.alloc(), &[2, 6])?)?;
+    assert!(rt; source.read(&mut buffer[..0]) == Read::Got(0));
+    assert!(rt; buffer == *b"ed");
+    drop(source);
+}
+
+#[test]
+fn sinks_in_memory_fail_where_they_should(rt: HostRuntime) {
+    let mut sink = sink_of(&rt, rt.alloc(), 4, &[2, 6]);
     let rows = [
         ("abc", Put::Took(3)),
         ("d", Put::Failed),
@@ -242,8 +256,8 @@ fn streams_in_memory_fail_where_they_should(rt: HostRuntime) -> Result<(), OutOf
         ("", Put::Failed),
     ];
     for (piece, answer) in rows {
-        assert_eq!(rt; sink.put(piece.as_bytes()), answer);
+        assert!(rt; sink.put(piece.as_bytes()) == answer, "{piece}");
     }
-    assert_eq!(rt; sink.bytes(), b"abcd".as_slice());
-    Ok(())
+    assert!(rt; sink.bytes() == b"abcd".as_slice());
+    drop(sink);
 }

@@ -1,8 +1,10 @@
 //! Each instruction: its line, its bytes, and what is read of them.
 
 use grain_listing::read;
-use grain_program::{assemble, decode};
-use std::test::Fail;
+use grain_program::{Op, assemble, decode};
+use grain_value::Blob;
+use std::alloc::Global;
+use std::process::Abort;
 
 /// All instructions. The bytes of their operands count from 1 in each.
 const LINES: &str = "grain 1\nmain 1\n\
@@ -41,27 +43,57 @@ const OPS: &str = "\
     Chain(513)\nUnwindTo(513)\nTick\nCheckpoint\nStatement(513)\nPushHandler(67305985)\n\
     PushHandlerVar(67305985, 1541)\nPopHandler\nThrow\nReturn\n";
 
-#[test]
-fn lines_and_bytes_of_instructions(rt: HostRuntime) -> Result<(), Fail> {
-    let alloc = rt.alloc();
-    let Ok(setup) = read(alloc, LINES.as_bytes())? else {
-        return Err("refused".into());
-    };
-    let code = &setup.parts.code;
-    assert_eq!(rt; code.as_slice(), BYTES);
+/// The instructions of code that has 44 of them and ends after the last.
+fn decoded(rt: &impl Abort, alloc: Global, code: &Blob) -> Vec<Op> {
     let mut ops = Vec::new(alloc);
-    let mut written = String::new(alloc);
     let mut address = 0usize;
     for _ in 0..44u32 {
-        let Some((op, width)) = decode(code, address) else {
-            return Err("no instruction".into());
-        };
-        ops.push(op)?;
-        written.push_str(format!(in alloc; "{op:?}\n")?.as_str())?;
+        let (op, width) = decode(code, address).expect(rt, "no instruction");
+        ops.push(op).expect(rt, "memory");
         address = address.saturating_add(width);
     }
-    assert_eq!(rt; written.as_str(), OPS);
-    assert_eq!(rt; assemble(alloc, ops.as_slice())?.as_slice(), BYTES);
-    assert_eq!(rt; decode(code, address), None);
-    Ok(())
+    assert!(rt; decode(code, address).is_none());
+    ops
+}
+
+/// These instructions as they are written for a debugger, each on a line.
+fn written(rt: &impl Abort, alloc: Global, ops: &[Op]) -> String {
+    let mut text = String::new(alloc);
+    for op in ops {
+        write_line(rt, alloc, &mut text, op);
+    }
+    text
+}
+
+fn write_line(rt: &impl Abort, alloc: Global, text: &mut String, op: &Op) {
+    let line = format!(in alloc; "{op:?}\n").expect(rt, "memory");
+    text.push_str(line.as_str()).expect(rt, "memory");
+}
+
+fn check_bytes(rt: &impl Abort, code: &Blob) {
+    assert!(rt; code.as_slice() == BYTES);
+}
+
+fn check_written(rt: &impl Abort, alloc: Global, ops: &[Op]) {
+    let text = written(rt, alloc, ops);
+    assert!(rt; text.as_str() == OPS);
+}
+
+/// Looks at the code that the lines make.
+fn check_code(rt: &impl Abort, alloc: Global, code: &Blob) {
+    check_bytes(rt, code);
+    let ops = decoded(rt, alloc, code);
+    check_written(rt, alloc, ops.as_slice());
+    let again = assemble(alloc, ops.as_slice()).expect(rt, "memory");
+    check_bytes(rt, &again);
+    drop(again);
+    drop(ops);
+}
+
+#[test]
+fn lines_and_bytes_of_instructions(rt: HostRuntime) {
+    let answer = read(rt.alloc(), LINES.as_bytes()).expect(&rt, "memory");
+    let setup = answer.expect(&rt, "refused");
+    check_code(&rt, rt.alloc(), &setup.parts.code);
+    drop(setup);
 }

@@ -3,7 +3,7 @@
 ghost use Rattle.std.specs.Prelude.{◌≡◌, ◌<◌};
 ghost use Rattle.grain_listing.specs.ListingViews.{IsReady};
 
-use grain_fault::{Fault, RhaiResult};
+use grain_fault::RhaiResult;
 use grain_global::{Engine, GlobalRuntimeState, Steps};
 use grain_listing::{Listing, read};
 use grain_program::verify;
@@ -11,25 +11,21 @@ use grain_value::{Dynamic, OutOfMemory, Scope, Store};
 use grain_vm::Vm;
 use std::alloc::Global;
 use std::marker::Brand;
+use std::process::Abort;
 use std::sync::ledger::{Blank, Ledger};
-use std::test::Fail;
 
 /// What a run left.
 #[derive(Drop)]
 struct Ended {
     answer: RhaiResult,
-    trace: Vec<Fault>,
+    trace_len: usize,
     address: Option<usize>,
     scope: Scope,
     global: GlobalRuntimeState,
 }
 
 /// What the run of what a listing says left.
-fn end_of<L: Ledger>(
-    alloc: Global,
-    blank: Blank,
-    setup: Listing,
-) -> Result<Option<Ended>, OutOfMemory>
+fn end_of<L: Ledger>(rt: &impl Abort, alloc: Global, blank: Blank, setup: Listing) -> Ended
     requires ready { IsReady setup }
     requires name { blank.name ≡ L.name }
     requires parts { blank.parts ≡ L.parts }
@@ -42,71 +38,74 @@ fn end_of<L: Ledger>(
         mut scope,
         ..
     } = setup;
-    let Ok(program) = verify(alloc, parts) else {
-        return Ok(None);
-    };
+    let program = verify(alloc, parts).expect(rt, "no program");
     let engine = Engine::new(alloc, limits);
-    let global = engine.new_global_runtime_state(alloc)?;
+    let global = engine.new_global_runtime_state(alloc).expect(rt, "memory");
     let mut vm = Vm::with_global_state(alloc, &engine, global);
     let mut cells = Store::new(alloc);
     let mut steps = Steps::<L>::new(blank);
     let answer = vm.eval_with_callbacks(
         alloc, &mut host, &mut cells, &mut scope, &program, &mut steps,
     );
-    let trace = Vec::from_slice(alloc, vm.fault_trace())?;
+    let trace_len = vm.fault_trace().len();
     let address = vm.fault_pc();
-    Ok(Some(Ended {
+    let global = vm.into_global_state();
+    drop(cells);
+    drop(program);
+    drop(host);
+    Ended {
         answer,
-        trace,
+        trace_len,
         address,
         scope,
-        global: vm.into_global_state(),
-    }))
+        global,
+    }
 }
 
-/// What the run of a listing left.
-fn run_of(alloc: Global, listing: &str) -> Result<Option<Ended>, OutOfMemory> {
-    match read(alloc, listing.as_bytes())? {
-        Ok(setup) => end_of::<Brand>(alloc, Blank::new(6), setup),
-        Err(_) => Ok(None),
+/// What the run of a listing left. Each test lends it to what looks at it, and drops it last.
+fn run_of(rt: &impl Abort, alloc: Global, listing: &str) -> Ended {
+    let answer = read(alloc, listing.as_bytes()).expect(rt, "memory");
+    let setup = answer.expect(rt, "refused");
+    end_of::<Brand>(rt, alloc, Blank::new(6), setup)
+}
+
+/// The name of the fault with which a run ended, and that of the innermost fault in it.
+fn fault_names(ended: &Ended) -> Option<(&'static str, &'static str)> {
+    match &ended.answer {
+        Ok(_) => None,
+        Err(fault) => Some((fault.name(), fault.unwrap_inner().name())),
     }
 }
 
 #[test]
-fn a_thrown_value_leaves_a_call(rt: HostRuntime) -> Result<(), Fail> {
+fn a_thrown_value_leaves_a_call(rt: HostRuntime) {
     let listing = "grain 1\nconst 7\nname \"f\"\nmain 1\ncall 0 0\nreturn\nend\n\
         fn 0 1\nload_const 0\nthrow\nend\n";
-    let Some(ended) = run_of(rt.alloc(), listing)? else {
-        return Err("refused".into());
-    };
-    let Err(fault) = &ended.answer else {
-        return Err("no fault".into());
-    };
-    assert_eq!(rt; fault.name(), "ErrorInFunctionCall");
-    assert_eq!(rt; fault.unwrap_inner().name(), "ErrorRuntime");
-    assert_eq!(rt; ended.trace.len(), 2);
-    assert_eq!(rt; ended.address, Some(8));
-    assert_eq!(rt; ended.global.num_operations(), 1);
-    assert_eq!(rt; ended.global.level, 0);
-    Ok(())
+    let ended = run_of(&rt, rt.alloc(), listing);
+    let (outer, inner) = fault_names(&ended).expect(&rt, "no fault");
+    assert!(rt; outer == "ErrorInFunctionCall");
+    assert!(rt; inner == "ErrorRuntime");
+    assert!(rt; ended.trace_len == 2);
+    assert!(rt; ended.address == Some(8));
+    assert!(rt; ended.global.num_operations() == 1);
+    assert!(rt; ended.global.level == 0);
+    drop(ended);
 }
 
 #[test]
-fn an_exit_two_calls_deep_cuts_the_scope(rt: HostRuntime) -> Result<(), Fail> {
+fn an_exit_two_calls_deep_cuts_the_scope(rt: HostRuntime) {
     let listing = "grain 1\nscope \"a\" ()\nconst 7\nname \"f\"\nname \"g\"\nname \"exit\"\n\
         main 1\nunit\ndeclare_local 0\ncall 0 0\nreturn\nend\nfn 0 1\ncall 1 0\nreturn\nend\n\
         fn 1 1\nload_const 0\ncall 2 1\npop\nreturn\nend\n";
-    let Some(ended) = run_of(rt.alloc(), listing)? else {
-        return Err("refused".into());
-    };
-    assert!(rt; matches!(ended.answer, Ok(Dynamic::Int(7))));
-    assert_eq!(rt; ended.trace.len(), 0);
+    let ended = run_of(&rt, rt.alloc(), listing);
+    assert!(rt; matches!(&ended.answer, Ok(Dynamic::Int(7))));
+    assert!(rt; ended.trace_len == 0);
     assert!(rt; ended.address.is_none());
-    assert_eq!(rt; ended.scope.len(), 1);
+    assert!(rt; ended.scope.len() == 1);
     assert!(rt; ended.scope.contains("a"));
-    assert_eq!(rt; ended.global.num_operations(), 2);
-    assert_eq!(rt; ended.global.level, 0);
-    Ok(())
+    assert!(rt; ended.global.num_operations() == 2);
+    assert!(rt; ended.global.level == 0);
+    drop(ended);
 }
 
 /// A listing whose variable becomes an array of itself 1,024 times, and which then reads what stands
@@ -130,21 +129,22 @@ fn deep_listing(alloc: Global, steps: u32) -> Result<String, OutOfMemory> {
     Ok(text)
 }
 
+/// How long the array is with which this run of `deep_listing` ended, or the name of its fault.
+fn deep_end(rt: &impl Abort, alloc: Global, steps: u32) -> Result<usize, &'static str> {
+    let listing = deep_listing(alloc, steps).expect(rt, "memory");
+    let ended = run_of(rt, alloc, listing.as_str());
+    let end = match &ended.answer {
+        Ok(Dynamic::Array(inner)) => Ok(inner.len()),
+        Ok(_) => Err("no array"),
+        Err(fault) => Err(fault.name()),
+    };
+    drop(ended);
+    drop(listing);
+    end
+}
+
 #[test]
-fn no_place_is_deeper_than_1024_steps(rt: HostRuntime) -> Result<(), Fail> {
-    let Some(ended) = run_of(rt.alloc(), deep_listing(rt.alloc(), 1024)?.as_str())? else {
-        return Err("refused".into());
-    };
-    match &ended.answer {
-        Ok(Dynamic::Array(inner)) => assert_eq!(rt; inner.len(), 1),
-        _ => return Err("no array".into()),
-    }
-    let Some(ended) = run_of(rt.alloc(), deep_listing(rt.alloc(), 1025)?.as_str())? else {
-        return Err("refused".into());
-    };
-    match &ended.answer {
-        Err(fault) => assert_eq!(rt; fault.name(), "Memory"),
-        Ok(_) => return Err("a value".into()),
-    }
-    Ok(())
+fn no_place_is_deeper_than_1024_steps(rt: HostRuntime) {
+    assert!(rt; deep_end(&rt, rt.alloc(), 1024) == Ok(1));
+    assert!(rt; deep_end(&rt, rt.alloc(), 1025) == Err("Memory"));
 }

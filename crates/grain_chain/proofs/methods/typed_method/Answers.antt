@@ -1,4 +1,4 @@
-use Rattle.std.proofs.Common.{◌≡◌, ℕ, length, arith}
+use Rattle.std.proofs.Common.{◌≡◌, length, arith}
 use Rattle.grain_chain.proofs.methods.typed_method.Goals as goal
 
 pub returns-in-Some-clause-can : goal.returns-in-Some-clause-can

@@ -80,6 +80,9 @@ returns-then-not-is_free-clause-begins g c = λ host.
     (rw c.chain-chain.ensures at c.in_ok-taken.ensures) c.requires.ready.inside c.race_at_root.new.run
     c.race_at_root.new.steps (Ok progress.Failed) lent (refl, did.1, did.2, did.3)
 
+pub start_walk-walk-requires-clause-copies : goal.start_walk-walk-requires-clause-copies
+start_walk-walk-requires-clause-copies g c = rw c.chain-chain.ensures at c.in_ok-taken.ensures
+
 pub start_walk-walk-requires-clause-home : goal.start_walk-walk-requires-clause-home
 start_walk-walk-requires-clause-home g c =
     let p = c.args.context.program.now in
@@ -102,6 +105,5 @@ returns-clause-begins g c = λ host.
     c.in_ok-taken.taken found copies c.requires.ready.inside c.start_walk-walk.result.0
     c.start_walk-walk.result.1 c.start_walk-walk.result.2 c.start_walk-walk.new.run
     c.start_walk-walk.new.steps
-    (rw c.mark.ensures at (c.start_walk-walk.ensures.starts h c.args.blamed c.args.next host found
-    copies))
+    (rw c.mark.ensures at (c.start_walk-walk.ensures.starts h c.args.blamed c.args.next host found))
     (c.start_walk-walk.ensures.before ∙ ap (λ (l : StepsView). l.before) c.mark.ensures)

@@ -5,7 +5,7 @@ use Rattle.grain_means.specs.Means.{setup}
 use Rattle.grain_means.specs.Rules.Chains.{assigned_operand, lent_cell}
 use Rattle.grain_frame.specs.declared.runs.Run.{Run}
 use Rattle.grain_vm.specs.Chains.{left_by, value_taken}
-use Rattle.grain_vm.proofs.Rooting.{bound_away, bound_from, can_put_back, can_still, has_operator, long_still, others_are, value_at}
+use Rattle.grain_vm.proofs.Rooting.{bound_away, bound_from, can_put_back, can_still, copied_enough, has_operator, long_still, others_are, value_at}
 use Rattle.grain_vm.proofs.Starting.{lent_is_cell, placed, starts, walk_task}
 use Rattle.grain_vm.proofs.chains.start_walk.Goals as goal
 
@@ -19,10 +19,15 @@ take_root-held-requires g c =
 pub start-walk-requires : goal.start-walk-requires
 start-walk-requires g c =
     let p = c.args.context.program.now in
-    has_operator p (chain_of p c.args.index).tail c.requires.chain.1.tail
+    let ops = c.args.run.now.stacks.operands in
+    record {
+      operator = has_operator p (chain_of p c.args.index).tail c.requires.chain.1.tail;
+      enough = copied_enough (chain_of p c.args.index) ops c.args.taken.operands c.requires.operands
+          c.requires.copies.0;
+    }
 
 pub returns-clause-starts : goal.returns-clause-starts
-returns-clause-starts g c = λ h blamed next host found copies.
+returns-clause-starts g c = λ h blamed next host found.
     let p = c.args.context.program.now in
     let e = c.args.context.engine.now in
     let m = setup g.H.Host.law p e in
@@ -55,7 +60,8 @@ returns-clause-starts g c = λ h blamed next host found copies.
     (can_put_back s0 s1 root.home operand held (can_still s s0 ops root.home gone c.requires.home) took)
     (bound_from s s0 s1 root.home (ap (λ (q : Run g.row.H.Denot). q.receivers) gone)
     (bound_away s0 s1 root.home operand held took))
-    (rw (copies.0, valued, c.position.ensures) at c.start-walk.ensures.did) c.start-walk.ensures.rooted
+    (rw (c.requires.copies.0, valued, c.position.ensures) at c.start-walk.ensures.did)
+    c.start-walk.ensures.rooted
     (rw c.marks.ensures at c.mark_all.ensures)
     (long_still s0 s1 root.home operand held took
     ∙ ap (λ (q : Run g.row.H.Denot). length q.scope) gone)

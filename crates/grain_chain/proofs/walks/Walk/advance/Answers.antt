@@ -1,4 +1,4 @@
-use Rattle.std.proofs.Common.{◌≡◌, ◌<◌, false, Some, Ok, refl, sym, ap, ◌∙◌, subst, arith}
+use Rattle.std.proofs.Common.{◌≡◌, ◌<◌, false, Some, Ok, length, refl, sym, ap, ◌∙◌, subst, arith}
 use Rattle.grain_means.specs.Walks
 use Rattle.std.specs.Prelude.{codes}
 use Rattle.grain_fault.specs.Problems.{Plain, DataRace}
@@ -8,7 +8,9 @@ use Rattle.grain_chain.specs.declared.walks.Walk.{Walk}
 use Rattle.grain_chain.proofs.Strides.{then_goes}
 use Rattle.grain_chain.proofs.Stepping.{needs_more}
 use Rattle.grain_means.specs.Tasks.{Task}
-use Rattle.grain_chain.specs.Walking.{count, steps_left}
+use Rattle.grain_program.specs.View.{chain_of}
+use Rattle.grain_chain.specs.Walking.{HasAllOperands, count, steps_left}
+use Rattle.grain_chain.proofs.Operands.{enough}
 use Rattle.grain_chain.proofs.Stepping.{ahead, takes_next, skips_next, races_next, turns_less, take_on, then_reaches}
 use Rattle.grain_chain.proofs.Loops.{Led, step_answers, step_gives_up, step_turns, answers_less}
 use Rattle.std.proofs.Common.{rules, is_ok, ◌≤◌}
@@ -21,6 +23,7 @@ steps-init c = record {
   walks = λ k. as_is refl;
   less = omega arith;
   all = c.count_of_steps-count.ensures;
+  has = c.requires;
 }
 
 pub returns-then-self-count-clause-goes : goal.returns-then-self-count-clause-goes
@@ -55,7 +58,7 @@ returns-in_default-clause-goes c =
     then_goes x w0 w c.race_before.new.self (ahead x w0) (ahead x w) c.race_before.result
     c.steps.invariant.walks
     (then_goes x w w c.race_before.new.self (ahead x w) _ c.race_before.result
-    (races_next x w c.step_at-step.result unit.0 c.step_at-step.ensures unit.1.0 unit.1.1)
+    (races_next x w c.step_at-step.result unit.0 c.step_at-step.ensures.is unit.1.0 unit.1.1)
     (subst (λ (q : Position). Goes x w (Walks.at_mark w.step (rest x w) (Walks.failing w.step
     (Plain (DataRace (codes "variable ''")) q) (rest x w))) c.race_before.result
     c.race_before.new.self) c.position_of.ensures (c.race_before.ensures.goes x)))
@@ -70,7 +73,7 @@ returns-then-ends-clause-goes c =
     let unit = c.in-Some.ensures in
     then_goes x w0 w c.skip.new.self (ahead x w0) (ahead x w) c.skip.result inv.walks
     (then_goes x w w c.skip.new.self (ahead x w) _ c.skip.result
-    (skips_next x w c.step_at-step.result unit.0 c.step_at-step.ensures unit.1.0
+    (skips_next x w c.step_at-step.result unit.0 c.step_at-step.ensures.is unit.1.0
     (ap Some (sym c.if-ends.true) ∙ unit.1.1)) c.skip.ensures.goes)
 
 pub returns-then-ends-clause-needs : goal.returns-then-ends-clause-needs
@@ -83,7 +86,16 @@ returns-then-ends-clause-needs c =
     needs_more p c.skip.new.self c.skip.result _ _ c.skip.ensures.needs (omega (arith, inv.less))
 
 pub take-requires : goal.take-requires
-take-requires c = omega (arith, c.steps.invariant.all, c.if-self-count.false)
+take-requires c =
+    let w = c.steps.self in
+    let p = c.args.context.program.now in
+    let inv = c.steps.invariant in
+    let here : w.step < count p w = omega (arith, inv.all, c.if-self-count.false) in
+    record {
+      at = (here, inv.has);
+      operands = enough (chain_of p w.chain).operands (length w.operands) c.step_at-step.result
+          c.step_at-step.ensures.operands inv.has;
+    }
 
 pub returns-in_err-take-clause-goes : goal.returns-in_err-take-clause-goes
 returns-in_err-take-clause-goes c =
@@ -95,7 +107,7 @@ returns-in_err-take-clause-goes c =
     let unit = c.in-Some.ensures in
     let led = then_reaches x w0 w w (ahead x w0) (ahead x w)
     (Walks.at_mark w.step (rest x w) (take_on x w c.step_at-step.result)) inv.walks
-    (takes_next x w c.step_at-step.result unit.0 c.step_at-step.ensures unit.1.0
+    (takes_next x w c.step_at-step.result unit.0 c.step_at-step.ensures.is unit.1.0
     (ap Some (sym c.if-ends.false) ∙ unit.1.1)) in
     let out : is_ok c.from_residual.result ≡ false = search rules in
     let none : is_ok c.take.result ≡ false = search rules in
@@ -112,7 +124,7 @@ step_on-requires c =
     let unit = c.in-Some.ensures in
     let led = then_reaches x w0 w w (ahead x w0) (ahead x w)
     (Walks.at_mark w.step (rest x w) (take_on x w c.step_at-step.result)) inv.walks
-    (takes_next x w c.step_at-step.result unit.0 c.step_at-step.ensures unit.1.0
+    (takes_next x w c.step_at-step.result unit.0 c.step_at-step.ensures.is unit.1.0
     (ap Some (sym c.if-ends.false) ∙ unit.1.1)) in
     let got = step_turns x w0 (ahead x w0) w c.take.new.self _ c.take.result led
     (c.in_ok-take.was ∙ ap Ok c.in-None.is) c.take.ensures.takes in
@@ -129,7 +141,7 @@ steps-preserved c =
     let unit = c.in-Some.ensures in
     let led = then_reaches x w0 w w (ahead x w0) (ahead x w)
     (Walks.at_mark w.step (rest x w) (take_on x w c.step_at-step.result)) inv.walks
-    (takes_next x w c.step_at-step.result unit.0 c.step_at-step.ensures unit.1.0
+    (takes_next x w c.step_at-step.result unit.0 c.step_at-step.ensures.is unit.1.0
     (ap Some (sym c.if-ends.false) ∙ unit.1.1)) in
     let got = step_turns x w0 (ahead x w0) w c.take.new.self _ c.take.result led
     (c.in_ok-take.was ∙ ap Ok c.in-None.is) c.take.ensures.takes in
@@ -141,6 +153,8 @@ steps-preserved c =
           (omega (arith, fewer_left, inv.less));
       all = subst (λ (u : Walk). c.count_of_steps-count.result ≡ count p u) (sym c.step_on.ensures)
           (subst (λ (u : Walk). c.count_of_steps-count.result ≡ count p u) (sym got.1.same) inv.all);
+      has = subst (λ (u : Walk). HasAllOperands p u) (sym c.step_on.ensures)
+          (subst (λ (u : Walk). HasAllOperands p u) (sym got.1.same) inv.has);
     }
 
 pub returns-in-Some-2-clause-goes : goal.returns-in-Some-2-clause-goes
@@ -153,7 +167,7 @@ returns-in-Some-2-clause-goes c =
     let unit = c.in-Some.ensures in
     let led = then_reaches x w0 w w (ahead x w0) (ahead x w)
     (Walks.at_mark w.step (rest x w) (take_on x w c.step_at-step.result)) inv.walks
-    (takes_next x w c.step_at-step.result unit.0 c.step_at-step.ensures unit.1.0
+    (takes_next x w c.step_at-step.result unit.0 c.step_at-step.ensures.is unit.1.0
     (ap Some (sym c.if-ends.false) ∙ unit.1.1)) in
     step_answers x w0 (ahead x w0) w c.take.new.self _ c.in-Some-2.answer c.take.result led
     (c.in_ok-take.was ∙ ap Ok c.in-Some-2.is) c.take.ensures.takes

@@ -1,10 +1,10 @@
-use Rattle.std.proofs.Common.{◌<◌, ◌+◌, List, Some, None, map, sym, ◌∙◌, subst}
+use Rattle.std.proofs.Common.{◌+◌, List, Some, None, map, sym, ◌∙◌, subst}
 use Rattle.grain_value.specs.Tree.{Tree}
 use Rattle.grain_value.specs.View.{value_of}
 use Rattle.grain_means.specs.Walks
-use Rattle.grain_chain.specs.Walking.{count, steps_left}
+use Rattle.grain_chain.specs.Walking.{AtStep, steps_left}
 use Rattle.grain_chain.specs.Going.{Goes, Needs, rest}
-use Rattle.grain_chain.specs.MethodSteps.{called_task}
+use Rattle.grain_chain.specs.MethodSteps.{HasArguments, called_task}
 use Rattle.grain_chain.specs.declared.walks.Walk.{Walk}
 use Rattle.grain_chain.proofs.MethodSteps.{first_goes, has_some, none_first}
 use Rattle.grain_chain.proofs.walks.Walk.call_first.Goals as goal
@@ -35,13 +35,16 @@ returns-in-Some-clause-goes c = λ v stands.
     (sym c.in-Some.is ∙ c.in_ok-first.ensures) (c.call_argument.ensures.goes c.args.context)
 
 pub call_argument-requires : goal.call_argument-requires
-call_argument-requires c =
-    has_some c.args.self.now.operands c.args.step.operand c.args.step.argc
-    (sym c.lacks_argument.ensures ∙ c.if-lacks_argument.false)
+call_argument-requires c = record {
+  some = has_some c.args.self.now.operands c.args.step.operand c.args.step.argc
+      (sym c.lacks_argument.ensures ∙ c.if-lacks_argument.false);
+  operands = subst (λ (u : Walk). HasArguments u c.args.step) (sym c.in_ok-pass_mark.ensures.passed)
+      c.requires.operands;
+}
 
 pub returns-in-Some-clause-needs : goal.returns-in-Some-clause-needs
 returns-in-Some-clause-needs c =
     let p = c.args.context.program.now in
-    subst (λ (u : Walk). u.step < count p u →
+    subst (λ (u : Walk). AtStep p u →
     Needs p c.call_argument.new.self c.call_argument.result (steps_left p u + 2))
     c.in_ok-pass_mark.ensures.passed (c.call_argument.ensures.needs p) c.requires.at

@@ -1,4 +1,4 @@
-use Rattle.std.proofs.Common.{rules, ◌≡◌, ◌+◌, ◌++◌, ◌∷◌, [], ℕ, List, Some, length, length-append, ap, ◌∙◌, arith}
+use Rattle.std.proofs.Common.{rules, ◌≡◌, ◌+◌, ◌++◌, ◌∷◌, [], List, Some, length, length-append, ap, ◌∙◌, arith}
 use Rattle.std.specs.Prelude.{slice_get}
 use Rattle.grain_value.specs.Tree.{Tree}
 use Rattle.grain_value.specs.View.{tree}
@@ -14,7 +14,7 @@ copies-init c = record {
 pub copies-preserved : goal.copies-preserved
 copies-preserved c =
     let ts = c.args.self.now.operands in
-    let t = tree c.in-Some.operand.now in
+    let t = tree c.at-operand.result.now in
     let more : c.push.new.self ≡ c.copies.values ++ t ∷ [] = search rules in
     let found : slice_get ts (c.args.first + c.copies.index) ≡ Some t = search rules in
     let longer : length c.push.new.self ≡ length c.copies.values + 1 =

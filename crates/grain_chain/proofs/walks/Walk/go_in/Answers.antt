@@ -1,4 +1,4 @@
-use Rattle.std.proofs.Common.{Bool, false, Some, None, Err, refl, sym, ◌∙◌, subst, arith}
+use Rattle.std.proofs.Common.{Bool, Some, None, Err, refl, sym, ◌∙◌, subst, arith}
 use Rattle.grain_means.specs.Walks.{is_change}
 use Rattle.grain_chain.specs.Walking.{origin_of}
 use Rattle.grain_chain.specs.Going.{Goes, rest}

@@ -7,7 +7,7 @@ use Rattle.grain_chain.proofs.Strides.{from_same, then_goes}
 use Rattle.grain_chain.proofs.Stepping.{needs_more}
 use Rattle.grain_chain.specs.Walking.{origin_of}
 use Rattle.grain_value.specs.Operands.{read_write}
-use Rattle.grain_chain.specs.Walking.{count, backs, steps_left, next_of}
+use Rattle.grain_chain.specs.Walking.{HasAllOperands, count, backs, steps_left, next_of}
 use Rattle.grain_chain.specs.Going.{in_root}
 use Rattle.grain_chain.specs.declared.origins.Onward.{Onward}
 use Rattle.grain_chain.proofs.Roots.{enters}
@@ -22,7 +22,16 @@ step_on-requires c =
     let x = c.args.context in
     let i = in_root w c.args.origin (read_write c.args.value) in
     let e : c.enter_root.new.self ≡ i = c.in_ok-enter_root.ensures.entered in
-    subst (λ (u : Walk). u.step < count x.program.now u) (sym e) c.requires.at
+    subst (λ (u : Walk). u.step < count x.program.now u) (sym e) c.requires.at.0
+
+pub advance-requires : goal.advance-requires
+advance-requires c =
+    let w = c.args.self.now in
+    let x = c.args.context in
+    let i = in_root w c.args.origin (read_write c.args.value) in
+    let e : c.enter_root.new.self ≡ i = c.in_ok-enter_root.ensures.entered in
+    let f : c.step_on.new.self ≡ stepped i = c.step_on.ensures ∙ ap stepped e in
+    subst (λ (u : Walk). HasAllOperands x.program.now u) (sym f) c.requires.at.1
 
 pub returns-in-Further-clause-goes : goal.returns-in-Further-clause-goes
 returns-in-Further-clause-goes c =
@@ -52,7 +61,7 @@ returns-in-Further-clause-needs c =
     needs_more p c.advance.new.self c.advance.result _ _
     (subst (λ (u : Walk). Needs p c.advance.new.self c.advance.result (steps_left p u + 3)) f
     c.advance.ensures.needs)
-    (omega (arith, c.requires.at, length-append w.trail.outer (aside w c.args.origin ∷ [])))
+    (omega (arith, c.requires.at.0, length-append w.trail.outer (aside w c.args.origin ∷ [])))
 
 pub returns-in-Operate-clause-goes : goal.returns-in-Operate-clause-goes
 returns-in-Operate-clause-goes c =
@@ -80,4 +89,4 @@ returns-in-Operate-clause-needs c =
     needs_more p c.operate.new.self c.operate.result _ _
     (subst (λ (u : Walk). Needs p c.operate.new.self c.operate.result (backs u + 2)) e
     c.operate.ensures.needs)
-    (omega (arith, c.requires.at, length-append w.trail.outer (aside w c.args.origin ∷ [])))
+    (omega (arith, c.requires.at.0, length-append w.trail.outer (aside w c.args.origin ∷ [])))

@@ -1,9 +1,9 @@
-use Rattle.std.proofs.Common.{◌+◌, ◌<◌, subst}
+use Rattle.std.proofs.Common.{◌+◌, subst}
 use Rattle.grain_chain.specs.Going.{Needs}
 use Rattle.grain_chain.specs.declared.walks.Walk.{Walk}
 use Rattle.grain_chain.proofs.Roots.{stops_need}
 use Rattle.grain_chain.proofs.Named.{index_by_host}
-use Rattle.grain_chain.specs.Walking.{count, steps_left}
+use Rattle.grain_chain.specs.Walking.{AtStep, steps_left}
 use Rattle.grain_chain.proofs.walks.Walk.index_by_host.Goals as goal
 
 pub returns-clause-takes : goal.returns-clause-takes
@@ -18,5 +18,5 @@ returns-clause-needs c =
     let w = c.args.self.now in
     let p = c.args.context.program.now in
     stops_need p c.by_indexer.new.self c.by_indexer.result c.stopping.result _ c.stopping.ensures
-    (subst (λ (u : Walk). u.step < count p u → Needs p c.by_indexer.new.self c.by_indexer.result
+    (subst (λ (u : Walk). AtStep p u → Needs p c.by_indexer.new.self c.by_indexer.result
     (steps_left p u + 3)) c.in_ok-pass_mark.ensures.passed (c.by_indexer.ensures.needs p) c.requires.at)

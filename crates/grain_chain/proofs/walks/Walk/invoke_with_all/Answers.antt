@@ -1,9 +1,9 @@
-use Rattle.std.proofs.Common.{◌<◌, ℕ, ◌+◌, List, map, ap, ◌∙◌, sym, subst}
+use Rattle.std.proofs.Common.{ℕ, ◌+◌, List, map, ap, ◌∙◌, sym, subst}
 use Rattle.grain_value.specs.Tree.{Tree}
 use Rattle.grain_value.specs.View.{value_of}
 use Rattle.grain_chain.specs.Going.{Goes, Needs, lent_place}
 use Rattle.grain_chain.specs.MethodSteps.{asking_task, operands_of, step_arguments}
-use Rattle.grain_chain.specs.Walking.{CanCall, steps_left, count}
+use Rattle.grain_chain.specs.Walking.{AtStep, CanCall, steps_left}
 use Rattle.grain_chain.specs.declared.walks.Walk.{Walk}
 use Rattle.grain_chain.proofs.MethodSteps.{marked_asks}
 use Rattle.grain_chain.proofs.Strides.{passes_goes}
@@ -26,7 +26,7 @@ returns-clause-goes c = λ x.
 
 pub returns-clause-needs : goal.returns-clause-needs
 returns-clause-needs c = λ p at can.
-    subst (λ (u : Walk). u.step < count p u →
+    subst (λ (u : Walk). AtStep p u →
     Needs p c.invoke.new.self c.invoke.result (steps_left p u + 2)) c.in_ok-pass_mark.ensures.passed
     (λ here. c.invoke.ensures.needs p here
     (subst (λ (n : ℕ). CanCall p c.args.what n) (sym c.in_ok-arguments.ensures.counted) can)) at

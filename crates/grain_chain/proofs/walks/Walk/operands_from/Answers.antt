@@ -1,4 +1,4 @@
-use Rattle.std.proofs.Common.{◌≡◌, ◌++◌, ℕ, ◌+◌, List, length, ap, ◌∙◌, arith}
+use Rattle.std.proofs.Common.{◌≡◌, ◌++◌, ◌+◌, List, length, ap, ◌∙◌, arith}
 use Rattle.grain_value.specs.Tree.{Tree}
 use Rattle.grain_chain.specs.MethodSteps.{operands_of}
 use Rattle.grain_chain.proofs.walks.Walk.operands_from.Goals as goal
