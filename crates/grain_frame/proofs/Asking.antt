@@ -1,5 +1,5 @@
 -- Instructions that wait for a native, after a stretch at which the frame stays.
-use Rattle.std.proofs.Common.{◌≡◌, ◌∙◌, ◌<◌, ◌≤◌, ◌-◌, ℕ, List, [], ◌∷◌, Option, Some, None, Bool, true, false, Result, Ok, Err, length, refl, sym, ap, subst, arith}
+use Rattle.std.proofs.Common.{◌≡◌, ◌∙◌, ◌≤◌, ℕ, List, [], ◌∷◌, Option, Some, None, true, false, Result, Ok, Err, length, refl, sym, ap, subst, arith}
 use Rattle.grain_value.specs.declared.scopes.Entry.{Entry}
 use Rattle.grain_value.specs.declared.stores.Cell.{Cell}
 use Rattle.grain_value.specs.declared.values.Dynamic.{Dynamic}
@@ -14,15 +14,15 @@ use Rattle.grain_stack.specs.declared.handlers.Handler.{Handler}
 use Rattle.grain_host.specs.Law.{Law}
 use Rattle.grain_global.specs.declared.engines.Engine.{Engine}
 use Rattle.grain_global.specs.StepsView.{StepsView}
-use Rattle.grain_means.specs.Worlds.{Act, Answer, Frame, Place, Setup, World}
+use Rattle.grain_means.specs.Worlds.{Act, Frame, Place, Setup, World}
 use Rattle.grain_means.specs.Rules.{leave_by_fault, native_over, op_assign_failed_at, operator_at}
 use Rattle.grain_means.specs.Means.{setup}
 use Rattle.grain_means.specs.Simulation.{Computation, Environment, Simulates, SimulatesExactly, stopped, world}
 use Rattle.grain_means.specs.lemmas.Stretches.{compose, same}
-use Rattle.grain_frame.specs.Abstraction.{KeepsFrame, abstraction, frame_in, is_out, moment, native_continuation}
+use Rattle.grain_frame.specs.Abstraction.{KeepsFrame, abstraction, frame_in, moment, native_continuation}
 use Rattle.grain_frame.specs.Receivers.{KeepsBound}
 use Rattle.grain_frame.specs.Targets.{CanAssign, CanBeLent, HoldsWritable, assigned_name, content_at, home_of, kept_operand, receiver_at}
-use Rattle.grain_frame.specs.Waiting.{CanHold, GoesOn, ImplementsOrWaits, IsKept, KeepsLent, LandsOrWaits, LeadsTo, Lends, asking, fault_rest, performed_continuation, rest_of, value_rest}
+use Rattle.grain_frame.specs.Waiting.{CanHold, GoesOn, ImplementsOrWaits, IsKept, KeepsLent, LandsOrWaits, Lends, asking, fault_rest, performed_continuation, value_rest}
 use Rattle.grain_frame.specs.declared.activations.Activation.{Activation}
 use Rattle.grain_frame.specs.declared.assignments.Assignment.{Assignment}
 use Rattle.grain_frame.specs.declared.native_calls.Asked.{Asked}

@@ -1,6 +1,6 @@
 -- What a target holds once something was put into it, and what can be read of one.
-use Rattle.std.proofs.Common.{◌≡◌, ◌∙◌, ◌<◌, ◌≤◌, ℕ, zero, suc, List, [], ◌∷◌, Option, Some, None, Bool, true, false, length, refl, sym, ap, subst, arith}
-use Rattle.std.specs.Prelude.{option_map, slice_get, slice_set}
+use Rattle.std.proofs.Common.{◌≡◌, ◌∙◌, ◌<◌, ℕ, zero, suc, List, [], ◌∷◌, Option, Some, None, Bool, true, false, length, refl, sym, ap, subst, arith}
+use Rattle.std.specs.Prelude.{option_map, slice_get}
 use Rattle.grain_value.specs.Cells.{content, idle, is_busy, standing}
 use Rattle.grain_value.specs.Operands.{read_write}
 use Rattle.grain_value.specs.Scopes.{set_held}

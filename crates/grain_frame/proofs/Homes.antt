@@ -1,6 +1,6 @@
 -- A target in the meaning: where its value is held, and what is written there.
 use Rattle.std.proofs.Common.{◌≡◌, ◌∙◌, ℕ, List, [], Option, Some, None, Bool, false, refl, ap, subst, sym, true}
-use Rattle.std.specs.Prelude.{is_some, option_map, slice_get, slice_set}
+use Rattle.std.specs.Prelude.{option_map, slice_get, slice_set}
 use Rattle.grain_value.specs.Cells.{idle, is_busy}
 use Rattle.grain_value.specs.Operands.{read_write}
 use Rattle.grain_value.specs.declared.stores.Cell.{Cell}
@@ -12,7 +12,7 @@ use Rattle.grain_global.specs.StepsView.{StepsView}
 use Rattle.grain_program.specs.View.{name_of}
 use Rattle.grain_program.specs.declared.code.parts.AssignOp.{AssignOp}
 use Rattle.grain_means.specs.Worlds.{Act, Frame, Place, Setup, World}
-use Rattle.grain_means.specs.Places.{find, or_unit}
+use Rattle.grain_means.specs.Places.{or_unit}
 use Rattle.grain_means.specs.Rules.{at_place_of, back_in_cells, back_in_roots, back_in_scope, cell_written, content_now, held_at, held_or, in_entry, marked, op_assign_failed_at, operator_at, written_at}
 use Rattle.grain_means.specs.Simulation.{Binds, Environment, after, puts, world}
 use Rattle.grain_means.specs.lemmas.PlaceLaws.{find-put}

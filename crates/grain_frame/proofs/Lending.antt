@@ -13,7 +13,6 @@ use Rattle.grain_fault.specs.declared.places.Position.{Position}
 use Rattle.grain_program.specs.declared.code.parts.AssignOp.{AssignOp}
 use Rattle.grain_program.specs.View.{View, name_of}
 use Rattle.grain_stack.specs.Views.{StacksView}
-use Rattle.grain_stack.specs.declared.handlers.Handler.{Handler}
 use Rattle.grain_host.specs.Law.{Law, Reply, written}
 use Rattle.grain_host.specs.Law as reply
 use Rattle.grain_host.specs.Answers.{Answers, Replies, reply_of}
@@ -21,8 +20,8 @@ use Rattle.grain_host.specs.declared.host_answers.Args.{Args}
 use Rattle.grain_host.specs.declared.host_answers.HostAnswer.{HostAnswer}
 use Rattle.grain_global.specs.declared.engines.Engine.{Engine}
 use Rattle.grain_ops.specs.Outcomes.{Outcome, Gave, NotBuiltIn}
-use Rattle.grain_means.specs.Worlds.{Act, Frame, Go, InFrame, Place, Setup, World}
-use Rattle.grain_means.specs.Rules.{Home, assigned_at, back_in_cells, back_in_roots, back_in_scope, flattened, marked, native, native_assigned_at, onward, op_assign_failed_at, operator_at, outcome_at, raised, stepped}
+use Rattle.grain_means.specs.Worlds.{Frame, Go, InFrame, Place, Setup, World}
+use Rattle.grain_means.specs.Rules.{Home, assigned_at, back_in_cells, back_in_roots, back_in_scope, flattened, native, native_assigned_at, onward, op_assign_failed_at, operator_at, outcome_at, raised, stepped}
 use Rattle.grain_means.specs.Simulation.{Binds, Computation, Environment, after, stopped, world}
 use Rattle.grain_means.specs.Means.{setup}
 use Rattle.grain_means.specs.lemmas.PlaceLaws.{some-inj}
@@ -35,7 +34,6 @@ use Rattle.grain_frame.specs.declared.activations.Activation.{Activation}
 use Rattle.grain_frame.specs.declared.native_calls.NativeEnd.{NativeEnd}
 use Rattle.grain_frame.specs.declared.native_calls.NativeEnd.TheVariants as native_end
 use Rattle.grain_frame.specs.declared.receivers.Bound.{Bound}
-use Rattle.grain_frame.specs.declared.runs.Progress.{Progress}
 use Rattle.grain_frame.specs.declared.runs.Progress.TheVariants as progress
 use Rattle.grain_frame.specs.declared.runs.Run.{Run}
 use Rattle.grain_frame.specs.declared.targets.Target.{Target}

@@ -21,13 +21,13 @@ use Rattle.grain_global.specs.declared.engines.Engine.{Engine}
 use Rattle.grain_global.specs.StepsView.{StepsView}
 use Rattle.grain_means.specs.Worlds.{Act, Frame, Place, Setup, World}
 use Rattle.grain_means.specs.Rules.{answered, back_in_cells, back_in_roots, back_in_scope, leave_by_fault, native, onward, stepped}
-use Rattle.grain_means.specs.Simulation.{Binds, Computation, Environment, NoStopWithin, Simulates, SimulatesExactly, after, stopped, world}
+use Rattle.grain_means.specs.Simulation.{Computation, Environment, NoStopWithin, Simulates, SimulatesExactly, stopped, world}
 use Rattle.grain_means.specs.Means.{setup}
 use Rattle.grain_means.specs.lemmas.Stretches.{compose, same}
-use Rattle.grain_frame.specs.Abstraction.{ImplementsBound, KeepsFrame, abstraction, continuation, frame_in, is_out, marked_once, moment, moved, native_continuation, this_of}
+use Rattle.grain_frame.specs.Abstraction.{ImplementsBound, KeepsFrame, abstraction, continuation, frame_in, is_out, marked_once, moment, moved, native_continuation}
 use Rattle.grain_frame.specs.Natives.{IsAt, Seeks, ServesAt}
 use Rattle.grain_frame.specs.Receivers.{KeepsBound}
-use Rattle.grain_frame.specs.Targets.{CanBeLent, HoldsAt, content_at, home_of, put_in, receiver_at}
+use Rattle.grain_frame.specs.Targets.{CanBeLent, content_at, home_of, put_in, receiver_at}
 use Rattle.grain_frame.specs.declared.activations.Activation.{Activation}
 use Rattle.grain_frame.specs.declared.native_calls.Asked.{Asked}
 use Rattle.grain_frame.specs.declared.native_calls.NativeEnd.{NativeEnd}

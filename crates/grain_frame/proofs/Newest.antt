@@ -1,10 +1,10 @@
 -- The newest `this`, and those of other levels.
-use Rattle.std.proofs.Common.{◌≡◌, ◌∙◌, ◌<◌, ◌==◌, ◌+◌, ℕ, zero, suc, List, [], ◌∷◌, ◌++◌, Option, Some, None, Bool, true, false, get_or, length, reverse, refl, sym, ap, arith}
+use Rattle.std.proofs.Common.{◌≡◌, ◌∙◌, ◌<◌, ◌==◌, ◌+◌, ℕ, zero, suc, List, [], ◌∷◌, ◌++◌, Some, None, Bool, true, false, get_or, length, reverse, refl, sym, ap, arith}
 use Rattle.std.proofs.lemmas.List.{length-reverse, reverse-append, reverse-reverse}
 use Rattle.std.specs.Prelude.{is_some, if◌then◌else◌, slice_set}
 use Rattle.grain_means.specs.lemmas.PlaceLaws.{set-after}
 use Rattle.grain_value.specs.declared.values.Held.{Held}
-use Rattle.grain_frame.specs.Receivers.{KeepsBound, bound_at, newest_held, others_at, with_newest}
+use Rattle.grain_frame.specs.Receivers.{KeepsBound, bound_at, newest_held, with_newest}
 use Rattle.grain_frame.specs.declared.receivers.Bound.{Bound}
 
 -- the newest holds what it was given

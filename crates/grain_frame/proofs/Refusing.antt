@@ -1,5 +1,5 @@
 -- Nothing is assigned to the entry of a slot, or to `this`, and a fault is raised.
-use Rattle.std.proofs.Common.{◌≡◌, ◌∙◌, ◌+◌, ℕ, [], Option, Some, None, false, inl, inr, length, refl, sym, ap, subst}
+use Rattle.std.proofs.Common.{◌≡◌, ◌∙◌, ◌+◌, ℕ, [], Option, Some, false, inl, inr, length, refl, sym, ap, subst}
 use Rattle.grain_value.specs.declared.values.Held.{Held}
 use Rattle.grain_value.specs.Cells.{flat}
 use Rattle.grain_value.specs.Looking.{cell_of}
@@ -9,12 +9,12 @@ use Rattle.grain_program.specs.View.{name_of}
 use Rattle.grain_program.specs.declared.code.parts.AssignOp.{AssignOp}
 use Rattle.grain_means.specs.Worlds.{Place, Setup, World}
 use Rattle.grain_means.specs.Places.{find}
-use Rattle.grain_means.specs.Rules.{Home, assigned_at, at_place_of, assign, assign_op, assign_this, assign_this_op, flag_of_cell, held_at, in_entry, op_assigned, outcome_at, raised}
+use Rattle.grain_means.specs.Rules.{assigned_at, at_place_of, assign, assign_op, assign_this, assign_this_op, flag_of_cell, held_at, in_entry, op_assigned, outcome_at, raised}
 use Rattle.grain_means.specs.Simulation.{Binds, Environment, world}
 use Rattle.grain_global.specs.StepsView.{StepsView}
 use Rattle.grain_frame.specs.Abstraction.{abstraction, frame_in, this_of}
 use Rattle.grain_frame.specs.Refusals.{FindsTarget, IsLentThere, Refuses, RefusesThis, refusal_fault}
-use Rattle.grain_frame.specs.Targets.{CanBeLent, HoldsWritable, content_at, home_of, target_in}
+use Rattle.grain_frame.specs.Targets.{CanBeLent, HoldsWritable, content_at, home_of}
 use Rattle.grain_frame.specs.declared.targets.Target.{Target}
 use Rattle.grain_frame.specs.declared.targets.Target.TheVariants as to
 use Rattle.grain_frame.specs.lemmas.Bound.{bound_at_place, bound_nowhere}

@@ -1,5 +1,5 @@
 -- The host is told of a call that it asked for, and goes on or is over.
-use Rattle.std.proofs.Common.{◌≡◌, ◌∙◌, ◌+◌, ℕ, List, [], ◌∷◌, Option, Some, None, Bool, true, false, Result, Ok, Err, if◌then◌else◌, refl, sym, ap, subst, arith}
+use Rattle.std.proofs.Common.{◌≡◌, ◌∙◌, ◌+◌, ℕ, List, [], Option, Bool, true, false, Result, Err, if◌then◌else◌, refl, sym, ap, arith}
 use Rattle.grain_value.specs.Operands.{read_write}
 use Rattle.grain_value.specs.declared.scopes.Entry.{Entry}
 use Rattle.grain_value.specs.declared.values.Dynamic.{Dynamic}
@@ -17,9 +17,8 @@ use Rattle.grain_global.specs.StepsView.{StepsView}
 use Rattle.grain_means.specs.Worlds.{Act, Answer, Callback, End, Frame, Go, InHost, Place, Receiver, Setup, Then, World}
 use Rattle.grain_means.specs.Worlds as worlds
 use Rattle.grain_means.specs.Rules.{cells_with, is_stop, lent_held, position, receiver_rewritten, roots_with, scope_with, told, went_on, with_token}
-use Rattle.grain_means.specs.Simulation.{Binds, Environment, NoStopWithin, Simulates, StopsHere, after, puts, stopped, world}
+use Rattle.grain_means.specs.Simulation.{Binds, Environment, after, puts, stopped, world}
 use Rattle.grain_means.specs.lemmas.Stretches.{continued}
-use Rattle.grain_frame.specs.Abstraction.{this_of}
 use Rattle.grain_frame.specs.Natives.{IsAt}
 use Rattle.grain_frame.specs.Targets.{content_at, home_of, put_in}
 use Rattle.grain_frame.specs.Waiting.{IsKept, LeavesLent, TellsHost, answer_of, apart_of, asking, callback_in, given_back_run, held_of_lent, receiver_in, state_after, state_with}

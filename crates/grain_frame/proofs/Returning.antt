@@ -1,31 +1,29 @@
 -- The world once a native was told, by what it was lent.
-use Rattle.std.proofs.Common.{◌≡◌, ◌∙◌, ◌<◌, ◌+◌, ℕ, zero, suc, List, [], ◌∷◌, Option, Some, None, Bool, true, false, length, refl, sym, ap, subst, arith}
-use Rattle.std.specs.Prelude.{is_some, option_map, slice_get, slice_set}
-use Rattle.grain_value.specs.Cells.{idle, is_busy}
+use Rattle.std.proofs.Common.{◌≡◌, ◌∙◌, ℕ, List, Option, Some, None, Bool, false, refl, sym, ap, subst}
+use Rattle.std.specs.Prelude.{slice_set}
+use Rattle.grain_value.specs.Cells.{idle}
 use Rattle.grain_value.specs.Operands.{read_write}
 use Rattle.grain_value.specs.declared.scopes.Entry.{Entry}
 use Rattle.grain_value.specs.declared.stores.Cell.{Cell}
 use Rattle.grain_value.specs.declared.values.Dynamic.{Dynamic}
 use Rattle.grain_value.specs.declared.values.Held.{Held}
 use Rattle.grain_fault.specs.declared.traces.Fault.{Fault}
-use Rattle.grain_stack.specs.Views.{StacksView}
 use Rattle.grain_global.specs.StepsView.{StepsView}
 use Rattle.grain_means.specs.Worlds.{Place, Receiver, World}
 use Rattle.grain_means.specs.Rules.{cells_with, roots_with, scope_with}
 use Rattle.grain_means.specs.Simulation.{Binds, Environment, after, puts, world}
-use Rattle.grain_means.specs.lemmas.PlaceLaws.{find-put, length-set}
+use Rattle.grain_means.specs.lemmas.PlaceLaws.{find-put}
 use Rattle.grain_means.specs.lemmas.Roots.{puts-bound}
 use Rattle.grain_frame.specs.Abstraction.{abstraction, this_of}
-use Rattle.grain_frame.specs.Receivers.{KeepsBound}
 use Rattle.grain_frame.specs.Targets.{CanBeLent, HoldsWritable, content_at, home_of, put_in}
-use Rattle.grain_frame.specs.Waiting.{IsKept, IsKeptAt, IsNotLent, LeavesLent, apart_of, beside, given_back_run, held_of_lent, receiver_in, state_after, state_with}
+use Rattle.grain_frame.specs.Waiting.{IsKept, IsKeptAt, LeavesLent, apart_of, beside, given_back_run, held_of_lent, receiver_in, state_after, state_with}
 use Rattle.grain_frame.specs.declared.runs.Run.{Run}
 use Rattle.grain_frame.specs.declared.targets.Target.{Target}
 use Rattle.grain_frame.specs.declared.targets.Target.TheVariants as to
 use Rattle.grain_frame.specs.declared.waiting.Loan.{Loan}
 use Rattle.grain_frame.specs.declared.waiting.Loan.TheVariants as have
 use Rattle.grain_frame.specs.lemmas.Entries.{is_within}
-use Rattle.grain_frame.proofs.Holding.{content_beside, holds_plainly, put_content, put_holds}
+use Rattle.grain_frame.proofs.Holding.{content_beside, put_content}
 use Rattle.grain_frame.proofs.Homes.{put_binds, put_world}
 use Rattle.grain_frame.proofs.Targeting.{lends_beside, plain_there, put_same}
 

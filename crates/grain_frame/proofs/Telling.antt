@@ -1,10 +1,7 @@
 -- The host is told what came of the call that it asked for.
-use Rattle.std.proofs.Common.{◌≡◌, ◌∙◌, ◌+◌, ℕ, List, [], ◌∷◌, Option, Some, None, Bool, true, false, nat_eq, refl, sym, ap, subst, arith}
+use Rattle.std.proofs.Common.{◌≡◌, ◌+◌, ℕ, List, Option, Some, None, Bool, true, false, nat_eq, refl}
 use Rattle.std.proofs.lemmas.Bool.{eqb-false}
-use Rattle.grain_value.specs.declared.values.Dynamic.{Dynamic}
-use Rattle.grain_value.specs.declared.values.Held.{Held}
-use Rattle.grain_fault.specs.Problems.{NoMemory, Problem}
-use Rattle.grain_fault.specs.Positions.{at_position_if_none}
+use Rattle.grain_fault.specs.Problems.{NoMemory}
 use Rattle.grain_host.specs.Law.{Outcome, Reply}
 use Rattle.grain_means.specs.Worlds.{Act, Callback, End, Receiver, Setup, World}
 use Rattle.grain_means.specs.Worlds as worlds

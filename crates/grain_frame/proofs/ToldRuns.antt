@@ -1,5 +1,5 @@
 -- What a run keeps where a native is told what came of a call.
-use Rattle.std.proofs.Common.{◌≡◌, ◌∙◌, List, [], ◌∷◌, Option, None, false, Result, length, refl}
+use Rattle.std.proofs.Common.{◌≡◌, List, Option, None, false, Result, refl}
 use Rattle.grain_value.specs.Cells.{idle}
 use Rattle.grain_value.specs.declared.values.Dynamic.{Dynamic}
 use Rattle.grain_value.specs.declared.values.Held.{Held}

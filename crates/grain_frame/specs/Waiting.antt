@@ -13,7 +13,6 @@ use Rattle.grain_frame.specs.Receivers.{KeepsBound}
 use Rattle.grain_value.specs.Operands.{below, read_write, under}
 use Rattle.grain_value.specs.declared.memory.OutOfMemory.{OutOfMemory}
 use Rattle.grain_value.specs.declared.values.Dynamic.{Dynamic}
-use Rattle.grain_value.specs.declared.values.Dynamic.TheVariants as dynamic
 use Rattle.grain_value.specs.declared.values.Held.{Held}
 use Rattle.grain_fault.specs.Problems.{Problem, NoMemory, problem_of}
 use Rattle.grain_fault.specs.declared.faults.EvalAltResult.{EvalAltResult}
@@ -24,7 +23,7 @@ use Rattle.grain_stack.specs.declared.handlers.Handler.{Handler}
 use Rattle.grain_means.specs.Worlds as worlds
 use Rattle.grain_means.specs.Worlds.{Act, Answer, Callback, Frame, Go, Home, InCell, InHost, Place, Receiver, Setup, Then, World}
 use Rattle.grain_means.specs.Rules.{assigned_at, flattened, instr, leave_by_fault, native_over, no_memory, onward, op_assign_failed_at, pushed, raised, stepped, told, with_token}
-use Rattle.grain_means.specs.Simulation.{Computation, LocalState, Simulates, SimulatesExactly}
+use Rattle.grain_means.specs.Simulation.{Computation, LocalState, Simulates}
 use Rattle.grain_frame.specs.Abstraction.{ContinuesAt, KeepsFrame, Moment, abstraction, continuation, frame_in, is_out, this_of}
 use Rattle.grain_frame.specs.Targets.{CanBeWritten, HoldsAt, HoldsWritable, assigned_name, content_at, home_of, kept_operand, put_in, receiver_at, taken_out}
 use Rattle.grain_frame.specs.declared.activations.Activation.{Activation}
@@ -44,7 +43,6 @@ use Rattle.grain_frame.specs.declared.waiting.Resumed.{Resumed}
 use Rattle.grain_frame.specs.declared.waiting.Resumed.TheVariants as went
 use Rattle.grain_frame.specs.declared.runs.Progress.{Progress}
 use Rattle.grain_frame.specs.declared.waiting.Rest.TheVariants as rest
-use Rattle.grain_frame.specs.declared.waiting.Waiting.{Waiting}
 
 -- What a native has that asks for a call, as the meaning has it, if the frame's `this` stands at a place.
 -- What stands nowhere in the run stands there.

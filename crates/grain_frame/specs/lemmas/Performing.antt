@@ -1,6 +1,5 @@
 -- Instructions that lead somewhere, or that wait for a native.
-use Rattle.std.proofs.Common.{◌≡◌, ◌∙◌, ◌≤◌, ℕ, List, [], ◌∷◌, Option, Some, None, Bool, true, false, Result, Ok, Err, length, refl, sym, ap, subst, arith}
-use Rattle.grain_value.specs.declared.values.Dynamic.{Dynamic}
+use Rattle.std.proofs.Common.{◌≡◌, ◌∙◌, ◌≤◌, ℕ, List, Option, None, true, false, Result, Ok, Err, length, refl, sym, subst, arith}
 use Rattle.grain_value.specs.declared.values.Dynamic.TheVariants as dynamic
 use Rattle.grain_value.specs.declared.values.Held.{Held}
 use Rattle.grain_value.specs.declared.memory.OutOfMemory.{OutOfMemory}
@@ -10,10 +9,9 @@ use Rattle.grain_stack.specs.declared.handlers.Handler.{Handler}
 use Rattle.grain_host.specs.Law.{Law}
 use Rattle.grain_global.specs.declared.engines.Engine.{Engine}
 use Rattle.grain_global.specs.StepsView.{StepsView}
-use Rattle.grain_fault.specs.Problems.{Problem}
-use Rattle.grain_means.specs.Worlds.{Act, Frame, Place, Setup, World}
+use Rattle.grain_means.specs.Worlds.{Place, Setup}
 use Rattle.grain_means.specs.Means.{setup}
-use Rattle.grain_means.specs.Simulation.{Binds, Computation, Environment, Simulates, SimulatesExactly, stopped, world}
+use Rattle.grain_means.specs.Simulation.{Binds, Computation, Environment, SimulatesExactly, stopped, world}
 use Rattle.grain_means.specs.lemmas.Stretches.{compose, same}
 use Rattle.grain_frame.specs.Abstraction.{Implements, ImplementsBound, Moment, abstraction, frame_in, is_out, moment, native_continuation, this_of}
 use Rattle.grain_frame.specs.Waiting.{ImplementsOrWaits, LeadsTo, Lends, fault_rest, performed_of, value_rest}

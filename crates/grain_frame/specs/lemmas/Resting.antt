@@ -1,5 +1,5 @@
 -- What an instruction that waits for a native rests on, where the native was told or forgotten.
-use Rattle.std.proofs.Common.{◌≡◌, ◌∙◌, ◌<◌, ◌≤◌, ◌-◌, ℕ, zero, suc, List, [], ◌∷◌, Option, Some, None, Bool, true, false, Result, length, refl, sym, ap, subst, arith}
+use Rattle.std.proofs.Common.{◌≡◌, ℕ, zero, suc, List, [], ◌∷◌, Option, Some, true, Result, length, refl, sym, ap, subst, arith}
 use Rattle.std.specs.Prelude.{option_map, slice_get, slice_set}
 use Rattle.grain_value.specs.Cells.{idle, is_busy}
 use Rattle.grain_value.specs.Operands.{read_write}
@@ -9,9 +9,8 @@ use Rattle.grain_value.specs.declared.values.Held.{Held}
 use Rattle.grain_fault.specs.declared.faults.EvalAltResult.{EvalAltResult}
 use Rattle.grain_program.specs.View.{View}
 use Rattle.grain_stack.specs.Views.{StacksView}
-use Rattle.grain_frame.specs.Abstraction.{this_of}
 use Rattle.grain_frame.specs.Targets.{CanBeWritten, content_at}
-use Rattle.grain_frame.specs.Waiting.{CanHold, GoesOn, IsBack, IsKept, IsKeptAt, IsNotLent, LeadsTo, Lends, StaysLent, ToldRun, Untouched, given_back_run}
+use Rattle.grain_frame.specs.Waiting.{CanHold, GoesOn, IsBack, IsKept, IsKeptAt, IsNotLent, LeadsTo, Lends, ToldRun, Untouched, given_back_run}
 use Rattle.grain_frame.specs.declared.activations.Activation.{Activation}
 use Rattle.grain_frame.specs.declared.assignments.Assignment.{Assignment}
 use Rattle.grain_frame.specs.declared.runs.Run.{Run}

@@ -1,4 +1,3 @@
-use Rattle.std.proofs.Common.{refl}
 use Rattle.grain_frame.proofs.Serving.{refuses, serves}
 use Rattle.grain_frame.proofs.runs.Run.call_native.Goals as goal
 

@@ -1,11 +1,10 @@
 -- What the native comes to, by what the host answers.
-use Rattle.std.proofs.Common.{◌≡◌, ◌∙◌, [], Err, Ok, refl, sym, ap}
+use Rattle.std.proofs.Common.{◌∙◌, [], Err, Ok, refl, ap}
 use Rattle.grain_host.specs.Answers.{outcome_of as host_outcome_of}
 use Rattle.grain_host.specs.Law as reply
 use Rattle.grain_stack.specs.Views.{StacksView}
 use Rattle.grain_frame.specs.Waiting.{given_back_run}
 use Rattle.grain_frame.specs.declared.runs.Run.{Run}
-use Rattle.grain_frame.specs.lemmas.Resting.{leads_told}
 use Rattle.grain_frame.proofs.Resuming.{fails_so, same_trace, tells_asks, tells_out, tells_over}
 use Rattle.grain_frame.proofs.runs.Run.resume_native.Goals as goal
 
