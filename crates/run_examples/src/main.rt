@@ -7,7 +7,7 @@ ghost use Rattle.grain_host.specs.Tables.{table_law};
 ghost use Rattle.run_examples.specs.Prices.{price_law};
 ghost use Rattle.run_examples.specs.Budget.{budget_law};
 ghost use Rattle.run_examples.specs.Examples.{ReportedOver, shipped_list};
-ghost use Rattle.run_examples.specs.Reports.{Reported, printed_by, charged_to, left_of};
+ghost use Rattle.run_examples.specs.Reports.{Reported, printed_by, charged_to, left_of, report};
 ghost use Rattle.run_examples.specs.Rules.{engine_of, start};
 
 mod budget;
@@ -20,7 +20,7 @@ use grain_value::{OutOfMemory, Text};
 use grain_vm::Steps;
 use prices::PriceList;
 use reports::report;
-use rules::{Rule, load, run};
+use rules::{Outcome, Rule, RuleError, load, run};
 use std::alloc::Global;
 use std::marker::Brand;
 use std::process::ExitCode;
@@ -64,26 +64,27 @@ const SHARES: u64 = 8;
 /// The report of a rule's run over its own host: what was printed, and the end.
 fn report_of<L: Ledger>(
     alloc: Global,
-    rule: Rule,
+    rule: &mut Rule,
     steps: &mut Steps<L>,
 ) -> Result<Text, OutOfMemory>
-    requires { 0 < rule.limits.operations }
-    ensures { IfOk result (Reported table_law printed_by rule.program
-        (engine_of rule.limits rule.fast_operators rule.strict_properties) (start rule.scope rule.host)) }
+    requires { 0 < rule.old.limits.operations }
+    ensures { IfOk result (Reported table_law printed_by rule.old.program
+        (engine_of rule.old.limits rule.old.fast_operators rule.old.strict_properties)
+        (start rule.old.scope rule.old.host)) }
 {
-    let mut host = rule.host;
-    let mut scope = rule.scope;
     let outcome = run(
         alloc,
         &rule.program,
         rule.limits,
         rule.fast_operators,
         rule.strict_properties,
-        &mut host,
-        &mut scope,
+        &mut rule.host,
+        &mut rule.scope,
         steps,
     )?;
-    report(alloc, host.printed(), &outcome)
+    let text = report(alloc, rule.host.printed(), &outcome);
+    drop(outcome);
+    text
 }
 
 /// What was charged to a price list, on a line.
@@ -96,31 +97,40 @@ fn charges(alloc: Global, list: &PriceList) -> Result<Text, OutOfMemory>
     Ok(text)
 }
 
-/// The report of a rule's run over a price list: what was charged, and the end.
+/// The report of a run over a price list: what was charged, and the end.
+fn charged_report(alloc: Global, list: &PriceList, outcome: &Outcome) -> Result<Text, OutOfMemory>
+    ensures { IfOk result (λ text. text
+        ≡ report (charged_to list.now) outcome.now.cells outcome.now.result outcome.now.trace.items) }
+{
+    let said = charges(alloc, list)?;
+    report(alloc, &said, outcome)
+}
+
+/// The report of a rule's run over a price list.
 fn charges_of<L: Ledger>(
     alloc: Global,
-    rule: Rule,
-    list: PriceList,
+    rule: &mut Rule,
+    list: &mut PriceList,
     steps: &mut Steps<L>,
 ) -> Result<Text, OutOfMemory>
-    requires { 0 < rule.limits.operations }
-    ensures { IfOk result (Reported price_law charged_to rule.program
-        (engine_of rule.limits rule.fast_operators rule.strict_properties) (start rule.scope list)) }
+    requires { 0 < rule.old.limits.operations }
+    ensures { IfOk result (Reported price_law charged_to rule.old.program
+        (engine_of rule.old.limits rule.old.fast_operators rule.old.strict_properties)
+        (start rule.old.scope list.old)) }
 {
-    let mut list = list;
-    let mut scope = rule.scope;
     let outcome = run(
         alloc,
         &rule.program,
         rule.limits,
         rule.fast_operators,
         rule.strict_properties,
-        &mut list,
-        &mut scope,
+        list,
+        &mut rule.scope,
         steps,
     )?;
-    let said = charges(alloc, &list)?;
-    report(alloc, &said, &outcome)
+    let text = charged_report(alloc, list, &outcome);
+    drop(outcome);
+    text
 }
 
 /// What is left of a budget, on a line.
@@ -133,31 +143,40 @@ fn left(alloc: Global, budget: &Budget) -> Result<Text, OutOfMemory>
     Ok(text)
 }
 
-/// The report of a rule's run over a budget: what is left of it, and the end.
+/// The report of a run over a budget: what is left of it, and the end.
+fn left_report(alloc: Global, budget: &Budget, outcome: &Outcome) -> Result<Text, OutOfMemory>
+    ensures { IfOk result (λ text. text
+        ≡ report (left_of budget.now) outcome.now.cells outcome.now.result outcome.now.trace.items) }
+{
+    let said = left(alloc, budget)?;
+    report(alloc, &said, outcome)
+}
+
+/// The report of a rule's run over a budget.
 fn budget_report<L: Ledger>(
     alloc: Global,
-    rule: Rule,
-    budget: Budget,
+    rule: &mut Rule,
+    budget: &mut Budget,
     steps: &mut Steps<L>,
 ) -> Result<Text, OutOfMemory>
-    requires { 0 < rule.limits.operations }
-    ensures { IfOk result (Reported budget_law left_of rule.program
-        (engine_of rule.limits rule.fast_operators rule.strict_properties) (start rule.scope budget)) }
+    requires { 0 < rule.old.limits.operations }
+    ensures { IfOk result (Reported budget_law left_of rule.old.program
+        (engine_of rule.old.limits rule.old.fast_operators rule.old.strict_properties)
+        (start rule.old.scope budget.old)) }
 {
-    let mut budget = budget;
-    let mut scope = rule.scope;
     let outcome = run(
         alloc,
         &rule.program,
         rule.limits,
         rule.fast_operators,
         rule.strict_properties,
-        &mut budget,
-        &mut scope,
+        budget,
+        &mut rule.scope,
         steps,
     )?;
-    let said = left(alloc, &budget)?;
-    report(alloc, &said, &outcome)
+    let text = left_report(alloc, budget, &outcome);
+    drop(outcome);
+    text
 }
 
 /// The price list of the examples.
@@ -173,34 +192,65 @@ fn price_list(alloc: Global) -> Result<PriceList, OutOfMemory>
 /// The report of a rule's run over the host of an example.
 fn report_over<L: Ledger>(
     alloc: Global,
-    rule: Rule,
+    rule: &mut Rule,
     host: ExampleHost,
     steps: &mut Steps<L>,
 ) -> Result<Text, OutOfMemory>
-    requires { 0 < rule.limits.operations }
-    ensures { IfOk result (ReportedOver host rule) }
+    requires { 0 < rule.old.limits.operations }
+    ensures { IfOk result (ReportedOver host rule.old) }
 {
     match host {
         ExampleHost::Table => report_of(alloc, rule, steps),
-        ExampleHost::Prices => charges_of(alloc, rule, price_list(alloc)?, steps),
-        ExampleHost::Budget => budget_report(alloc, rule, Budget::new(ALLOWED_OPERATIONS), steps),
+        ExampleHost::Prices => {
+            let mut list = price_list(alloc)?;
+            charges_of(alloc, rule, &mut list, steps)
+        }
+        ExampleHost::Budget => {
+            let mut budget = Budget::new(ALLOWED_OPERATIONS);
+            budget_report(alloc, rule, &mut budget, steps)
+        }
     }
 }
 
 /// Whether the run of a rule over the host of an example gives this report, byte by byte.
 fn gives_report<L: Ledger>(
     alloc: Global,
-    rule: Rule,
+    rule: &mut Rule,
     host: ExampleHost,
     expected: &[u8],
     steps: &mut Steps<L>,
 ) -> Result<bool, OutOfMemory>
-    requires { 0 < rule.limits.operations }
-    ensures { IfOk result (λ same. (text : List ℕ) × ReportedOver host rule text
+    requires { 0 < rule.old.limits.operations }
+    ensures { IfOk result (λ same. (text : List ℕ) × ReportedOver host rule.old text
         × (same ≡ bytes_eq text expected.now)) }
 {
     let report = report_over(alloc, rule, host, steps)?;
     Ok(report.as_str().as_bytes() == expected)
+}
+
+/// The rule of an example, or why it is none.
+fn rule_of<R: Files + AllocGlobal>(rt: &R, name: &str) -> io::Result<Result<Rule, RuleError>>
+    ensures { IfOk result (λ found. IfOk found (λ rule. 0 < rule.limits.operations)) }
+{
+    let listing = fs::read(rt, format!(in rt.alloc(); "{name}.grain")?.as_str())?;
+    Ok(load(rt.alloc(), listing.as_slice()))
+}
+
+/// Whether the run of a rule gives the report that is expected of an example.
+fn gives_stored_report<R: Files + AllocGlobal, L: Ledger>(
+    rt: &R,
+    name: &str,
+    rule: &mut Rule,
+    host: ExampleHost,
+    steps: &mut Steps<L>,
+) -> io::Result<bool>
+    requires { 0 < rule.old.limits.operations }
+{
+    let expected = fs::read(rt, format!(in rt.alloc(); "{name}.out")?.as_str())?;
+    match gives_report(rt.alloc(), rule, host, expected.as_slice(), steps) {
+        Ok(same) => Ok(same),
+        Err(OutOfMemory) => Err(io::Error::from(io::ErrorKind::OutOfMemory)),
+    }
 }
 
 /// Whether an example gives the report that is expected. An example that is no rule says why.
@@ -210,18 +260,16 @@ fn is_as_expected<R: Files + Print + AllocGlobal, L: Ledger>(
     host: ExampleHost,
     steps: &mut Steps<L>,
 ) -> io::Result<bool> {
-    let listing = fs::read(rt, format!(in rt.alloc(); "{name}.grain")?.as_str())?;
-    let expected = fs::read(rt, format!(in rt.alloc(); "{name}.out")?.as_str())?;
-    let rule = match load(rt.alloc(), listing.as_slice()) {
-        Ok(rule) => rule,
+    match rule_of(rt, name)? {
+        Ok(mut rule) => {
+            let same = gives_stored_report(rt, name, &mut rule, host, steps);
+            drop(rule);
+            same
+        }
         Err(error) => {
             println!(rt; "{name}: {error}")?;
-            return Ok(false);
+            Ok(false)
         }
-    };
-    match gives_report(rt.alloc(), rule, host, expected.as_slice(), steps) {
-        Ok(same) => Ok(same),
-        Err(OutOfMemory) => Err(io::Error::from(io::ErrorKind::OutOfMemory)),
     }
 }
 
