@@ -1,6 +1,6 @@
 -- The law of a host: what it answers, writes and becomes are functions of its state and of what it
 -- is given.
-use Rattle.std.specs.Prelude.{ℕ, ◌≤◌, max, Bool, true, false, ◌&&◌, not, List, Option, Some, None, ◌≡◌, if◌then◌else◌, option_map}
+use Rattle.std.specs.Prelude.{ℕ, nat_eq, ◌≤◌, max, Bool, true, false, ◌&&◌, ◌||◌, not, List, Option, Some, None, ◌≡◌, if◌then◌else◌, option_map}
 use Rattle.std.specs.List.{list_all}
 use Rattle.grain_value.specs.Tree.{Tree, array, pack}
 use Rattle.grain_value.specs.View.{tree}
@@ -98,13 +98,22 @@ abbrev pub receiver_resumed : {S : Type 0} → Law S → S → ℕ → Outcome �
 receiver_resumed law s token outcome receiver =
     option_map (rewritten law s token outcome) receiver
 
--- the second state has the same natives as the first, and the same of them write, also where they are
--- known by tokens
+-- the second state has the same natives as the first, and the same of them write
 abbrev pub KeepsTable : {S : Type 0} → Law S → S → S → Type 0
 KeepsTable law s t =
     ((name kinds : List ℕ) → law.resolves t name kinds ≡ law.resolves s name kinds)
     × ((key : ℕ) → law.writes t key ≡ law.writes s key)
-    × ((token : ℕ) → law.token_writes t token ≡ law.token_writes s token)
+
+-- each token but the named ones stands for a native that writes in both states or in none
+abbrev pub KeepsTokens : {S : Type 0} → Law S → (ℕ → Bool) → S → S → Type 0
+KeepsTokens law named s t =
+    (token : ℕ) → named token ≡ false → law.token_writes t token ≡ law.token_writes s token
+
+-- whether an answer asks with this token
+abbrev pub asks_with : Reply → ℕ → Bool
+asks_with (Done v) token = false
+asks_with (Failed x) token = false
+asks_with (Ask given pointer arguments) token = nat_eq given token
 
 -- the token of what is asked writes where the native writes that asks
 abbrev pub AsksAs : {S : Type 0} → Law S → S → Bool → Reply → Type 0
@@ -200,6 +209,17 @@ pub record IsLawful {S : Type 0} (law : Law S) : Type 0 where
   pub resume_keeps : (s : S) (token : ℕ) (outcome : Outcome) (receiver : Option Held) →
       KeepsTable law s (law.resume_after s token outcome receiver)
   pub forget_keeps : (s : S) (token : ℕ) → KeepsTable law s (law.forget_after s token)
+  pub call_keeps_tokens : (s : S) (key : ℕ) (receiver : Option Held) (values : List Tree) →
+      KeepsTokens law (asks_with (law.call_reply s key receiver values)) s
+      (law.call_after s key receiver values)
+  pub progress_keeps_tokens : (s : S) (count : ℕ) →
+      KeepsTokens law (λ token. false) s (law.progress_after s count)
+  pub resume_keeps_tokens : (s : S) (token : ℕ) (outcome : Outcome) (receiver : Option Held) →
+      KeepsTokens law
+      (λ t. nat_eq token t || asks_with (law.resume_reply s token outcome receiver) t) s
+      (law.resume_after s token outcome receiver)
+  pub forget_keeps_tokens : (s : S) (token : ℕ) →
+      KeepsTokens law (nat_eq token) s (law.forget_after s token)
   pub asks : (s : S) (key : ℕ) (receiver : Option Held) (values : List Tree) →
       AsksAs law (law.call_after s key receiver values) (law.writes s key)
       (law.call_reply s key receiver values)

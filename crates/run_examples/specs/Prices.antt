@@ -261,11 +261,14 @@ reply_clean (Err reason.OutOfRange) = refl
 
 pub price_lawful : IsLawful price_law
 price_lawful = record {
-  call_keeps = λ s key receiver values. (λ name kinds. refl, λ key. refl, λ token. refl);
-  progress_keeps = λ s count. (λ name kinds. refl, λ key. refl, λ token. refl);
-  resume_keeps = λ s token outcome receiver.
-      (λ name kinds. refl, λ key. refl, λ token. refl);
-  forget_keeps = λ s token. (λ name kinds. refl, λ key. refl, λ token. refl);
+  call_keeps = λ s key receiver values. (λ name kinds. refl, λ key. refl);
+  progress_keeps = λ s count. (λ name kinds. refl, λ key. refl);
+  resume_keeps = λ s token outcome receiver. (λ name kinds. refl, λ key. refl);
+  forget_keeps = λ s token. (λ name kinds. refl, λ key. refl);
+  call_keeps_tokens = λ s key receiver values token other. refl;
+  progress_keeps_tokens = λ s count token other. refl;
+  resume_keeps_tokens = λ s given outcome receiver token other. refl;
+  forget_keeps_tokens = λ s given token other. refl;
   asks = λ s key receiver values.
       asks_as (price_law.call_after s key receiver values)
       (price_law.call_reply s key receiver values);
