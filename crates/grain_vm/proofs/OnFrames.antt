@@ -36,7 +36,7 @@ use Rattle.grain_frame.specs.declared.runs.Run.{Run}
 use Rattle.grain_frame.specs.lemmas.Bound.{as_bound, bound_as}
 use Rattle.grain_frame.specs.lemmas.Failing.{raises_here, wants_memory}
 use Rattle.grain_vm.specs.Finding.{Finds, FindsFunction, found_of, op_on}
-use Rattle.grain_vm.specs.Receivers.{ByFirst, ByTarget, Called, CalledOn, FindsCallee, FindsOn, Refuses, called, destination_in, first_in, first_pointer, target_in, target_pointer}
+use Rattle.grain_vm.specs.Receivers.{ByFirst, ByTarget, Called, CalledOn, FindsCallee, Refuses, called, destination_in, first_in, first_pointer, target_in, target_pointer}
 use Rattle.grain_vm.specs.declared.finding.Found.{Found}
 use Rattle.grain_vm.specs.declared.finding.Found.TheVariants as found
 use Rattle.grain_vm.specs.declared.receivers.Callee.{Callee}
@@ -216,7 +216,7 @@ module _ {H : Type 0} (law : Law H) (p : View) (engine : Engine) (f f' : Activat
   -- what is found of `call_fn_ptr` is found of an instruction whose target is a pointer
   pub pointed_on : Points law p engine f s n host d count next → (r : Result Found OutOfMemory) →
       Finds (setup law p engine) (moment f s n host) (op.CallFnPtr count) next r (moment f' s' n' host') →
-      FindsOn (setup law p engine) (moment f s n host) (op_on d count) next r (moment f' s' n' host')
+      Finds (setup law p engine) (moment f s n host) (op_on d count) next r (moment f' s' n' host')
   pointed_on at (Ok (found.Done q)) did =
       as_op d count next (bound_as (as_bound did)
       (λ stop u place bound. is_pointer_call law p engine f s n host d count next at stop u place))
@@ -304,7 +304,7 @@ module _ {H : Type 0} (law : Law H) (p : View) (engine : Engine) (f : Activation
 -- what was done without a function is what the instruction with a receiver comes to
 pub finds_on_of : {H : Type 0} {m : Setup H} {a b : Moment H} (o : Op) (next : ℕ)
     (r : Result Progress OutOfMemory) → PerformsBound m a o next r b →
-    FindsOn m a o next (found_of r) b
+    Finds m a o next (found_of r) b
 finds_on_of o next (Ok q) did = did
 finds_on_of o next (Err e) did = did
 
@@ -320,10 +320,10 @@ two_there count length some there = omega (arith, some, there)
 
 -- what was found is this function
 pub on_function : {H : Type 0} (m : Setup H) (a b : Moment H) (o : Op) (next : ℕ) (x : Found)
-    (number to : ℕ) → x ≡ found.Function number to → FindsOn m a o next (Ok x) b →
+    (number to : ℕ) → x ≡ found.Function number to → Finds m a o next (Ok x) b →
     (to ≡ next) × FindsFunction m a o next number b
 on_function m a b o next x number to is did =
-    subst (λ (y : Found). FindsOn m a o next (Ok y) b) is did
+    subst (λ (y : Found). Finds m a o next (Ok y) b) is did
 
 -- it was called, and the instruction is done
 pub function_performed : {H : Type 0} (law : Law H) (p : View) (engine : Engine)

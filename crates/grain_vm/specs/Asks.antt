@@ -1,12 +1,13 @@
 -- Natives that ask for calls: what they ask for is done, until they are over.
-use Rattle.std.specs.Prelude.{◌≡◌, ◌⊎◌, ◌<◌, ◌≤◌, ℕ, List, Option, Some, None, Bool, true, false, Result, Ok, Err, length}
+use Rattle.std.specs.Prelude.{◌≡◌, ◌⊎◌, ◌<◌, ◌≤◌, ◌+◌, ℕ, List, Option, Some, None, Bool, true, false, Result, Ok, Err, length}
 use Rattle.grain_value.specs.Tree.{Tree}
 use Rattle.grain_value.specs.declared.scopes.Entry.{Entry}
 use Rattle.grain_value.specs.declared.values.Dynamic.{Dynamic}
 use Rattle.grain_value.specs.declared.values.FnPtr.{FnPtr}
 use Rattle.grain_value.specs.declared.values.Held.{Held}
-use Rattle.grain_fault.specs.Problems.{problem_of}
+use Rattle.grain_fault.specs.Problems.{NoMemory, problem_of}
 use Rattle.grain_fault.specs.declared.faults.EvalAltResult.{EvalAltResult}
+use Rattle.grain_fault.specs.declared.faults.EvalAltResult.TheVariants as fault
 use Rattle.grain_fault.specs.declared.places.Position.{Position}
 use Rattle.grain_fault.specs.declared.traces.Fault.{Fault}
 use Rattle.grain_host.specs.Law.{Value, Fault as FaultOf}
@@ -15,18 +16,34 @@ use Rattle.grain_global.specs.StepsView.{StepsView}
 use Rattle.grain_global.specs.declared.engines.Engine.{Engine}
 use Rattle.grain_fault.specs.Absences.{is_dot_expr, is_indexing_type}
 use Rattle.grain_means.specs.Worlds.{Act, Answer, Callback, Came, Failed, Frame, Place, Setup, World}
-use Rattle.grain_means.specs.Rules.{called_back, called_back_over, given_up, is_told, position, told}
+use Rattle.grain_means.specs.Rules.{called_back, called_back_over, given_up, is_told, native_over, position, told}
+use Rattle.grain_means.specs.Rules.InWorld.{failed_so, trace_of}
 use Rattle.grain_means.specs.Simulation.{Computation, LocalState, Simulates, SimulatesExactly}
 use Rattle.grain_frame.specs.Natives.{IsAt}
 use Rattle.grain_frame.specs.Receivers.{KeepsBound}
 use Rattle.grain_frame.specs.Targets.{home_of}
-use Rattle.grain_frame.specs.Waiting.{asking, beside, state_after, state_with}
+use Rattle.grain_frame.specs.Waiting.{IsKept, LeadsTo, Lends, asking, beside, state_after, state_with}
+use Rattle.grain_frame.specs.declared.activations.Activation.{Activation}
 use Rattle.grain_frame.specs.declared.runs.Run.{Run}
 use Rattle.grain_frame.specs.declared.targets.Target.TheVariants as to
 use Rattle.grain_frame.specs.declared.waiting.Loan.{Loan}
 use Rattle.grain_frame.specs.declared.waiting.Loan.TheVariants as have
+use Rattle.grain_frame.specs.declared.waiting.Waiting.{Waiting}
+use Rattle.grain_program.specs.View.{View}
 use Rattle.grain_vm.specs.Methods.{Hears}
 use Rattle.grain_vm.specs.declared.driving.AskingNative.{AskingNative}
+use Rattle.grain_vm.specs.declared.driving.Answered.{Answered}
+use Rattle.grain_vm.specs.declared.driving.Answered.TheVariants as answered
+
+-- an instruction waits for a native: it can go on after it, and what the native was lent is what the
+-- instruction writes, or nothing
+pub record IsWaiting {H : Type 0} (p : View) (f : Activation) (s : Run H) (w : Waiting) : Type 0 where
+  pub takes : ℕ
+  pub gives : ℕ
+  pub targets : List ℕ
+  pub leads : LeadsTo p f s w.rest takes gives targets
+  pub lends : Lends w.rest w.lent
+  pub kept : IsKept s w.lent
 
 -- a call whose pointer and values are these, and whose faults have this position
 pub record IsCallback {H : Type 0} (m : Setup H) (q : Position) (p : FnPtr) (values : List Tree)
@@ -112,6 +129,50 @@ EndsNative {H = H} m native s n host o left s' n' host' =
     (asking (home_of to.This) s native.asked native.lent f heard) (is_want o)
     (state_after native.lent left scope x s' n' host')
     (λ m place w. heard m place (outcome_of o) w)
+
+-- what follows in a walk, or where a native was called back, once a native is over that asked for calls: its
+-- fault is raised at a mark
+abbrev pub raised_to : {H : Type 0} → Hears H → Setup H → Option Place → Answer → World H → Act H
+raised_to heard m place =
+    native_over (heard m place (Failed NoMemory)) (λ v w. heard m place (Came v) w)
+    (failed_so m (heard m place))
+
+-- A native that was called so far is over, wherever it was called and whatever follows.
+abbrev pub FinishesNative : {H : Type 0} → Setup H → Answered → Run H → StepsView → H →
+    Result Dynamic EvalAltResult → Option Held → Run H → StepsView → H → Type 0
+FinishesNative m (answered.Over r) s n host o left s' n' host' =
+    (o ≡ r.0) × (left ≡ r.1) × (s' ≡ s) × (n' ≡ n) × (host' ≡ host)
+FinishesNative {H = H} m (answered.Asks native) s n host o left s' n' host' =
+    (f : Option Place → Frame) (heard : Hears H) (scope : List Entry) (x : Option Held) →
+    IsAt m f native.pos →
+    Simulates m (state_with native.lent scope x s n host)
+    (asking (home_of to.This) s native.asked native.lent f (raised_to heard)) (is_want o)
+    (state_after native.lent left scope x s' n' host')
+    (λ m place w. heard m place (outcome_of o) w)
+
+-- the fault of a native that is over is raised at a mark, and the trace is then that of the fault before, if
+-- that is kept; or memory is out for it, and nothing has changed
+abbrev pub RaisesTraced : {H : Type 0} → EvalAltResult → Option (List Fault) → Run H → StepsView →
+    Result Dynamic EvalAltResult → Run H → StepsView → Type 0
+RaisesTraced x before s n r s' n' =
+    ((r ≡ Err x) × (s' ≡ record s {
+      stacks = record s.stacks {
+        trace = trace_of before (Failed (problem_of x)) s.stacks.trace;
+      };
+    }) × (n' ≡ record n { passed = n.passed + 1 }))
+    ⊎ ((r ≡ Err fault.Memory) × (s' ≡ s) × (n' ≡ n))
+
+abbrev pub RaisesUnlessOut : {H : Type 0} → Bool → EvalAltResult → Option (List Fault) → Run H →
+    StepsView → Result Dynamic EvalAltResult → Run H → StepsView → Type 0
+RaisesUnlessOut true x before s n r s' n' = (r ≡ Err x) × (s' ≡ s) × (n' ≡ n)
+RaisesUnlessOut false x before s n r s' n' = RaisesTraced x before s n r s' n'
+
+-- the same of a native that is over with this: a value is handed on, and so is want of memory
+abbrev pub RaisesInWalk : {H : Type 0} → Result Dynamic EvalAltResult → Option (List Fault) → Run H →
+    StepsView → Result Dynamic EvalAltResult → Run H → StepsView → Type 0
+RaisesInWalk (Ok v) before s n r s' n' = (r ≡ Ok v) × (s' ≡ s) × (n' ≡ n)
+RaisesInWalk (Err x) before s n r s' n' =
+    RaisesUnlessOut (no_memory (problem_of x)) x before s n r s' n'
 
 -- whether a property was missed just now, and the trace that this fault left, which stands in the run
 abbrev pub IsMissed : Bool → List Fault → Option (List Fault) → Type 0

@@ -39,6 +39,8 @@ use Rattle.grain_frame.specs.declared.native_calls.Arguments.{Arguments}
 use Rattle.grain_frame.specs.declared.native_calls.Sought.TheVariants as sought
 use Rattle.grain_frame.specs.Natives.{IsAt}
 use Rattle.grain_frame.specs.Waiting.{apart_of, lent_of}
+use Rattle.grain_frame.specs.declared.waiting.Loan.{Loan}
+use Rattle.grain_frame.specs.declared.waiting.Loan.TheVariants as have
 use Rattle.grain_fault.specs.declared.traces.Fault.{Fault}
 use Rattle.grain_means.specs.Rules.InWorld.{missed_by, trace_of}
 use Rattle.grain_vm.specs.Seats.{Rests, Seat, Seated, first_held, walk_asking, walk_seated}
@@ -166,6 +168,18 @@ DoesRequest law r home cells n host a n' host' =
     × IfOver a (λ o left. MeetsRace host r.receiver r.pos n o n' host' left))
     ⊎ ((args : List Held) × (flat_all cells (map read_write (map value_of r.arguments)) ≡ Some args)
     × AsksHost law host (name_in r.what) home r.receiver args r.pos n a n' host')
+
+-- what a native was lent stands nowhere in the run, or it was lent nothing
+abbrev pub IsApart : Loan → Type 0
+IsApart have.Nothing = Unit {0}
+IsApart (have.Target t) = ⊥
+IsApart (have.Cell n h) = ⊥
+IsApart (have.Apart h) = Unit {0}
+
+-- the same of a native that was called so far
+abbrev pub IsApartIn : Answered → Type 0
+IsApartIn (answered.Over o) = Unit {0}
+IsApartIn (answered.Asks native) = IsApart native.lent
 
 -- what is left of what was lent to a native, whether it is over or asks for a call
 abbrev pub left_by : Answered → Option Held

@@ -9,7 +9,10 @@ use Rattle.grain_program.specs.declared.code.instruction_set.Op.TheVariants as o
 use Rattle.grain_means.specs.Rules.{instr, enter_function}
 use Rattle.grain_means.specs.Simulation.{SimulatesExactly}
 use Rattle.grain_means.specs.Worlds.{Setup}
-use Rattle.grain_frame.specs.Abstraction.{Moment, Performs, StandsAt, Stepped, abstraction, frame_in}
+use Rattle.grain_frame.specs.Abstraction.{Moment, PerformsBound, StandsAt, Stepped, abstraction, frame_in}
+use Rattle.grain_frame.specs.Waiting.{PerformsOrWaits}
+use Rattle.grain_frame.specs.declared.waiting.Performed.{Performed}
+use Rattle.grain_frame.specs.declared.waiting.Performed.TheVariants as performed
 use Rattle.grain_vm.specs.declared.finding.Found.{Found}
 use Rattle.grain_vm.specs.declared.finding.Found.TheVariants as found
 use Rattle.grain_vm.specs.declared.receivers.Destination.{Destination}
@@ -46,10 +49,10 @@ found_of (Err e) = Err e
 -- what is found of an instruction that walks along no place: it is done, or it calls a function
 abbrev pub Finds : {H : Type 0} → Setup H → Moment H → Op → ℕ → Result Found OutOfMemory →
     Moment H → Type 0
-Finds m a o next (Ok (found.Done p)) b = Performs m a o next (Ok p) b
+Finds m a o next (Ok (found.Done p)) b = PerformsBound m a o next (Ok p) b
 Finds m a o next (Ok (found.Function number to)) b =
     (to ≡ next) × FindsFunction m a o next number b
-Finds m a o next (Err e) b = Performs m a o next (Err e) b
+Finds m a o next (Err e) b = PerformsBound m a o next (Err e) b
 
 -- an instruction that may call a function: it leads to the next one, gives one value and keeps the
 -- handlers
@@ -73,11 +76,19 @@ op_on destination.Nowhere n = op.CallFnPtrMethod n
 op_on (destination.Slot slot) n = op.CallFnPtrOnLocal n slot
 op_on destination.This n = op.CallFnPtrOnThis n
 
+-- an instruction that is done or waits, unless memory ran out
+abbrev pub turn_of : Result Performed OutOfMemory → Result Turn OutOfMemory
+turn_of (Ok (performed.Leads p)) = Ok (turn.Done p)
+turn_of (Ok (performed.Waits w)) = Ok (turn.Waits w)
+turn_of (Err e) = Err e
+
 -- what came of the instruction at which the frame stands, where it is neither `call` nor `call_fn_ptr`:
--- it is done, or it may run a method, and then nothing is done yet
+-- it is done, or it waits for a native, or it may run a method, and then nothing is done yet
 abbrev pub StepsHere : {H : Type 0} → Setup H → Moment H → Result Turn OutOfMemory →
     Moment H → Type 0
 StepsHere m a (Ok (turn.Done p)) b = Stepped m a (Ok p) b
+StepsHere m a (Ok (turn.Waits w)) b = (o : Op) × (next : ℕ)
+    × StandsAt m.program a.frame a.run o next × PerformsOrWaits m a o next (Ok (performed.Waits w)) b
 StepsHere m a (Ok (turn.Chain index next)) b =
     StandsAt m.program a.frame a.run (op.Chain index) next × (b ≡ a)
 StepsHere m a (Ok (turn.Receiver d count next)) b =

@@ -16,6 +16,9 @@ pub mod Methods
 pub mod Underway
 pub mod Receivers
 pub mod Asks
+pub mod Backs
+pub mod WalkNatives
+pub mod OnReceivers
 pub use Rattle.grain_global.specs.StepsView
 pub use Rattle.grain_means.specs.Worlds
 pub use Rattle.grain_means.specs.Rules

@@ -185,14 +185,6 @@ NativeCalled m r s n host o left s' n' host' =
     ((place : Option Place) → position m (f place) ≡ r.pos) →
     CallsOn m (native_call f (name_in r.what) (given_to r.arguments)) h s n host o left' s' n' host'
 
--- the same of a receiver that is a cell, as which it is left
-abbrev pub LendsCell : {H : Type 0} → Setup H → List ℕ → Position → List Tree → ℕ → Bool → Run H →
-    StepsView → H → Result Dynamic EvalAltResult → Run H → StepsView → H → Type 0
-LendsCell m name q ts cell flag s n host o s' n' host' =
-    (h : Held) (f : Option Place → Frame) → cell_of h.value ≡ Some cell → h.read_only ≡ flag →
-    ((place : Option Place) → position m (f place) ≡ q) →
-    CallsOn m (native_call f name (given_to ts)) h s n host o h s' n' host'
-
 -- The description has what the cell of a number holds, with a flag, and after it these values as they are
 -- read; or there is none, because the cell or one of these is lent, or the cell is not there.
 abbrev pub ReadsForCell : List Cell → ℕ → Bool → List Tree → Option Arguments → Type 0
@@ -203,15 +195,6 @@ ReadsForCell cells n flag ts (Some a) = (h : Held) × (slice_get cells n ≡ Som
     × DescribesAfter (Some (record h { read_only = flag })) a args)
 
 -- ---- the instruction
-
--- What is found of an instruction that may have a receiver: it is done, or it calls a function without a
--- receiver, and then that is not called yet.
-abbrev pub FindsOn : {H : Type 0} → Setup H → Moment H → Op → ℕ → Result Found OutOfMemory →
-    Moment H → Type 0
-FindsOn m a o next (Ok (found.Done p)) b = PerformsBound m a o next (Ok p) b
-FindsOn m a o next (Ok (found.Function number to)) b =
-    (to ≡ next) × FindsFunction m a o next number b
-FindsOn m a o next (Err e) b = PerformsBound m a o next (Err e) b
 
 -- A pointer, which is the first argument and has n arguments after it, was called with its receiver.
 abbrev pub CalledOn : {H : Type 0} → Setup H → Moment H → Destination → FnPtr → ℕ → ℕ →

@@ -32,12 +32,10 @@ use Rattle.grain_frame.specs.declared.runs.Progress.{Progress}
 use Rattle.grain_frame.specs.declared.runs.Progress.TheVariants as progress
 use Rattle.grain_frame.specs.declared.runs.Run.{Run}
 use Rattle.grain_vm.specs.Chains.{CanPutBack, value_taken, walked_frame}
-use Rattle.grain_vm.specs.Driving.{after_walk, beside, end_is_out, end_of}
+use Rattle.grain_vm.specs.Driving.{IsApart, after_walk, beside, end_is_out, end_of}
 use Rattle.grain_vm.specs.Methods.{HasFunction, given_to}
 use Rattle.grain_frame.specs.Natives.{IsAt}
 use Rattle.grain_frame.specs.Waiting.{apart_of}
-use Rattle.grain_frame.specs.declared.waiting.Loan.{Loan}
-use Rattle.grain_frame.specs.declared.waiting.Loan.TheVariants as have
 use Rattle.grain_vm.specs.Seats.{AtThis, Added, Rests, Seat, Seated, first_held, walk_asking, walk_calling, walk_seated}
 use Rattle.grain_vm.specs.declared.chain_operands.Taken.{Taken}
 use Rattle.grain_vm.specs.declared.chains.Begun.{Begun}
@@ -51,13 +49,6 @@ use Rattle.grain_vm.specs.declared.roots.Home.{Home}
 use Rattle.grain_vm.specs.declared.roots.Home.TheVariants as home
 
 -- ---- how far a walk is driven
-
--- what a native of a walk was lent stands nowhere in the run, or it was lent nothing
-abbrev pub IsApart : Loan → Type 0
-IsApart have.Nothing = Unit {0}
-IsApart (have.Target t) = ⊥
-IsApart (have.Cell n h) = ⊥
-IsApart (have.Apart h) = Unit {0}
 
 -- whether memory ran out
 abbrev pub driven_is_out : Driven → Bool

@@ -1,6 +1,23 @@
 //! Natives that ask for calls: what they ask for is done, and the host hears what came of it, until the
 //! native is over.
 
+ghost use Rattle.std.specs.Prelude.{◌≡◌, ◌<◌, ◌≤◌, ◌-◌, ◌∷◌, [], ℕ, List, Err, None, IfOk, OnErr, OnOk, false, is_some, length, true};
+ghost use Rattle.grain_value.specs.declared.values.Held.{Held};
+ghost use Rattle.grain_fault.specs.declared.faults.EvalAltResult.TheVariants as fault;
+ghost use Rattle.grain_means.specs.Worlds.{Setup};
+ghost use Rattle.grain_means.specs.Rules.{call_function};
+ghost use Rattle.grain_chain.specs.Walking.{is_want};
+ghost use Rattle.grain_frame.specs.Abstraction.{ImplementsBound, frame_in, moment, setup_of};
+ghost use Rattle.grain_frame.specs.Targets.{home_of};
+ghost use Rattle.grain_frame.specs.Waiting.{IsKept, LeadsTo, apart_of, asking, given_back_run, rest_of};
+ghost use Rattle.grain_frame.specs.declared.targets.Target.TheVariants as to;
+ghost use Rattle.grain_vm.specs.Asks.{CallsBack, EndsNative, FinishesNative, IsMissed, IsWaiting, NativeOver, RaisesInWalk, TellsOf, TookOne};
+ghost use Rattle.grain_vm.specs.Backs.{BeginsBack, FindsBack, NativeCallsBack};
+ghost use Rattle.grain_vm.specs.Driving.{IsApart, IsApartIn, IsNative, SameFlag, left_by};
+ghost use Rattle.grain_vm.specs.Methods.{MethodOver, NoneAbove};
+ghost use Rattle.grain_vm.specs.Receivers.{NativeCalled};
+ghost use Rattle.grain_vm.specs.WalkNatives.{NativeWalked};
+
 use crate::calls::deeper;
 use crate::chains::is_want;
 use crate::driving::{
@@ -32,12 +49,12 @@ pub(crate) fn wait_for_native<H: Host, L: Ledger>(
 ) -> Result<Progress, OutOfMemory>
     requires runs { IsWaiting context.program.now frame.old run.old waiting }
     requires none { NoneAbove run.old.level run.old.receivers }
-    ensures goes { (takes gives : ℕ) (targets : List ℕ) →
-        LeadsTo context.program.now frame.old run.old waiting.rest takes gives targets →
+    ensures goes { (h : Held) (takes gives : ℕ) (targets : List ℕ) → h.read_only ≡ false →
+        LeadsTo context.entry.program.now frame.old run.old waiting.rest takes gives targets →
         ImplementsBound (setup_of H.law context.entry)
         (moment frame.old run.old steps.old host.old)
         (λ m place w. asking (home_of to.This) run.old waiting.asked waiting.lent
-        (frame_in frame.old run.old) (rest_of waiting.rest (frame_in frame.old run.old)) m place w)
+        (frame_in frame.old run.old) (rest_of h waiting.rest (frame_in frame.old run.old)) m place w)
         targets takes gives run.old.stacks.handlers result
         (moment frame.new run.new steps.new host.new) }
 {
@@ -80,7 +97,18 @@ pub(crate) fn call_native_by_name<H: Host, L: Ledger>(
     name: &Text,
     count: usize,
     next: usize,
-) -> Result<Progress, OutOfMemory> {
+) -> Result<Progress, OutOfMemory>
+    requires inside { frame.old.base ≤ length run.old.scope }
+    requires operands { count ≤ length run.old.stacks.operands }
+    requires room { length run.old.stacks.operands - count < run.old.stacks.room }
+    requires ahead { frame.old.address < next }
+    requires none { NoneAbove run.old.level run.old.receivers }
+    ensures implements { ImplementsBound (setup_of H.law context.entry)
+        (moment frame.old run.old steps.old host.old)
+        (λ m place w. call_function m None name.now count (frame_in frame.old run.old place) next w)
+        (next ∷ []) count 1 run.old.stacks.handlers result
+        (moment frame.new run.new steps.new host.new) }
+{
     let mut copy = *frame;
     let progress = native_by_name(run, context, host, steps, &mut copy, name, count, next);
     frame.address = copy.address;
@@ -102,7 +130,18 @@ pub(crate) fn native_by_name<H: Host, L: Ledger>(
     name: &Text,
     count: usize,
     next: usize,
-) -> Result<Progress, OutOfMemory> {
+) -> Result<Progress, OutOfMemory>
+    requires inside { frame.old.base ≤ length run.old.scope }
+    requires operands { count ≤ length run.old.stacks.operands }
+    requires room { length run.old.stacks.operands - count < run.old.stacks.room }
+    requires ahead { frame.old.address < next }
+    requires none { NoneAbove run.old.level run.old.receivers }
+    ensures implements { ImplementsBound (setup_of H.law context.entry)
+        (moment frame.old run.old steps.old host.old)
+        (λ m place w. call_function m None name.now count (frame_in frame.old run.old place) next w)
+        (next ∷ []) count 1 run.old.stacks.handlers result
+        (moment frame.new run.new steps.new host.new) }
+{
     match run.native_by_name(context, host, steps, frame, name, count, next)? {
         Performed::Leads(progress) => Ok(progress),
         Performed::Waits(waiting) => wait_for_native(run, context, host, steps, frame, waiting),
@@ -121,7 +160,15 @@ pub(crate) fn native_in_walk<H: Host, L: Ledger>(
     steps: &mut Steps<L>,
     missed: &mut bool,
     native: AskingNative,
-) -> Outcome {
+) -> Outcome
+    requires apart { IsApart native.lent }
+    requires none { NoneAbove run.old.level run.old.receivers }
+    ensures walked { NativeWalked (setup_of H.law context.entry) native run.old steps.old host.old
+        missed.old result.0 result.1 run.new steps.new host.new missed.new }
+    ensures over { MethodOver run.old run.new }
+    ensures lent { SameFlag (apart_of native.lent) result.1 }
+    ensures before { steps.new.before ≡ steps.old.before }
+{
     let before = match take_trace(run, *missed) {
         Ok(before) => before,
         Err(OutOfMemory) => return give_up(run, host, native),
@@ -133,7 +180,12 @@ pub(crate) fn native_in_walk<H: Host, L: Ledger>(
 }
 
 // Takes the trace away, and gives it if it is to be kept.
-fn take_trace<H: Host>(run: &mut Run<H>, kept: bool) -> Result<Option<Vec<Fault>>, OutOfMemory> {
+fn take_trace<H: Host>(run: &mut Run<H>, kept: bool) -> Result<Option<Vec<Fault>>, OutOfMemory>
+    ensures taken { IfOk result (λ before. IsMissed kept run.old.stacks.trace before) }
+    ensures empty { OnOk result
+        (run.new ≡ record run.old { stacks = record run.old.stacks { trace = [] } }) }
+    ensures refused { OnErr result (run.new ≡ run.old) }
+{
     let before = if kept {
         let mut copy = Vec::new(run.alloc);
         'entries: for entry in run.stacks.trace() {
@@ -148,7 +200,12 @@ fn take_trace<H: Host>(run: &mut Run<H>, kept: bool) -> Result<Option<Vec<Fault>
 }
 
 // Memory ran out before what a native asks for could begin.
-fn give_up<H: Host>(run: &mut Run<H>, host: &mut H, native: AskingNative) -> Outcome {
+fn give_up<H: Host>(run: &mut Run<H>, host: &mut H, native: AskingNative) -> Outcome
+    ensures outcome { result ≡ (Err fault.Memory, apart_of native.lent) }
+    ensures host { host.new ≡ H.law.forget_after host.old native.asked.token }
+    ensures run { run.new ≡ given_back_run native.lent
+        (record run.old { stacks = record run.old.stacks { trace = [] } }) }
+{
     run.stacks.cut_trace(0);
     let receiver = run.forget_native(host, native.asked.token, native.lent);
     (Err(EvalAltResult::Memory), receiver)
@@ -161,7 +218,9 @@ fn raised_in_walk<H: Host, L: Ledger>(
     steps: &mut Steps<L>,
     outcome: Result<Dynamic, EvalAltResult>,
     before: Option<Vec<Fault>>,
-) -> Result<Dynamic, EvalAltResult> {
+) -> Result<Dynamic, EvalAltResult>
+    ensures { RaisesInWalk outcome before run.old steps.old result run.new steps.new }
+{
     if outcome.is_ok() || is_out(&outcome) {
         return outcome;
     }
@@ -186,7 +245,16 @@ pub(crate) fn native_on<H: Host, L: Ledger>(
     host: &mut H,
     steps: &mut Steps<L>,
     request: Request,
-) -> Outcome {
+) -> Outcome
+    requires native { IsNative request.what }
+    requires receiver { is_some request.receiver ≡ true }
+    requires none { NoneAbove run.old.level run.old.receivers }
+    ensures called { NativeCalled (setup_of H.law context.entry) request run.old steps.old host.old
+        result.0 result.1 run.new steps.new host.new }
+    ensures over { MethodOver run.old run.new }
+    ensures lent { SameFlag request.receiver result.1 }
+    ensures before { steps.new.before ≡ steps.old.before }
+{
     match call_native_on(run, host, steps, request) {
         OnReceiver::Over(outcome) => outcome,
         OnReceiver::Asks(native, cell) => {
@@ -213,7 +281,15 @@ fn finish_native<H: Host, L: Ledger>(
     host: &mut H,
     steps: &mut Steps<L>,
     answered: Answered,
-) -> Outcome {
+) -> Outcome
+    requires apart { IsApartIn answered }
+    requires none { NoneAbove run.old.level run.old.receivers }
+    ensures finishes { FinishesNative (setup_of H.law context.entry) answered run.old steps.old host.old
+        result.0 result.1 run.new steps.new host.new }
+    ensures over { MethodOver run.old run.new }
+    ensures lent { SameFlag (left_by answered) result.1 }
+    ensures before { steps.new.before ≡ steps.old.before }
+{
     match answered {
         Answered::Over(outcome) => outcome,
         Answered::Asks(native) => {
@@ -332,7 +408,9 @@ fn find_back<H: Host>(
     pos: Position,
     pointer: FnPtr,
     values: Array,
-) -> Result<Needed, OutOfMemory> {
+) -> Result<Needed, OutOfMemory>
+    ensures { FindsBack context.entry.program.now context.entry.engine.now pos pointer values result }
+{
     if context.engine.callbacks() {
         let request = Request {
             step: 0,
@@ -366,7 +444,16 @@ fn native_back<H: Host, L: Ledger>(
     host: &mut H,
     steps: &mut Steps<L>,
     request: Request,
-) -> Result<Dynamic, EvalAltResult> {
+) -> Result<Dynamic, EvalAltResult>
+    requires native { IsNative request.what }
+    requires apart { request.receiver ≡ None }
+    requires none { NoneAbove run.old.level run.old.receivers }
+    ensures called { NativeCallsBack (setup_of H.law context.entry) request run.old steps.old host.old
+        result run.new steps.new host.new }
+    ensures over { MethodOver run.old run.new }
+    ensures took { TookOne context.entry.engine.now run.old result run.new }
+    ensures before { steps.new.before ≡ steps.old.before }
+{
     let pos = request.pos;
     match begin_native_back(run, context, host, steps, pos) {
         Some(fault) => Err(fault),
@@ -386,7 +473,11 @@ fn begin_native_back<H: Host, L: Ledger>(
     host: &mut H,
     steps: &mut Steps<L>,
     pos: Position,
-) -> Option<EvalAltResult> {
+) -> Option<EvalAltResult>
+    ensures begins { BeginsBack (setup_of H.law context.entry) pos run.old steps.old host.old result
+        run.new steps.new host.new }
+    ensures before { steps.new.before ≡ steps.old.before }
+{
     match run.charge_at(context, host, steps, pos) {
         Err(OutOfMemory) => return Some(EvalAltResult::Memory),
         Ok(taken) => {

@@ -19,7 +19,7 @@ ghost use Rattle.grain_frame.specs.Natives.{Seeks};
 ghost use Rattle.grain_means.specs.Rules.InWorld.{missed_by, trace_of};
 ghost use Rattle.grain_fault.specs.declared.traces.Fault.{Fault as Entered};
 ghost use Rattle.grain_vm.specs.Asks.{IsMissed, has_missed, has_no_indexer};
-ghost use Rattle.grain_vm.specs.Driving.{beside, left_by, left_of, name_in, Answers, DescribesAfter, IsNative, ReadsAll, lent_from, RaisesOne, AsksHost, DoesRequest, HearsHost, SameFlag, IgnoresChange};
+ghost use Rattle.grain_vm.specs.Driving.{beside, left_by, left_of, name_in, Answers, DescribesAfter, IsNative, ReadsAll, lent_from, RaisesOne, AsksHost, DoesRequest, HearsHost, IsApartIn, SameFlag, IgnoresChange};
 ghost use Rattle.grain_vm.specs.Methods.{ServesRequest};
 ghost use Rattle.grain_vm.specs.Seats.{Rests, Seat, Seated, first_held, walk_seated};
 ghost use Rattle.grain_vm.specs.Underway.{DrivesTo, RootedTo, WaitsFor, driven_is_out};
@@ -219,6 +219,7 @@ pub(crate) fn perform_request<H: Host, L: Ledger>(
     ensures run { run.new ≡ run.old }
     ensures before { steps.new.before ≡ steps.old.before }
     ensures lent { SameFlag request.receiver (left_by result) }
+    ensures apart { IsApartIn result }
 {
     let Request {
         step: _,
@@ -256,6 +257,7 @@ pub(crate) fn ask_host<H: Host, L: Ledger>(
     ensures run { run.new ≡ run.old }
     ensures before { steps.new.before ≡ steps.old.before }
     ensures lent { SameFlag receiver (left_by result) }
+    ensures apart { IsApartIn result }
 {
     match seek_lending(run.alloc, host, name, &receiver, arguments, position) {
         Err(OutOfMemory) => Answered::Over((Err(EvalAltResult::Memory), receiver)),

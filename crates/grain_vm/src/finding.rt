@@ -4,6 +4,7 @@ ghost use Rattle.std.specs.Prelude.{◌≡◌};
 ghost use Rattle.grain_program.specs.Indices.{InPools};
 ghost use Rattle.grain_frame.specs.Abstraction.{Ready, setup_of, moment};
 ghost use Rattle.grain_vm.specs.Finding.{Finds, found_of};
+ghost use Rattle.grain_vm.specs.Methods.{NoneAbove};
 ghost use Rattle.grain_program.specs.declared.code.instruction_set.Op.TheVariants as op;
 
 use crate::asks::{call_native_by_name, native_by_name};
@@ -49,6 +50,7 @@ pub(crate) fn find_named<H: Host, L: Ledger>(
 ) -> Result<Found, OutOfMemory>
     requires ready { Ready frame.old run.old (op.Call name count) next }
     requires pools { InPools context.program.now (op.Call name count) }
+    requires none { NoneAbove run.old.level run.old.receivers }
     ensures finds { Finds (setup_of H.law context.entry)
         (moment frame.old run.old steps.old host.old) (op.Call name count) next result
         (moment frame.new run.new steps.new host.new) }
@@ -79,6 +81,7 @@ pub(crate) fn find_pointed<H: Host, L: Ledger>(
     next: usize,
 ) -> Result<Found, OutOfMemory>
     requires ready { Ready frame.old run.old (op.CallFnPtr count) next }
+    requires none { NoneAbove run.old.level run.old.receivers }
     ensures finds { Finds (setup_of H.law context.entry)
         (moment frame.old run.old steps.old host.old) (op.CallFnPtr count) next result
         (moment frame.new run.new steps.new host.new) }

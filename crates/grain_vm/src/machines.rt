@@ -8,6 +8,7 @@ ghost use Rattle.grain_means.specs.Comes.{Provided};
 ghost use Rattle.grain_means.specs.Leavings.{Leaves};
 ghost use Rattle.grain_means.specs.Means.{Evaluates};
 ghost use Rattle.grain_stack.specs.Views.{no_frames, IsLeft};
+ghost use Rattle.grain_global.specs.Engines.{with_callbacks};
 ghost use Rattle.grain_global.specs.StepsView.{instructions};
 ghost use Rattle.grain_vm.specs.Machines.{begin, finish, with_memory_fault};
 
@@ -76,11 +77,11 @@ impl<'e> Machine<'e> {
     /// and the entries that main declares stay after a value; a fault cuts the scope back to the
     /// length that it had, or that it had at main's last `checkpoint`. If memory runs out, the run is
     /// the same up to some point, and ends there with the fault `Memory`. `callbacks` says whether natives
-    /// may call functions of the program back: if not, what they ask for is sought among natives alone. The scope's entries keep
-    /// their names and order, whatever the end is. If scope, cells, constants and host name only
-    /// cells of the store, so do the results afterwards, and no cell stays lent. If the scope, the
-    /// cells and the constants are clean, which means that no cell stands directly inside an array or
-    /// a map, so are the results, whatever the host is.
+    /// may call functions of the program back: if not, what they ask for is sought among natives alone.
+    /// The scope's entries keep their names and order, whatever the end is. If scope, cells, constants and
+    /// host name only cells of the store, so do the results afterwards, and no cell stays lent. If the
+    /// scope, the cells and the constants are clean, which means that no cell stands directly inside an
+    /// array or a map, so are the results, whatever the host is.
     pub fn run_main<H: Host, L: Ledger>(
         &mut self,
         alloc: Global,

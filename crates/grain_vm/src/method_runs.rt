@@ -9,9 +9,9 @@ ghost use Rattle.grain_program.specs.TypedAt.{IsTypedAt};
 ghost use Rattle.grain_means.specs.Rules.{enter_function};
 ghost use Rattle.grain_means.specs.Simulation.{Simulates};
 ghost use Rattle.grain_vm.specs.Driving.{SameFlag};
-ghost use Rattle.grain_vm.specs.Finding.{op_on};
+ghost use Rattle.grain_vm.specs.Finding.{Finds, op_on};
 ghost use Rattle.grain_vm.specs.Methods.{CallsMethod, HasFunction, MethodOver, NoneAbove};
-ghost use Rattle.grain_vm.specs.Receivers.{CalledOn, FindsOn};
+ghost use Rattle.grain_vm.specs.Receivers.{CalledOn};
 ghost use Rattle.grain_program.specs.Indices.{InPools, IsNamed};
 ghost use Rattle.grain_program.specs.declared.code.instruction_set.Op.TheVariants as op;
 
@@ -171,7 +171,7 @@ fn find_on<H: Host, L: Ledger>(
 ) -> Result<Found, OutOfMemory>
     requires ready { Ready frame.old run.old (op.CallFnPtr count) next }
     requires none { NoneAbove run.old.level run.old.receivers }
-    ensures finds { FindsOn (setup_of H.law context.entry)
+    ensures finds { Finds (setup_of H.law context.entry)
         (moment frame.old run.old steps.old host.old) (op_on destination count) next result
         (moment frame.new run.new steps.new host.new) }
 {

@@ -1,10 +1,14 @@
 //! Natives that are called on a receiver, which they are lent. Of a receiver that is a cell they are lent
 //! what the cell holds.
 
-ghost use Rattle.std.specs.Prelude.{◌≡◌, is_some, true, IfOk};
+ghost use Rattle.std.specs.Prelude.{◌≡◌, Some, is_some, true, IfOk, slice_set};
+ghost use Rattle.grain_value.specs.Cells.{idle};
+ghost use Rattle.grain_value.specs.Looking.{cell_of};
+ghost use Rattle.grain_value.specs.declared.values.Held.{Held};
 ghost use Rattle.grain_means.specs.Worlds.{Setup};
-ghost use Rattle.grain_vm.specs.Driving.{IsNative, SameFlag, name_in};
-ghost use Rattle.grain_vm.specs.Receivers.{LendsCell, NativeCalled, ReadsForCell};
+ghost use Rattle.grain_vm.specs.Driving.{IsNative, name_in};
+ghost use Rattle.grain_vm.specs.OnReceivers.{CallsNativeOn, CallsOnCell};
+ghost use Rattle.grain_vm.specs.Receivers.{ReadsForCell};
 
 use crate::driving::{
     Answered, AskingNative, ask_host, name_asked, perform_request, raise_race, read_on,
@@ -48,10 +52,9 @@ pub(crate) fn call_native_on<H: Host, L: Ledger>(
 ) -> OnReceiver
     requires native { IsNative request.what }
     requires receiver { is_some request.receiver ≡ true }
-    ensures called { (m : Setup H) → m.law ≡ H.law → NativeCalled m request run.old steps.old host.old
-        result.0 result.1 run.new steps.new host.new }
+    ensures called { (m : Setup H) → m.law ≡ H.law → CallsNativeOn m request run.old steps.old host.old
+        result run.new steps.new host.new }
     ensures run { run.new ≡ record run.old { cells = run.new.cells } }
-    ensures lent { SameFlag request.receiver result.1 }
     ensures before { steps.new.before ≡ steps.old.before }
 {
     let Request {
@@ -112,8 +115,9 @@ fn call_on_cell<H: Host, L: Ledger>(
     held: Held,
 ) -> OnReceiver
     requires native { IsNative what }
-    ensures called { (m : Setup H) → m.law ≡ H.law → LendsCell m (name_in what) pos arguments cell
-        held.read_only run.old steps.old host.old result run.new steps.new host.new }
+    requires cell { cell_of held.value ≡ Some cell }
+    ensures called { (m : Setup H) → m.law ≡ H.law → CallsOnCell m (name_in what) pos arguments held
+        run.old steps.old host.old result run.new steps.new host.new }
     ensures run { run.new ≡ record run.old { cells = run.new.cells } }
     ensures before { steps.new.before ≡ steps.old.before }
 {
@@ -154,7 +158,14 @@ pub(crate) fn give_back_to_cell<H: Host>(
     run: &mut Run<H>,
     back: LentCell,
     left: Option<Held>,
-) -> Option<Held> {
+) -> Option<Held>
+    requires { is_some left ≡ true }
+    ensures receiver { result ≡ Some back.receiver }
+    ensures run { (g : Held) → left ≡ Some g → run.new ≡ record run.old {
+      cells = slice_set run.old.cells back.cell
+          (idle (record { value = g.value; read_only = back.read_only }));
+    } }
+{
     let LentCell {
         receiver,
         cell,

@@ -1,8 +1,9 @@
 //! One instruction of a frame that is neither `call` nor `call_fn_ptr`.
 
+ghost use Rattle.std.specs.Prelude.{◌≡◌};
 ghost use Rattle.grain_frame.specs.Abstraction.{Runs, Stepped, setup_of, moment};
 ghost use Rattle.grain_vm.specs.Attempts.{CallsNothing, StandsAtJump};
-ghost use Rattle.grain_vm.specs.Finding.{StepsHere};
+ghost use Rattle.grain_vm.specs.Finding.{StepsHere, turn_of};
 
 use crate::receivers::Destination;
 use grain_frame::{Activation, Context, Performed, Progress, Run, Waiting};
@@ -35,7 +36,9 @@ pub enum Turn {
 
 impl Turn {
     // An instruction that is done or waits, unless memory ran out.
-    fn of(performed: Result<Performed, OutOfMemory>) -> Result<Turn, OutOfMemory> {
+    fn of(performed: Result<Performed, OutOfMemory>) -> Result<Turn, OutOfMemory>
+        ensures { result ≡ turn_of performed }
+    {
         match performed? {
             Performed::Leads(progress) => Ok(Turn::Done(progress)),
             Performed::Waits(waiting) => Ok(Turn::Waits(waiting)),

@@ -1,12 +1,13 @@
 //! The machine that an embedder calls.
 
-ghost use Rattle.std.specs.Prelude.{◌≡◌, ◌+◌, ◌<◌, ℕ, [], IfOk, option_map, slice_get};
+ghost use Rattle.std.specs.Prelude.{◌≡◌, ◌+◌, ◌<◌, ℕ, [], IfOk, option_map, slice_get, true};
 ghost use Rattle.grain_means.specs.Contained.{KeepsToStore};
 ghost use Rattle.grain_means.specs.Causes.{HasCause};
 ghost use Rattle.grain_means.specs.CatchBlocks.{CatchesRightly};
 ghost use Rattle.grain_means.specs.Comes.{Provided};
 ghost use Rattle.grain_means.specs.Leavings.{Leaves};
 ghost use Rattle.grain_means.specs.Means.{Evaluates};
+ghost use Rattle.grain_global.specs.Engines.{with_callbacks};
 ghost use Rattle.grain_global.specs.StepsView.{instructions};
 ghost use Rattle.grain_vm.specs.Machines.{begin, finish};
 
@@ -124,17 +125,17 @@ impl<'e> Vm<'e> {
     ) -> RhaiResult
         requires positive { 0 < self.old.engine.limits.operations }
         ensures evaluates { (ran : ℕ) ×
-            (Evaluates H.law program.now self.old.engine
+            (Evaluates H.law program.now (with_callbacks true self.old.engine)
             (begin scope.old cells.old host.old self.old.global) result
             (finish self.new.trace scope.new cells.new host.new self.new.global) ran ×
             (instructions steps.new ≡ instructions steps.old + ran)) }
-        ensures causes { HasCause H.law program.now self.old.engine
+        ensures causes { HasCause H.law program.now (with_callbacks true self.old.engine)
             (begin scope.old cells.old host.old self.old.global) result }
-        ensures provided { Provided H.law program.now self.old.engine
+        ensures provided { Provided H.law program.now (with_callbacks true self.old.engine)
             (begin scope.old cells.old host.old self.old.global) }
-        ensures catches { CatchesRightly H.law program.now self.old.engine
+        ensures catches { CatchesRightly H.law program.now (with_callbacks true self.old.engine)
             (begin scope.old cells.old host.old self.old.global) }
-        ensures leaves { Leaves H.law program.now self.old.engine
+        ensures leaves { Leaves H.law program.now (with_callbacks true self.old.engine)
             (begin scope.old cells.old host.old self.old.global) result
             (finish self.new.trace scope.new cells.new host.new self.new.global) }
         ensures store { KeepsToStore H.law program.now
