@@ -91,6 +91,10 @@ module _ {S : Type 0} {m : Setup S} (walk : Walk m) where
         (is_home : IsHomeOf (cell_of h.value) home)
         (by_host : AssignsByHost m a home h u v o f now)
         (answers_lent : AnswersLentTo m (point walk o) name) where
+      -- the host is asked with an empty trace
+      abbrev emptied : World S
+      emptied = record (start walk) { trace = [] }
+
       abbrev first_question : Question S
       first_question = asks_first m a home h u v now
 
@@ -164,7 +168,7 @@ module _ {S : Type 0} {m : Setup S} (walk : Walk m) where
       -- how the first native failed
       ends_so : (n : Native) → native_asked m first_question ≡ Some n → IsCalled first_question n →
           (x : Problem) (w : World S) →
-          FailedSo walk (start walk) (name_of m.program a.op_assign_name)
+          FailedSo walk emptied (name_of m.program a.op_assign_name)
           (Some (record { home = home; held = record h { value = u } })) (v ∷ []) n x w →
           EndsWith m f now first_question x w.host w.scope w.cells w.roots
       ends_so n e called x w (inl (y, is, at, left)) =
@@ -182,7 +186,7 @@ module _ {S : Type 0} {m : Setup S} (walk : Walk m) where
           let args : List Held = v ∷ [] in
           let q : AsksNative m first_question (point walk o) =
           inr (a, home, h, u, v, by_host, inl refl) in
-          even_found walk o width stands (start walk) (now.ran + 1) (steady walk) trace word r args q
+          even_found walk o width stands emptied (now.ran + 1) (steady walk) refl word r args q
           f.operands
           (λ z w1. onward m f (stepped f (f.address + width) (below f.operands)) w1)
           (op_assign_failed_at m home name a h v (f.address + width) f)
@@ -190,11 +194,10 @@ module _ {S : Type 0} {m : Setup S} (walk : Walk m) where
           (below f.operands)) w1 after.0 empty (inl refl) sits_on)
           (λ e. let x = not_found word (values_in (given_to r args)) (position m f) in
           by_test (Even walk (now.ran + 1)) (says x) _ _
-          (λ missing. even_operator (record (start walk) { trace = [] }) (now.ran + 1) (steady walk) refl
-          (u, by_host.content) x
+          (λ missing. even_operator emptied (now.ran + 1) (steady walk) refl (u, by_host.content) x
           (inl (e, refl, refl, refl, refl, refl)) missing)
-          (λ other. none_raised walk o width stands (start walk) (now.ran + 1) (steady walk) trace word r
-          args q f.operands (all_there walk o) (inr (
+          (λ other. none_raised walk o width stands emptied (now.ran + 1) (steady walk) refl word r args
+          q f.operands (all_there walk o) (inr (
             a,
             home,
             h,
@@ -202,8 +205,8 @@ module _ {S : Type 0} {m : Setup S} (walk : Walk m) where
             v,
             by_host,
             inl (refl, other),
-          )) e)) (refused_raised walk o width stands (start walk) (now.ran + 1) (steady walk) trace
-          word r args q f.operands (all_there walk o))
+          )) e)) (refused_raised walk o width stands emptied (now.ran + 1) (steady walk) refl word r
+          args q f.operands (all_there walk o))
           (λ n e called x l w1 how reason after.
           by_test (Even walk l) (says x) _ _
           (λ missing. even_operator (record w1 { trace = [] }) l after.0 refl
