@@ -28,7 +28,7 @@ use Rattle.grain_means.proofs.Ground.{stays_given}
 use Rattle.grain_means.proofs.Unlent.{Unlent, beyond_on, unlent_given, unlent_on, unlent_same}
 use Rattle.grain_means.proofs.Moving.{caught_anywhere, unit_caught}
 use Rattle.grain_means.proofs.Roles.{Framed, NativeAnswers, NativeFails}
-use Rattle.grain_means.proofs.Tally.Asking.{asking, even_asked, length_given}
+use Rattle.grain_means.proofs.Tally.Asking.{even_asked, length_given}
 use Rattle.grain_means.proofs.Tally.Frames.{Walk, Even, Reason, SteadyBut, holding, point}
 use Rattle.grain_means.proofs.Tally.Faults.{blames_none, met, why, why_answered}
 
