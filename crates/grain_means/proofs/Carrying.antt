@@ -89,6 +89,7 @@ module _ {S : Type 0} (m : Setup S) where
       met = meets c.point c.met;
       first = c.first;
       start = c.start;
+      asks = c.asks;
       comes = c.comes;
       address = c.address;
       runs = c.runs;

@@ -23,7 +23,7 @@ module _ {S : Type 0} (m : Setup S) (k : ℕ) (f : Frame) (w : World S) where
   neither (inr b) = b
 
   asks_once : (q : Question S) → AsksOnce m q at → ⊥
-  asks_once q (inl a) = neither a.3
+  asks_once q (inl a) = neither a.2
   asks_once q (inr b) = b.is
 
   asks_last : (x : Problem) (q : Question S) → AsksLast m x q at → ⊥

@@ -10,10 +10,10 @@ pub mod Positions
 pub mod Spots
 pub mod Chains
 pub use Rattle.grain_means.specs.Causes.Instructions.{truth_read, truth_on_top, Points, PointsNowhere, PointsFirst, HasReceiver, IsMethodCall, receiver, args_beside, function_beside, CallsPointed, CallsUnder, MissesPointed, AsksEither, PointedReadsLent, FirstReadsLent, MethodReadsLent, CallsOn, CallsFunction, Calls, Charges, IsCharged, HasTooMany, ReadsTop, Overfills, UsesEntry, Unwinds, Tests, AsksPointer, Throws, Holds, AssignsConstant, Misses, Operates, HasNoBuiltIn, Mistypes, IsLent, AssignsLent, HoldsThis, AsksThis, AssignsLentThis, StoresLent, ReadsLent}
-pub use Rattle.grain_means.specs.Causes.Callbacks.{parameters, IsKeptOut, first_asked, BackEnds, HearsOf, reply_again, answered_again_world, next_asked, next_asked_world, native_begins, NativeBack, question_back, IsCalledBack, native_asked_world, AsksOn, at_first, again, inside, HostFails, RunsBack, body_back, LeavesBack, AsksFirst, asked_by}
+pub use Rattle.grain_means.specs.Causes.Callbacks.{parameters, IsKeptOut, first_asked, BackEnds, HearsOf, reply_again, answered_again_world, next_asked, next_asked_world, native_begins, NativeBack, question_back, IsCalledBack, native_asked_world, AsksOn, at_first, again, inside, HostFails, RunsBack, body_back, LeavesBack, AsksFirst, asked_by, asked_in}
 pub use Rattle.grain_means.specs.Causes.Natives.{AssignsTo, AssignsByHost, Question, all_args, native_asked, reply_to, IsCalled, EndsWith, asks_first, AsksAgain, AsksSecond, AsksToAssign, AsksOnCopies, LendsReceiver, lent_last, AsksOnReceiver, AsksOnce, AsksNative, AsksLast, FindsNone, FindsNative, WritesConstant, HostAnswers}
 pub use Rattle.grain_means.specs.Causes.Spots.{untraced, ChainWalk, CallAsks, call_asked, call_start, IsReason, IsLeft, CallEnds, InvocationEnds, Invokes, WalksTo, AtStep, Falls, WalkRow}
-pub use Rattle.grain_means.specs.Causes.Chains.{ChainReads, ChainRow, LeavesNative, RaisedByChain, FromHostOrChain}
+pub use Rattle.grain_means.specs.Causes.Chains.{ChainReads, ChainRow, LeavesNative, RaisedByChain, FromHostOrChain, ChainAsks, AsksFor, by_question, by_chain}
 pub use Rattle.grain_means.specs.Causes.Positions.{CallsWith, ReceiverCalls, this_for, roots_for, ChainCalls, ChainCallFails, body_begins, out_of_body, Enters, LeftCall, BodyFails, LeftByChain, HasPosition, AnsweredSo, IsNoChain, TellsHere, ThrowsUnitAt, ThrowsUnit, HaveCaughtUnit, FirstIsArmed, ThrownAnew, Tells}
 use Rattle.std.specs.Prelude.{◌≡◌, ◌⊎◌, ◌<◌, ◌≤◌, ◌+◌, ℕ, List, [], Some, None, true, false, length, Result, Ok, Err}
 use Rattle.grain_value.specs.declared.values.Dynamic.{Dynamic}
@@ -76,9 +76,9 @@ pub record AnswersLent {S : Type 0} (m : Setup S) (name : List ℕ) (at : Progra
     pub called : IsCalled question native
     pub answer : Dynamic
     pub answers : ((reply_to m question native.key ≡ reply.Done answer)
-        × (flat question.cells answer ≡ None))
+        × (flat question.world.cells answer ≡ None))
         ⊎ ((a : AsksFirst m question native at.frame at.world) × (v : World S)
-        × Ends m (Go (InHost (asked_by m a)) a.start) (Came answer) v
+        × Ends m (Go (InHost (asked_by m a)) (asked_in m a)) (Came answer) v
         × (flat v.cells answer ≡ None))
 
 -- where a fault says that the content of a cell is lent
@@ -192,6 +192,7 @@ pub record CallsBack {S : Type 0} (m : Setup S) (act : Act S) : Type 0 where
   pub met : Meets m point act
   pub first : Callback
   pub start : World S
+  pub asks : AsksFor m point first start
   pub comes : Comes m (InHost first) start (Go (InFrame point.frame) point.world)
   pub address : first.frame.address ≡ point.frame.address
   pub runs : RunsBack m first start

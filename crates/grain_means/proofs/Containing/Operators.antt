@@ -108,8 +108,8 @@ module _ {S : Type 0} {m : Setup S} (on : Grounds m) where
         let wide : FrameNames clean k f = frame_wider on n k f le names in
         by_host_failed k more f wide b name a h v next x w1 there (owns_wider k le more wide b h own)
         lends (stands_wider n k le v right) bound)
-        (name_of m.program a.op_assign_name)
-        (v ∷ []) w at (home_plain clean n b (record h { value = u }) (left, plain)) stands (right, tt)
+        (name_of m.program a.op_assign_name) (v ∷ []) (record w { trace = [] }) at
+        (home_plain clean n b (record h { value = u }) (left, plain)) stands (right, tt)
 
     pub stores_outcome : (b : Home) (name : List ℕ) (o : Outcome) → NamesNone o → (a : AssignOp)
         (h : Held) (u : Dynamic) (v : Held) (next : ℕ) (w : World S) → Here on n low f names w →

@@ -9,13 +9,13 @@ use Rattle.grain_program.specs.Decoding.{op_at}
 use Rattle.grain_program.specs.Typing.{IsProgram}
 use Rattle.grain_program.specs.declared.code.functions.Function.{Function}
 use Rattle.grain_program.specs.declared.code.instruction_set.Op.{Op}
-use Rattle.grain_means.specs.Worlds.{Act, Answer, Came, Failed, Place, Setup, World}
+use Rattle.grain_means.specs.Worlds.{Act, Answer, Callback, Came, Failed, Place, Setup, World}
 use Rattle.grain_means.specs.Ends.{Ends}
 use Rattle.grain_means.specs.Rules.{frame_at, function_under, is_stop}
 use Rattle.grain_means.specs.Causes.Positions.{BodyFails, CallsWith, ChainCallFails, ChainCalls, out_of_body, roots_for, this_for}
-use Rattle.grain_means.specs.Causes.Spots.{ChainWalk, InvocationEnds, Invokes, under_for, untraced}
+use Rattle.grain_means.specs.Causes.Spots.{ChainWalk, InvocationEnds, Invokes, WalkAsks, under_for, untraced}
 use Rattle.grain_means.proofs.Standing.{Fitting}
-use Rattle.grain_means.specs.Causes.{IsKeptOut}
+use Rattle.grain_means.specs.Causes.{AsksFor, IsKeptOut}
 use Rattle.grain_means.proofs.Tally.Bodies.{Begun, EndsIn, enters, even_under, run, wrapped}
 use Rattle.grain_means.proofs.Tally.Faults.{blames_step}
 use Rattle.grain_means.proofs.Tally.Frames.{Even, ReasonAt, SteadyBut, Walk, point}
@@ -37,6 +37,11 @@ module _ {S : Type 0} {m : Setup S} (walk : Walk m) where
       w ≡ record at.world { trace = []; roots = roots_for at.world.roots (under_for m s at.call) } →
       CalledAt o index j at.function at.arguments this at.call.position w
       (λ x u. InvocationEnds m at.call (under_for m s at.call) (untraced at.world) (Failed x) u)
+
+  -- so it is, and the chain asks for each call that its walk asks for
+  abbrev pub ByChain : Op → ℕ → ChainWalk S → Type 0
+  ByChain o index s = CallsOf o index s
+      × ((d : Callback) (v : World S) → WalkAsks m s d v → AsksFor m (point walk o) d v)
 
   -- A chain, by an instruction that stands where the frame does. Its walk calls the function g on these
   -- arguments, at this position and under this `this`, in a world, after r instructions.

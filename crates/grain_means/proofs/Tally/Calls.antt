@@ -226,16 +226,10 @@ module _ {S : Type 0} {m : Setup S} (walk : Walk m) where
     even_called name count operands full enough u charges fills None lent misses calls fits =
         even_flat_all walk o width stands operands full (arguments count operands) (lent refl) _
         (λ args e. let q : AsksNative m
-        (record {
-          host = (start walk).host;
-          cells = (start walk).cells;
-          name = name;
-          lent = None;
-          args = args;
-        }) (point walk o) =
-        inl (inl (refl, refl, refl, inl (misses refl args e))) in
+        (record { world = start walk; name = name; lent = None; args = args }) (point walk o) =
+        inl (inl (refl, refl, inl (misses refl args e))) in
         even_native_in walk o width stands (start walk) (now.ran + 1) (steady walk) trace name None args q
-        (λ x. inl (inl (refl, refl, refl, inl (misses refl args e)))) operands full
+        (λ x. inl (inl (refl, refl, inl (misses refl args e)))) operands full
         (λ v w1. pushed m (holding walk operands) (f.address + width) (under count operands) v w1)
         (λ n there called v l w1 how after empty. even_onward walk l
         (stepped f (f.address + width) (under count operands ++ read_write v ∷ [])) w1 after.0 empty

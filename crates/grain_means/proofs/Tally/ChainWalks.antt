@@ -23,7 +23,7 @@ use Rattle.grain_means.specs.Causes.Spots.{BackFails, ChainWalk, PointedLeft, Wa
 use Rattle.grain_means.proofs.Explaining.{explained}
 use Rattle.grain_means.proofs.Footing.{Sits, by_test}
 use Rattle.grain_means.proofs.Ground.{Stays}
-use Rattle.grain_means.proofs.Tally.Calling.{CallsOf}
+use Rattle.grain_means.proofs.Tally.Calling.{ByChain}
 use Rattle.grain_means.proofs.Tally.Faults.{even_raised_at}
 use Rattle.grain_means.proofs.Tally.Frames.{Enough, Even, ReasonAt, Steady, SteadyBut, Walk, stepping, even_left_at, even_onward, point}
 use Rattle.grain_means.proofs.Tally.Roots.{IsAdded, added_place, added_root}
@@ -39,7 +39,7 @@ module _ {S : Type 0} {m : Setup S} (walk : Walk m) where
 
   -- The chain of this index, by an instruction that stands where the frame does: the frame goes on
   -- without the chain's operands and with one value more, each fault has a reason by its row, and what
-  -- the chain's walk calls, the chain calls.
+  -- the chain's walk calls and asks for, the chain does.
   module _ (o : Op) (width : ℕ) (stands : op_at m.program.code f.address ≡ Some (o, width))
       (index : ℕ) (c : Chain) (after : Enough walk o (under (chain_takes c) f.operands))
       (on : (v : Dynamic) → Sits m whole_run k (stepped f (f.address + width)
@@ -51,7 +51,7 @@ module _ {S : Type 0} {m : Setup S} (walk : Walk m) where
       ReasonAt walk (Some (slot_of m.program index n)) x)
       (calls : (so_far : ChainReads m c (point walk o)) (r : Held) (cells : List Cell) →
       RootLends (rules.lent_cell m.program c.steps so_far.held) so_far.held now r cells →
-      CallsOf walk o index (walk_of m c (point walk o) so_far.value
+      ByChain walk o index (walk_of m c (point walk o) so_far.value
       (rules.lent_cell m.program c.steps so_far.held) r cells)) where
     abbrev ran : ℕ
     ran = now.ran + 1
@@ -145,7 +145,7 @@ module _ {S : Type 0} {m : Setup S} (walk : Walk m) where
             (λ j n w stop at. over_out j n (back w) (rw (home.marks w) stop) (home.stays n w at))
             (λ j x row. reason j x (by_walk so_far r cells lends
             (subst (λ (t : ChainWalk S). WalkRow m t j x) (sym same) row)))
-            (left_so s same) (subst (CallsOf walk o index) same (calls so_far r cells lends))
+            (left_so s same) (subst (ByChain walk o index) same (calls so_far r cells lends))
             (whole_walk s.course s.steps) s.start (explained m true s) here ran None kept
 
         -- from a root that is added, and then goes back

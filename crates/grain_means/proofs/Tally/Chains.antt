@@ -27,12 +27,12 @@ use Rattle.grain_means.specs.Tasks.{Task}
 use Rattle.grain_means.specs.Walks.{whole_walk}
 use Rattle.grain_means.specs.Worlds.{Act, Frame, Place, Setup, World}
 use Rattle.grain_means.specs.Causes.{Cause}
-use Rattle.grain_means.specs.Causes.Chains.{AssignsValue, ChainReads, ChainRow, LeavesNative, RootHolds, RootLends, constant, past_scope, root_lent, unbound, value_lent, walk_of, walk_place, walk_roots}
+use Rattle.grain_means.specs.Causes.Chains.{AssignsValue, ChainReads, ChainRow, LeavesNative, RootHolds, RootLends, by_chain, constant, past_scope, root_lent, unbound, value_lent, walk_of, walk_place, walk_roots}
 use Rattle.grain_means.proofs.Footing.{Sits, by_test}
 use Rattle.grain_means.proofs.Ground.{stays_set}
 use Rattle.grain_means.proofs.Unlent.{lent_back, lent_out}
 use Rattle.grain_means.proofs.Lengths.{past_scope as scope_passed}
-use Rattle.grain_means.proofs.Tally.Calling.{CallsOf}
+use Rattle.grain_means.proofs.Tally.Calling.{ByChain}
 use Rattle.grain_means.proofs.Tally.Entries.{busy_content}
 use Rattle.grain_means.proofs.Tally.Faults.{even_raised_at}
 use Rattle.grain_means.proofs.Tally.Frames.{Enough, Even, ReasonAt, Steady, Walk, all_there, even_marked_at, point, start, steady}
@@ -44,7 +44,7 @@ module _ {S : Type 0} {m : Setup S} (walk : Walk m) where
 
   -- The chain of this index, by an instruction that stands where the frame does: the frame goes on
   -- without the chain's operands and with one value more, each fault has a reason by its row, and what
-  -- the chain's walk calls, the chain calls.
+  -- the chain's walk calls and asks for, the chain does.
   module _ (o : Op) (width : ℕ) (stands : op_at m.program.code f.address ≡ Some (o, width))
       (index : ℕ) (c : Chain) (after : Enough walk o (under (chain_takes c) f.operands))
       (on : (v : Dynamic) → Sits m whole_run k (stepped f (f.address + width)
@@ -56,7 +56,7 @@ module _ {S : Type 0} {m : Setup S} (walk : Walk m) where
       ReasonAt walk (Some (slot_of m.program index n)) x)
       (calls : (so_far : ChainReads m c (point walk o)) (r : Held) (cells : List Cell) →
       RootLends (rules.lent_cell m.program c.steps so_far.held) so_far.held now r cells →
-      CallsOf walk o index (walk_of m c (point walk o) so_far.value
+      ByChain walk o index (walk_of m c (point walk o) so_far.value
       (rules.lent_cell m.program c.steps so_far.held) r cells)) where
     abbrev ran : ℕ
     ran = now.ran + 1
@@ -297,23 +297,27 @@ module _ {S : Type 0} {m : Setup S} (walk : Walk m) where
       Even walk (now.ran + 1) (rules.chain m index (f.address + width) f (start walk)))
   even_chain o width stands index is after on reason reason_left =
       even_chain_in o width stands index (chain_of m.program index) after on reason reason_left
-      (λ so_far r cells lends j at this v under starts. (
-        record {
-          index = index;
-          is = is;
-          so_far = so_far;
-          root = r;
-          cells = cells;
-          lends = lends;
-          step = j;
-          invokes = at;
-          function = refl;
-          arguments = refl;
-          under = under;
-          position = refl;
-          starts = starts;
-        },
-        refl,
-        refl,
-        λ x u ends. (u, ends),
+      (λ so_far r cells lends. (
+        λ j at this v under starts. (
+          record {
+            index = index;
+            is = is;
+            so_far = so_far;
+            root = r;
+            cells = cells;
+            lends = lends;
+            step = j;
+            invokes = at;
+            function = refl;
+            arguments = refl;
+            under = under;
+            position = refl;
+            starts = starts;
+          },
+          refl,
+          refl,
+          λ x u ends. (u, ends),
+        ),
+        λ d v asks. by_chain index is
+            (record { so_far = so_far; root = r; cells = cells; lends = lends; asks = asks }),
       ))

@@ -24,8 +24,7 @@ module _ {S : Type 0} {m : Setup S} (walk : Walk m) where
   module _ (o : Op) (width : ℕ) (stands : op_at m.program.code f.address ≡ Some (o, width))
       (w : World S) (ran : ℕ) (s : Steady walk ran w) (t : w.trace ≡ [])
       (name : List ℕ) (r : Option Receiver) (args : List Held)
-      (asks : AsksNative m
-      (record { host = w.host; cells = w.cells; name = name; lent = r; args = args })
+      (asks : AsksNative m (record { world = w; name = name; lent = r; args = args })
       (point walk o)) where
     abbrev question : Question S
     question = asked walk w name r args

@@ -20,7 +20,7 @@ use Rattle.grain_host.specs.Law as reply
 use Rattle.grain_value.specs.declared.natives.Native.{Native}
 use Rattle.grain_means.proofs.Missing.{row_of_missing}
 use Rattle.grain_means.specs.Rules.{Receiver, lent_held, given, given_back, trees_in, first_is_read_only, answered, host_called_or, is_stop, marked_or, native_found_or, native_over, no_memory, receiver_left, position, cells_given_back, roots_given_back, unheard}
-use Rattle.grain_means.specs.Causes.{AsksFirst, AsksLast, AsksNative, Cause, Caused, FindsNative, HostFails, IsCalled, LeavesBack, Question, asked_by, body_back, first_asked, from_native, native_asked, reply_to}
+use Rattle.grain_means.specs.Causes.{AsksFirst, AsksLast, AsksNative, Cause, Caused, FindsNative, HostFails, IsCalled, LeavesBack, Question, asked_by, asked_in, body_back, by_question, first_asked, from_native, native_asked, reply_to}
 use Rattle.grain_means.proofs.Asked.{host_placed}
 use Rattle.grain_means.proofs.Chainless.{asks_no_chain}
 use Rattle.grain_means.proofs.Footing.{by_test, is_false, true-false}
@@ -28,7 +28,7 @@ use Rattle.grain_means.proofs.Ground.{stays_given}
 use Rattle.grain_means.proofs.Unlent.{Unlent, beyond_on, unlent_given, unlent_on, unlent_same}
 use Rattle.grain_means.proofs.Moving.{caught_anywhere, unit_caught}
 use Rattle.grain_means.proofs.Roles.{Framed, NativeAnswers, NativeFails}
-use Rattle.grain_means.proofs.Tally.Asking.{asking, even_asked, length_given}
+use Rattle.grain_means.proofs.Tally.Asking.{even_asked, length_given}
 use Rattle.grain_means.proofs.Tally.Frames.{Walk, Even, Reason, SteadyBut, holding, point}
 use Rattle.grain_means.proofs.Tally.Faults.{blames_none, met, why, why_answered}
 
@@ -59,7 +59,7 @@ module _ {S : Type 0} {m : Setup S} (walk : Walk m) where
   -- a native is asked for in a world
   module _ (w : World S) (name : List ℕ) (r : Option Receiver) (args : List Held) where
     abbrev pub asked : Question S
-    asked = record { host = w.host; cells = w.cells; name = name; lent = r; args = args }
+    asked = record { world = w; name = name; lent = r; args = args }
 
     abbrev pub answered_by : ℕ → World S
     answered_by key =
@@ -78,26 +78,25 @@ module _ {S : Type 0} {m : Setup S} (walk : Walk m) where
 
     abbrev pub Answers : Native → Problem → Type 0
     Answers n y = (reply_to m asked n.key ≡ reply.Failed y)
-        ⊎ ((a : AsksThen n) × HostFails m (asked_by m a) a.start y)
+        ⊎ ((a : AsksThen n) × HostFails m (asked_by m a) (asked_in m a) y)
 
     -- The native gave this value and left this world, at once or after the calls that it asked for; or it
     -- ended so in this fault.
     abbrev pub Gave : Native → Dynamic → World S → Type 0
     Gave n v u = ((reply_to m asked n.key ≡ reply.Done v) × (u ≡ answered_by n.key))
-        ⊎ ((a : AsksThen n) × Ends m (Go (InHost (asked_by m a)) a.start) (Came v) u)
+        ⊎ ((a : AsksThen n) × Ends m (Go (InHost (asked_by m a)) (asked_in m a)) (Came v) u)
 
     abbrev pub FailedSo : Native → Problem → World S → Type 0
     FailedSo n x u = ((y : Problem) × (reply_to m asked n.key ≡ reply.Failed y)
         × (x ≡ at_position_if_none (position m f) y) × (u ≡ answered_by n.key))
-        ⊎ ((a : AsksThen n) × Ends m (Go (InHost (asked_by m a)) a.start) (Failed x) u)
+        ⊎ ((a : AsksThen n) × Ends m (Go (InHost (asked_by m a)) (asked_in m a)) (Failed x) u)
 
   -- The rules of an instruction that stands where the frame does. A native is asked for in a world, after
   -- this number of instructions.
   module _ (o : Op) (width : ℕ) (stands : op_at m.program.code f.address ≡ Some (o, width))
       (away : Option ℕ) (w : World S) (ran : ℕ) (s : SteadyBut walk away ran w) (t : w.trace ≡ [])
       (name : List ℕ) (r : Option Receiver) (args : List Held)
-      (asks : AsksNative m
-      (record { host = w.host; cells = w.cells; name = name; lent = r; args = args })
+      (asks : AsksNative m (record { world = w; name = name; lent = r; args = args })
       (point walk o)) where
     abbrev question : Question S
     question = asked w name r args
@@ -150,15 +149,16 @@ module _ {S : Type 0} {m : Setup S} (walk : Walk m) where
         why_answered walk o width stands y (name, n, finds n e, called, is, last)
 
     -- the body of a function that the native called back was left by the fault
-    left_why : (n : Native) (a : AsksThen w name r args n) (x : Problem)
-        (l : LeavesBack m (asked_by m a) a.start x) →
+    left_why : (n : Native) → native_asked m question ≡ Some n → IsCalled question n →
+        (a : AsksThen w name r args n) (x : Problem) (l : LeavesBack m (asked_by m a) (asked_in m a) x) →
         Cause m (body_back m l.runs) (l.runs.world.level + 1) l.inner → Reason walk x
-    left_why n a x l cause = (
+    left_why n e called a x l cause = (
       subst (Cause m root k.level) (sym l.is) (from_native (record {
         point = point walk o;
         met = met walk o width stands;
         first = asked_by m a;
-        start = a.start;
+        start = asked_in m a;
+        asks = by_question question asks n e called a;
         comes = a.comes;
         address = a.address;
         runs = l.runs;
@@ -169,7 +169,8 @@ module _ {S : Type 0} {m : Setup S} (walk : Walk m) where
     )
 
     native_why : (n : Native) → native_asked m question ≡ Some n → IsCalled question n →
-        (a : AsksThen w name r args n) (x : Problem) → NativeFails m (asked_by m a) a.start x →
+        (a : AsksThen w name r args n) (x : Problem) →
+        NativeFails m (asked_by m a) (asked_in m a) x →
         AsksLast m x question (point walk o) → Reason walk x
     native_why n e called a x (inl h) last =
         let p = position m f in
@@ -178,7 +179,7 @@ module _ {S : Type 0} {m : Setup S} (walk : Walk m) where
         subst (Reason walk) is
         (failed_why n e called x
         (subst (λ (y : Problem). AsksLast m y question (point walk o)) (sym is) last) (inr (a, h)))
-    native_why n e called a x (inr l) last = left_why n a x l.0 l.1
+    native_why n e called a x (inr l) last = left_why n e called a x l.0 l.1
 
     -- after want of memory nothing else is asked for
     last_of : AsksLast m NoMemory question (point walk o)
@@ -209,8 +210,8 @@ module _ {S : Type 0} {m : Setup S} (walk : Walk m) where
         -- the calls that the native asked for are over
         even_over : (n : Native) → native_asked m question ≡ Some n → IsCalled question n →
             (a : AsksThen w name r args n) (x : Answer) (u : World S) →
-            Ends m (Go (InHost (asked_by m a)) a.start) x u → Over u.ran u →
-            NativeAnswers m (asked_by m a) a.start x u →
+            Ends m (Go (InHost (asked_by m a)) (asked_in m a)) x u → Over u.ran u →
+            NativeAnswers m (asked_by m a) (asked_in m a) x u →
             Even walk u.ran (native_over out go fails x u)
         even_over n e called a (Came v) u ends after empty =
             goes n e called v u.ran u (inr (a, ends)) after empty
@@ -249,7 +250,6 @@ module _ {S : Type 0} {m : Setup S} (walk : Walk m) where
               asked = holding walk operands;
               address = refl;
               position = refl;
-              start = asking c v;
               comes = over.comes;
             }) x u over.ends (
               (

@@ -17,7 +17,7 @@ use Rattle.grain_means.specs.Ends.{Ends}
 use Rattle.grain_means.specs.Rules.{Receiver, answered, at_step, cells_given_back, failed_so, first_is_read_only, flat_all, given, given_back, host_called_or, is_stop, lent_held, marked_or, native_found_or, native_over, needed, no_memory, position, race_text, receiver_left, roots_given_back, trees_in, unheard}
 use Rattle.grain_means.specs.Tasks.{Call}
 use Rattle.grain_means.specs.Worlds.{Act, Answer, Came, Failed, Frame, Go, InFrame, InHost, Setup, World}
-use Rattle.grain_means.specs.Causes.{Cause, HostFails, IsCalled, LeavesBack, Question, body_back, from_native, native_asked, reply_to}
+use Rattle.grain_means.specs.Causes.{AsksFor, Cause, HostFails, IsCalled, LeavesBack, Question, body_back, from_native, native_asked, reply_to}
 use Rattle.grain_means.specs.Causes.Spots.{CallAsks, CallEnds, IsLeft, IsReason, Passes, answered_world, asked_failed, asked_gave, asked_out, call_asked, call_start, failed, gave, lent, missing, past, question_of, refused}
 use Rattle.grain_means.proofs.Footing.{by_test}
 use Rattle.grain_means.proofs.Ground.{stays_given}
@@ -33,11 +33,13 @@ module _ {S : Type 0} {m : Setup S} (walk : Walk m) where
   open walk use {root, footing, frame as f, now, level}
 
   -- The walk of a chain of this index, in a frame, by an instruction that stands where the walk over the
-  -- rules is, calls a native in a world, and what follows from its end: memory is out; or it has ended, and a
-  -- fault has a reason; or a function that it called back was left by the fault.
+  -- rules is, calls a native in a world. Where the native asks for calls first, the instruction does. What
+  -- follows from the native's end: memory is out; or it has ended, and a fault has a reason; or a function
+  -- that it called back was left by the fault.
   module _ (o : Op) (width : ℕ) (stands : op_at m.program.code f.address ≡ Some (o, width))
       (away : Option ℕ) (k : ℕ) (g : Frame) (address : g.address ≡ f.address) (call : Call)
       (r : Option Receiver) (w : World S) (ran : ℕ) (s : SteadyBut walk away ran w) (t : w.trace ≡ [])
+      (asks_so : (a : CallAsks m call r w) → AsksFor m (point walk o) (call_asked a) (call_start a))
       (heard : Answer → World S → Act S)
       (out_so : (u : World S) (l : ℕ) → is_stop m.stop u.passed ≡ true → SteadyBut walk away l u →
       Even walk l (heard (Failed NoMemory) u))
@@ -104,6 +106,7 @@ module _ {S : Type 0} {m : Setup S} (walk : Walk m) where
                 met = met walk o width stands;
                 first = call_asked a;
                 start = call_start a;
+                asks = asks_so a;
                 comes = comes;
                 address = same;
                 runs = l.runs;

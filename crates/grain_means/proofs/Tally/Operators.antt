@@ -21,7 +21,7 @@ use Rattle.grain_host.specs.Law as reply
 use Rattle.grain_value.specs.declared.natives.Native.{Native}
 use Rattle.grain_means.specs.Rules.{Home, Receiver, assigned_at, assignment_to_constant, content_now, entry_of_slot, flattened, given as given_to, held_at, is_read_only, native_assigned_at, onward, op_assign_failed_at, op_assigned, operator_at, outcome_at, position, push_outcome, pushed, stepped, store_outcome}
 use Rattle.grain_means.specs.Comes.{ProgramPoint}
-use Rattle.grain_means.specs.Causes.{Question, native_asked, reply_to, asks_first, EndsWith, HasNoBuiltIn, AssignsByHost, AsksAgain, AsksSecond, AsksNative, IsCalled, ReadsTop, Holds, AssignsConstant, Operates, ReadsLent, AnswersLent, IsLent, AssignsLent, AsksFirst, asked_by}
+use Rattle.grain_means.specs.Causes.{Question, native_asked, reply_to, asks_first, EndsWith, HasNoBuiltIn, AssignsByHost, AsksAgain, AsksSecond, AsksNative, IsCalled, ReadsTop, Holds, AssignsConstant, Operates, ReadsLent, AnswersLent, IsLent, AssignsLent, AsksFirst, asked_by, asked_in}
 use Rattle.grain_means.proofs.Footing.{Sits, by_test}
 use Rattle.grain_means.proofs.Tally.Frames.{Walk, Even, Steady, start, steady, even_onward, point, all_there}
 use Rattle.grain_means.proofs.Tally.Faults.{why, even_raised, even_flat, even_flat_in, even_on}
@@ -37,9 +37,9 @@ none_some e = absurd cc
 abbrev pub AnswersLentTo : {S : Type 0} → Setup S → ProgramPoint S → List ℕ → Type 0
 AnswersLentTo {S = S} m at name = (q : Question S) → AsksSecond m q at → (n : Native) →
     native_asked m q ≡ Some n → IsCalled q n → (v : Dynamic) →
-    ((reply_to m q n.key ≡ reply.Done v) × (flat q.cells v ≡ None))
+    ((reply_to m q n.key ≡ reply.Done v) × (flat q.world.cells v ≡ None))
     ⊎ ((a : AsksFirst m q n at.frame at.world) × (w : World S)
-    × Ends m (Go (InHost (asked_by m a)) a.start) (Came v) w × (flat w.cells v ≡ None)) →
+    × Ends m (Go (InHost (asked_by m a)) (asked_in m a)) (Came v) w × (flat w.cells v ≡ None)) →
     AnswersLent m name at
 
 module _ {S : Type 0} {m : Setup S} (walk : Walk m) where
@@ -55,16 +55,10 @@ module _ {S : Type 0} {m : Setup S} (walk : Walk m) where
         (start walk))
     even_pushed name args operands u NotBuiltIn says asks =
         let q : AsksNative m
-        (record {
-          host = (start walk).host;
-          cells = (start walk).cells;
-          name = name;
-          lent = None;
-          args = args;
-        }) (point walk o) =
-        inl (inl (refl, refl, refl, inr (asks refl))) in
+        (record { world = start walk; name = name; lent = None; args = args }) (point walk o) =
+        inl (inl (refl, refl, inr (asks refl))) in
         even_native walk o width stands (start walk) (now.ran + 1) (steady walk) trace name None args q
-        (λ x. inl (inl (refl, refl, refl, inr (asks refl))))
+        (λ x. inl (inl (refl, refl, inr (asks refl))))
         (λ v w1. pushed m f (f.address + width) operands v w1)
         (λ n e called v l w1 how after empty. even_onward walk l
         (stepped f (f.address + width) (operands ++ read_write v ∷ [])) w1 after.0 empty (inl refl)
@@ -91,6 +85,10 @@ module _ {S : Type 0} {m : Setup S} (walk : Walk m) where
         (is_home : IsHomeOf (cell_of h.value) home)
         (by_host : AssignsByHost m a home h u v o f now)
         (answers_lent : AnswersLentTo m (point walk o) name) where
+      -- the host is asked with an empty trace
+      abbrev emptied : World S
+      emptied = record (start walk) { trace = [] }
+
       abbrev first_question : Question S
       first_question = asks_first m a home h u v now
 
@@ -101,11 +99,13 @@ module _ {S : Type 0} {m : Setup S} (walk : Walk m) where
       abbrev Readable : World S → Type 0
       Readable w = (c : Dynamic) × (flat w.cells h.value ≡ Some c)
 
-      -- the operator is asked for in a world, after r instructions
-      module _ (w : World S) (r : ℕ) (s : Steady walk r w) (t : w.trace ≡ []) (readable : Readable w)
-          (x : Problem)
-          (ends : EndsWith m f now first_question x w.host w.scope w.cells w.roots)
-          (missing : says x ≡ true) where
+      -- the first question left a world, after r instructions, and without its trace the operator is asked
+      -- for
+      module _ (left : World S) (r : ℕ) (s : Steady walk r left) (readable : Readable left)
+          (x : Problem) (ends : EndsWith m f now first_question x left) (missing : says x ≡ true) where
+        abbrev w : World S
+        w = record left { trace = [] }
+
         abbrev now_held : Held
         now_held = record h { value = content_now home h w }
 
@@ -113,16 +113,11 @@ module _ {S : Type 0} {m : Setup S} (walk : Walk m) where
         copies = now_held ∷ v ∷ []
 
         abbrev question : Question S
-        question = record {
-          host = w.host;
-          cells = w.cells;
-          name = name_of m.program a.op_name;
-          lent = None;
-          args = copies;
-        }
+        question =
+            record { world = w; name = name_of m.program a.op_name; lent = None; args = copies }
 
         asks_again : AsksAgain m a home h u v question (point walk o)
-        asks_again = (x, w.host, w.scope, w.cells, w.roots, ends, missing, refl)
+        asks_again = (x, left, ends, missing, refl)
 
         asked_so : AsksSecond m question (point walk o)
         asked_so = (a, home, h, u, v, by_host, asks_again)
@@ -145,16 +140,16 @@ module _ {S : Type 0} {m : Setup S} (walk : Walk m) where
             (flat w1.cells z) refl where
               lends : HasGiven walk w (name_of m.program a.op_name) None copies n z w1 →
                   flat w1.cells z ≡ None → AnswersLent m name (point walk o)
-              lends (inl (is, left)) none =
+              lends (inl (is, same)) none =
                   answers_lent question asked_so n e called z
-                  (inl (is, subst (λ (c : World S). flat c.cells z ≡ None) left none))
+                  (inl (is, subst (λ (c : World S). flat c.cells z ≡ None) same none))
               lends (inr (first, over)) none =
                   answers_lent question asked_so n e called z (inr (first, w1, over, none))
 
         even_operator : Even walk r
             (operator_at m home name (name_of m.program a.op_name) h now_held v (f.address + width) f w)
         even_operator =
-            even_native walk o width stands w r s t (name_of m.program a.op_name) None copies asks
+            even_native walk o width stands w r s refl (name_of m.program a.op_name) None copies asks
             (λ y. inr (a, home, h, u, v, by_host, inr asks_again))
             (λ z w1. flattened m (read_write z) name f w1 (λ y.
             assigned_at m home (record h { value = y }) name (f.address + width) f w1))
@@ -164,14 +159,11 @@ module _ {S : Type 0} {m : Setup S} (walk : Walk m) where
       -- how the first native failed
       ends_so : (n : Native) → native_asked m first_question ≡ Some n → IsCalled first_question n →
           (x : Problem) (w : World S) →
-          FailedSo walk (start walk) (name_of m.program a.op_assign_name)
+          FailedSo walk emptied (name_of m.program a.op_assign_name)
           (Some (record { home = home; held = record h { value = u } })) (v ∷ []) n x w →
-          EndsWith m f now first_question x w.host w.scope w.cells w.roots
-      ends_so n e called x w (inl (y, is, at, left)) =
-          subst (λ (c : World S). EndsWith m f now first_question x c.host c.scope c.cells c.roots)
-          (sym left) (inr (n, e, called, inl (y, is, at, refl, refl, refl, refl)))
-      ends_so n e called x w (inr (first, over)) =
-          inr (n, e, called, inr (first, w, over, refl, refl, refl, refl))
+          EndsWith m f now first_question x w
+      ends_so n e called x w (inl how) = inr (n, e, called, inl how)
+      ends_so n e called x w (inr how) = inr (n, e, called, inr how)
 
       even_natively : Even walk (now.ran + 1)
           (native_assigned_at m home name a h u v (f.address + width) f (start walk))
@@ -182,7 +174,7 @@ module _ {S : Type 0} {m : Setup S} (walk : Walk m) where
           let args : List Held = v ∷ [] in
           let q : AsksNative m first_question (point walk o) =
           inr (a, home, h, u, v, by_host, inl refl) in
-          even_found walk o width stands (start walk) (now.ran + 1) (steady walk) trace word r args q
+          even_found walk o width stands emptied (now.ran + 1) (steady walk) refl word r args q
           f.operands
           (λ z w1. onward m f (stepped f (f.address + width) (below f.operands)) w1)
           (op_assign_failed_at m home name a h v (f.address + width) f)
@@ -190,11 +182,10 @@ module _ {S : Type 0} {m : Setup S} (walk : Walk m) where
           (below f.operands)) w1 after.0 empty (inl refl) sits_on)
           (λ e. let x = not_found word (values_in (given_to r args)) (position m f) in
           by_test (Even walk (now.ran + 1)) (says x) _ _
-          (λ missing. even_operator (record (start walk) { trace = [] }) (now.ran + 1) (steady walk) refl
-          (u, by_host.content) x
-          (inl (e, refl, refl, refl, refl, refl)) missing)
-          (λ other. none_raised walk o width stands (start walk) (now.ran + 1) (steady walk) trace word r
-          args q f.operands (all_there walk o) (inr (
+          (λ missing. even_operator emptied (now.ran + 1) (steady walk) (u, by_host.content) x
+          (inl (e, refl, refl)) missing)
+          (λ other. none_raised walk o width stands emptied (now.ran + 1) (steady walk) refl word r args
+          q f.operands (all_there walk o) (inr (
             a,
             home,
             h,
@@ -202,11 +193,11 @@ module _ {S : Type 0} {m : Setup S} (walk : Walk m) where
             v,
             by_host,
             inl (refl, other),
-          )) e)) (refused_raised walk o width stands (start walk) (now.ran + 1) (steady walk) trace
-          word r args q f.operands (all_there walk o))
+          )) e)) (refused_raised walk o width stands emptied (now.ran + 1) (steady walk) refl word r
+          args q f.operands (all_there walk o))
           (λ n e called x l w1 how reason after.
           by_test (Even walk l) (says x) _ _
-          (λ missing. even_operator (record w1 { trace = [] }) l after.0 refl
+          (λ missing. even_operator w1 l after.0
           (flat_stays now.cells w1.cells h.value u by_host.content after.2) x
           (ends_so n e called x w1 how) missing)
           (λ other. even_raised walk o width stands l x w1 after.0

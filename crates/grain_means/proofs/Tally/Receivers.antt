@@ -49,18 +49,12 @@ module _ {S : Type 0} {m : Setup S} (walk : Walk m) where
           (w : World S) → SteadyBut walk away ran w → w.trace ≡ [] →
           length w.scope ≡ length now.scope → (name : List ℕ) (p : Place) (args : List Held) →
           AsksOnReceiver m
-          (record {
-            host = w.host;
-            cells = w.cells;
-            name = name;
-            lent = lent_at w.roots (Some p);
-            args = args;
-          }) (point walk o) →
+          (record { world = w; name = name; lent = lent_at w.roots (Some p); args = args })
+          (point walk o) →
           Even walk ran (native_lent m name args (holding walk operands) heard p w)
       native_asks away heard hears w s t same name p args asks =
           let r = lent_at w.roots (Some p) in
-          let q : AsksNative m
-          (record { host = w.host; cells = w.cells; name = name; lent = r; args = args })
+          let q : AsksNative m (record { world = w; name = name; lent = r; args = args })
           (point walk o) = inl (inr asks) in
           even_found_or walk o width stands away w ran s t name r args q operands (heard (Failed NoMemory))
           (λ v w1. heard (Came v) w1) (failed_so m heard)
@@ -73,8 +67,7 @@ module _ {S : Type 0} {m : Setup S} (walk : Walk m) where
           (refused_why walk o width stands away w ran s t name r args q n e writes only) s same)
           (λ n e called x l u how reason after. fails_so walk away heard hears x l u
           (reason (inl (inr asks))) after.0 (after.1 ∙ same))
-          (native_asked m (record { host = w.host; cells = w.cells; name = name; lent = r; args = args }))
-          refl
+          (native_asked m (record { world = w; name = name; lent = r; args = args })) refl
 
       -- The pointer p, which is the first of n + 1 arguments, is called on the receiver, which is a root
       -- then.
@@ -146,7 +139,6 @@ module _ {S : Type 0} {m : Setup S} (walk : Walk m) where
                   pointer = p;
                   points = points;
                   none = none;
-                  host = refl;
                   named = refl;
                   reads = reads;
                   lends = rw at (c, e, free, refl, refl);
@@ -161,7 +153,6 @@ module _ {S : Type 0} {m : Setup S} (walk : Walk m) where
                   pointer = p;
                   points = points;
                   none = none;
-                  host = refl;
                   named = refl;
                   reads = reads;
                   lends = rw at (refl, refl);

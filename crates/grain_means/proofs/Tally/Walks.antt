@@ -21,12 +21,12 @@ use Rattle.grain_means.specs.Rules.{copy_dropped, curried_in, flat_all, frame_at
 use Rattle.grain_means.specs.Tasks.{Call, Invocation, Invoke, Method, Numbered, Pointed, Task, Done, Mark, Look, Flatten, Write, Root, Drop, Need, Walked, WalkEnded, WalkFailed}
 use Rattle.grain_means.specs.Worlds.{Act, Answer, Came, End, Failed, Frame, Place, Setup, World}
 use Rattle.grain_means.specs.Causes.{Cause, IsKeptOut}
-use Rattle.grain_means.specs.Causes.Spots.{BackFails, CallEnds, ChainWalk, ComesTo, Falls, InvocationEnds, Invokes, IsLeft, IsReason, PointedLeft, WalkRow, added, by_function, by_native, by_nothing, dropped, heard as hearing, here, looked, marked, past, read, resolved, returned, under_for, untraced, world_of, wrote}
+use Rattle.grain_means.specs.Causes.Spots.{BackFails, CallEnds, ChainWalk, ComesTo, Falls, InvocationEnds, Invokes, IsLeft, IsReason, PointedLeft, WalkRow, added, by_call, by_function, by_native, by_nothing, by_pointer as of_pointer, call_asked, call_start, dropped, heard as hearing, here, looked, marked, past, read, resolved, returned, under_for, untraced, world_of, wrote}
 use Rattle.grain_means.proofs.Choices.{if_false, if_true}
 use Rattle.grain_means.proofs.Explaining.Ways.{Why, join}
 use Rattle.grain_means.proofs.Footing.{by_test}
 use Rattle.grain_means.proofs.Standing.{Fitting, fits_found}
-use Rattle.grain_means.proofs.Tally.Calling.{CalledAt, CallsOf, even_by_chain}
+use Rattle.grain_means.proofs.Tally.Calling.{ByChain, CalledAt, even_by_chain}
 use Rattle.grain_means.proofs.Tally.Frames.{Even, ReasonAt, SteadyBut, Walk}
 use Rattle.grain_means.proofs.Tally.Needs.{needs}
 
@@ -67,7 +67,8 @@ module _ {S : Type 0} {m : Setup S} (walk : Walk m) where
     ReasonOf j x = ReasonAt walk (Some (slot_of m.program k j)) x
 
     -- how each end of the walk goes on, the reason of a fault that has its row, and of one that left a
-    -- function which a native called back, and that the chain calls a function to whose call the walk comes
+    -- function which a native called back, and that the chain calls a function to whose call the walk comes,
+    -- and asks for each call that the walk asks for
     module _ (over_well : (u : Dynamic) (changed : Bool) (n : ℕ) (w : World S) → On n w →
         Even walk n (done (WalkEnded u changed) w))
         (over_ill : (j : ℕ) (x : Problem) (n : ℕ) (w : World S) → ReasonOf j x → On n w →
@@ -78,7 +79,7 @@ module _ {S : Type 0} {m : Setup S} (walk : Walk m) where
         (reason_left : (j : ℕ) (x : Problem) →
         (x ≡ NoMemory) ⊎ (BackFails m c j x ⊎ PointedLeft m c j x) →
         Cause m root footing.level x → catchable x ≡ false → ReasonOf j x)
-        (calls_so : CallsOf walk o k c) where
+        (by_chain : ByChain walk o k c) where
       falls_out : (n j : ℕ) (missed : Option (List Fault)) (t : Task) → Falls j NoMemory t →
           (w : World S) → is_stop m.stop w.passed ≡ true → On n w → Walks n missed t w
       falls_out n j missed t falls w stop s =
@@ -161,7 +162,7 @@ module _ {S : Type 0} {m : Setup S} (walk : Walk m) where
           even_body : (place : Option Place) → under ≡ place →
               Even walk n (function_called m i.position f args heard place v0)
           even_body None e =
-              let by : Calls None v0 = calls_so i.step invokes None v0 (rw e refl) (rw e refl) in
+              let by : Calls None v0 = by_chain.0 i.step invokes None v0 (rw e refl) (rw e refl) in
               let ends_so : (a : Answer) (u : World S) →
               Ends m (function_under m i.position f args End None v0) a u →
               InvocationEnds m i under v0 a u = λ a u ends. by_function f args is
@@ -183,7 +184,7 @@ module _ {S : Type 0} {m : Setup S} (walk : Walk m) where
               (function_under m i.position f args (copy_dropped m size heard) (Some copy) v)
               (function_under m i.position f args heard (Some p) v0)
               (λ yes.
-              let by : Calls (Some copy) v = calls_so i.step invokes (Some copy) v (rw e (if_true
+              let by : Calls (Some copy) v = by_chain.0 i.step invokes (Some copy) v (rw e (if_true
               (λ (x : Option Place). Some copy ≡ x) only (Some copy) (Some p) yes refl)) (rw e (if_true
               (λ (x : List Held). v ≡ record v0 { roots = x }) only v.roots w.roots yes refl)) in
               let ends_so : (a : Answer) (u : World S) →
@@ -203,7 +204,7 @@ module _ {S : Type 0} {m : Setup S} (walk : Walk m) where
               (λ x u whole. by.3 x (dropped u)
               (ends_so (Failed x) (dropped u) (whole (Failed x) (dropped u) ended))))
               (λ no.
-              let by : Calls (Some p) v0 = calls_so i.step invokes (Some p) v0 (rw e (if_false
+              let by : Calls (Some p) v0 = by_chain.0 i.step invokes (Some p) v0 (rw e (if_false
               (λ (x : Option Place). Some p ≡ x) only (Some copy) (Some p) no refl)) (rw e (if_false
               (λ (x : List Held). v0 ≡ record v0 { roots = x }) only v.roots w.roots no refl)) in
               let ends_so : (a : Answer) (u : World S) →
@@ -233,7 +234,8 @@ module _ {S : Type 0} {m : Setup S} (walk : Walk m) where
             Even walk n (pointed_called m k g i under heard p found v0)
         by_pointer p is None e =
             needs walk o width stands away k g address (pointed_native i p) (lent_at w.roots under) v0 n s
-            refl heard heard_out over_so left_so
+            refl (λ a. by_chain.1 (call_asked a) (call_start a) (of_pointer i go w come p is none a))
+            heard heard_out over_so left_so
             (flat_all w.cells (map read_write (pointed_native i p).values)) refl where
               none : resolved m.program i i.method ≡ None
               none = rw (is, e) refl
@@ -310,7 +312,8 @@ module _ {S : Type 0} {m : Setup S} (walk : Walk m) where
             Walks n missed (Need call go) w
         even_needed rest =
             needs walk o width stands away k g address call
-            (lent_at w.roots (option_map (world_of m c) call.receiver)) (untraced w) n s refl hears
+            (lent_at w.roots (option_map (world_of m c) call.receiver)) (untraced w) n s refl
+            (λ a. by_chain.1 (call_asked a) (call_start a) (by_call call go w come a)) hears
             (λ u l stop at. falls_out l why.0.0 (missed_by (Failed NoMemory) u.trace)
             (go (Failed NoMemory)) why.0.1 (after (Failed NoMemory) u) stop at)
             (λ a u l ends because at. rest a (after a u) l (missed_by a u.trace)

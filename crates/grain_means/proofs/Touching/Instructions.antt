@@ -167,7 +167,7 @@ module _ {S : Type 0} (m : Setup S) (t : Option Place) (old : List Held) (f : Fr
       (λ missing. by_operator a may name (name_of m.program o.op_name) h
       (record h { value = content_now a h w1 }) v next (record w1 { trace = [] }) there)
       (λ other. refuses x w1 there))
-      (name_of m.program o.op_assign_name) (v ∷ []) w at
+      (name_of m.program o.op_assign_name) (v ∷ []) (record w { trace = [] }) at
 
   stores_outcome : (a : Home) → MayAt m t old a → (name : List ℕ) (r : Outcome) (o : AssignOp)
       (h : Held) (u : Dynamic) (v : Held) (next : ℕ) (w : World S) → Here w →

@@ -1,4 +1,5 @@
 -- How the calls that the walk of a chain makes end: of natives, and of functions.
+pub use Rattle.grain_means.specs.Causes.Questions.{answered_world, asking_world}
 use Rattle.std.specs.Prelude.{◌≡◌, ◌+◌, ◌&&◌, length, ℕ, List, [], ◌++◌, Option, Some, None, true, false, map, option_map}
 use Rattle.grain_value.specs.declared.values.FnPtr.{FnPtr}
 use Rattle.grain_value.specs.Operands.{read_write, values_in}
@@ -15,7 +16,7 @@ use Rattle.grain_program.specs.View.{View}
 use Rattle.grain_value.specs.Tree.{Tree}
 use Rattle.grain_means.specs.Worlds.{Callback, End, Frame, Go, InHost, is_stop, Answer, Came, Failed, Place, Setup, World}
 use Rattle.grain_means.specs.Ends.{Ends}
-use Rattle.grain_means.specs.Rules.{Receiver, cells_given_back, cells_lent, no_memory, position, receiver_left, with_token, curried_in, function_by_name, function_called, function_numbered, pointed_native, first_is_read_only, flat_all, given, given_back, lent_at, lent_held, race_text, roots_given_back, trees_in}
+use Rattle.grain_means.specs.Rules.{Receiver, no_memory, position, curried_in, function_by_name, function_called, function_numbered, pointed_native, first_is_read_only, flat_all, given, lent_at, race_text}
 use Rattle.grain_means.specs.Tasks.{Call, Invocation, Method, Numbered, Pointed}
 use Rattle.grain_means.specs.Causes.Questions.{IsCalled, Question, native_asked, reply_to}
 use Rattle.grain_means.specs.Causes.Callbacks.{HostFails, LeavesBack, first_asked}
@@ -31,28 +32,7 @@ Passes m w = is_stop m.stop w.passed ≡ false
 -- what a walk needs is a question to the host, on arguments as they are read
 abbrev pub question_of : {S : Type 0} → Call → Option Receiver → World S → List Held → Question S
 question_of c r w args =
-    record { host = w.host; cells = w.cells; name = c.name; lent = r; args = args }
-
--- the world once the host has answered a native of this key
-abbrev pub answered_world : {S : Type 0} → Setup S → ℕ → Option Receiver → List Held → World S →
-    World S
-answered_world m key r args w = record w {
-  host = m.law.call_after w.host key (lent_held r) (trees_in args);
-  scope = given_back m.law w.host key (trees_in args) r w.scope;
-  cells = cells_given_back m.law w.host key (trees_in args) r w.cells;
-  roots = roots_given_back m.law w.host key (trees_in args) r w.roots;
-  passed = w.passed + 1 + 1;
-}
-
--- the world once the host has answered a native of this key, and asked for a call with this token
-abbrev pub asking_world : {S : Type 0} → Setup S → ℕ → Option Receiver → List Held → ℕ → World S →
-    World S
-asking_world m key r args token w =
-    let v = answered_world m key r args w in
-    record v {
-      cells = cells_lent (receiver_left m.law w.host key (trees_in args) r) v.cells;
-      tokens = with_token token v.tokens;
-    }
+    record { world = w; name = c.name; lent = r; args = args }
 
 -- A native that a walk calls asks for calls first: this is the first of them, with these arguments, in this
 -- world.

@@ -20,7 +20,7 @@ use Rattle.grain_means.specs.Comes.{Comes}
 use Rattle.grain_means.specs.Ends.{Ends}
 use Rattle.grain_means.specs.Rules.{bound, cells_lent, flat_all, frame_at, is_stop, lent_held, position, race_text, receiver_left, receiver_rewritten, scope_with, roots_with, trees_in, with_token, without_token, is_told, arguments_back, function_back, called_back}
 use Rattle.grain_means.specs.Causes.Instructions.{IsCharged}
-use Rattle.grain_means.specs.Causes.Questions.{IsCalled, Question, native_asked, reply_to}
+use Rattle.grain_means.specs.Causes.Questions.{IsCalled, Question, asking_world, native_asked, reply_to}
 
 -- the number of parameters of a function, if there is one
 abbrev pub parameters : Option Function → ℕ
@@ -54,7 +54,7 @@ body_begins m g args w = record w {
 abbrev pub first_asked : {S : Type 0} → Setup S → Question S → Native → Frame → ℕ → FnPtr →
     List Tree → Callback
 first_asked m q n f token p values = record {
-  receiver = receiver_left m.law q.host n.key (trees_in q.args) q.lent;
+  receiver = receiver_left m.law q.world.host n.key (trees_in q.args) q.lent;
   frame = f;
   token = token;
   pointer = p;
@@ -127,13 +127,8 @@ module _ {S : Type 0} (m : Setup S) where
     pub native : Native
 
   abbrev pub question_back : {c : Callback} {w : World S} → NativeBack c w → Question S
-  question_back {c = c} {w = w} b = record {
-    host = m.law.progress_after w.host (w.count + 1);
-    cells = w.cells;
-    name = c.pointer.name;
-    lent = None;
-    args = b.args;
-  }
+  question_back {c = c} {w = w} b =
+      record { world = native_begins w; name = c.pointer.name; lent = None; args = b.args }
 
   abbrev pub IsCalledBack : {c : Callback} {w : World S} → NativeBack c w → Type 0
   IsCalledBack b = (native_asked m (question_back b) ≡ Some b.native)
@@ -203,8 +198,10 @@ module _ {S : Type 0} (m : Setup S) where
     pub passes : catchable inner ≡ false
     pub is : x ≡ at_position (position m runs.callback.frame) inner
 
-  -- The question is asked in a frame in this world, and the host answers by asking for a call first. `asked`
-  -- is the frame as it then stands, at the same instruction and position.
+  -- An instruction of a frame, which began in this world, asks the question, and the host answers by asking
+  -- for a call first. `asked` is the frame as it then stands, at the same instruction and position. The
+  -- frame's run comes to the call in the world that follows from the question's own: each later turn of the
+  -- frame has another, since more marks are passed then.
   pub record AsksFirst (q : Question S) (n : Native) (f : Frame) (w : World S) : Type 0 where
     pub token : ℕ
     pub pointer : FnPtr
@@ -213,10 +210,14 @@ module _ {S : Type 0} (m : Setup S) where
     pub asked : Frame
     pub address : asked.address ≡ f.address
     pub position : position m asked ≡ position m f
-    pub start : World S
-    pub comes : Comes m (InHost (first_asked m q n asked token pointer values)) start
-        (Go (InFrame f) w)
+    pub comes : Comes m (InHost (first_asked m q n asked token pointer values))
+        (asking_world m n.key q.lent q.args token q.world) (Go (InFrame f) w)
 
   abbrev pub asked_by : {q : Question S} {n : Native} {f : Frame} {w : World S} → AsksFirst q n f w →
       Callback
   asked_by {q = q} {n = n} a = first_asked m q n a.asked a.token a.pointer a.values
+
+  -- the world in which the call is asked for
+  abbrev pub asked_in : {q : Question S} {n : Native} {f : Frame} {w : World S} → AsksFirst q n f w →
+      World S
+  asked_in {q = q} {n = n} a = asking_world m n.key q.lent q.args a.token q.world

@@ -2,6 +2,7 @@
 use Rattle.std.specs.Prelude.{◌≡◌, ◌≤◌, ◌⊎◌, ◌+◌, ◌&&◌, ℕ, List, [], ◌∷◌, ◌++◌, Option, Some, None, true, false, length, slice_get, slice_set}
 use Rattle.grain_value.specs.Cells.{content, flat, lent}
 use Rattle.grain_value.specs.Operands.{top}
+use Rattle.grain_value.specs.declared.natives.Native.{Native}
 use Rattle.grain_value.specs.declared.stores.Cell.{Cell}
 use Rattle.grain_value.specs.declared.values.Dynamic.{Dynamic}
 use Rattle.grain_value.specs.declared.values.Held.{Held}
@@ -18,11 +19,13 @@ use Rattle.grain_program.specs.declared.code.chains.Tail.{Tail}
 use Rattle.grain_program.specs.declared.code.chains.Tail.TheVariants as tail
 use Rattle.grain_program.specs.declared.code.instruction_set.Op.TheVariants as op
 use Rattle.grain_means.specs.Comes.{ProgramPoint}
-use Rattle.grain_means.specs.Worlds.{Frame, Place, Setup, World}
+use Rattle.grain_means.specs.Worlds.{Callback, Frame, Place, Setup, World}
 use Rattle.grain_means.specs.Places.{look}
 use Rattle.grain_means.specs.Rules.{assigned_operand, course_of, held_at, is_read_only, lent_cell, new_root, position, race_text, root_name, root_position}
-use Rattle.grain_means.specs.Causes.Natives.{HostAnswers}
-use Rattle.grain_means.specs.Causes.Spots.{BackFails, ChainWalk, PointedLeft, WalkRow}
+use Rattle.grain_means.specs.Causes.Questions.{IsCalled, Question, begun, native_asked}
+use Rattle.grain_means.specs.Causes.Callbacks.{AsksFirst, asked_by, asked_in}
+use Rattle.grain_means.specs.Causes.Natives.{AsksNative, HostAnswers}
+use Rattle.grain_means.specs.Causes.Spots.{BackFails, ChainWalk, PointedLeft, WalkAsks, WalkRow}
 
 -- what a chain's root holds
 abbrev pub RootHolds : {S : Type 0} → Root → Frame → World S → Held → Type 0
@@ -48,7 +51,7 @@ RootLends (Some i) h w r cells =
 
 -- the world once the instruction at the point has begun: it is counted, and its mark is passed
 abbrev pub begun_at : {S : Type 0} → ProgramPoint S → World S
-begun_at at = record at.world { ran = at.world.ran + 1; passed = at.world.passed + 1 }
+begun_at at = begun at.world
 
 -- The chain has found what its root holds, which is not read-only if the chain assigns, and has read the
 -- value that it assigns, if any.
@@ -134,3 +137,24 @@ RaisedByChain m x at = (k : ℕ) × (n : ℕ) × (at.instruction ≡ op.Chain k)
 abbrev pub FromHostOrChain : {S : Type 0} → Setup S → Problem → ProgramPoint S → Type 0
 FromHostOrChain m x at = (y : Problem) × (p : Position) ×
     (HostAnswers m y at ⊎ RaisedByChain m y at) × (x ≡ at_position p y)
+
+-- The walk of a chain comes to a native that asks for this call first, in this world.
+pub record ChainAsks {S : Type 0} (m : Setup S) (c : Chain) (at : ProgramPoint S) (d : Callback)
+    (v : World S) : Type 0 where
+  pub so_far : ChainReads m c at
+  pub root : Held
+  pub cells : List Cell
+  pub lends : RootLends (lent_cell m.program c.steps so_far.held) so_far.held at.world root cells
+  pub asks :
+      let walk = walk_of m c at so_far.value (lent_cell m.program c.steps so_far.held) root cells in
+      WalkAsks m walk d v
+
+-- The native that the instruction at the point asks the host for asks for this call first, in this world;
+-- or one does that the instruction's chain calls.
+pub data AsksFor {S : Type 0} (m : Setup S) (at : ProgramPoint S) :
+    Callback → World S → Type 0 where
+  by_question : (q : Question S) → AsksNative m q at → (n : Native) →
+      native_asked m q ≡ Some n → IsCalled q n → (a : AsksFirst m q n at.frame at.world) →
+      AsksFor m at (asked_by m a) (asked_in m a)
+  by_chain : (k : ℕ) {d : Callback} {v : World S} → at.instruction ≡ op.Chain k →
+      ChainAsks m (chain_of m.program k) at d v → AsksFor m at d v

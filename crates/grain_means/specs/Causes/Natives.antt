@@ -3,7 +3,6 @@ pub use Rattle.grain_means.specs.Causes.Questions.{Question, all_args, native_as
 use Rattle.std.specs.Prelude.{◌≡◌, ◌⊎◌, ◌+◌, ℕ, suc, List, [], ◌∷◌, ◌++◌, Option, Some, None, true, false, slice_get, slice_set}
 use Rattle.grain_value.specs.declared.values.Dynamic.{Dynamic}
 use Rattle.grain_value.specs.declared.values.Held.{Held}
-use Rattle.grain_value.specs.declared.scopes.Entry.{Entry}
 use Rattle.grain_value.specs.declared.stores.Cell.{Cell}
 use Rattle.grain_value.specs.Cells.{flat, lent}
 use Rattle.grain_value.specs.declared.values.FnPtr.{FnPtr}
@@ -21,10 +20,11 @@ use Rattle.grain_means.specs.Places.{look}
 use Rattle.grain_host.specs.Signatures.{missing_kind, not_found, says_missing}
 use Rattle.grain_host.specs.Law as reply
 use Rattle.grain_value.specs.declared.natives.Native.{Native}
-use Rattle.grain_means.specs.Rules.{Home, Receiver, flat_all, lent_at, new_root, at_place_of, content_at, in_entry, is_read_only, lent_held, given, given_back, cells_given_back, roots_given_back, kinds_in, trees_in, first_is_read_only, position, op_assigned}
+use Rattle.grain_means.specs.Rules.{Home, Receiver, flat_all, lent_at, new_root, at_place_of, content_now, in_entry, is_read_only, first_is_read_only, position, op_assigned}
 use Rattle.grain_means.specs.Comes.{ProgramPoint}
 use Rattle.grain_means.specs.Ends.{Ends}
-use Rattle.grain_means.specs.Causes.Callbacks.{AsksFirst, HostFails, asked_by}
+use Rattle.grain_means.specs.Causes.Questions.{answered_world, begun}
+use Rattle.grain_means.specs.Causes.Callbacks.{AsksFirst, HostFails, asked_by, asked_in}
 use Rattle.grain_means.specs.Causes.Instructions.{Holds, Misses, HasNoBuiltIn}
 use Rattle.grain_means.specs.Causes.Pointers.{IsMethodCall, PointsFirst, receiver, args_beside, function_beside}
 
@@ -48,32 +48,27 @@ pub record AssignsByHost {S : Type 0} (m : Setup S) (a : AssignOp) (i : Home) (h
   pub flag : v.read_only ≡ (top f.operands).read_only
   pub none : op_assigned m.engine a u v.value ≡ NotBuiltIn
 
--- the question ended with this fault in a frame: there is no native, or the host answered it to the
--- call, or the calls that it asked for first ended with it; and this is then the host, and this the scope,
--- the cells and the roots
-abbrev pub EndsWith : {S : Type 0} → Setup S → Frame → World S → Question S → Problem → S →
-    List Entry → List Cell → List Held → Type 0
-EndsWith {S = S} m f w q x host left cells roots =
+-- An instruction of the frame f, which began in the world w, asked the question, which ended with this fault
+-- and left the world v: there is no native, or the host answered the fault to the call, or the calls that it
+-- asked for first ended with it.
+abbrev pub EndsWith : {S : Type 0} → Setup S → Frame → World S → Question S → Problem → World S →
+    Type 0
+EndsWith m f w q x v =
     ((native_asked m q ≡ None) ×
-    (x ≡ not_found q.name (values_in (all_args q)) (position m f)) × (host ≡ q.host) ×
-    (left ≡ w.scope) × (cells ≡ w.cells) × (roots ≡ w.roots))
+    (x ≡ not_found q.name (values_in (all_args q)) (position m f)) × (v ≡ q.world))
     ⊎ ((n : Native) × (native_asked m q ≡ Some n) × IsCalled q n ×
     (((y : Problem) × (reply_to m q n.key ≡ reply.Failed y) ×
     (x ≡ at_position_if_none (position m f) y) ×
-    (host ≡ m.law.call_after q.host n.key (lent_held q.lent) (trees_in q.args)) ×
-    (left ≡ given_back m.law q.host n.key (trees_in q.args) q.lent w.scope) ×
-    (cells ≡ cells_given_back m.law q.host n.key (trees_in q.args) q.lent w.cells) ×
-    (roots ≡ roots_given_back m.law q.host n.key (trees_in q.args) q.lent w.roots))
-    ⊎ ((a : AsksFirst m q n f w) × (v : World S) ×
-    Ends m (Go (InHost (asked_by m a)) a.start) (Failed x) v × (host ≡ v.host) × (left ≡ v.scope) ×
-    (cells ≡ v.cells) × (roots ≡ v.roots))))
+    (v ≡ answered_world m n.key q.lent q.args q.world))
+    ⊎ ((a : AsksFirst m q n f w) ×
+    Ends m (Go (InHost (asked_by m a)) (asked_in m a)) (Failed x) v)))
 
--- an op-assignment asks for the host's op-assignment, to which what it writes is lent
+-- an op-assignment that begins in this world asks, without a trace, for the host's op-assignment, to which
+-- what it writes is lent
 abbrev pub asks_first : {S : Type 0} → Setup S → AssignOp → Home → Held → Dynamic → Held → World S →
     Question S
 asks_first m a i h u v w = record {
-  host = w.host;
-  cells = w.cells;
+  world = record (begun w) { trace = [] };
   name = name_of m.program a.op_assign_name;
   lent = Some (record { home = i; held = record h { value = u } });
   args = v ∷ [];
@@ -81,19 +76,18 @@ asks_first m a i h u v w = record {
 
 -- The question is the second of an op-assignment that no built-in does: it asks for the operator, on
 -- what stands there then, where the first ended with the fault that no function of its name is
--- found.
+-- found. The trace of that fault is gone.
 abbrev pub AsksAgain : {S : Type 0} → Setup S → AssignOp → Home → Held → Dynamic → Held →
     Question S → ProgramPoint S → Type 0
 AsksAgain {S = S} m a i h u v q at =
-    (x : Problem) × (host : S) × (left : List Entry) × (cells : List Cell) × (roots : List Held) ×
-    EndsWith m at.frame at.world (asks_first m a i h u v at.world) x host left cells roots ×
+    (x : Problem) × (w : World S) ×
+    EndsWith m at.frame at.world (asks_first m a i h u v at.world) x w ×
     (says_missing (name_of m.program a.op_assign_name) x ≡ true) ×
     (q ≡ record {
-      host = host;
-      cells = cells;
+      world = record w { trace = [] };
       name = name_of m.program a.op_name;
       lent = None;
-      args = record h { value = content_at i h left cells roots } ∷ v ∷ [];
+      args = record h { value = content_now i h w } ∷ v ∷ [];
     })
 
 -- the question is the second of an op-assignment that no built-in does
@@ -113,7 +107,7 @@ AsksToAssign {S = S} m q at =
 -- receiver, or no built-in for an operator
 abbrev pub AsksOnCopies : {S : Type 0} → Setup S → Question S → ProgramPoint S → Type 0
 AsksOnCopies m q at =
-    (q.host ≡ at.world.host) × (q.cells ≡ at.world.cells) × (q.lent ≡ None) ×
+    (q.world ≡ begun at.world) × (q.lent ≡ None) ×
     (Misses m.program q.name q.args at.instruction at.frame at.world
     ⊎ HasNoBuiltIn m q.name q.args at.instruction at.frame at.world)
 
@@ -121,15 +115,28 @@ AsksOnCopies m q at =
 abbrev pub lent_last : List Held → Held → Option Receiver
 lent_last roots h = lent_at (roots ++ h ∷ []) (Some (new_root roots))
 
--- What a native is lent of a receiver, which is a root then, and the cells then: the receiver; or, if it is
--- the cell of number i, its content, which is one more root, and can only be read if the receiver can.
-abbrev pub LendsReceiver : {S : Type 0} → Option ℕ → Held → World S → Option Receiver → List Cell →
+-- the world once an instruction that began in this one has put a receiver after all roots, at a second
+-- mark
+abbrev pub receiver_begun : {S : Type 0} → Held → World S → World S
+receiver_begun h w = record (begun w) { passed = w.passed + 1 + 1; roots = w.roots ++ h ∷ [] }
+
+-- the content of a cell that a receiver is, which can only be read if the receiver can
+abbrev pub content_for : Held → Cell → Held
+content_for h a = record { value = a.held.value; read_only = h.read_only }
+
+-- What a native is lent of a receiver, which is a root then, by an instruction that began in the world w,
+-- and the world v then: the receiver; or, if it is the cell of number i, its content, which is one more
+-- root.
+abbrev pub LendsReceiver : {S : Type 0} → Option ℕ → Held → World S → Option Receiver → World S →
     Type 0
-LendsReceiver None h w r cells = (r ≡ lent_last w.roots h) × (cells ≡ w.cells)
-LendsReceiver (Some i) h w r cells =
+LendsReceiver None h w r v = (r ≡ lent_last w.roots h) × (v ≡ receiver_begun h w)
+LendsReceiver (Some i) h w r v =
     (a : Cell) × (slice_get w.cells i ≡ Some a) × (a.busy ≡ false) ×
-    (r ≡ lent_last (w.roots ++ h ∷ []) (record { value = a.held.value; read_only = h.read_only })) ×
-    (cells ≡ slice_set w.cells i (lent a.held))
+    (r ≡ lent_last (w.roots ++ h ∷ []) (content_for h a)) ×
+    (v ≡ record (receiver_begun h w) {
+      roots = (w.roots ++ h ∷ []) ++ content_for h a ∷ [];
+      cells = slice_set w.cells i (lent a.held);
+    })
 
 -- it asks the host for a native to which a receiver is lent: the pointer that is called on the receiver,
 -- and on n arguments more, names no function
@@ -140,11 +147,10 @@ pub record AsksOnReceiver {S : Type 0} (m : Setup S) (q : Question S) (at : Prog
     pub pointer : FnPtr
     pub points : PointsFirst pointer n at.frame at.world
     pub none : function_beside m.program pointer n at.frame ≡ None
-    pub host : q.host ≡ at.world.host
     pub named : q.name ≡ pointer.name
     pub reads : flat_all at.world.cells (args_beside pointer n at.frame) ≡ Some q.args
     pub lends : let h = receiver n at.frame at.world in
-        LendsReceiver (cell_of h.value) h at.world q.lent q.cells
+        LendsReceiver (cell_of h.value) h at.world q.lent q.world
 
 -- it asks the host for a native, and for no other
 abbrev pub AsksOnce : {S : Type 0} → Setup S → Question S → ProgramPoint S → Type 0
@@ -190,5 +196,6 @@ abbrev pub HostAnswers : {S : Type 0} → Setup S → Problem → ProgramPoint S
 HostAnswers m y at = (name : List ℕ) × (n : Native) × (c : FindsNative m name n at)
     × IsCalled c.question n
     × ((reply_to m c.question n.key ≡ reply.Failed y)
-    ⊎ ((a : AsksFirst m c.question n at.frame at.world) × HostFails m (asked_by m a) a.start y))
+    ⊎ ((a : AsksFirst m c.question n at.frame at.world)
+    × HostFails m (asked_by m a) (asked_in m a) y))
     × AsksLast m (at_position_if_none (position m at.frame) y) c.question at

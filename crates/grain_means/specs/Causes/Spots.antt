@@ -25,7 +25,7 @@ use Rattle.grain_program.specs.declared.code.parts.AssignOp.{AssignOp}
 use Rattle.grain_program.specs.declared.code.chains.Step.{Step}
 use Rattle.grain_program.specs.declared.code.chains.Step.TheVariants as step
 use Rattle.grain_program.specs.declared.code.chains.StepFlags.{StepFlags}
-use Rattle.grain_means.specs.Worlds.{Answer, Failed, Place, Setup, World}
+use Rattle.grain_means.specs.Worlds.{Answer, Callback, Failed, Place, Setup, World}
 use Rattle.grain_means.specs.Places.{look, put}
 use Rattle.grain_means.specs.Rules.{Receiver, pointed_native, lent_at, op_assigned, placed, race_text}
 use Rattle.grain_means.specs.Tasks.{Call, Invocation, Pointed, Task, Done, Mark, Look, Flatten, Write, Root, Drop, Need, Invoke, WalkFailed}
@@ -108,6 +108,16 @@ module _ {S : Type 0} (m : Setup S) (c : ChainWalk S) where
   -- the walk comes to this in this world
   abbrev pub ComesTo : Task → World S → Type 0
   ComesTo t v = WalksTo t v (whole_walk c.course c.steps) c.start
+
+  -- The walk comes to a native that asks for this call first, in this world: one that the walk calls, or one
+  -- that is called where a pointer names no function.
+  pub data WalkAsks : Callback → World S → Type 0 where
+    by_call : (call : Call) (go : Answer → Task) (w : World S) → ComesTo (Need call go) w →
+        (a : CallAsks m call (lent_for call w) (untraced w)) → WalkAsks (call_asked a) (call_start a)
+    by_pointer : (i : Invocation) (go : Answer → Task) (w : World S) → ComesTo (Invoke i go) w →
+        (p : FnPtr) → i.method ≡ Pointed p → resolved m.program i i.method ≡ None →
+        (a : CallAsks m (pointed_native i p) (lent_at w.roots (under_for i)) (untraced w)) →
+        WalkAsks (call_asked a) (call_start a)
 
   -- the walk comes to a step, which has this number, and is now at a place
   pub record AtStep (n : ℕ) (s : Step) : Type 0 where

@@ -55,12 +55,14 @@ module _ {S : Type 0} (m : Setup S) where
       (record h { value = content_now a h w }) v next f (record w { trace = [] })
       else raised m f x w
 
-  -- the host's op-assignment, to which what is written is lent
+  -- The host's op-assignment, to which what is written is lent. It begins with an empty trace, which
+  -- changes nothing where an instruction begins: there the trace is empty.
   abbrev pub native_assigned_at : Home → List ℕ → AssignOp → Held → Dynamic → Held → ℕ → Frame →
       World S → Act S
   native_assigned_at a name o h u v next f w =
       native m (name_of m.program o.op_assign_name)
-      (Some (record { home = a; held = record h { value = u } })) (v ∷ []) f w
+      (Some (record { home = a; held = record h { value = u } })) (v ∷ []) f
+      (record w { trace = [] })
       (λ r w1. onward m f (stepped f next (below f.operands)) w1)
       (op_assign_failed_at a name o h v next f)
 
