@@ -133,8 +133,7 @@ module _ {S : Type 0} {m : Setup S} (hosted : Hosted m) (r : ℕ) (ran : hosted.
 
       module _ (n : Native) (found : native_asked m (question_back m (back_with n)) ≡ Some n)
           (called : IsCalled (question_back m (back_with n)) n)
-          (clear : is_stop m.stop up.passed ≡ false) (later : is_stop m.stop (up.passed + 1) ≡ false)
-        where
+          (clear : is_stop m.stop up.passed ≡ false) (later : is_stop m.stop (up.passed + 1) ≡ false) where
         abbrev asked : ℕ → FnPtr → List Tree → Callback
         asked token p values = first_asked m (question_back m (back_with n)) n c.frame token p values
 

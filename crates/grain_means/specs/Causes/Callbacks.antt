@@ -156,7 +156,7 @@ module _ {S : Type 0} (m : Setup S) where
     args = b.args;
   }
 
-  -- it is called, and memory is not out at the marks before and after the host answers
+  -- it is called, and memory is not out at the marks before and after the host's answer
   abbrev pub IsCalledBack : {c : Callback} {w : World S} → NativeBack c w → Type 0
   IsCalledBack {w = w} b = (native_asked m (question_back b) ≡ Some b.native)
       × IsCalled (question_back b) b.native
@@ -199,17 +199,18 @@ module _ {S : Type 0} (m : Setup S) where
         is_stop m.stop (u.passed + 1) ≡ false →
         AsksNext first start (next_asked c o u token p values) (next_asked_world c o u token)
 
-  -- the same where the last call is the native's own, or stands inside one of its calls: that of a native
-  -- which is called back and asks for calls itself
+  -- the same where the last call may also stand inside one of the native's: a native is called back there,
+  -- and asks for calls itself
   pub data AsksOn : Callback → World S → Callback → World S → Type 0 where
     of_native : {first c : Callback} {start w : World S} → AsksNext first start c w →
         AsksOn first start c w
     inside : {first c d : Callback} {start w v : World S} → AsksNext first start c w →
         (b : BackAsks c w) → AsksOn (back_asked b) (back_start b) d v → AsksOn first start d v
 
-  -- With this fault the native of such a call ends, and so does each native that was called back on the way
-  -- to it: its calls ended in the fault; the host is not told of such a fault; and memory is not out at the
-  -- mark that follows, which there is unless the fault is want of memory. The fault stays as it is.
+  -- The fault with which the native of such a call ends goes past each native that was called back on the
+  -- way to the call, and stays as it is: the calls that this native asked for ended in the fault; the host is
+  -- not told of such a fault; and memory is not out at the mark that follows. After want of memory there is
+  -- no mark.
   abbrev pub GoesPast : {first c : Callback} {start w : World S} → AsksOn first start c w → Problem →
       Type 0
   GoesPast (of_native next) x = Unit {0}
