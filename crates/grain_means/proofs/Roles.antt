@@ -5,7 +5,7 @@ use Rattle.grain_fault.specs.Problems.{Problem, NoMemory}
 use Rattle.grain_means.specs.Worlds.{Act, Answer, Came, Callback, End, Failed, Go, InCatch, InFrame, InHost, Setup, Then, Todo, World}
 use Rattle.grain_means.specs.Rules.{is_stop, with_token}
 use Rattle.grain_means.proofs.Unlent.{cell_away}
-use Rattle.grain_means.specs.Causes.{AsksOn, Cause, HostFails, LeavesBack, body_back}
+use Rattle.grain_means.specs.Causes.{AsksNext, Cause, HostFails, LeavesBack, body_back}
 
 pub data Role : Type 0 where
   Framed : Role
@@ -48,7 +48,7 @@ NativeEnds m (Then one rest) a w = ⊥
 -- the run of the calls stands at this one
 abbrev pub AsksAt : {S : Type 0} → Setup S → Act S → Callback → World S → Type 0
 AsksAt m (Go (InHost first) start) c w =
-    (length w.scope ≡ length start.scope) × AsksOn m first start c w
+    (length w.scope ≡ length start.scope) × AsksNext m first start c w
 AsksAt m (Go (InFrame f) start) c w = ⊥
 AsksAt m (Go (InCatch f h x) start) c w = ⊥
 AsksAt m (End b v) c w = ⊥

@@ -41,15 +41,15 @@ module _ {S : Type 0} (m : Setup S) (c : ChainWalk S) (n : ℕ) where
     own : (y : Problem) → x ≡ y → (IsNotEntered m c n y → OwnRow m c n y) → Row x
     own y is row = at_fault (IsNotEntered m c n) x y is o row
 
-    by_why : {A B C D E F G : Type 0} {T : Dynamic → Type 0} →
-        (A × (x ≡ Plain TooManyOperations q))
-        ⊎ (((v : Dynamic) × B × T v × (x ≡ Plain (Terminated v) q))
-        ⊎ ((C × D × (x ≡ Plain StackOverflow q)) ⊎ (E × F × G × (x ≡ Plain TooManyVariables q)))) →
-        Row x
-    by_why (inl a) = own (Plain TooManyOperations q) a.1 (λ p. p)
-    by_why (inr (inl a)) = own (Plain (Terminated a.0) q) a.3 (λ p. p)
-    by_why (inr (inr (inl a))) = own (Plain StackOverflow q) a.2 (λ p. p)
-    by_why (inr (inr (inr a))) = own (Plain TooManyVariables q) a.3 (λ p. p)
+    by_why : {A B C D E F G H I J K L : Type 0} {T : Dynamic → Type 0} →
+        (A × B × (x ≡ Plain TooManyOperations q))
+        ⊎ (((v : Dynamic) × C × D × T v × E × (x ≡ Plain (Terminated v) q))
+        ⊎ ((F × G × H × (x ≡ Plain StackOverflow q))
+        ⊎ (I × J × K × L × (x ≡ Plain TooManyVariables q)))) → Row x
+    by_why (inl a) = own (Plain TooManyOperations q) a.2 (λ p. p)
+    by_why (inr (inl a)) = own (Plain (Terminated a.0) q) a.5 (λ p. p)
+    by_why (inr (inr (inl a))) = own (Plain StackOverflow q) a.3 (λ p. p)
+    by_why (inr (inr (inr a))) = own (Plain TooManyVariables q) a.4 (λ p. p)
 
   pub row_of_kind : (x : Problem) → WalkRow m c n x → Row x
   row_of_kind x (inl o) = at_fault (OutOfBounds m c n) x _ o.is o (λ p. bounds _ o.size o.number o.position p)

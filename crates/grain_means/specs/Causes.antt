@@ -10,7 +10,7 @@ pub mod Positions
 pub mod Spots
 pub mod Chains
 pub use Rattle.grain_means.specs.Causes.Instructions.{truth_read, truth_on_top, Points, PointsNowhere, PointsFirst, HasReceiver, IsMethodCall, receiver, args_beside, function_beside, CallsPointed, CallsUnder, MissesPointed, AsksEither, PointedReadsLent, FirstReadsLent, MethodReadsLent, CallsOn, CallsFunction, Calls, Charges, IsCharged, HasTooMany, ReadsTop, Overfills, UsesEntry, Unwinds, Tests, AsksPointer, Throws, Holds, AssignsConstant, Misses, Operates, HasNoBuiltIn, Mistypes, IsLent, AssignsLent, HoldsThis, AsksThis, AssignsLentThis, StoresLent, ReadsLent}
-pub use Rattle.grain_means.specs.Causes.Callbacks.{parameters, IsKeptOut, first_asked, BackEnds, HearsOf, reply_again, answered_again_world, next_asked, next_asked_world, native_begins, NativeBack, question_back, IsCalledBack, native_asked_world, AsksOn, at_first, again, inside, HostFails, RunsBack, body_back, LeavesBack, AsksFirst, asked_by, asked_in}
+pub use Rattle.grain_means.specs.Causes.Callbacks.{parameters, ThreePassed, IsTaken, IsKeptOut, IsEntered, first_asked, BackEnds, HearsOf, reply_again, answered_again_world, next_asked, next_asked_world, native_begins, NativeBack, question_back, IsCalledBack, native_asked_world, BackAsks, back_asked, back_start, AsksNext, at_first, again, AsksOn, of_native, inside, GoesPast, HostFails, RunsBack, body_back, LeavesBack, AsksFirst, asked_by, asked_in}
 pub use Rattle.grain_means.specs.Causes.Natives.{AssignsTo, AssignsByHost, Question, all_args, native_asked, reply_to, IsCalled, EndsWith, asks_first, AsksAgain, AsksSecond, AsksToAssign, AsksOnCopies, LendsReceiver, lent_last, AsksOnReceiver, AsksOnce, AsksNative, AsksLast, FindsNone, FindsNative, WritesConstant, HostAnswers}
 pub use Rattle.grain_means.specs.Causes.Spots.{untraced, ChainWalk, CallAsks, call_asked, call_start, IsReason, IsLeft, CallEnds, InvocationEnds, Invokes, WalksTo, AtStep, Falls, WalkRow}
 pub use Rattle.grain_means.specs.Causes.Chains.{ChainReads, ChainRow, LeavesNative, RaisedByChain, FromHostOrChain, ChainAsks, AsksFor, by_question, by_chain}

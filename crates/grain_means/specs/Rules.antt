@@ -33,7 +33,7 @@ pub use Rattle.grain_means.specs.Rules.Calls.{bound, function_numbered, function
 pub use Rattle.grain_means.specs.Rules.Pointers.{curried_in, spread, operand_under, not_a_pointer, curried, curry, pointer_called, call_pointer}
 pub use Rattle.grain_means.specs.Rules.This.{at_place, at_this, load_this, load_this_shared, require_this, unless_read_only, assign_this, assign_this_op}
 pub use Rattle.grain_means.specs.Rules.InWorld.{world_place, placed, at_step, lent_at, failed_so, missed_by, trace_of, pointed_native, needed, performed, body_over, function_under, copy_dropped, function_on, function_called, pointed_called, numbered_called, invoked, walks}
-pub use Rattle.grain_means.specs.Rules.Callbacks.{is_told, without_token, receiver_rewritten, scope_with, cells_with, roots_with, arguments_back, function_back, ended_so, given_up, went_on, answered_again, told, value_told, called_back_over, native_back_over, native_back, native_called_back, callee_called_back, called_back, calling_back}
+pub use Rattle.grain_means.specs.Rules.Callbacks.{is_told, without_token, receiver_rewritten, scope_with, cells_with, roots_with, trace_kept, arguments_back, function_back, ended_so, given_up, went_on, answered_again, told, value_told, called_back_over, native_back_over, native_back, native_called_back, callee_called_back, called_back, calling_back}
 pub use Rattle.grain_means.specs.Rules.Chains.{root_name, root_operands, steps_operands, assigned_operand, operator_of, new_root, asks_root, lent_cell, root_position, at_root, assigned_value, course_of, chain_over, walk_from, walk_at, back_from, walk_cell, walk_held, walk_root, unless_constant, chain_in, chain}
 pub use Rattle.grain_means.specs.Rules.Receivers.{Destination, Nowhere, ToSlot, ToThis, root_at, call_over, over_without_entry, over_in_entry, over_in_this, over_at, receiver_over, root_over, native_lent, cell_given_back, native_lent_cell, native_on, native_on_read, callee_on, receiver_called, first_called, target_called, method_call}
 use Rattle.std.specs.Prelude.{ℕ, ◌+◌, is_some, List, [], Option, Some, None, Bool, true, false, if◌then◌else◌, length}

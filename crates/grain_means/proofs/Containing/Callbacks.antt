@@ -93,7 +93,7 @@ module _ {S : Type 0} {m : Setup S} (on : Bases m) where
         CallbackNames clean n c → ReplyNames clean n r →
         Leaves m clean since n (rules.went_on m c r w)
     goes_on c (reply.Done v) w at seated bound =
-        ended c (Came v) (record w { trace = [] }) at seated.0 bound
+        ended c (Came v) w at seated.0 bound
     goes_on c (reply.Failed x) w at seated bound =
         ended c (Failed (at_position_if_none (rules.position m c.frame) x)) w at seated.0
         (filled_names clean n (rules.position m c.frame) x bound)
@@ -117,8 +117,9 @@ module _ {S : Type 0} {m : Setup S} (on : Bases m) where
         (λ v. rules.ended_so m c (Failed NoMemory) (unheard m.law r v))
         (λ v there. ended c (Failed NoMemory) (unheard m.law r v)
         (not_heard (lending c.receiver) n r v there) seated.0 (omega arith, λ s. refl))
-        w (rules.went_on m c r) at
-        (goes_on c r (record w { passed = w.passed + 1 }) at seated bound)
+        (record w { trace = rules.trace_kept r w.trace }) (rules.went_on m c r) at
+        (goes_on c r (record w { passed = w.passed + 1; trace = rules.trace_kept r w.trace }) at seated
+        bound)
 
     -- what the host is told of, and what it has
     module _ (c : Callback) (seated : CallbackNames clean n c) (o : Outcome)

@@ -10,7 +10,7 @@ use Rattle.grain_program.specs.declared.code.functions.Function.{Function}
 use Rattle.grain_means.specs.Ends.{Ends, ended}
 use Rattle.grain_means.specs.Rules.{arguments_back, called_back, called_back_over, callee_called_back, calling_back, frame_at, function_back, function_by_name, function_under, is_told, position}
 use Rattle.grain_means.specs.Worlds.{Act, Answer, Came, Callback, End, Failed, Go, InCatch, InFrame, InHost, Setup, Then, World}
-use Rattle.grain_means.specs.Causes.{Cause, IsKeptOut, Raised, Why, body_begins, parameters}
+use Rattle.grain_means.specs.Causes.{Cause, IsKeptOut, Raised, Why, body_begins, of_native, parameters}
 use Rattle.grain_means.proofs.Footing.{Tally, true-false}
 use Rattle.grain_means.proofs.Ground.{Footing}
 use Rattle.grain_means.proofs.Roles.{Hosting, NativeFails}
@@ -67,12 +67,20 @@ module _ {S : Type 0} {m : Setup S} (hosted : Hosted m) (r : ℕ) (ran : hosted.
           left untold (inl (may, raised, is)) = true-false (ap is_told is) untold
           left untold (inr (passes, cause, is)) = inr (
             record {
-              runs = record { callback = c; world = now; on = on; function = g; is = found };
+              runs = record {
+                callback = c;
+                world = now;
+                on = of_native on;
+                function = g;
+                is = found;
+                entered = b.entered;
+              };
               inner = x;
               after = b.after;
               ends = b.ends;
               passes = passes;
               is = is;
+              goes = tt;
             },
             cause,
           )

@@ -17,7 +17,7 @@ use Rattle.grain_means.specs.Ends.{Ends, joined}
 use Rattle.grain_means.specs.Leavings.{Cuts}
 use Rattle.grain_means.specs.Rules.{body_entered, body_over, bound, frame_at, function_under, is_stop, marked_or, on_verdict_or, operation_taken, progressed_or}
 use Rattle.grain_means.specs.Worlds.{Act, Go, Then, Answer, Came, Failed, Frame, InFrame, Place, Setup, World}
-use Rattle.grain_means.specs.Causes.{Cause, Caused, IsCharged, IsKeptOut, Raised, Why, body_begins}
+use Rattle.grain_means.specs.Causes.{Cause, Caused, IsEntered, IsKeptOut, IsTaken, Raised, ThreePassed, Why, body_begins}
 use Rattle.grain_means.specs.Causes.Spots.{past}
 use Rattle.grain_means.proofs.Choices.{if_false, if_true}
 use Rattle.grain_means.proofs.Footing.{Onto, Tally, by_test, cause_in}
@@ -52,6 +52,7 @@ module _ {S : Type 0} (m : Setup S) (root turn : Act S) (q : Position) (g : Func
   pub record FromBody (x y : Problem) : Type 0 where
     pub onto : Onto m body_run root
     pub begins : Comes m (InFrame (frame_at g.chunk 0 this)) (body_begins m g args w) turn
+    pub entered : IsEntered m g w
     pub after : World S
     pub ends : Ends m body_run (Failed x) after
     pub how : ((catchable x ≡ true) × Raised m body_run (w.level + 1) x (Why m x) × (y ≡ wrapped x))
@@ -85,11 +86,12 @@ module _ {S : Type 0} (m : Setup S) (role : Role) (root turn : Act S) (k : Footi
     -- a mark
     pub passes : (n : ℕ) (u : World S) (go go_said : World S → Act S) → Beside w n u →
         Whole (marked_or m out_said u go_said) →
-        (Whole (go_said (past u)) → Goes n (go (past u))) → Goes n (marked_or m out u go)
+        (is_stop m.stop u.passed ≡ false → Whole (go_said (past u)) → Goes n (go (past u))) →
+        Goes n (marked_or m out u go)
     passes n u go go_said at whole rest =
         by_test (Goes n) (is_stop m.stop u.passed) (out u) (go (past u))
         (λ stop. over_out u n stop at)
-        (λ clear. rest (λ a v ends. whole a v (if_false (λ (act : Act S). Ends m act a v)
+        (λ clear. rest clear (λ a v ends. whole a v (if_false (λ (act : Act S). Ends m act a v)
         (is_stop m.stop u.passed) (out_said u) (go_said (past u)) clear ends)))
 
     -- the world once the operation is counted, and once the host has heard of it
@@ -109,25 +111,27 @@ module _ {S : Type 0} (m : Setup S) (role : Role) (root turn : Act S) (k : Footi
       same = (ran, refl, refl, refl, unlent_same w.cells)
 
       -- a fault after a mark
-      pub raises : (x : Problem) (u : World S) → IsKeptOut m q params w x → Beside w r u →
+      pub raises : (x : Problem) (u : World S) →
+          (is_stop m.stop u.passed ≡ false → IsKeptOut m q params w x) → Beside w r u →
           Goes r (marked_or m out u (fails x))
       raises x u reason at =
           by_test (Goes r) (is_stop m.stop u.passed) (out u) (fails x (past u))
-          (λ stop. over_out u r stop at) (λ _. kept_out x reason (past u) at)
+          (λ stop. over_out u r stop at) (λ clear. kept_out x (reason clear) (past u) at)
 
       -- an operation is taken
       module _ (go go_said : World S → Act S) where
         -- what the host says of the operation
-        even_verdict : (IsCharged m w → Whole (go_said told) → Goes r (go told)) →
+        even_verdict : (IsTaken m w → Whole (go_said told) → Goes r (go told)) →
             (says : Verdict) → m.law.progress_reply w.host (w.count + 1) ≡ says →
-            w.count < m.engine.limits.operations →
+            w.count < m.engine.limits.operations → ThreePassed m w.passed →
             Whole (on_verdict_or m out_said says q fails_said told go_said) →
             Goes r (on_verdict_or m out says q fails told go)
-        even_verdict rest GoOn e fits_in whole = rest (fits_in, e) whole
-        even_verdict rest (Stop v) e fits_in whole =
-            raises (Plain (Terminated v) q) told (inr (inl (v, fits_in, e, refl))) same
+        even_verdict rest GoOn e fits_in clear whole = rest ((fits_in, e), clear) whole
+        even_verdict rest (Stop v) e fits_in clear whole =
+            raises (Plain (Terminated v) q) told
+            (λ last. inr (inl (v, fits_in, clear, e, last, refl))) same
 
-        pub even_taken : (IsCharged m w → Whole (go_said told) → Goes r (go told)) →
+        pub even_taken : (IsTaken m w → Whole (go_said told) → Goes r (go told)) →
             Whole (operation_taken m out_said q fails_said w go_said) →
             Goes r (operation_taken m out q fails w go)
         even_taken rest whole =
@@ -147,14 +151,14 @@ module _ {S : Type 0} (m : Setup S) (role : Role) (root turn : Act S) (k : Footi
             (record w1 { count = w1.count + 1 }) go_said) same
             (λ a v ends. whole a v (if_true (λ (act : Act S). Ends m act a v) few _
             (marked_or m out_said w (fails_said (Plain TooManyOperations q))) yes ends))
-            (λ whole0. passes r counted (λ w1. marked_or m out (after w1) (hears w1))
+            (λ one whole0. passes r counted (λ w1. marked_or m out (after w1) (hears w1))
             (λ w1. marked_or m out_said (after w1) (hears_said w1)) same whole0
-            (λ whole1. passes r (after (past counted)) (hears (past counted))
+            (λ two whole1. passes r (after (past counted)) (hears (past counted))
             (hears_said (past counted)) same whole1
-            (even_verdict rest (m.law.progress_reply w.host (w.count + 1)) refl
-            (ltb-true w.count m.engine.limits.operations yes)))))
+            (λ three. even_verdict rest (m.law.progress_reply w.host (w.count + 1)) refl
+            (ltb-true w.count m.engine.limits.operations yes) (one, two, three)))))
             (λ full. raises (Plain TooManyOperations q) w
-            (inl (ltb-false w.count m.engine.limits.operations full, refl)) same)
+            (λ clear. inl (ltb-false w.count m.engine.limits.operations full, clear, refl)) same)
 
     -- a function is called on these arguments, under this `this`, after r instructions
     module _ (g : Function) (args : List Held) (this : Option Place)
@@ -190,14 +194,14 @@ module _ {S : Type 0} (m : Setup S) (role : Role) (root turn : Act S) (k : Footi
         abbrev back : World S → World S
         back u = record u { scope = w.scope; level = w.level }
 
-        even_over : Onto m body root → Onto m body turn → (x : Answer) (u : World S) →
+        even_over : IsEntered m g w → Onto m body root → Onto m body turn → (x : Answer) (u : World S) →
             Ends m body x u → u.tokens ≡ w.tokens → Unlent w.cells u.cells → Cuts m body up 0 x u →
             Caused m body up x u → Whole (Then body (λ a v. body_over m q g said a (back v))) →
             Goes u.ran (body_over m q g heard x (back u))
-        even_over onto mine (Came d) u ends tokens cells cut cause whole =
+        even_over entered onto mine (Came d) u ends tokens cells cut cause whole =
             over_value d (back u) u.ran (λ a v rest. whole a v (joined ends rest))
             (refl, tokens, refl, refl, cells) cut
-        even_over onto mine (Failed x) u ends tokens cells cut cause whole =
+        even_over entered onto mine (Failed x) u ends tokens cells cut cause whole =
             by_test (Goes u.ran) (catchable x)
             (marked_or m out (back u) (fails (named x)))
             (fails (at_position q x) (back u))
@@ -205,9 +209,10 @@ module _ {S : Type 0} (m : Setup S) (role : Role) (root turn : Act S) (k : Footi
             (λ a v rest. over a v (if_true (λ (act : Act S). Ends m act a v) (catchable x)
             (marked_or m out_said (back u) (fails_said (named x)))
             (fails_said (at_position q x) (back u)) may rest))
-            (λ on. over_body x (named x) (record {
+            (λ clear on. over_body x (named x) (record {
               onto = onto;
               begins = mine (InFrame body_frame) inside here;
+              entered = entered;
               after = u;
               ends = ends;
               how = inl (may, cause_in m body up x u may cause, refl);
@@ -228,6 +233,7 @@ module _ {S : Type 0} (m : Setup S) (role : Role) (root turn : Act S) (k : Footi
                   over_body x (at_position q x) (record {
                     onto = onto;
                     begins = mine (InFrame body_frame) inside here;
+                    entered = entered;
                     after = u;
                     ends = ends;
                     how = inr (passing, c, refl);
@@ -239,8 +245,8 @@ module _ {S : Type 0} (m : Setup S) (role : Role) (root turn : Act S) (k : Footi
         abbrev running : (Answer → World S → Act S) → Act S
         running go = Then body (λ a v. body_over m q g go a (back v))
 
-        even_running : Whole (running said) → Goes r (running heard)
-        even_running whole =
+        even_running : IsEntered m g w → Whole (running said) → Goes r (running heard)
+        even_running entered whole =
             let j : Footing =
             record { tokens = w.tokens; level = up; base = 0; names = []; cells = w.cells } in (
               j,
@@ -256,7 +262,7 @@ module _ {S : Type 0} (m : Setup S) (role : Role) (root turn : Act S) (k : Footi
                 (t, (refl, omega arith, fits, tt, (refl, refl))),
               ),
               λ onto mine x u ends tokens high there end.
-                  even_over onto mine x u ends tokens there.unlent end.0 end.1 whole,
+                  even_over entered onto mine x u ends tokens there.unlent end.0 end.1 whole,
             )
 
         -- once the operation is taken
@@ -264,8 +270,8 @@ module _ {S : Type 0} (m : Setup S) (role : Role) (root turn : Act S) (k : Footi
         entering go = body_entered m (go (Failed NoMemory)) (λ x. go (Failed x)) q g args this
             (body_over m q g go)
 
-        even_entering : IsCharged m w → Whole (entering said told) → Goes r (entering heard told)
-        even_entering charged whole =
+        even_entering : IsTaken m w → Whole (entering said told) → Goes r (entering heard told)
+        even_entering taken whole =
             let high = nat_le m.engine.limits.levels w.level in
             let many = nat_lt m.engine.limits.variables (length g.params) in
             let deep : World S → Act S = fails (Plain StackOverflow q) in
@@ -275,17 +281,19 @@ module _ {S : Type 0} (m : Setup S) (role : Role) (root turn : Act S) (k : Footi
             let at : Beside w r told = (ran, refl, refl, refl, unlent_same w.cells) in
             by_test (Goes r) high (marked_or m out told deep) _
             (λ yes. raises r ran (length g.params) kept_out (Plain StackOverflow q) told
-            (inr (inr (inl (charged, leb-true m.engine.limits.levels w.level yes, refl)))) at)
+            (λ clear. inr (inr (inl (taken, leb-true m.engine.limits.levels w.level yes, clear, refl))))
+            at)
             (λ low. by_test (Goes r) many (marked_or m out told full)
             (marked_or m out told (λ w1. Then (Go (InFrame body_frame) (record w1 {
               scope = bound m.program g.params args;
               level = w1.level + 1;
             })) (λ a v. body_over m q g heard a (back v))))
             (λ yes. raises r ran (length g.params) kept_out (Plain TooManyVariables q) told
-            (inr (inr (inr (
-              charged,
+            (λ clear. inr (inr (inr (
+              taken,
               leb-false m.engine.limits.levels w.level low,
               ltb-true m.engine.limits.variables (length g.params) yes,
+              clear,
               refl,
             )))) at)
             (λ few. passes r told (λ w1. Then (Go (InFrame body_frame) (record w1 {
@@ -298,7 +306,13 @@ module _ {S : Type 0} (m : Setup S) (role : Role) (root turn : Act S) (k : Footi
             })) (λ a v. body_over m q g said a (back v))) at
             (λ a v ends. whole a v (if_false (λ (act : Act S). Ends m act a v) high
             (marked_or m out_said told deep_said) _ low (if_false (λ (act : Act S). Ends m act a v) many
-            (marked_or m out_said told full_said) _ few ends))) even_running))
+            (marked_or m out_said told full_said) _ few ends)))
+            (λ clear. even_running (
+              taken,
+              leb-false m.engine.limits.levels w.level low,
+              ltb-false m.engine.limits.variables (length g.params) few,
+              clear,
+            ))))
 
         pub even_function : Whole (function_under m q g args said this w) →
             Goes r (function_under m q g args heard this w)

@@ -18,9 +18,9 @@ use Rattle.grain_means.specs.Ends.{Ends, ended, joined}
 use Rattle.grain_means.specs.Leavings.{Keeps}
 use Rattle.grain_means.specs.Rules.{answered, arguments_back, called_back, called_back_over, callee_called_back, failed_so, first_is_read_only, flat_all, function_back, host_called_or, is_stop, is_told, kinds_in, marked_or, native_back, native_back_over, native_called_back, native_found_or, native_over, no_memory, position, race_text, trees_in, unheard}
 use Rattle.grain_means.specs.Worlds.{Act, Answer, Came, Callback, End, Failed, Go, InHost, Setup, Then, World}
-use Rattle.grain_means.specs.Causes.{AsksOn, IsCalledBack, IsCharged, IsKeptOut, NativeBack, first_asked, inside, native_begins, parameters, question_back, reply_to}
+use Rattle.grain_means.specs.Causes.{BackAsks, IsCalled, IsCalledBack, IsKeptOut, IsTaken, NativeBack, first_asked, native_asked, native_begins, of_native, parameters, question_back, reply_to}
 use Rattle.grain_means.specs.Causes.Spots.{past}
-use Rattle.grain_means.proofs.Asked.{fails_on}
+use Rattle.grain_means.proofs.Asked.{fails_past}
 use Rattle.grain_means.proofs.Choices.{if_false, if_true}
 use Rattle.grain_means.proofs.Footing.{by_test, true-false}
 use Rattle.grain_means.proofs.Missing.{of_each}
@@ -75,7 +75,8 @@ module _ {S : Type 0} {m : Setup S} (hosted : Hosted m) (r : ℕ) (ran : hosted.
 
     -- the native ended with this fault
     fails_so : (x : Problem) (u : World S) (n : ℕ) → Whole (failed_so m said x u) →
-        (is_told x ≡ false → NativeFails m first start x) → Up n u → Back hosted n (failed_so m over x u)
+        (is_stop m.stop u.passed ≡ false → is_told x ≡ false → NativeFails m first start x) → Up n u →
+        Back hosted n (failed_so m over x u)
     fails_so x u n so_ends why at =
         by_test (Back hosted n) (is_stop m.stop u.passed) (over (Failed NoMemory) u)
         (over (Failed x) (past u))
@@ -83,7 +84,7 @@ module _ {S : Type 0} {m : Setup S} (hosted : Hosted m) (r : ℕ) (ran : hosted.
         (λ clear. even_fault hosted x (down (past u)) n
         (so_ends (Failed x) (down (past u))
         (if_false (λ (act : Act S). Ends m act (Failed x) (down (past u))) (is_stop m.stop u.passed)
-        (said (Failed NoMemory) u) (said (Failed x) (past u)) clear ended)) why
+        (said (Failed NoMemory) u) (said (Failed x) (past u)) clear ended)) (why clear)
         (record {
           ran = at.ran;
           tokens = at.tokens;
@@ -108,7 +109,7 @@ module _ {S : Type 0} {m : Setup S} (hosted : Hosted m) (r : ℕ) (ran : hosted.
     }
 
     -- on these arguments, as they are read
-    module _ (charged : IsCharged m now) (low : now.level < m.engine.limits.levels) (args : List Held)
+    module _ (taken : IsTaken m now) (low : now.level < m.engine.limits.levels) (args : List Held)
         (reads : flat_all now.cells (arguments_back c) ≡ Some args) where
       abbrev name : List ℕ
       name = c.pointer.name
@@ -116,7 +117,7 @@ module _ {S : Type 0} {m : Setup S} (hosted : Hosted m) (r : ℕ) (ran : hosted.
       abbrev back_with : Native → NativeBack m c now
       back_with n = record {
         none = none;
-        charged = charged;
+        taken = taken;
         level = low;
         args = args;
         reads = reads;
@@ -130,9 +131,14 @@ module _ {S : Type 0} {m : Setup S} (hosted : Hosted m) (r : ℕ) (ran : hosted.
         host = m.law.call_after up.host n.key None (trees_in args);
       }
 
-      module _ (n : Native) (called : IsCalledBack m (back_with n)) where
+      module _ (n : Native) (found : native_asked m (question_back m (back_with n)) ≡ Some n)
+          (called : IsCalled (question_back m (back_with n)) n)
+          (clear : is_stop m.stop up.passed ≡ false) (later : is_stop m.stop (up.passed + 1) ≡ false) where
         abbrev asked : ℕ → FnPtr → List Tree → Callback
         asked token p values = first_asked m (question_back m (back_with n)) n c.frame token p values
+
+        is_called : IsCalledBack m (back_with n)
+        is_called = (found, called, clear, later)
 
         -- the calls that the native asked for are over
         even_over : (token : ℕ) (p : FnPtr) (values : List Tree) →
@@ -155,8 +161,15 @@ module _ {S : Type 0} {m : Setup S} (hosted : Hosted m) (r : ℕ) (ran : hosted.
             unlent = o.unlent;
           }
 
-          within : AsksOn m first start (asked token p values) (asking (asked token p values) (served n))
-          within = inside on (back_with n) called is
+          asks : BackAsks m c now
+          asks = record {
+            back = back_with n;
+            called = is_called;
+            token = token;
+            pointer = p;
+            values = values;
+            asks = is;
+          }
 
           by_answer : (a : Answer) →
               Ends m (Go (InHost (asked token p values)) (asking (asked token p values) (served n))) a u →
@@ -170,13 +183,14 @@ module _ {S : Type 0} {m : Setup S} (hosted : Hosted m) (r : ℕ) (ran : hosted.
               (λ v w. over (Came v) w) (failed_so m over) (Failed y) u)) (sym out.0)
               (even_out hosted (down u) u.ran out.1 at)
           by_answer (Failed x) ends (inr how) =
-              let why : NativeFails m first start x = fails_on m within how in
               by_test (Back hosted u.ran) (no_memory x) (over (Failed NoMemory) u) (failed_so m over x u)
-              (λ yes. even_untold hosted NoMemory (down u) u.ran refl
-              (subst (NativeFails m first start) (memory_only x yes) why) at)
-              (λ no. fails_so x u u.ran (λ b v later. so_ends b v (joined ends
+              (λ yes. let is_out : x ≡ NoMemory = memory_only x yes in
+              even_untold hosted NoMemory (down u) u.ran refl (subst (NativeFails m first start) is_out
+              (fails_past m on asks how (ap is_told is_out) u ends (inl yes))) at)
+              (λ no. fails_so x u u.ran (λ b v rest. so_ends b v (joined ends
               (if_false (λ (act : Act S). Ends m act b v) (no_memory x) (said (Failed NoMemory) u)
-              (failed_so m said x u) no later))) (λ untold. why) at)
+              (failed_so m said x u) no rest)))
+              (λ passes untold. fails_past m on asks how untold u ends (inr passes)) at)
 
         even_answered : (x : Reply) → reply_to m (question_back m (back_with n)) n.key ≡ x →
             Whole (answered m (said (Failed NoMemory)) None x c.frame (served n)
@@ -188,11 +202,12 @@ module _ {S : Type 0} {m : Setup S} (hosted : Hosted m) (r : ℕ) (ran : hosted.
             (begins_up (served n) refl refl refl refl)
         even_answered (reply.Failed y) is so_ends =
             fails_so (at_position_if_none q y) (served n) r so_ends
-            (λ no. inl (record {
+            (λ passes no. inl (record {
               callback = c;
               world = now;
-              on = on;
-              why = inr (inr (back_with n, y, called, is, no, refl));
+              on = of_native on;
+              why = inr (inr (back_with n, y, is_called, is, passes, no, refl));
+              goes = tt;
             })) (begins_up (served n) refl refl refl refl)
         even_answered (reply.Ask token p values) is so_ends =
             even_asked m Hosting (root hosted) (turn hosted) k r (asked token p values) (served n) k.base
@@ -200,48 +215,50 @@ module _ {S : Type 0} {m : Setup S} (hosted : Hosted m) (r : ℕ) (ran : hosted.
             (native_over (over (Failed NoMemory)) (λ v w. over (Came v) w) (failed_so m over))
             (λ a u o. even_over token p values is a u o so_ends o.answers)
 
-        -- the host has answered, and is not heard
-        even_unheard : (x : Reply) (u : World S) → is_stop m.stop u.passed ≡ true → Up r u →
-            Back hosted r (over (Failed NoMemory) (unheard m.law x u))
-        even_unheard (reply.Done v) u stop at = even_out hosted (down u) r stop at
-        even_unheard (reply.Failed y) u stop at = even_out hosted (down u) r stop at
-        even_unheard (reply.Ask token p values) u stop at =
-            even_out hosted (down (record u { host = m.law.forget_after u.host token })) r stop (record {
-              ran = at.ran;
-              tokens = at.tokens;
-              level = at.level;
-              keeps = at.keeps;
-              size = at.size;
-              unlent = at.unlent;
-            })
+      -- the host has answered, and is not heard
+      even_unheard : (x : Reply) (u : World S) → is_stop m.stop u.passed ≡ true → Up r u →
+          Back hosted r (over (Failed NoMemory) (unheard m.law x u))
+      even_unheard (reply.Done v) u stop at = even_out hosted (down u) r stop at
+      even_unheard (reply.Failed y) u stop at = even_out hosted (down u) r stop at
+      even_unheard (reply.Ask token p values) u stop at =
+          even_out hosted (down (record u { host = m.law.forget_after u.host token })) r stop (record {
+            ran = at.ran;
+            tokens = at.tokens;
+            level = at.level;
+            keeps = at.keeps;
+            size = at.size;
+            unlent = at.unlent;
+          })
 
-        even_host : Whole (host_called_or m (said (Failed NoMemory)) n.key None args c.frame up
-            (λ v w. said (Came v) w) (failed_so m said)) →
-            Back hosted r (host_called_or m (over (Failed NoMemory)) n.key None args c.frame up
-            (λ v w. over (Came v) w) (failed_so m over))
-        even_host so_ends =
-            let told : World S → World S =
-            λ w. record w { host = m.law.call_after w.host n.key None (trees_in args) } in
-            let says : World S → Reply = λ w. m.law.call_reply w.host n.key None (trees_in args) in
-            let answers : World S → World S → Act S = λ w1 w2. answered m (over (Failed NoMemory)) None
-            (says w1) c.frame w2 (λ v w. over (Came v) w) (failed_so m over) in
-            let answers_said : World S → World S → Act S = λ w1 w2. answered m (said (Failed NoMemory))
-            None (says w1) c.frame w2 (λ v w. said (Came v) w) (failed_so m said) in
-            let lost : World S → Act S = λ w. over (Failed NoMemory) (unheard m.law (says (past up)) w) in
-            let lost_said : World S → Act S =
-            λ w. said (Failed NoMemory) (unheard m.law (says (past up)) w) in
-            by_test (Back hosted r) (is_stop m.stop up.passed) (over (Failed NoMemory) up)
-            (marked_or m lost (told (past up)) (answers (past up)))
-            (λ stop. even_out hosted (down up) r stop (begins_up up refl refl refl refl))
-            (λ clear. by_test (Back hosted r) (is_stop m.stop (up.passed + 1)) (lost (told (past up)))
-            (answers (past up) (past (told (past up))))
-            (λ stop. even_unheard (says (past up)) (told (past up)) stop
-            (begins_up (told (past up)) refl refl refl refl))
-            (λ later. even_answered (says (past up)) refl (λ a v ends. so_ends a v
-            (if_false (λ (act : Act S). Ends m act a v) (is_stop m.stop up.passed)
-            (said (Failed NoMemory) up) (marked_or m lost_said (told (past up)) (answers_said (past up)))
-            clear (if_false (λ (act : Act S). Ends m act a v) (is_stop m.stop (up.passed + 1))
-            (lost_said (told (past up))) (answers_said (past up) (past (told (past up)))) later ends)))))
+      even_host : (n : Native) → native_asked m (question_back m (back_with n)) ≡ Some n →
+          IsCalled (question_back m (back_with n)) n →
+          Whole (host_called_or m (said (Failed NoMemory)) n.key None args c.frame up
+          (λ v w. said (Came v) w) (failed_so m said)) →
+          Back hosted r (host_called_or m (over (Failed NoMemory)) n.key None args c.frame up
+          (λ v w. over (Came v) w) (failed_so m over))
+      even_host n found called so_ends =
+          let told : World S → World S =
+          λ w. record w { host = m.law.call_after w.host n.key None (trees_in args) } in
+          let says : World S → Reply = λ w. m.law.call_reply w.host n.key None (trees_in args) in
+          let answers : World S → World S → Act S = λ w1 w2. answered m (over (Failed NoMemory)) None
+          (says w1) c.frame w2 (λ v w. over (Came v) w) (failed_so m over) in
+          let answers_said : World S → World S → Act S = λ w1 w2. answered m (said (Failed NoMemory))
+          None (says w1) c.frame w2 (λ v w. said (Came v) w) (failed_so m said) in
+          let lost : World S → Act S = λ w. over (Failed NoMemory) (unheard m.law (says (past up)) w) in
+          let lost_said : World S → Act S =
+          λ w. said (Failed NoMemory) (unheard m.law (says (past up)) w) in
+          by_test (Back hosted r) (is_stop m.stop up.passed) (over (Failed NoMemory) up)
+          (marked_or m lost (told (past up)) (answers (past up)))
+          (λ stop. even_out hosted (down up) r stop (begins_up up refl refl refl refl))
+          (λ clear. by_test (Back hosted r) (is_stop m.stop (up.passed + 1)) (lost (told (past up)))
+          (answers (past up) (past (told (past up))))
+          (λ stop. even_unheard (says (past up)) (told (past up)) stop
+          (begins_up (told (past up)) refl refl refl refl))
+          (λ later. even_answered n found called clear later (says (past up)) refl (λ a v ends. so_ends a v
+          (if_false (λ (act : Act S). Ends m act a v) (is_stop m.stop up.passed)
+          (said (Failed NoMemory) up) (marked_or m lost_said (told (past up)) (answers_said (past up)))
+          clear (if_false (λ (act : Act S). Ends m act a v) (is_stop m.stop (up.passed + 1))
+          (lost_said (told (past up))) (answers_said (past up) (past (told (past up)))) later ends)))))
 
       even_found : (found : Option Native) →
           native_of m.law up.host name (kinds_in args) ≡ found →
@@ -251,7 +268,7 @@ module _ {S : Type 0} {m : Setup S} (hosted : Hosted m) (r : ℕ) (ran : hosted.
           (λ v w. over (Came v) w) (failed_so m over))
       even_found None is so_ends =
           let x = not_found name (values_in args) q in
-          fails_so x up r so_ends (told_of x (told_missing name (values_in args) q))
+          fails_so x up r so_ends (λ clear. told_of x (told_missing name (values_in args) q))
           (begins_up up refl refl refl refl)
       even_found (Some n) is so_ends =
           let x = Plain (NonPureCall name) q in
@@ -261,20 +278,20 @@ module _ {S : Type 0} {m : Setup S} (hosted : Hosted m) (r : ℕ) (ran : hosted.
           (λ v w. over (Came v) w) (failed_so m over))
           (λ yes. fails_so x up r (λ a v ends. so_ends a v (if_true (λ (act : Act S). Ends m act a v) test
           (failed_so m said x up) (host_called_or m (said (Failed NoMemory)) n.key None args c.frame up
-          (λ d w. said (Came d) w) (failed_so m said)) yes ends)) (told_of x refl)
+          (λ d w. said (Came d) w) (failed_so m said)) yes ends)) (λ clear. told_of x refl)
           (begins_up up refl refl refl refl))
-          (λ no. even_host n (is, no) (λ a v ends. so_ends a v (if_false (λ (act : Act S). Ends m act a v)
+          (λ no. even_host n is no (λ a v ends. so_ends a v (if_false (λ (act : Act S). Ends m act a v)
           test (failed_so m said x up) (host_called_or m (said (Failed NoMemory)) n.key None args c.frame
           up (λ d w. said (Came d) w) (failed_so m said)) no ends)))
 
-    even_read : (charged : IsCharged m now) → now.level < m.engine.limits.levels →
+    even_read : (taken : IsTaken m now) → now.level < m.engine.limits.levels →
         (args : Option (List Held)) → flat_all now.cells (arguments_back c) ≡ args →
         Whole (native_back m said c args up) → Back hosted r (native_back m over c args up)
-    even_read charged low None is so_ends =
+    even_read taken low None is so_ends =
         let x = Plain (DataRace (race_text [])) q in
-        fails_so x up r so_ends (told_of x refl) (begins_up up refl refl refl refl)
-    even_read charged low (Some args) is so_ends =
-        even_found charged low args is
+        fails_so x up r so_ends (λ clear. told_of x refl) (begins_up up refl refl refl refl)
+    even_read taken low (Some args) is so_ends =
+        even_found taken low args is
         (native_of m.law up.host c.pointer.name (kinds_in args)) refl so_ends
 
     -- once the operation is taken
@@ -300,17 +317,17 @@ module _ {S : Type 0} {m : Setup S} (hosted : Hosted m) (r : ℕ) (ran : hosted.
         kept_back_out (entering heard) (entering End) entered
         (λ a v ends. subst (λ (f : Option Function). Ends m (callee_called_back m End c f now) a v)
         (sym none) ends) where
-          entered : IsCharged m now → Whole (entering End told) → Back hosted r (entering heard told)
-          entered charged so_ends =
+          entered : IsTaken m now → Whole (entering End told) → Back hosted r (entering heard told)
+          entered taken so_ends =
               let high = nat_le m.engine.limits.levels now.level in
               let x = Plain StackOverflow q in
               by_test (Back hosted r) high (failed_so m heard x told)
               (native_back m over c (flat_all now.cells (arguments_back c)) up)
               (λ yes. raises m Hosting (root hosted) (turn hosted) k q now whole_run heard End
               (out_so hosted) r ran 0 kept_back_out x told
-              (inr (inr (inl (charged, leb-true m.engine.limits.levels now.level yes, refl))))
+              (λ clear. inr (inr (inl (taken, leb-true m.engine.limits.levels now.level yes, clear, refl))))
               (ran, refl, refl, refl, unlent_same now.cells))
-              (λ low. even_read charged (leb-false m.engine.limits.levels now.level low)
+              (λ low. even_read taken (leb-false m.engine.limits.levels now.level low)
               (flat_all now.cells (arguments_back c)) refl
               (λ a v ends. so_ends a v (if_false (λ (act : Act S). Ends m act a v) high
               (failed_so m End x told) (native_back m said c (flat_all now.cells (arguments_back c)) up)

@@ -179,15 +179,15 @@ module _ {S : Type 0} {m : Setup S} (walk : Walk m) where
           charges = method_charges m.program o (suc n) f now is counts
 
           kept_out : (x : Problem) → IsKeptOut m (position m f) (length g.params) begun x → Reason walk x
-          kept_out x (inl (full, at)) = rw at
+          kept_out x (inl (full, clear, at)) = rw at
               (why walk o width stands (Plain TooManyOperations (position m f)) refl (full, charges))
-          kept_out x (inr (inl (v, fits, says, at))) = rw at
+          kept_out x (inr (inl (v, fits, clears, says, clear, at))) = rw at
               (why walk o width stands (Plain (Terminated v) (position m f)) refl (fits, says, charges))
-          kept_out x (inr (inr (inl (charged, high, at)))) = rw at
-              (why walk o width stands (Plain StackOverflow (position m f)) refl (charged, high, counts))
-          kept_out x (inr (inr (inr (charged, low, many, at)))) = rw at
+          kept_out x (inr (inr (inl (taken, high, clear, at)))) = rw at
+              (why walk o width stands (Plain StackOverflow (position m f)) refl (taken.0, high, counts))
+          kept_out x (inr (inr (inr (taken, low, many, clear, at)))) = rw at
               (why walk o width stands (Plain TooManyVariables (position m f)) refl
-              (method_fills m o (suc n) f now is (g, args, inr (n, calls), charged, low, many)))
+              (method_fills m o (suc n) f now is (g, args, inr (n, calls), taken.0, low, many)))
 
           -- its body, under this `this`, in this world
           in_body : (this : Option Place) (roots : List Held) →

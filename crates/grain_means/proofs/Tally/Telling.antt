@@ -12,9 +12,9 @@ use Rattle.grain_fault.specs.Problems.{Problem, Plain, DataRace, NoMemory}
 use Rattle.grain_host.specs.Law.{Law, Outcome, Reply, Value, Fault}
 use Rattle.grain_host.specs.Law as reply
 use Rattle.grain_means.specs.Leavings.{Keeps}
-use Rattle.grain_means.specs.Rules.{Home, InScope, InCell, AtPlace, Receiver, answered_again, back_in_scope, called_back_over, cells_with, ended_so, function_back, given_up, is_stop, is_told, lent_held, position, race_text, receiver_rewritten, roots_with, scope_with, told, unheard, value_told, went_on, with_token, without_token}
+use Rattle.grain_means.specs.Rules.{Home, InScope, InCell, AtPlace, Receiver, answered_again, back_in_scope, called_back_over, cells_with, ended_so, function_back, given_up, is_stop, is_told, lent_held, position, race_text, receiver_rewritten, roots_with, scope_with, told, trace_kept, unheard, value_told, went_on, with_token, without_token}
 use Rattle.grain_means.specs.Worlds.{Act, Answer, Came, Callback, Failed, Go, InHost, Setup, World}
-use Rattle.grain_means.specs.Causes.{AsksOn, BackEnds, IsKeptOut, parameters, HearsOf, again, reply_again}
+use Rattle.grain_means.specs.Causes.{AsksNext, BackEnds, IsKeptOut, of_native, parameters, HearsOf, again, reply_again}
 use Rattle.grain_means.specs.Causes.Callbacks.{of_fault, of_lent, of_value}
 use Rattle.grain_means.specs.Causes.Spots.{past}
 use Rattle.grain_means.proofs.Choices.{if_false}
@@ -61,10 +61,10 @@ keeps_with base names (Some r) scope there = at r.home where
 -- it is not told of a call that fails before anything of it is done
 untold : {S : Type 0} (m : Setup S) (q : Position) (n : ℕ) (w : World S) (x : Problem) →
     IsKeptOut m q n w x → is_told x ≡ false
-untold m q n w x (inl a) = ap is_told a.1
-untold m q n w x (inr (inl a)) = ap is_told a.3
-untold m q n w x (inr (inr (inl a))) = ap is_told a.2
-untold m q n w x (inr (inr (inr a))) = ap is_told a.3
+untold m q n w x (inl a) = ap is_told a.2
+untold m q n w x (inr (inl a)) = ap is_told a.5
+untold m q n w x (inr (inr (inl a))) = ap is_told a.3
+untold m q n w x (inr (inr (inr a))) = ap is_told a.4
 
 -- where the walk is: at a call that a native asked for, which came of the first one
 pub record Hosted {S : Type 0} (m : Setup S) : Type 0 where
@@ -73,7 +73,7 @@ pub record Hosted {S : Type 0} (m : Setup S) : Type 0 where
   pub footing : Footing
   pub callback : Callback
   pub now : World S
-  pub on : AsksOn m first start callback now
+  pub on : AsksNext m first start callback now
   pub size : length now.scope ≡ length start.scope
   pub tokens : now.tokens ≡ with_token callback.token footing.tokens
   pub level : now.level ≡ footing.level
@@ -161,6 +161,10 @@ module _ {S : Type 0} {m : Setup S} (hosted : Hosted m) where
       tokens = without_token c.token u.tokens;
     }
 
+    -- once it has answered
+    abbrev answered : Reply → World S
+    answered x = record v { trace = trace_kept x v.trace }
+
     same : cell_away r ≡ cell_away c.receiver
     same = still_away m.law u.host c.token o c.receiver
 
@@ -172,29 +176,32 @@ module _ {S : Type 0} {m : Setup S} (hosted : Hosted m) where
 
     -- its answer is not heard
     even_unheard : (x : Reply) → is_stop m.stop v.passed ≡ true →
-        Back n (ended_so m d (Failed NoMemory) (unheard m.law x v))
+        Back n (ended_so m d (Failed NoMemory) (unheard m.law x (answered x)))
     even_unheard (reply.Done z) stop =
-        ended d same (Failed NoMemory) n v at.ran (taken_from u at.tokens) at.level there long at.unlent
-        (inl (refl, stop))
+        ended d same (Failed NoMemory) n (answered (reply.Done z)) at.ran (taken_from u at.tokens) at.level
+        there long at.unlent (inl (refl, stop))
     even_unheard (reply.Failed y) stop =
-        ended d same (Failed NoMemory) n v at.ran (taken_from u at.tokens) at.level there long at.unlent
-        (inl (refl, stop))
+        ended d same (Failed NoMemory) n (answered (reply.Failed y)) at.ran (taken_from u at.tokens)
+        at.level there long at.unlent (inl (refl, stop))
     even_unheard (reply.Ask token p values) stop =
-        ended d same (Failed NoMemory) n (record v { host = m.law.forget_after v.host token }) at.ran
-        (taken_from u at.tokens) at.level there long at.unlent (inl (refl, stop))
+        ended d same (Failed NoMemory) n (record (answered (reply.Ask token p values)) {
+          host = m.law.forget_after v.host token;
+        }) at.ran (taken_from u at.tokens) at.level there long at.unlent (inl (refl, stop))
 
     even_went : is_stop m.stop u.passed ≡ false → is_stop m.stop (u.passed + 1) ≡ false →
-        (x : Reply) → reply_again m c o u ≡ x → Back n (went_on m d x (past v))
+        (x : Reply) → reply_again m c o u ≡ x → Back n (went_on m d x (past (answered x)))
     even_went clear later (reply.Done z) is =
-        ended d same (Came z) n (record (past v) { trace = [] }) at.ran (taken_from u at.tokens) at.level
+        ended d same (Came z) n (past (answered (reply.Done z))) at.ran (taken_from u at.tokens) at.level
         there long at.unlent refl
     even_went clear later (reply.Failed y) is =
-        ended d same (Failed (at_position_if_none (position m c.frame) y)) n (past v) at.ran
-        (taken_from u at.tokens) at.level there long at.unlent (inr (inl (record {
+        ended d same (Failed (at_position_if_none (position m c.frame) y)) n
+        (past (answered (reply.Failed y))) at.ran (taken_from u at.tokens) at.level there long at.unlent
+        (inr (inl (record {
           callback = c;
           world = now;
-          on = on;
-          why = inr (inl (o, u, y, hears, is, refl));
+          on = of_native on;
+          why = inr (inl (o, u, y, hears, is, clear, later, refl));
+          goes = tt;
         })))
     even_went clear later (reply.Ask token p values) is = (
       at.ran,
@@ -215,7 +222,8 @@ module _ {S : Type 0} {m : Setup S} (hosted : Hosted m) where
         (answered_again m d says v)
         (λ stop. gives_up (Failed NoMemory) n u at (inl (refl, stop)))
         (λ clear. by_test (Back n) (is_stop m.stop (u.passed + 1))
-        (ended_so m d (Failed NoMemory) (unheard m.law says v)) (went_on m d says (past v))
+        (ended_so m d (Failed NoMemory) (unheard m.law says (answered says)))
+        (went_on m d says (past (answered says)))
         (λ stop. even_unheard says stop) (λ later. even_went clear later says refl))
 
   -- the same a mark further
@@ -284,4 +292,5 @@ module _ {S : Type 0} {m : Setup S} (hosted : Hosted m) where
   kept_out r x why u at =
       even_untold x u r
       (untold m (position m c.frame) (parameters (function_back m.program m.engine.callbacks c)) now x why)
-      (inl (record { callback = c; world = now; on = on; why = inl why })) (aside r u at)
+      (inl (record { callback = c; world = now; on = of_native on; why = inl why; goes = tt }))
+      (aside r u at)

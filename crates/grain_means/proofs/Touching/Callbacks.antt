@@ -125,8 +125,9 @@ module _ {S : Type 0} (m : Setup S) (t : Option Place) (old : List Held) where
   answers_again c may r w at =
       marks_or m true t old (Stands t old)
       (λ w1. rules.ended_so m c (Failed NoMemory) (rules.unheard m.law r w1))
-      (λ w1 there. unheard_stands (Stands t old) m.law r w1 there) w (rules.went_on m c r) at
-      (goes_on c may r (record w { passed = w.passed + 1 }) at)
+      (λ w1 there. unheard_stands (Stands t old) m.law r w1 there)
+      (record w { trace = rules.trace_kept r w.trace }) (rules.went_on m c r) at
+      (goes_on c may r (record w { passed = w.passed + 1; trace = rules.trace_kept r w.trace }) at)
 
   hears_of : (c : Callback) → May c → (o : Outcome) (w : World S) → At w → Stays (rules.told m c o w)
   hears_of c may o w at =

@@ -49,7 +49,7 @@ pub record CallAsks {S : Type 0} (m : Setup S) (c : Call) (r : Option Receiver) 
     pub pointer : FnPtr
     pub values : List Tree
     pub asks : reply_to m (question_of c r w args) native.key ≡ reply.Ask token pointer values
-    -- the frame of the chain, at the call's position
+    -- a frame at the call's position, of which nothing else is said
     pub frame : Frame
     pub position : position m frame ≡ c.position
 
@@ -62,11 +62,11 @@ abbrev pub call_start : {S : Type 0} {m : Setup S} {c : Call} {r : Option Receiv
     CallAsks m c r w → World S
 call_start {m = m} {r = r} {w = w} a = asking_world m a.native.key r a.args a.token w
 
--- How a call of a native by a walk ends where memory is not out, and the world then. It ends with a
--- fault if an argument is a cell whose content is lent, if there is no such native, or if the native
--- writes its first argument and that can only be read. Else the host answers with a value, or with a
+-- How a call of a native by a walk ends where memory is not out at one of its own marks, and the world then.
+-- It ends with a fault if an argument is a cell whose content is lent, if there is no such native, or if the
+-- native writes its first argument and that can only be read. Else the host answers with a value, or with a
 -- fault, which gets the call's position if the host gave it none; or it asks for calls first, and the run of
--- these ends so, also where the host answered want of memory.
+-- these ends so. That may be want of memory: the host answered it there, or memory was out in that run.
 pub data CallEnds {S : Type 0} (m : Setup S) (c : Call) (r : Option Receiver) (w : World S) :
     Answer → World S → Type 0 where
   lent : flat_all w.cells (map read_write c.values) ≡ None → Passes m w →

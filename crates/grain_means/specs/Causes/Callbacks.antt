@@ -18,7 +18,7 @@ use Rattle.grain_program.specs.declared.code.functions.Function.{Function}
 use Rattle.grain_means.specs.Worlds.{Act, Go, End, Answer, Came, Failed, Receiver, Callback, Frame, InFrame, InHost, World, Setup}
 use Rattle.grain_means.specs.Comes.{Comes}
 use Rattle.grain_means.specs.Ends.{Ends}
-use Rattle.grain_means.specs.Rules.{bound, cells_lent, flat_all, frame_at, is_stop, lent_held, position, race_text, receiver_left, receiver_rewritten, scope_with, roots_with, trees_in, with_token, without_token, is_told, arguments_back, function_back, called_back}
+use Rattle.grain_means.specs.Rules.{bound, cells_lent, flat_all, frame_at, is_stop, lent_held, position, race_text, receiver_left, receiver_rewritten, scope_with, roots_with, trees_in, with_token, without_token, is_told, no_memory, arguments_back, function_back, called_back}
 use Rattle.grain_means.specs.Causes.Instructions.{IsCharged}
 use Rattle.grain_means.specs.Causes.Questions.{IsCalled, Question, asking_world, native_asked, reply_to}
 
@@ -27,16 +27,37 @@ abbrev pub parameters : Option Function → ℕ
 parameters None = 0
 parameters (Some g) = length g.params
 
+-- memory is not out at the mark of this number, and at the two after it
+abbrev pub ThreePassed : {S : Type 0} → Setup S → ℕ → Type 0
+ThreePassed m k = (is_stop m.stop k ≡ false) × (is_stop m.stop (k + 1) ≡ false)
+    × (is_stop m.stop (k + 1 + 1) ≡ false)
+
+-- An operation is taken for a call in this world: one is left, the host lets the run go on, and memory is
+-- not out at the operation's three marks.
+abbrev pub IsTaken : {S : Type 0} → Setup S → World S → Type 0
+IsTaken m w = IsCharged m w × ThreePassed m w.passed
+
 -- A call in this world fails before anything of it is done, with this fault at this position: no operation
--- is left, or the host ends the run; or no level is left; or there are too many parameters.
+-- is left, or the host ends the run; or no level is left; or there are too many parameters. Memory is not
+-- out at the marks up to there, of which the last one is that of the fault.
 abbrev pub IsKeptOut : {S : Type 0} → Setup S → Position → ℕ → World S → Problem → Type 0
 IsKeptOut m q params w x =
-    ((m.engine.limits.operations ≤ w.count) × (x ≡ Plain TooManyOperations q))
-    ⊎ (((v : Dynamic) × (w.count < m.engine.limits.operations)
-    × (m.law.progress_reply w.host (w.count + 1) ≡ Stop v) × (x ≡ Plain (Terminated v) q))
-    ⊎ ((IsCharged m w × (m.engine.limits.levels ≤ w.level) × (x ≡ Plain StackOverflow q))
-    ⊎ (IsCharged m w × (w.level < m.engine.limits.levels) × (m.engine.limits.variables < params)
-    × (x ≡ Plain TooManyVariables q))))
+    ((m.engine.limits.operations ≤ w.count) × (is_stop m.stop w.passed ≡ false)
+    × (x ≡ Plain TooManyOperations q))
+    ⊎ (((v : Dynamic) × (w.count < m.engine.limits.operations) × ThreePassed m w.passed
+    × (m.law.progress_reply w.host (w.count + 1) ≡ Stop v)
+    × (is_stop m.stop (w.passed + 1 + 1 + 1) ≡ false) × (x ≡ Plain (Terminated v) q))
+    ⊎ ((IsTaken m w × (m.engine.limits.levels ≤ w.level)
+    × (is_stop m.stop (w.passed + 1 + 1 + 1) ≡ false) × (x ≡ Plain StackOverflow q))
+    ⊎ (IsTaken m w × (w.level < m.engine.limits.levels) × (m.engine.limits.variables < params)
+    × (is_stop m.stop (w.passed + 1 + 1 + 1) ≡ false) × (x ≡ Plain TooManyVariables q))))
+
+-- The body of this function begins, where the function is called in this world: an operation is taken, a
+-- level is left, there are not too many parameters, and memory is not out at the mark before the frame.
+abbrev pub IsEntered : {S : Type 0} → Setup S → Function → World S → Type 0
+IsEntered m g w = IsTaken m w × (w.level < m.engine.limits.levels)
+    × (length g.params ≤ m.engine.limits.variables)
+    × (is_stop m.stop (w.passed + 1 + 1 + 1) ≡ false)
 
 -- The world in which the body of a function on these arguments begins, where the function is called in
 -- the world w: an operation is counted, of which the host has heard, and the scope is the function's own,
@@ -120,7 +141,7 @@ module _ {S : Type 0} (m : Setup S) where
   -- it. It is asked for on these arguments, and is there.
   pub record NativeBack (c : Callback) (w : World S) : Type 0 where
     pub none : function_back m.program m.engine.callbacks c ≡ None
-    pub charged : IsCharged m w
+    pub taken : IsTaken m w
     pub level : w.level < m.engine.limits.levels
     pub args : List Held
     pub reads : flat_all w.cells (arguments_back c) ≡ Some args
@@ -130,9 +151,12 @@ module _ {S : Type 0} (m : Setup S) where
   question_back {c = c} {w = w} b =
       record { world = native_begins w; name = c.pointer.name; lent = None; args = b.args }
 
+  -- it is called, and memory is not out at the marks before and after the host's answer
   abbrev pub IsCalledBack : {c : Callback} {w : World S} → NativeBack c w → Type 0
-  IsCalledBack b = (native_asked m (question_back b) ≡ Some b.native)
+  IsCalledBack {w = w} b = (native_asked m (question_back b) ≡ Some b.native)
       × IsCalled (question_back b) b.native
+      × (is_stop m.stop (native_begins w).passed ≡ false)
+      × (is_stop m.stop ((native_begins w).passed + 1) ≡ false)
 
   -- the world once the host has answered it and asked for a call
   abbrev pub native_asked_world : {c : Callback} {w : World S} → NativeBack c w → ℕ → World S
@@ -143,26 +167,56 @@ module _ {S : Type 0} (m : Setup S) where
         tokens = with_token token v.tokens;
       }
 
-  -- From a call that a native asked for in a world, these come to that call in that world: the same; the
-  -- one that the host asks for where it hears of a call; and the one that a native asks for which is called
-  -- back.
-  pub data AsksOn (first : Callback) (start : World S) : Callback → World S → Type 0 where
-    at_first : AsksOn first start first start
+  -- a native that is called back asks for calls first
+  pub record BackAsks (c : Callback) (w : World S) : Type 0 where
+    pub back : NativeBack c w
+    pub called : IsCalledBack back
+    pub token : ℕ
+    pub pointer : FnPtr
+    pub values : List Tree
+    pub asks : reply_to m (question_back back) back.native.key ≡ reply.Ask token pointer values
+
+  -- this is the first of them, in this world
+  abbrev pub back_asked : {c : Callback} {w : World S} → BackAsks c w → Callback
+  back_asked {c = c} b =
+      first_asked m (question_back b.back) b.back.native c.frame b.token b.pointer b.values
+
+  abbrev pub back_start : {c : Callback} {w : World S} → BackAsks c w → World S
+  back_start b = native_asked_world b.back b.token
+
+  -- From the first call that a native asked for, in a world, the native comes to this one in this world: it
+  -- is the same; or the host asks for it where it hears of one before.
+  pub data AsksNext (first : Callback) (start : World S) : Callback → World S → Type 0 where
+    at_first : AsksNext first start first start
     again : {c : Callback} {w u : World S} {o : Outcome} {token : ℕ} {p : FnPtr}
-        {values : List Tree} → AsksOn first start c w → HearsOf c w o u →
+        {values : List Tree} → AsksNext first start c w → HearsOf c w o u →
         reply_again c o u ≡ reply.Ask token p values → is_stop m.stop u.passed ≡ false →
         is_stop m.stop (u.passed + 1) ≡ false →
-        AsksOn first start (next_asked c o u token p values) (next_asked_world c o u token)
-    inside : {c : Callback} {w : World S} {token : ℕ} {p : FnPtr} {values : List Tree} →
-        AsksOn first start c w → (b : NativeBack c w) → IsCalledBack b →
-        reply_to m (question_back b) b.native.key ≡ reply.Ask token p values →
-        AsksOn first start
-        (first_asked m (question_back b) b.native c.frame token p values)
-        (native_asked_world b token)
+        AsksNext first start (next_asked c o u token p values) (next_asked_world c o u token)
+
+  -- the same where the last call may also stand inside one of the native's: a native is called back there,
+  -- and asks for calls itself
+  pub data AsksOn : Callback → World S → Callback → World S → Type 0 where
+    of_native : {first c : Callback} {start w : World S} → AsksNext first start c w →
+        AsksOn first start c w
+    inside : {first c d : Callback} {start w v : World S} → AsksNext first start c w →
+        (b : BackAsks c w) → AsksOn (back_asked b) (back_start b) d v → AsksOn first start d v
+
+  -- The fault with which the native of such a call ends goes past each native that was called back on the
+  -- way to the call, and stays as it is: the calls that this native asked for ended in the fault; the host is
+  -- not told of such a fault; and memory is not out at the mark that follows. After want of memory there is
+  -- no mark.
+  abbrev pub GoesPast : {first c : Callback} {start w : World S} → AsksOn first start c w → Problem →
+      Type 0
+  GoesPast (of_native next) x = Unit {0}
+  GoesPast (inside next b on) x = GoesPast on x × (is_told x ≡ false) × (u : World S)
+      × Ends m (Go (InHost (back_asked b)) (back_start b)) (Failed x) u
+      × ((no_memory x ≡ true) ⊎ (is_stop m.stop u.passed ≡ false))
 
   -- Why a native that asked for calls ended in this fault. One of the calls failed before anything of it
   -- was done; or the host answered the fault where it heard of a call; or the host answered it to a native
-  -- that was called back, and the host is not told of such a fault.
+  -- that was called back, and the host is not told of such a fault. Where the call stands inside others,
+  -- the fault goes past their natives.
   pub record HostFails (first : Callback) (start : World S) (x : Problem) : Type 0 where
     pub callback : Callback
     pub world : World S
@@ -170,11 +224,14 @@ module _ {S : Type 0} (m : Setup S) where
     pub why : IsKeptOut m (position m callback.frame)
         (parameters (function_back m.program m.engine.callbacks callback)) world x
         ⊎ (((o : Outcome) × (u : World S) × (y : Problem) × HearsOf callback world o u
-        × (reply_again callback o u ≡ reply.Failed y)
+        × (reply_again callback o u ≡ reply.Failed y) × (is_stop m.stop u.passed ≡ false)
+        × (is_stop m.stop (u.passed + 1) ≡ false)
         × (x ≡ at_position_if_none (position m callback.frame) y))
         ⊎ ((b : NativeBack callback world) × (y : Problem) × IsCalledBack b
-        × (reply_to m (question_back b) b.native.key ≡ reply.Failed y) × (is_told x ≡ false)
+        × (reply_to m (question_back b) b.native.key ≡ reply.Failed y)
+        × (is_stop m.stop ((native_begins world).passed + 1 + 1) ≡ false) × (is_told x ≡ false)
         × (x ≡ at_position_if_none (position m callback.frame) y)))
+    pub goes : GoesPast on x
 
   -- A native that asked for calls called this function back, and the function's body ran so.
   pub record RunsBack (first : Callback) (start : World S) : Type 0 where
@@ -183,13 +240,15 @@ module _ {S : Type 0} (m : Setup S) where
     pub on : AsksOn first start callback world
     pub function : Function
     pub is : function_back m.program m.engine.callbacks callback ≡ Some function
+    pub entered : IsEntered m function world
 
   abbrev pub body_back : {first : Callback} {start : World S} → RunsBack first start → Act S
   body_back r = Go (InFrame (frame_at r.function.chunk 0 None))
       (body_begins m r.function (arguments_back r.callback) r.world)
 
   -- The body of a function that was called back ended with a fault that no script may catch, and with that
-  -- fault, at the native's position, the native ended.
+  -- fault, at the native's position, the native ended. Where the call stands inside others, the fault goes
+  -- past their natives.
   pub record LeavesBack (first : Callback) (start : World S) (x : Problem) : Type 0 where
     pub runs : RunsBack first start
     pub inner : Problem
@@ -197,6 +256,7 @@ module _ {S : Type 0} (m : Setup S) where
     pub ends : Ends m (body_back runs) (Failed inner) after
     pub passes : catchable inner ≡ false
     pub is : x ≡ at_position (position m runs.callback.frame) inner
+    pub goes : GoesPast runs.on x
 
   -- An instruction of a frame, which began in this world, asks the question, and the host answers by asking
   -- for a call first. `asked` is the frame as it then stands, at the same instruction and position. The

@@ -11,6 +11,7 @@ use Rattle.grain_value.specs.declared.values.Held.{Held}
 use Rattle.grain_fault.specs.Classes.{catchable}
 use Rattle.grain_fault.specs.Positions.{at_position_if_none}
 use Rattle.grain_fault.specs.Problems.{Problem, Plain, DataRace, StackOverflow, NoMemory}
+use Rattle.grain_fault.specs.declared.traces.Fault.{Fault as TraceEntry}
 use Rattle.grain_host.specs.Faults.{handed_back}
 use Rattle.grain_host.specs.Law.{Law, Reply, Outcome, Value, Fault}
 use Rattle.grain_host.specs.Law as reply
@@ -64,6 +65,13 @@ abbrev pub roots_with : Option Receiver → List Held → List Held
 roots_with None roots = roots
 roots_with (Some r) roots = back_in_roots r.home r.held roots
 
+-- the trace that a call left, where the host then answers so: a fault keeps it, and with a value, or where
+-- the host asks again, there is none
+abbrev pub trace_kept : Reply → List TraceEntry → List TraceEntry
+trace_kept (reply.Done v) trace = []
+trace_kept (reply.Failed x) trace = trace
+trace_kept (reply.Ask token p values) trace = []
+
 -- what a call that was asked for is given: the pointer's own values, and then the host's
 abbrev pub arguments_back : Callback → List Held
 arguments_back c = curried_in c.pointer ++ map (λ t. read_write (value_of t)) c.values
@@ -87,21 +95,21 @@ module _ {S : Type 0} (m : Setup S) where
     tokens = without_token c.token w.tokens;
   })
 
-  -- The host answered where it heard what came of the call. A fault keeps the trace of what was called,
-  -- and with a value, or where the host asks again, there is none.
+  -- the host answered where it heard what came of the call: the native is over, or another call is asked for
   abbrev pub went_on : Callback → Reply → World S → Act S
-  went_on c (reply.Done v) w = ended_so c (Came v) (record w { trace = [] })
+  went_on c (reply.Done v) w = ended_so c (Came v) w
   went_on c (reply.Failed x) w =
       ended_so c (Failed (at_position_if_none (position m c.frame) x)) w
   went_on c (reply.Ask token p values) w =
       Go (InHost (record c { token = token; pointer = p; values = values }))
-      (record w { tokens = with_token token w.tokens; trace = [] })
+      (record w { tokens = with_token token w.tokens })
 
   -- The host answered where it heard what came of the call, and left the receiver so. After a mark it is
-  -- heard; if memory is out there, it is not.
+  -- heard; if memory is out there, it is not. The trace goes with the answer, before the mark.
   abbrev pub answered_again : Callback → Reply → World S → Act S
   answered_again c r w =
-      marked_or m (λ w1. ended_so c (Failed NoMemory) (unheard m.law r w1)) w (went_on c r)
+      marked_or m (λ w1. ended_so c (Failed NoMemory) (unheard m.law r w1))
+      (record w { trace = trace_kept r w.trace }) (went_on c r)
 
   -- the host hears what came of the call, after a mark, and writes what it was lent
   abbrev pub told : Callback → Outcome → World S → Act S

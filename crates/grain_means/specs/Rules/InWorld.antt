@@ -50,8 +50,9 @@ lent_at roots (Some p) = Some (record { home = AtPlace p; held = look roots p })
 abbrev pub failed_so : {S : Type 0} → Setup S → (Answer → World S → Act S) → Problem → World S → Act S
 failed_so m heard x w = marked_or m (heard (Failed NoMemory)) w (heard (Failed x))
 
--- The trace of the fault with which a call that a walk needs ended, if the fault says that there is no such
--- property: an indexer is called then, and if there is none, that fault is the walk's.
+-- The trace that a call left which a walk needs, if the call ended with a fault that says that there is no
+-- such property. That is asked of every call, and is for those of properties: after such a fault an indexer
+-- is called in their place, and if there is none, the first fault is the walk's.
 abbrev pub missed_by : Answer → List Fault → Option (List Fault)
 missed_by (Came v) trace = None
 missed_by (Failed x) trace = if is_dot_expr x then Some trace else None

@@ -9,53 +9,90 @@ use Rattle.grain_vm.proofs.Measure.{left}
 use Rattle.grain_vm.proofs.Running.{RunsTo}
 use Rattle.grain_vm.proofs.+run.Given as goal
 
--- the operations that are left, then the code that is left, and then the function; a call by a walk
--- stands after all of the code
+-- The operations that are left, then the code that is left, and then the function. What a walk or a native
+-- calls stands after all of the code.
 abbrev pub decreases-loops::call : goal.decreases-loops::call
-decreases-loops::call g l = 9 * left l.context.engine.now l.run.now.count l.frame.now.address
+decreases-loops::call g l = 16 * left l.context.engine.now l.run.now.count l.frame.now.address
 
 abbrev pub decreases-method_runs::call_method : goal.decreases-method_runs::call_method
-decreases-method_runs::call_method g l = 9 * left l.context.engine.now l.run.now.count 16777216
+decreases-method_runs::call_method g l = 16 * left l.context.engine.now l.run.now.count 16777216
+
+abbrev pub decreases-asks::native_back : goal.decreases-asks::native_back
+decreases-asks::native_back g l = 16 * left l.context.engine.now l.run.now.count 16777216 + 1
+
+abbrev pub decreases-asks::call_back : goal.decreases-asks::call_back
+decreases-asks::call_back g l = 16 * left l.context.engine.now l.run.now.count 16777216 + 2
+
+abbrev pub decreases-asks::end_of_native : goal.decreases-asks::end_of_native
+decreases-asks::end_of_native g l = 16 * left l.context.engine.now l.run.now.count 16777216 + 3
+
+abbrev pub decreases-asks::finish_native : goal.decreases-asks::finish_native
+decreases-asks::finish_native g l = 16 * left l.context.engine.now l.run.now.count 16777216 + 4
+
+abbrev pub decreases-asks::native_in_walk : goal.decreases-asks::native_in_walk
+decreases-asks::native_in_walk g l = 16 * left l.context.engine.now l.run.now.count 16777216 + 5
+
+abbrev pub decreases-asks::native_on : goal.decreases-asks::native_on
+decreases-asks::native_on g l = 16 * left l.context.engine.now l.run.now.count 16777216 + 5
+
+abbrev pub decreases-asks::wait_for_native : goal.decreases-asks::wait_for_native
+decreases-asks::wait_for_native g l = 16 * left l.context.engine.now l.run.now.count 16777216 + 5
+
+abbrev pub decreases-asks::native_by_name : goal.decreases-asks::native_by_name
+decreases-asks::native_by_name g l =
+    16 * left l.context.engine.now l.run.now.count l.frame.now.address + 6
+
+abbrev pub decreases-asks::call_native_by_name : goal.decreases-asks::call_native_by_name
+decreases-asks::call_native_by_name g l =
+    16 * left l.context.engine.now l.run.now.count l.frame.now.address + 7
+
+abbrev pub decreases-finding::find_pointed : goal.decreases-finding::find_pointed
+decreases-finding::find_pointed g l =
+    16 * left l.context.engine.now l.run.now.count l.frame.now.address + 7
+
+abbrev pub decreases-finding::find_named : goal.decreases-finding::find_named
+decreases-finding::find_named g l =
+    16 * left l.context.engine.now l.run.now.count l.frame.now.address + 8
 
 abbrev pub decreases-method_runs::walk_chain : goal.decreases-method_runs::walk_chain
 decreases-method_runs::walk_chain g l =
-    9 * left l.context.engine.now l.run.now.count l.frame.now.address + 1
+    16 * left l.context.engine.now l.run.now.count l.frame.now.address + 6
 
 abbrev pub decreases-method_runs::call_on : goal.decreases-method_runs::call_on
 decreases-method_runs::call_on g l =
-    9 * left l.context.engine.now l.run.now.count l.frame.now.address + 1
+    16 * left l.context.engine.now l.run.now.count l.frame.now.address + 6
 
 abbrev pub decreases-method_runs::call_apart : goal.decreases-method_runs::call_apart
 decreases-method_runs::call_apart g l =
-    9 * left l.context.engine.now l.run.now.count l.frame.now.address + 1
+    16 * left l.context.engine.now l.run.now.count l.frame.now.address + 6
 
 abbrev pub decreases-method_runs::find_on : goal.decreases-method_runs::find_on
 decreases-method_runs::find_on g l =
-    9 * left l.context.engine.now l.run.now.count l.frame.now.address + 2
+    16 * left l.context.engine.now l.run.now.count l.frame.now.address + 8
 
 abbrev pub decreases-method_runs::call_with : goal.decreases-method_runs::call_with
 decreases-method_runs::call_with g l =
-    9 * left l.context.engine.now l.run.now.count l.frame.now.address + 3
+    16 * left l.context.engine.now l.run.now.count l.frame.now.address + 9
 
 abbrev pub decreases-method_runs::step_or_walk : goal.decreases-method_runs::step_or_walk
 decreases-method_runs::step_or_walk g l =
-    9 * left l.context.engine.now l.run.now.count l.frame.now.address + 4
+    16 * left l.context.engine.now l.run.now.count l.frame.now.address + 10
 
 abbrev pub decreases-loops::do_or_find : goal.decreases-loops::do_or_find
 decreases-loops::do_or_find g l =
-    9 * left l.context.engine.now l.run.now.count l.frame.now.address + 5
+    16 * left l.context.engine.now l.run.now.count l.frame.now.address + 11
 
 abbrev pub decreases-loops::proceed : goal.decreases-loops::proceed
 decreases-loops::proceed g l =
-    9 * left l.context.engine.now l.run.now.count l.frame.now.address + 6
+    16 * left l.context.engine.now l.run.now.count l.frame.now.address + 12
 
 abbrev pub decreases-loops::run_from : goal.decreases-loops::run_from
 decreases-loops::run_from g l =
-    9 * left l.context.engine.now l.run.now.count l.address + 7
+    16 * left l.context.engine.now l.run.now.count l.address + 13
 
 abbrev pub decreases-loops::run_frame : goal.decreases-loops::run_frame
 decreases-loops::run_frame g l =
-    9 * left l.context.engine.now l.run.now.count l.chunk.now.entry + 8
+    16 * left l.context.engine.now l.run.now.count l.chunk.now.entry + 14
 
 -- the walk so far, against where the chain began
 abbrev pub invariant-method_runs::walk_chain-calls : goal.invariant-method_runs::walk_chain-calls
