@@ -47,3 +47,6 @@ mod Callees
 mod LentNatives
 mod OnNatives
 mod ForCells
+mod Waited
+mod WaitsOn
+mod WaitsAhead

@@ -22,7 +22,7 @@ use Rattle.grain_means.specs.Simulation.{Computation, LocalState, Simulates, Sim
 use Rattle.grain_frame.specs.Natives.{IsAt}
 use Rattle.grain_frame.specs.Receivers.{KeepsBound}
 use Rattle.grain_frame.specs.Targets.{home_of}
-use Rattle.grain_frame.specs.Waiting.{IsKept, LeadsTo, Lends, asking, beside, state_after, state_with}
+use Rattle.grain_frame.specs.Waiting.{IsKept, IsKeptAt, IsNotLent, LeadsTo, Lends, asking, beside, state_after, state_with}
 use Rattle.grain_frame.specs.declared.activations.Activation.{Activation}
 use Rattle.grain_frame.specs.declared.runs.Run.{Run}
 use Rattle.grain_frame.specs.declared.targets.Target.TheVariants as to
@@ -105,6 +105,13 @@ ThisOver (have.Target t) s s' = KeepsBound s.level s.receivers s'.receivers
 ThisOver (have.Cell n h) s s' = s'.receivers ≡ s.receivers
 ThisOver (have.Apart h) s s' = s'.receivers ≡ s.receivers
 
+-- what it was lent stands in the run again
+abbrev pub IsBackAt : {H : Type 0} → Run H → Loan → Type 0
+IsBackAt s have.Nothing = Unit {0}
+IsBackAt s (have.Target t) = IsKeptAt s t
+IsBackAt s (have.Cell n h) = IsNotLent s (to.Cell n)
+IsBackAt s (have.Apart h) = Unit {0}
+
 -- A native that asked for calls is over: but for what it was lent, the cells, the count, how often a frame
 -- was entered, the trace and the fault all is as it was before.
 pub record NativeOver {H : Type 0} (l : Loan) (s s' : Run H) : Type 0 where
@@ -117,6 +124,7 @@ pub record NativeOver {H : Type 0} (l : Loan) (s s' : Run H) : Type 0 where
   pub outer : s'.stacks.outer ≡ s.stacks.outer
   pub operands : s'.stacks.operands ≡ s.stacks.operands
   pub handlers : s'.stacks.handlers ≡ s.stacks.handlers
+  pub back : IsBackAt s' l
   pub later : s.count ≤ s'.count
 
 -- The native was called back and called until it was over, wherever the frame stands and whatever follows.
