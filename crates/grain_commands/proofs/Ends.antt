@@ -1,5 +1,5 @@
 -- A call of the machine, as the end that the program means.
-use Rattle.std.proofs.Common.{◌≡◌, ◌≢◌, ◌++◌, ℕ, Bool, List, [], Result, Ok, Err, IfOk, refl, ap, ◌∙◌}
+use Rattle.std.proofs.Common.{◌≡◌, ◌≢◌, ◌++◌, ℕ, Bool, true, List, [], Result, Ok, Err, IfOk, refl, ap, ◌∙◌}
 use Rattle.grain_value.specs.declared.memory.OutOfMemory.{OutOfMemory}
 use Rattle.grain_value.specs.declared.values.Dynamic.{Dynamic}
 use Rattle.grain_value.specs.declared.values.Limits.{Limits}
@@ -10,6 +10,7 @@ use Rattle.grain_fault.specs.declared.faults.EvalAltResult.TheVariants as faults
 use Rattle.grain_host.specs.Tables.{table_law}
 use Rattle.grain_host.specs.declared.tables.TableHost.{TableHost}
 use Rattle.grain_program.specs.View.{View}
+use Rattle.grain_global.specs.Engines.{with_callbacks}
 use Rattle.grain_global.specs.declared.engines.Engine.{Engine}
 use Rattle.grain_value.specs.declared.scopes.Entry.{Entry}
 use Rattle.grain_value.specs.declared.stores.Cell.{Cell}
@@ -40,9 +41,10 @@ abbrev pub EndsAs : (Answer → Finish TableHost) → List ℕ → List Fault �
 EndsAs finish printed trace cells = (a : Answer) → ((finish a).answer ≡ a) ×
     ((finish a).trace ≡ trace) × ((finish a).host.printed ≡ printed) × ((finish a).cells ≡ cells)
 
--- an engine whose flags are written
+-- an engine whose flags are written, where natives may call functions back
 pub engine_is : (e : Engine) (l : Limits) (fast strict : Bool) → e.limits ≡ l →
-    record e { fast_operators = fast; strict_properties = strict } ≡ engine_of l fast strict
+    with_callbacks true (record e { fast_operators = fast; strict_properties = strict })
+    ≡ engine_of l fast strict
 engine_is e l fast strict limits = ap (λ (x : Limits). engine_of x fast strict) limits
 
 pub begin_is : (scope : List Entry) (cells : List Cell) (host : TableHost) (m : VmView)

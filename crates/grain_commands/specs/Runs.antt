@@ -1,5 +1,5 @@
 -- How the program's runs begin, and what is written of their ends.
-use Rattle.std.specs.Prelude.{◌≡◌, ◌++◌, ℕ, Bool, List, []}
+use Rattle.std.specs.Prelude.{◌≡◌, ◌++◌, ℕ, Bool, true, List, []}
 use Rattle.grain_value.specs.declared.values.Limits.{Limits}
 use Rattle.grain_value.specs.declared.scopes.Entry.{Entry}
 use Rattle.grain_value.specs.declared.stores.Cell.{Cell}
@@ -15,12 +15,13 @@ use Rattle.grain_vm.specs.Machines.{begin}
 use Rattle.grain_commands.specs.Reports.{report_value, report_fault}
 
 -- the limits that the listing says, and whether it says that operators are fast and properties
--- strict
+-- strict; natives may call functions back
 abbrev pub engine_of : Limits → Bool → Bool → Engine
 engine_of limits fast_operators strict_properties = record {
   limits = limits;
   fast_operators = fast_operators;
   strict_properties = strict_properties;
+  callbacks = true;
 }
 
 -- The scope and the host that the listing says, without cells. Nothing was run before.

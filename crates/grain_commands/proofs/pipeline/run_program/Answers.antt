@@ -1,5 +1,6 @@
-use Rattle.std.proofs.Common.{◌≡◌, ◌∙◌, ap, refl}
+use Rattle.std.proofs.Common.{◌≡◌, ◌∙◌, ap, refl, true}
 use Rattle.grain_host.specs.declared.tables.TableHost.{TableHost}
+use Rattle.grain_global.specs.Engines.{with_callbacks}
 use Rattle.grain_global.specs.declared.engines.Engine.{Engine}
 use Rattle.grain_means.specs.Means.{Begin}
 use Rattle.grain_vm.specs.Machines.{begin, finish}
@@ -15,7 +16,8 @@ returns-in-Ok g c =
       fast_operators = c.args.fast_operators;
       strict_properties = c.args.strict_properties;
     } in
-    let engine : c.in_ok-vm.vm.engine ≡ under = ap (λ m. m.engine) c.in_ok-vm.ensures ∙
+    let engine : with_callbacks true c.in_ok-vm.vm.engine ≡ under =
+    ap (λ m. with_callbacks true m.engine) c.in_ok-vm.ensures ∙
     engine_is c.new-engine.result c.args.limits c.args.fast_operators c.args.strict_properties
     c.new-engine.ensures.limits in
     let begun : begin c.args.scope c.new-cells.result c.args.host c.in_ok-vm.vm.global ≡ first =
@@ -23,7 +25,7 @@ returns-in-Ok g c =
     c.in_ok-vm.ensures in
     let run = c.in-Ok.ensures.evaluates in
     let text = rw c.printed.ensures at c.value_reply.ensures.text in
-    value_told c.args.program.now under first c.in-Ok.value c.in_ok-vm.vm.engine
+    value_told c.args.program.now under first c.in-Ok.value (with_callbacks true c.in_ok-vm.vm.engine)
     (begin c.args.scope c.new-cells.result c.args.host c.in_ok-vm.vm.global)
     (finish c.eval_with_callbacks.new.self.trace c.eval_with_callbacks.new.scope
     c.eval_with_callbacks.new.cells c.eval_with_callbacks.new.host
@@ -41,7 +43,8 @@ returns g c =
       fast_operators = c.args.fast_operators;
       strict_properties = c.args.strict_properties;
     } in
-    let engine : c.in_ok-vm.vm.engine ≡ under = ap (λ m. m.engine) c.in_ok-vm.ensures ∙
+    let engine : with_callbacks true c.in_ok-vm.vm.engine ≡ under =
+    ap (λ m. with_callbacks true m.engine) c.in_ok-vm.ensures ∙
     engine_is c.new-engine.result c.args.limits c.args.fast_operators c.args.strict_properties
     c.new-engine.ensures.limits in
     let begun : begin c.args.scope c.new-cells.result c.args.host c.in_ok-vm.vm.global ≡ first =
@@ -49,7 +52,7 @@ returns g c =
     c.in_ok-vm.ensures in
     let run = c.in-Err.ensures.evaluates in
     let text = rw (c.fault_trace.ensures, c.printed-in-Err.ensures) at c.fault_reply.ensures.text in
-    fault_told c.args.program.now under first c.in-Err.fault c.in_ok-vm.vm.engine
+    fault_told c.args.program.now under first c.in-Err.fault (with_callbacks true c.in_ok-vm.vm.engine)
     (begin c.args.scope c.new-cells.result c.args.host c.in_ok-vm.vm.global)
     (finish c.eval_with_callbacks.new.self.trace c.eval_with_callbacks.new.scope
     c.eval_with_callbacks.new.cells c.eval_with_callbacks.new.host
