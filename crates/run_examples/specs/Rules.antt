@@ -1,5 +1,5 @@
 -- Which rule a listing says, and how the run of one ends.
-use Rattle.std.specs.Prelude.{◌≡◌, ℕ, min, Bool, false, List, [], Result, Ok, Err, ⊤}
+use Rattle.std.specs.Prelude.{◌≡◌, ℕ, min, Bool, true, false, List, [], Result, Ok, Err, ⊤}
 use Rattle.grain_value.specs.declared.values.Dynamic.{Dynamic}
 use Rattle.grain_value.specs.declared.values.Limits.{Limits}
 use Rattle.grain_value.specs.declared.scopes.Entry.{Entry}
@@ -50,12 +50,13 @@ IsReason said (NoListing bad) = said ≡ Err bad
 IsReason said (Refused refusal) = (s : ListingView) × (said ≡ Ok s) × IsRefusal s.parts refusal
 IsReason said OutOfMemory = ⊤
 
--- limits, and whether operators are fast and properties strict
+-- limits, and whether operators are fast and properties strict; natives may call functions back
 abbrev pub engine_of : Limits → Bool → Bool → Engine
 engine_of limits fast_operators strict_properties = record {
   limits = limits;
   fast_operators = fast_operators;
   strict_properties = strict_properties;
+  callbacks = true;
 }
 
 -- The scope, without cells, with a host. Nothing was run before.

@@ -1,4 +1,4 @@
-use Rattle.std.proofs.Common.{◌≡◌, ◌∙◌, ℕ, Bool, List, [], Result, ap}
+use Rattle.std.proofs.Common.{◌≡◌, ◌∙◌, ℕ, Bool, true, List, [], Result, ap}
 use Rattle.grain_value.specs.declared.values.Dynamic.{Dynamic}
 use Rattle.grain_value.specs.declared.values.Limits.{Limits}
 use Rattle.grain_value.specs.declared.scopes.Entry.{Entry}
@@ -7,6 +7,7 @@ use Rattle.grain_fault.specs.declared.faults.EvalAltResult.{EvalAltResult}
 use Rattle.grain_fault.specs.declared.traces.Fault.{Fault}
 use Rattle.grain_host.specs.Law.{Law}
 use Rattle.grain_program.specs.View.{View}
+use Rattle.grain_global.specs.Engines.{with_callbacks}
 use Rattle.grain_global.specs.declared.engines.Engine.{Engine}
 use Rattle.grain_vm.specs.Machines.{begin, finish}
 use Rattle.grain_vm.specs.VmView.{VmView}
@@ -14,9 +15,10 @@ use Rattle.grain_means.specs.Means.{Begin, Evaluates}
 use Rattle.run_examples.specs.Rules.{engine_of, start, Ran}
 use Rattle.run_examples.proofs.rules.run.Goals as goal
 
--- an engine whose flags are written
+-- an engine whose flags are written, where natives may call functions back
 engine_is : (e : Engine) (l : Limits) (fast strict : Bool) → e.limits ≡ l →
-    record e { fast_operators = fast; strict_properties = strict } ≡ engine_of l fast strict
+    with_callbacks true (record e { fast_operators = fast; strict_properties = strict })
+    ≡ engine_of l fast strict
 engine_is e l fast strict limits = ap (λ (x : Limits). engine_of x fast strict) limits
 
 begin_is : {S : Type 0} (scope : List Entry) (cells : List Cell) (host : S) (m : VmView)
@@ -48,7 +50,7 @@ returns g c =
       fast_operators = c.args.fast_operators;
       strict_properties = c.args.strict_properties;
     } in
-    let engine = ap (λ (m : VmView). m.engine) c.in_ok-vm.ensures ∙
+    let engine = ap (λ (m : VmView). with_callbacks true m.engine) c.in_ok-vm.ensures ∙
     engine_is c.new-engine.result c.args.limits c.args.fast_operators c.args.strict_properties
     c.new-engine.ensures.limits in
     let begun =
@@ -58,7 +60,8 @@ returns g c =
     c.fault_trace.ensures in
     ran g.H.Host.law c.args.program.now
     (engine_of c.args.limits c.args.fast_operators c.args.strict_properties)
-    (start c.args.scope.now c.args.host.now) call.new.scope call.result vm.engine
+    (start c.args.scope.now c.args.host.now) call.new.scope call.result
+    (with_callbacks true vm.engine)
     (begin c.args.scope.now c.new-cells.result c.args.host.now vm.global) call.new.self
     call.new.cells call.new.host c.in_ok-trace.trace.items
     call.ensures.evaluates.0 engine begun trace
