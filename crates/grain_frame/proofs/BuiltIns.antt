@@ -9,7 +9,7 @@ use Rattle.grain_value.specs.declared.values.Limits.{Limits}
 use Rattle.grain_ops.specs.declared.calculations.Calculation.{Calculation}
 use Rattle.grain_ops.specs.declared.calculations.Calculation.TheVariants as calculation
 use Rattle.grain_ops.specs.Calculations.{calculated, exact, fault_text, has_result}
-use Rattle.grain_ops.specs.Operators.{assigned_by, assignment, binary, operator_of}
+use Rattle.grain_ops.specs.Operators.{assigned_by, assignment, operator_of}
 use Rattle.grain_ops.specs.Outcomes.{Outcome, NotBuiltIn, Gave, ArithmeticFault, TooLarge}
 use Rattle.grain_ops.specs.Texts.{is_over, joined}
 use Rattle.grain_frame.specs.BuiltIns.{assigns, assigns_integers, assigns_texts, assigns_truths, is_built_in}

@@ -1,5 +1,5 @@
 -- An op-assignment begins with no trace, unless a built-in does it.
-use Rattle.std.proofs.Common.{◌≡◌, ◌∙◌, ◌<◌, ◌≤◌, ℕ, List, [], ◌∷◌, Option, Some, Bool, true, false, Result, Err, length, refl, sym, ap, subst, arith}
+use Rattle.std.proofs.Common.{◌≡◌, ◌∙◌, ◌<◌, ◌≤◌, ℕ, List, [], ◌∷◌, Option, Some, true, false, Result, Err, length, refl, sym, ap, subst, arith}
 use Rattle.grain_value.specs.Cells.{flat}
 use Rattle.grain_value.specs.Operands.{top}
 use Rattle.grain_value.specs.declared.memory.OutOfMemory.{OutOfMemory}
@@ -17,7 +17,6 @@ use Rattle.grain_means.specs.Means.{setup}
 use Rattle.grain_means.specs.Rules.{Home, op_assigned, outcome_at}
 use Rattle.grain_means.specs.Simulation.{stopped, world}
 use Rattle.grain_means.specs.Worlds.{Frame, Setup, World}
-use Rattle.grain_means.specs.lemmas.PlaceLaws.{some-inj}
 use Rattle.grain_frame.specs.Abstraction.{abstraction, frame_in, is_out, moment}
 use Rattle.grain_frame.specs.BuiltIns.{is_built_in, trace_for, unread_assignment}
 use Rattle.grain_frame.specs.Targets.{CanAssign, HoldsWritable, assigned_name, content_at, home_of}

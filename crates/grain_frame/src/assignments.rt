@@ -112,7 +112,16 @@ impl<H: Host> Run<H> {
             }
         };
         let operator = *context.program.assign_op(u32::from(assign_op));
-        self.op_assign(context, host, steps, frame, target, Some(name), operator, next)
+        self.op_assign(
+            context,
+            host,
+            steps,
+            frame,
+            target,
+            Some(name),
+            operator,
+            next,
+        )
     }
 
     // An op-assignment of the last operand, which can be read, to a target that can be written.

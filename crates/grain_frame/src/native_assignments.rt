@@ -194,11 +194,13 @@ impl<H: Host> Run<H> {
         requires target { CanBeLent self.old target }
         requires operand { 0 < length self.old.stacks.operands }
         ensures { (v : Dynamic) → flat self.old.cells (top self.old.stacks.operands).value ≡ Some v →
-            self.new ≡ record self.old { stacks = record self.old.stacks {
-              trace = trace_for (if_fast context.entry.engine.now.fast_operators
-              (assignment context.entry.engine.now.limits token (content_at self.old target) v))
-              self.old.stacks.trace;
-            } } }
+            self.new ≡ record self.old {
+              stacks = record self.old.stacks {
+                trace = trace_for (if_fast context.entry.engine.now.fast_operators
+                    (assignment context.entry.engine.now.limits token (content_at self.old target) v))
+                    self.old.stacks.trace;
+              };
+            } }
     {
         if self.stacks.trace().is_empty() {
             return;

@@ -140,8 +140,8 @@ fn assigns_integers(token: Token) -> bool
     ensures { result ≡ assigns_integers token }
 {
     match token {
-        Token::PlusAssign | Token::MinusAssign | Token::MultiplyAssign | Token::DivideAssign => true,
-        Token::ModuloAssign | Token::PowerOfAssign => true,
+        Token::PlusAssign | Token::MinusAssign | Token::MultiplyAssign => true,
+        Token::DivideAssign | Token::ModuloAssign | Token::PowerOfAssign => true,
         Token::LeftShiftAssign | Token::RightShiftAssign => true,
         Token::AndAssign | Token::OrAssign | Token::XOrAssign => true,
         _ => false,

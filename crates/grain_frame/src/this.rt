@@ -13,7 +13,6 @@ ghost use Rattle.grain_frame.specs.Refusals.{FindsThis, refusal_fault};
 ghost use Rattle.grain_frame.specs.This.{at_held};
 
 use crate::activations::Activation;
-use crate::assignments::Assignment;
 use crate::contexts::Context;
 use crate::runs::{Progress, Run};
 use crate::targets::{Target, TargetRefusal};

@@ -1,22 +1,17 @@
 -- The entry, or its cell, is the target of the op-assignment.
-use Rattle.std.proofs.Common.{◌≡◌, ◌∙◌, ◌+◌, Err, true, refl, ap, rules}
+use Rattle.std.proofs.Common.{◌≡◌, ◌∙◌, ◌+◌, ap, rules}
 use Rattle.std.specs.Prelude.{length}
 use Rattle.grain_value.specs.Cells.{flat}
-use Rattle.grain_value.specs.Looking.{cell_of}
 use Rattle.grain_value.specs.Operands.{top}
 use Rattle.grain_program.specs.View.{assign_op_of, name_of}
-use Rattle.grain_means.specs.Rules.{in_entry, op_assigned}
 use Rattle.grain_means.specs.Means.{setup}
-use Rattle.grain_means.specs.Simulation.{stopped, world}
-use Rattle.grain_frame.specs.Abstraction.{abstraction, frame_in, is_out}
+use Rattle.grain_means.specs.Simulation.{stopped}
 use Rattle.grain_frame.specs.Refusals.{refusal_fault}
-use Rattle.grain_frame.specs.Targets.{content_at}
 use Rattle.grain_frame.specs.declared.targets.Target.TheVariants as to
-use Rattle.grain_frame.specs.lemmas.Bound.{as_bound}
-use Rattle.grain_frame.specs.lemmas.Failing.{raises_here, store_stops, wants_memory}
-use Rattle.grain_frame.specs.lemmas.Performing.{led_exactly, led_out, waits_as}
+use Rattle.grain_frame.specs.lemmas.Failing.{raises_here}
+use Rattle.grain_frame.specs.lemmas.Performing.{led_exactly, waits_as}
 use Rattle.grain_frame.proofs.Flattening.{value_there}
-use Rattle.grain_frame.proofs.Refusing.{entry_content, entry_holds, entry_is_home, entry_lends, found_plain, op_refused}
+use Rattle.grain_frame.proofs.Refusing.{entry_holds, entry_lends, found_plain, op_refused, op_written}
 use Rattle.grain_frame.proofs.runs.Run.assign_local_op.Goals as goal
 
 pub returns-in-Err : goal.returns-in-Err
@@ -63,19 +58,14 @@ returns g c =
     let t = c.in-Ok.target in
     let held = c.in-Ok.ensures.0 in
     let found = c.in-Ok.ensures.1 in
-    let holds = entry_content s i t held found in
     let read = value_there (flat s.cells (top s.stacks.operands).value) found.readable in
-    let same_op : c.assign_op.result.now ≡ assign_op_of p c.args.assign_op =
-    c.assign_op.ensures ∙ ap (assign_op_of p) c.from.ensures in
+    let same_op : c.assign_op-operator.result.now ≡ assign_op_of p c.args.assign_op =
+    c.assign_op-operator.ensures ∙ ap (assign_op_of p) c.from.ensures in
     record {
       performs = waits_as (c.op_assign.ensures.implements held read.0
           (found_plain s (to.Entry i) t held found) read.1)
-          (λ stop u place bound. rw (
-            found.there,
-            read.1,
-            found.writable,
-            holds,
-            same_op,
-            entry_is_home s i t held found place,
-          ) refl);
+          (λ stop u place bound. rw same_op
+          (op_written (stopped (setup g.H.Host.law p c.args.context.engine.now) stop) f s
+          c.args.steps.now c.args.host.now u place c.args.slot c.args.name c.args.next
+          (assign_op_of p c.args.assign_op) t held read.0 found read.1));
     }

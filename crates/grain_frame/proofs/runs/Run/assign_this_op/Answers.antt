@@ -1,22 +1,20 @@
 -- `this`, or its cell, is the target of the op-assignment.
-use Rattle.std.proofs.Common.{◌≡◌, ◌∙◌, [], Err, true, refl, ap, rules}
+use Rattle.std.proofs.Common.{◌≡◌, ◌∙◌, [], refl, ap, rules}
 use Rattle.std.specs.Prelude.{length}
 use Rattle.grain_value.specs.Cells.{flat}
 use Rattle.grain_value.specs.Operands.{top}
-use Rattle.grain_value.specs.declared.values.Held.{Held}
 use Rattle.grain_program.specs.View.{assign_op_of}
 use Rattle.grain_means.specs.Means.{setup}
-use Rattle.grain_means.specs.Rules.{op_assigned, outcome_at, raised}
-use Rattle.grain_means.specs.Simulation.{stopped, world}
-use Rattle.grain_frame.specs.Abstraction.{abstraction, frame_in, is_out, this_of}
+use Rattle.grain_means.specs.Rules.{raised}
+use Rattle.grain_means.specs.Simulation.{stopped}
+use Rattle.grain_frame.specs.Abstraction.{frame_in}
 use Rattle.grain_frame.specs.Refusals.{refusal_fault}
-use Rattle.grain_frame.specs.Targets.{content_at, home_of}
 use Rattle.grain_frame.specs.declared.targets.Target.TheVariants as to
-use Rattle.grain_frame.specs.lemmas.Bound.{as_bound, bound_as, bound_at_place}
-use Rattle.grain_frame.specs.lemmas.Failing.{raises_here, store_stops, wants_memory}
-use Rattle.grain_frame.specs.lemmas.Performing.{led_out, led_so, waits_as}
+use Rattle.grain_frame.specs.lemmas.Bound.{as_bound, bound_as}
+use Rattle.grain_frame.specs.lemmas.Failing.{raises_here}
+use Rattle.grain_frame.specs.lemmas.Performing.{led_so, waits_as}
 use Rattle.grain_frame.proofs.Flattening.{value_there}
-use Rattle.grain_frame.proofs.Refusing.{found_plain, this_content, this_holds, this_is_home, this_lends, this_op_refused, this_op_written}
+use Rattle.grain_frame.proofs.Refusing.{found_plain, this_holds, this_lends, this_op_refused, this_op_written}
 use Rattle.grain_frame.proofs.runs.Run.assign_this_op.Goals as goal
 
 pub returns-in-Err : goal.returns-in-Err
@@ -64,8 +62,8 @@ returns g c =
     let held = c.in-Ok.ensures.0 in
     let found = c.in-Ok.ensures.1 in
     let read = value_there (flat s.cells (top s.stacks.operands).value) found.readable in
-    let same_op : c.assign_op.result.now ≡ assign_op_of p c.args.assign_op =
-    c.assign_op.ensures ∙ ap (assign_op_of p) c.from.ensures in
+    let same_op : c.assign_op-operator.result.now ≡ assign_op_of p c.args.assign_op =
+    c.assign_op-operator.ensures ∙ ap (assign_op_of p) c.from.ensures in
     record {
       performs = waits_as (c.op_assign.ensures.implements held read.0
           (found_plain s to.This t held found) read.1)

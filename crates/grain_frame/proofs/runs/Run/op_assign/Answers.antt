@@ -1,9 +1,7 @@
 -- An op-assignment begins with no trace, unless a built-in does it.
-use Rattle.std.proofs.Common.{◌≡◌, ◌∙◌, ℕ, Some, true, refl, sym, ap, rules}
-use Rattle.std.specs.Prelude.{is_some}
+use Rattle.std.proofs.Common.{◌≡◌, ◌∙◌, true, refl, sym, rules}
 use Rattle.grain_value.specs.Cells.{flat}
 use Rattle.grain_value.specs.Operands.{top}
-use Rattle.grain_value.specs.declared.values.Dynamic.{Dynamic}
 use Rattle.grain_means.specs.lemmas.PlaceLaws.{some-inj}
 use Rattle.grain_frame.specs.Abstraction.{is_out}
 use Rattle.grain_frame.specs.Targets.{kept_value}
