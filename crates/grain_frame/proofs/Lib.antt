@@ -18,3 +18,5 @@ mod Returning
 mod ToldRuns
 mod Lent
 mod Resuming
+mod BuiltIns
+mod Untracing

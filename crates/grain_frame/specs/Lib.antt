@@ -4,6 +4,7 @@ pub mod Receivers
 pub mod Abstraction
 pub mod Handling
 pub mod Operated
+pub mod BuiltIns
 pub mod Natives
 pub mod Targets
 pub mod Waiting

@@ -13,7 +13,6 @@ ghost use Rattle.grain_frame.specs.Refusals.{FindsThis, refusal_fault};
 ghost use Rattle.grain_frame.specs.This.{at_held};
 
 use crate::activations::Activation;
-use crate::assignments::Assignment;
 use crate::contexts::Context;
 use crate::runs::{Progress, Run};
 use crate::targets::{Target, TargetRefusal};
@@ -154,7 +153,6 @@ impl<H: Host> Run<H> {
     ) -> Result<Performed, OutOfMemory>
         requires ready { Ready frame.old self.old (op.AssignThisOp assign_op) next }
         requires pools { InPools context.program.now (op.AssignThisOp assign_op) }
-        requires untraced { self.old.stacks.trace ≡ [] }
         ensures performs { PerformsOrWaits (setup_of H.law context.entry)
             (moment frame.old self.old steps.old host.old) (op.AssignThisOp assign_op) next result
             (moment frame.new self.new steps.new host.new) }
@@ -165,15 +163,8 @@ impl<H: Host> Run<H> {
                 return Performed::of(self.refuse_this(context, steps, frame.address, refusal));
             }
         };
-        let kept = self.kept_operand()?;
-        let assignment = Assignment {
-            target,
-            variable: None,
-            operator: *context.program.assign_op(u32::from(assign_op)),
-            kept,
-            next,
-        };
-        self.op_assign_target(context, host, steps, frame, assignment)
+        let operator = *context.program.assign_op(u32::from(assign_op));
+        self.op_assign(context, host, steps, frame, target, None, operator, next)
     }
 
     // Where an assignment of the last operand to `this` writes, or why nothing is assigned.

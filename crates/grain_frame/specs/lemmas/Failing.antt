@@ -143,17 +143,21 @@ op_assign_stops {S = S} m a name o h v next f w halts untraced x =
           (sym untraced)
       at false = rw halts refl
 
--- so does what an op-assignment gives, whatever it is
+-- so does what an op-assignment gives, whatever it is, if there is no trace where no built-in does it
 pub store_stops : {S : Type 0} (m : Setup S) (a : Home) (name : List ℕ) (r : Outcome) (o : AssignOp)
     (h : Held) (u : Dynamic) (v : Held) (next : ℕ) (f : Frame) (w : World S) →
-    is_stop m.stop w.passed ≡ true → w.trace ≡ [] →
+    is_stop m.stop w.passed ≡ true → (r ≡ NotBuiltIn → w.trace ≡ []) →
     outcome_at m a name r o h u v next f w ≡ leave_by_fault m f NoMemory w
-store_stops m a name NotBuiltIn o h u v next f w halts untraced =
+store_stops {S = S} m a name NotBuiltIn o h u v next f w halts untraced =
     native_stops m (name_of m.program o.op_assign_name)
-    (Some (record { home = a; held = record h { value = u } })) (v ∷ []) f w
+    (Some (record { home = a; held = record h { value = u } })) (v ∷ []) f now
     (λ r w1. onward m f (stepped f next (below f.operands)) w1)
     (op_assign_failed_at m a name o h v next f) halts
-    (op_assign_stops m a name o h v next f w halts untraced)
+    (op_assign_stops m a name o h v next f now halts refl)
+    ∙ ap (λ (t : List Fault). leave_by_fault m f NoMemory (record w { trace = t }))
+    (sym (untraced refl)) where
+      now : World S
+      now = record w { trace = [] }
 store_stops m a name (Gave x) o h u v next f w halts untraced =
     written_stops m a (record h { value = x }) name f w
     (onward m f (stepped f next (below f.operands))) halts

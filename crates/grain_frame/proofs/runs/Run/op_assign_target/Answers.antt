@@ -33,12 +33,12 @@ pub native_assigned-requires : goal.native_assigned-requires
 native_assigned-requires g c =
     let s = c.args.self.now in
     let t = c.args.assignment.target in
-    let holds = held_there s t c.requires.can.target in
-    let said = rw c.in-NotBuiltIn.is at (c.assign_target.ensures.assigned holds.0 holds.1) in
+    let said = rw c.in-NotBuiltIn.is at
+    (c.assign_target.ensures.assigned (read_write (content_at s t)) c.requires.writable) in
     rw said.1 (record {
       can = c.requires.can;
       writable = c.requires.writable;
-      untraced = c.requires.untraced;
+      untraced = c.requires.untraced said.0;
     })
 
 pub returns-in-Done : goal.returns-in-Done
