@@ -8,6 +8,7 @@ pub mod BuiltIns
 pub mod Natives
 pub mod Targets
 pub mod Waiting
+pub mod Rests
 pub mod This
 pub mod Refusals
 pub mod Pointers

@@ -31,6 +31,7 @@ returns-then-says_missing g c =
           c.cut_trace.new.self c.operator_assigned.new.frame c.operator_assigned.new.self
           c.operator_assigned.new.steps c.operator_assigned.new.host c.cut_trace.ensures plain
           c.requires.can missing (c.operator_assigned.ensures.implements h plain);
+      less = c.operator_assigned.ensures.less;
     }
 
 pub returns-else-says_missing : goal.returns-else-says_missing
@@ -55,4 +56,5 @@ returns-else-says_missing g c =
           (raises_here g.H.Host.law p engine f s c.raise.new.self
           c.args.steps.now c.raise.new.steps c.args.host.now x (Ok c.raise.result) raises
           c.requires.can.inside (λ stop u place. rw there refl)));
+      less = tt;
     }
