@@ -187,8 +187,8 @@ impl<H: Host> Run<H> {
         seek_lent(self.alloc, host, name, lent, value, position)
     }
 
-    // The host's op-assignment begins with no trace: there is none from here on, unless a built-in does
-    // the op-assignment. Where an instruction begins there is none anyway.
+    // From here on there is no trace, unless a built-in does the op-assignment: the host's begins with none,
+    // also where memory runs out before the host is asked. Where an instruction begins there is none anyway.
     #[inline(always)]
     pub(crate) fn untrace(&mut self, context: Context<'_>, target: Target, token: Token)
         requires target { CanBeLent self.old target }
