@@ -10,7 +10,6 @@ use Rattle.grain_value.specs.declared.stores.Cell.{Cell}
 use Rattle.grain_value.specs.declared.memory.OutOfMemory.{OutOfMemory}
 use Rattle.grain_value.specs.Operands.{below, read_write}
 use Rattle.grain_fault.specs.declared.places.Position.{Position}
-use Rattle.grain_fault.specs.declared.traces.Fault.{Fault}
 use Rattle.grain_program.specs.declared.code.parts.AssignOp.{AssignOp}
 use Rattle.grain_program.specs.View.{View, name_of}
 use Rattle.grain_stack.specs.Views.{StacksView}
@@ -42,23 +41,19 @@ use Rattle.grain_frame.specs.lemmas.Bound.{while_bound}
 use Rattle.grain_frame.proofs.Homes.{put_binds, put_world, target_written}
 use Rattle.grain_frame.proofs.Targeting.{lends_beside, long_as, put_differs, put_keeps, put_keeps_this, put_same, put_stacks, put_twice}
 
--- an op-assignment that the host does asks for a native to which the target is lent, if there is no trace
+-- an op-assignment that the host does asks for a native to which the target is lent
 pub lent_at : {S : Type 0} (m : Setup S) (t : Target) (place : Option Place) (name : List ℕ)
     (a : AssignOp) (h : Held) (u : Dynamic) (v : Held) (next : ℕ) (f : Frame) (w : World S) →
-    h.read_only ≡ false → w.trace ≡ [] → native_assigned_at m (home_of t place) name a h u v next f w
+    h.read_only ≡ false → native_assigned_at m (home_of t place) name a h u v next f w
     ≡ native m (name_of m.program a.op_assign_name) (Some (receiver_at t place (read_write u)))
     (v ∷ []) f w (λ r w1. onward m f (stepped f next (below f.operands)) w1)
     (op_assign_failed_at m (home_of t place) name a h v next f)
-lent_at m t place name a h u v next f w plain untraced =
+lent_at m t place name a h u v next f w plain =
     subst (λ (b : Bool). native_assigned_at m (home_of t place) name a h u v next f w
     ≡ native m (name_of m.program a.op_assign_name)
     (Some (receiver_at t place (record { value = u; read_only = b }))) (v ∷ [])
-    f (record w { trace = [] }) (λ r w1. onward m f (stepped f next (below f.operands)) w1)
+    f w (λ r w1. onward m f (stepped f next (below f.operands)) w1)
     (op_assign_failed_at m (home_of t place) name a h v next f)) plain refl
-    ∙ ap (λ (trace : List Fault). native m (name_of m.program a.op_assign_name)
-    (Some (receiver_at t place (read_write u))) (v ∷ []) f (record w { trace = trace })
-    (λ r w1. onward m f (stepped f next (below f.operands)) w1)
-    (op_assign_failed_at m (home_of t place) name a h v next f)) (sym untraced)
 
 -- what an op-assignment gives, in the target, and what follows where no built-in does it
 pub gave_is : {S : Type 0} (m : Setup S) (home : Home) (name : List ℕ) (o : Outcome) (a : AssignOp)

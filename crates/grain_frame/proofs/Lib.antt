@@ -18,5 +18,3 @@ mod Returning
 mod ToldRuns
 mod Lent
 mod Resuming
-mod BuiltIns
-mod Untracing

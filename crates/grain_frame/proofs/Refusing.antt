@@ -152,22 +152,6 @@ module _ {H : Type 0} (m : Setup H) (f : Activation) (s : Run H) (n : StepsView)
       let read = value_there (flat s.cells (top s.stacks.operands).value) constant.0 in
       rw (is.1, read.1, constant.1) refl
 
-  -- what an op-assignment gives is written into the entry, or into the cell that it is
-  pub op_written : (a : AssignOp) (t : Target) (h : Held) (v : Dynamic) →
-      FindsTarget s (to.Entry (f.base + slot)) t h →
-      flat s.cells (top s.stacks.operands).value ≡ Some v →
-      assign_op m a slot name next (frame_in f s place) now
-      ≡ outcome_at m (home_of t place) (name_of m.program name)
-      (op_assigned m.engine a (content_at s t) v) a h (content_at s t)
-      (record (top s.stacks.operands) { value = v }) next (frame_in f s place) now
-  op_written a t h v finds read = rw (
-    finds.there,
-    read,
-    finds.writable,
-    entry_content s (f.base + slot) t h finds,
-    entry_is_home s (f.base + slot) t h finds place,
-  ) refl
-
 -- the same of `this`, which is bound
 module _ {H : Type 0} (m : Setup H) (f : Activation) (s : Run H) (n : StepsView) (host : H)
     (u : Environment) (place : Option Place) (bound : Binds u.roots place (this_of s))

@@ -4,7 +4,6 @@ pub mod Receivers
 pub mod Abstraction
 pub mod Handling
 pub mod Operated
-pub mod BuiltIns
 pub mod Natives
 pub mod Targets
 pub mod Waiting

@@ -1,15 +1,13 @@
 //! Assignments to an entry of the scope or to `this`, or to the cell that one of them is.
 
 ghost use Rattle.std.specs.Prelude.{◌≡◌, ◌<◌, ◌≤◌, ◌∷◌, [], ℕ, length, Some, None, IfOk, IfSome, is_some, true, false, slice_get};
-ghost use Rattle.grain_value.specs.declared.values.Dynamic.{Dynamic};
 ghost use Rattle.grain_value.specs.declared.values.Held.{Held};
 ghost use Rattle.grain_value.specs.Cells.{flat, idle};
 ghost use Rattle.grain_value.specs.Operands.{top};
 ghost use Rattle.grain_program.specs.Indices.{InPools};
 ghost use Rattle.grain_means.specs.Rules.{held_at, if_fast, op_assigned, outcome_at};
-ghost use Rattle.grain_ops.specs.Outcomes.{Gave, NotBuiltIn};
+ghost use Rattle.grain_ops.specs.Outcomes.{Gave};
 ghost use Rattle.grain_ops.specs.Operators.{assignment};
-ghost use Rattle.grain_frame.specs.BuiltIns.{unread_assignment};
 ghost use Rattle.grain_frame.specs.Waiting.{ImplementsOrWaits, PerformsOrWaits};
 ghost use Rattle.grain_frame.specs.Abstraction.{frame_in, PerformsBound, Ready, setup_of, moment, this_of};
 ghost use Rattle.grain_frame.specs.Targets.{FreeCell, CanBeLent, CanBeWritten, HoldsAt, HoldsWritable, AssignedTarget, CanAssign, assigned_name, content_at, home_of, kept_operand, kept_value};
@@ -111,53 +109,11 @@ impl<H: Host> Run<H> {
                 return Performed::of(self.refuse(context, steps, frame.address, name, refusal));
             }
         };
-        let operator = *context.program.assign_op(u32::from(assign_op));
-        self.op_assign(
-            context,
-            host,
-            steps,
-            frame,
-            target,
-            Some(name),
-            operator,
-            next,
-        )
-    }
-
-    // An op-assignment of the last operand, which can be read, to a target that can be written.
-    #[inline(always)]
-    pub(crate) fn op_assign<L: Ledger>(
-        &mut self,
-        context: Context<'_>,
-        host: &mut H,
-        steps: &mut Steps<L>,
-        frame: &mut Activation,
-        target: Target,
-        variable: Option<u16>,
-        operator: AssignOp,
-        next: usize,
-    ) -> Result<Performed, OutOfMemory>
-        requires can { CanAssign context.program.now frame.old self.old
-            (unread_assignment target variable operator next) }
-        requires writable { HoldsWritable self.old target }
-        requires readable { is_some (flat self.old.cells (top self.old.stacks.operands).value)
-            ≡ true }
-        ensures implements { (h : Held) (v : Dynamic) → h.read_only ≡ false →
-            flat self.old.cells (top self.old.stacks.operands).value ≡ Some v →
-            ImplementsOrWaits (setup_of H.law context.entry)
-            (moment frame.old self.old steps.old host.old)
-            (λ m place w. outcome_at m (home_of target place) (assigned_name m.program variable)
-            (op_assigned m.engine operator (content_at self.old target) v) operator h
-            (content_at self.old target) (record (top self.old.stacks.operands) { value = v }) next
-            (frame_in frame.old self.old place) w) (next ∷ []) 1 0 self.old.stacks.handlers result
-            (moment frame.new self.new steps.new host.new) }
-    {
-        self.untrace(context, target, operator.op_assign);
         let kept = self.kept_operand()?;
         let assignment = Assignment {
             target,
-            variable,
-            operator,
+            variable: Some(name),
+            operator: *context.program.assign_op(u32::from(assign_op)),
             kept,
             next,
         };
@@ -167,7 +123,7 @@ impl<H: Host> Run<H> {
     // A copy of what the last operand's cell holds, if it is a cell. So the operand is read once,
     // whatever is written into the cell then.
     #[inline(always)]
-    fn kept_operand(&self) -> Result<Option<Dynamic>, OutOfMemory>
+    pub(crate) fn kept_operand(&self) -> Result<Option<Dynamic>, OutOfMemory>
         requires operand { 0 < length self.now.stacks.operands }
         requires readable { is_some (flat self.now.cells (top self.now.stacks.operands).value)
             ≡ true }
@@ -180,9 +136,9 @@ impl<H: Host> Run<H> {
         }
     }
 
-    // An op-assignment to a target that can be written. If no built-in does it, there is no trace.
+    // An op-assignment to a target that can be written.
     #[inline(always)]
-    fn op_assign_target<L: Ledger>(
+    pub(crate) fn op_assign_target<L: Ledger>(
         &mut self,
         context: Context<'_>,
         host: &mut H,
@@ -192,10 +148,6 @@ impl<H: Host> Run<H> {
     ) -> Result<Performed, OutOfMemory>
         requires can { CanAssign context.program.now frame.old self.old assignment }
         requires writable { HoldsWritable self.old assignment.target }
-        requires untraced { op_assigned context.engine.now assignment.operator
-            (content_at self.old assignment.target)
-            (kept_operand assignment.kept self.old.stacks.operands).value ≡ NotBuiltIn →
-            self.old.stacks.trace ≡ [] }
         ensures implements { (h : Held) → h.read_only ≡ false →
             ImplementsOrWaits (setup_of H.law context.entry)
             (moment frame.old self.old steps.old host.old)

@@ -3,20 +3,17 @@
 ghost use Rattle.std.specs.Prelude.{◌≡◌, ◌<◌, ◌∷◌, [], ℕ, List, Option, Some, None, length, IfOk, false};
 ghost use Rattle.grain_value.specs.declared.values.Dynamic.{Dynamic};
 ghost use Rattle.grain_value.specs.declared.values.Held.{Held};
-ghost use Rattle.grain_value.specs.Cells.{flat};
-ghost use Rattle.grain_value.specs.Operands.{read_write, top};
+ghost use Rattle.grain_value.specs.Operands.{read_write};
 ghost use Rattle.grain_value.specs.View.{tree};
 ghost use Rattle.grain_value.specs.Writing.{kind_of};
 ghost use Rattle.grain_fault.specs.Problems.{Problem};
 ghost use Rattle.grain_program.specs.View.{name_of};
 ghost use Rattle.grain_means.specs.Worlds.{Setup, Frame, Place, World, Act};
-ghost use Rattle.grain_means.specs.Rules.{if_fast, native, native_assigned_at};
+ghost use Rattle.grain_means.specs.Rules.{native, native_assigned_at};
 ghost use Rattle.grain_means.specs.Simulation.{Simulates};
-ghost use Rattle.grain_ops.specs.Operators.{assignment};
 ghost use Rattle.grain_frame.specs.Abstraction.{abstraction, frame_in, is_out, native_continuation, setup_of, moment};
 ghost use Rattle.grain_frame.specs.Waiting.{ImplementsOrWaits};
 ghost use Rattle.grain_frame.specs.Natives.{IsAt, Seeks, ServesAt};
-ghost use Rattle.grain_frame.specs.BuiltIns.{is_built_in, trace_for};
 ghost use Rattle.grain_frame.specs.Receivers.{KeepsBound};
 ghost use Rattle.grain_frame.specs.Targets.{CanAssign, CanBeLent, HoldsAt, HoldsWritable, assigned_name, content_at, home_of, kept_operand, receiver_at};
 ghost use Rattle.grain_frame.specs.declared.targets.Target.{Target};
@@ -25,14 +22,13 @@ use crate::activations::Activation;
 use crate::assignments::{Assignment, operand};
 use crate::contexts::Context;
 use crate::native_calls::{NativeEnd, Sought, served};
-use crate::operated::has_built_in;
 use crate::runs::{Progress, Run};
 use crate::targets::Target;
 use crate::waiting::{Performed, Rest, Waiting};
 use grain_fault::Position;
 use grain_global::Steps;
 use grain_host::{Args, Host, not_found};
-use grain_value::{Array, Dynamic, Held, Kinds, OutOfMemory, Text, Token};
+use grain_value::{Array, Dynamic, Held, Kinds, OutOfMemory, Text};
 use std::alloc::Global;
 use std::sync::ledger::Ledger;
 
@@ -187,46 +183,6 @@ impl<H: Host> Run<H> {
         seek_lent(self.alloc, host, name, lent, value, position)
     }
 
-    // From here on there is no trace, unless a built-in does the op-assignment: the host's begins with none,
-    // also where memory runs out before the host is asked. Where an instruction begins there is none anyway.
-    #[inline(always)]
-    pub(crate) fn untrace(&mut self, context: Context<'_>, target: Target, token: Token)
-        requires target { CanBeLent self.old target }
-        requires operand { 0 < length self.old.stacks.operands }
-        ensures { (v : Dynamic) → flat self.old.cells (top self.old.stacks.operands).value ≡ Some v →
-            self.new ≡ record self.old {
-              stacks = record self.old.stacks {
-                trace = trace_for (if_fast context.entry.engine.now.fast_operators
-                    (assignment context.entry.engine.now.limits token (content_at self.old target) v))
-                    self.old.stacks.trace;
-              };
-            } }
-    {
-        if self.stacks.trace().is_empty() {
-            return;
-        }
-        if self.has_built_in(context, target, token) {
-            return;
-        }
-        self.stacks.cut_trace(0);
-    }
-
-    // Whether a built-in does an op-assignment of the last operand, as it is read, to the target.
-    #[cold]
-    #[inline(never)]
-    fn has_built_in(&self, context: Context<'_>, target: Target, token: Token) -> bool
-        requires target { CanBeLent self.now target }
-        requires operand { 0 < length self.now.stacks.operands }
-        ensures { (v : Dynamic) → flat self.now.cells (top self.now.stacks.operands).value ≡ Some v →
-            result ≡ is_built_in (if_fast context.entry.engine.now.fast_operators
-            (assignment context.entry.engine.now.limits token (content_at self.now target) v)) }
-    {
-        match self.stacks.top().value.flat(&self.cells) {
-            Some(value) => has_built_in(context.engine, token, self.content(target), value),
-            None => false,
-        }
-    }
-
     // The host's op-assignment, to which what the target holds is lent; where it has none of that
     // name, the host's operator.
     #[cold]
@@ -241,7 +197,6 @@ impl<H: Host> Run<H> {
     ) -> Result<Performed, OutOfMemory>
         requires can { CanAssign context.program.now frame.old self.old assignment }
         requires writable { HoldsWritable self.old assignment.target }
-        requires untraced { self.old.stacks.trace ≡ [] }
         ensures implements { (h : Held) → h.read_only ≡ false →
             ImplementsOrWaits (setup_of H.law context.entry)
             (moment frame.old self.old steps.old host.old)

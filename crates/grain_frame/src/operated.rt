@@ -8,7 +8,6 @@ ghost use Rattle.grain_ops.specs.Outcomes.{Gave};
 ghost use Rattle.grain_ops.specs.Operators.{operation, assignment};
 ghost use Rattle.grain_ops.specs.Agreement.{AreIntegers};
 ghost use Rattle.grain_ops.specs.Answers.{Answers};
-ghost use Rattle.grain_frame.specs.BuiltIns.{assigns, assigns_integers, assigns_texts, assigns_truths, is_built_in};
 ghost use Rattle.grain_frame.specs.Operated.{AssignedEntry};
 ghost use Rattle.grain_value.specs.declared.values.Dynamic.TheVariants as dynamic;
 
@@ -108,62 +107,5 @@ pub fn quick_assigned_with(
         grain_ops::quick_assigned_with(token, target, value)
     } else {
         None
-    }
-}
-
-/// Whether a built-in does an op-assignment of a value to a target, if operators are fast.
-pub fn has_built_in(engine: &Engine, token: Token, target: &Dynamic, value: &Dynamic) -> bool
-    ensures { result ≡ is_built_in (if_fast engine.now.fast_operators
-        (assignment engine.now.limits token target.now value.now)) }
-{
-    if !engine.fast_operators {
-        return false;
-    }
-    assigns(token, target, value)
-}
-
-// The same if operators are fast.
-fn assigns(token: Token, target: &Dynamic, value: &Dynamic) -> bool
-    ensures { result ≡ assigns token target.now value.now }
-{
-    match (target, value) {
-        (Dynamic::Int(_), Dynamic::Int(_)) => assigns_integers(token),
-        (Dynamic::Bool(_), Dynamic::Bool(_)) => assigns_truths(token),
-        (Dynamic::Text(_), Dynamic::Text(_)) => assigns_texts(token),
-        (Dynamic::Text(_), Dynamic::Char(_)) => assigns_texts(token),
-        _ => false,
-    }
-}
-
-// Whether this is an op-assignment.
-fn assigns_integers(token: Token) -> bool
-    ensures { result ≡ assigns_integers token }
-{
-    match token {
-        Token::PlusAssign | Token::MinusAssign | Token::MultiplyAssign => true,
-        Token::DivideAssign | Token::ModuloAssign | Token::PowerOfAssign => true,
-        Token::LeftShiftAssign | Token::RightShiftAssign => true,
-        Token::AndAssign | Token::OrAssign | Token::XOrAssign => true,
-        _ => false,
-    }
-}
-
-// Whether it is one of truth values.
-fn assigns_truths(token: Token) -> bool
-    ensures { result ≡ assigns_truths token }
-{
-    match token {
-        Token::AndAssign | Token::OrAssign | Token::XOrAssign => true,
-        _ => false,
-    }
-}
-
-// Whether it is one of texts.
-fn assigns_texts(token: Token) -> bool
-    ensures { result ≡ assigns_texts token }
-{
-    match token {
-        Token::PlusAssign => true,
-        _ => false,
     }
 }

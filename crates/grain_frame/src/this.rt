@@ -13,6 +13,7 @@ ghost use Rattle.grain_frame.specs.Refusals.{FindsThis, refusal_fault};
 ghost use Rattle.grain_frame.specs.This.{at_held};
 
 use crate::activations::Activation;
+use crate::assignments::Assignment;
 use crate::contexts::Context;
 use crate::runs::{Progress, Run};
 use crate::targets::{Target, TargetRefusal};
@@ -163,8 +164,15 @@ impl<H: Host> Run<H> {
                 return Performed::of(self.refuse_this(context, steps, frame.address, refusal));
             }
         };
-        let operator = *context.program.assign_op(u32::from(assign_op));
-        self.op_assign(context, host, steps, frame, target, None, operator, next)
+        let kept = self.kept_operand()?;
+        let assignment = Assignment {
+            target,
+            variable: None,
+            operator: *context.program.assign_op(u32::from(assign_op)),
+            kept,
+            next,
+        };
+        self.op_assign_target(context, host, steps, frame, assignment)
     }
 
     // Where an assignment of the last operand to `this` writes, or why nothing is assigned.

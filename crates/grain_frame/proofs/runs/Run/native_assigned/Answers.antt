@@ -74,7 +74,7 @@ returns-in_err-call_lent g c =
           c.in_err-call_lent.field-0.0 (Err c.in_err-call_lent.field-0.0) refl did))
           (λ stop w place bound. lent_at (stopped m stop) t place
           (assigned_name p c.args.assignment.variable) a h u v next (frame_in f s place)
-          (world (abstraction s c.args.steps.now c.args.host.now) w) plain c.requires.untraced);
+          (world (abstraction s c.args.steps.now c.args.host.now) w) plain);
     }
 
 pub returns-in-Value : goal.returns-in-Value
@@ -114,7 +114,7 @@ returns-in-Value g c =
           c.pop-value.ensures.rest c.requires.can.ahead))
           (λ stop w place bound. lent_at (stopped m stop) t place
           (assigned_name p c.args.assignment.variable) a h u v next (frame_in f s place)
-          (world (abstraction s c.args.steps.now c.args.host.now) w) plain c.requires.untraced);
+          (world (abstraction s c.args.steps.now c.args.host.now) w) plain);
     })
 
 pub returns-in-Fault : goal.returns-in-Fault
@@ -158,7 +158,7 @@ returns-in-Fault g c =
           (c.op_assign_failed.ensures.implements h plain))
           (λ stop w place bound. lent_at (stopped m stop) t place
           (assigned_name p c.args.assignment.variable) a h u v next (frame_in f s place)
-          (world (abstraction s c.args.steps.now c.args.host.now) w) plain c.requires.untraced);
+          (world (abstraction s c.args.steps.now c.args.host.now) w) plain);
     }
 
 pub returns-in-Asks : goal.returns-in-Asks
@@ -199,7 +199,7 @@ returns-in-Asks g c =
           (rw c.in-Asks.is at did))
           (λ stop w place bound. lent_at (stopped m stop) t place
           (assigned_name p c.args.assignment.variable) a h u v next (frame_in f s place)
-          (world (abstraction s c.args.steps.now c.args.host.now) w) plain c.requires.untraced);
+          (world (abstraction s c.args.steps.now c.args.host.now) w) plain);
     }
 
 pub returns-in_err-sought : goal.returns-in_err-sought
@@ -219,6 +219,5 @@ returns-in_err-sought g c =
           c.args.assignment.operator h (content_at s t)
           (kept_operand c.args.assignment.kept s.stacks.operands)
           c.args.assignment.next (frame_in f s place)
-          (world (abstraction s c.args.steps.now c.args.host.now) w) halts
-          (λ is. c.requires.untraced))));
+          (world (abstraction s c.args.steps.now c.args.host.now) w) halts)));
     }

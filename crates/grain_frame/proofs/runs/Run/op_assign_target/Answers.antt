@@ -33,12 +33,11 @@ pub native_assigned-requires : goal.native_assigned-requires
 native_assigned-requires g c =
     let s = c.args.self.now in
     let t = c.args.assignment.target in
-    let said = rw c.in-NotBuiltIn.is at
-    (c.assign_target.ensures.assigned (read_write (content_at s t)) c.requires.writable) in
+    let holds = held_there s t c.requires.can.target in
+    let said = rw c.in-NotBuiltIn.is at (c.assign_target.ensures.assigned holds.0 holds.1) in
     rw said.1 (record {
       can = c.requires.can;
       writable = c.requires.writable;
-      untraced = c.requires.untraced said.0;
     })
 
 pub returns-in-Done : goal.returns-in-Done
@@ -95,8 +94,7 @@ returns-in-Failed g c =
           (world (abstraction s c.args.steps.now c.args.host.now) w) is)
           (λ stop w place halts. store_stops (stopped (setup g.H.Host.law p engine) stop)
           (home_of t place) name o a h u v c.args.assignment.next (frame_in f s place)
-          (world (abstraction s c.args.steps.now c.args.host.now) w) halts
-          c.requires.untraced));
+          (world (abstraction s c.args.steps.now c.args.host.now) w) halts));
     }
 
 pub returns-in-NotBuiltIn : goal.returns-in-NotBuiltIn
