@@ -41,7 +41,7 @@ abbrev pub EndsAs : (Answer → Finish TableHost) → List ℕ → List Fault �
 EndsAs finish printed trace cells = (a : Answer) → ((finish a).answer ≡ a) ×
     ((finish a).trace ≡ trace) × ((finish a).host.printed ≡ printed) × ((finish a).cells ≡ cells)
 
--- an engine whose flags are written, where natives may call back
+-- an engine whose flags are written, where natives may call functions back
 pub engine_is : (e : Engine) (l : Limits) (fast strict : Bool) → e.limits ≡ l →
     with_callbacks true (record e { fast_operators = fast; strict_properties = strict })
     ≡ engine_of l fast strict

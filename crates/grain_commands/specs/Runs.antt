@@ -15,7 +15,7 @@ use Rattle.grain_vm.specs.Machines.{begin}
 use Rattle.grain_commands.specs.Reports.{report_value, report_fault}
 
 -- the limits that the listing says, and whether it says that operators are fast and properties
--- strict; natives may call functions of the program back
+-- strict; natives may call functions back
 abbrev pub engine_of : Limits → Bool → Bool → Engine
 engine_of limits fast_operators strict_properties = record {
   limits = limits;

@@ -105,8 +105,8 @@ impl<H: Host> Run<H> {
         }
     }
 
-    // What follows from a fault of the host's op-assignment: where it has none of that name, its
-    // operator is asked.
+    // What follows from a fault of the host's op-assignment: where it has none of that name, the fault is
+    // raised, at a mark, and passed over without its trace, and the host's operator is asked.
     pub(crate) fn op_assign_failed<L: Ledger>(
         &mut self,
         context: Context<'_>,
@@ -131,6 +131,7 @@ impl<H: Host> Run<H> {
     {
         let name = context.program.name(assignment.operator.op_assign_name);
         if says_missing(name, &fault) {
+            steps.mark();
             self.stacks.cut_trace(0);
             self.operator_assigned(context, host, steps, frame, assignment)
         } else {

@@ -50,7 +50,7 @@ IsReason said (NoListing bad) = said ≡ Err bad
 IsReason said (Refused refusal) = (s : ListingView) × (said ≡ Ok s) × IsRefusal s.parts refusal
 IsReason said OutOfMemory = ⊤
 
--- limits, and whether operators are fast and properties strict; natives may call back
+-- limits, and whether operators are fast and properties strict; natives may call functions back
 abbrev pub engine_of : Limits → Bool → Bool → Engine
 engine_of limits fast_operators strict_properties = record {
   limits = limits;

@@ -15,7 +15,7 @@ use Rattle.grain_means.specs.Means.{Begin, Evaluates}
 use Rattle.run_examples.specs.Rules.{engine_of, start, Ran}
 use Rattle.run_examples.proofs.rules.run.Goals as goal
 
--- an engine whose flags are written, where natives may call back
+-- an engine whose flags are written, where natives may call functions back
 engine_is : (e : Engine) (l : Limits) (fast strict : Bool) → e.limits ≡ l →
     with_callbacks true (record e { fast_operators = fast; strict_properties = strict })
     ≡ engine_of l fast strict
@@ -60,7 +60,8 @@ returns g c =
     c.fault_trace.ensures in
     ran g.H.Host.law c.args.program.now
     (engine_of c.args.limits c.args.fast_operators c.args.strict_properties)
-    (start c.args.scope.now c.args.host.now) call.new.scope call.result (with_callbacks true vm.engine)
+    (start c.args.scope.now c.args.host.now) call.new.scope call.result
+    (with_callbacks true vm.engine)
     (begin c.args.scope.now c.new-cells.result c.args.host.now vm.global) call.new.self
     call.new.cells call.new.host c.in_ok-trace.trace.items
     call.ensures.evaluates.0 engine begun trace
