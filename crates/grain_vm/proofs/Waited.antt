@@ -68,13 +68,13 @@ beside_is scope x s n host scopes this =
     ap (λ (q : List Entry). beside q x s n host) (sym scopes)
     ∙ ap (λ (q : Option Held). beside s.scope q s n host) this
 
-same_frame : {H : Type 0} (f : Activation) (s s' : Run H) →
+pub same_frame : {H : Type 0} (f : Activation) (s s' : Run H) →
     s'.stacks.operands ≡ s.stacks.operands → s'.stacks.handlers ≡ s.stacks.handlers →
     ◌≡◌ {A = Option Place → Frame} (frame_in f s) (frame_in f s')
 same_frame f s s' operands handlers = fun_ext (λ place. rw (operands, handlers) refl)
 
 -- the state of the code, where a native has what the instruction writes, or nothing
-state_here : {H : Type 0} (s : Run H) (n : StepsView) (host : H) (r : Rest) (l : Loan) →
+pub state_here : {H : Type 0} (s : Run H) (n : StepsView) (host : H) (r : Rest) (l : Loan) →
     Lends r l → state_with l s.scope (this_of s) s n host ≡ abstraction s n host
 state_here s n host r have.Nothing lends = refl
 state_here s n host r (have.Target t) lends = refl
@@ -83,7 +83,7 @@ state_here s n host (rest.Push count next) (have.Apart h) lends = absurd cc
 state_here s n host (rest.Assign a) (have.Apart h) lends = absurd lends
 state_here s n host (rest.Operate a) (have.Apart h) lends = absurd cc
 
-state_back : {H : Type 0} (s s' : Run H) (n : StepsView) (host : H) (r : Rest) (l : Loan)
+pub state_back : {H : Type 0} (s s' : Run H) (n : StepsView) (host : H) (r : Rest) (l : Loan)
     (left : Option Held) → Lends r l → NativeOver l s s' →
     state_after l left s.scope (this_of s) s' n host ≡ abstraction s' n host
 state_back s s' n host r have.Nothing left lends over =
@@ -220,7 +220,7 @@ same_want (Ok v) = refl
 same_want (Err x) = refl
 
 -- memory was out
-rests_out : {H : Type 0} (h : Held) (r : Rest) (f : Option Place → Frame)
+pub rests_out : {H : Type 0} (h : Held) (r : Rest) (f : Option Place → Frame)
     (o : Result Dynamic EvalAltResult) (m : Setup H) (place : Option Place) (w : World H) →
     is_want o ≡ true → rest_of h r f m place (outcome_of o) w ≡ leave_by_fault m (f place) NoMemory w
 rests_out h r f (Ok v) m place w want = absurd cc

@@ -190,9 +190,9 @@ module _ {H : Type 0} {m : Setup H} (b : Moment H) (w : Waiting) (q : Position) 
     inside = leads_inside m.program b.frame b.run w.rest takes gives ts so.lands.0
 
     -- memory ran out meanwhile
-    pub over_out : (e : OutOfMemory) → is_want o ≡ true →
+    pub over_out : {e : OutOfMemory} → is_want o ≡ true →
         ImplementsBound m a rule ts takes gives hs (Err e) (moment b.frame s' n' host')
-    over_out e want = record {
+    over_out want = record {
       same = compose so.same
           (compose {one = true} (heard_out so.held want) (same (record {
             this = refl;
@@ -277,8 +277,8 @@ waits_first m a w waits none = record {
 
 -- one of them is over, and the instruction waits for the next one
 pub waits_next : {H : Type 0} {m : Setup H} {a b c : Moment H} {first w next : Waiting}
-    {q : Position} {s' : Run H} {n' : StepsView} {host' : H} {o : Result Dynamic EvalAltResult}
-    {left : Option Held} {r : Performed} → WaitsSo m a first w b → NativeOver w.lent b.run s' →
+    {q : Position} {s' : Run H} {n' : StepsView} {host' : H} (o : Result Dynamic EvalAltResult)
+    (left : Option Held) {r : Performed} → WaitsSo m a first w b → NativeOver w.lent b.run s' →
     EndsNative m (record { asked = w.asked; lent = w.lent; pos = q }) b.run b.counts b.host o left
     s' n' host' → IsAt m (frame_in b.frame b.run) q → n'.before ≡ b.counts.before →
     is_want o ≡ false → r ≡ performed.Waits next →
@@ -287,7 +287,7 @@ pub waits_next : {H : Type 0} {m : Setup H} {a b c : Moment H} {first w next : W
     ImplementsOrWaits m (moment b.frame s' n' host')
     (λ m place v. rest_of h w.rest (frame_in b.frame s') m place (answer_of o) v) targets takes
     gives s'.stacks.handlers (Ok r) c) → WaitsSo m a first next c
-waits_next {H = H} {m} {a} {b} {c} {first} {w} {next} {q} {s'} {n'} {host'} {o} {left} {r} was over
+waits_next {H = H} {m} {a} {b} {c} {first} {w} {next} {q} {s'} {n'} {host'} o left {r} was over
     ended at before want is then =
     let waits = was.waits in
     let leads = leads_over m.program b.frame b.run s' w.lent over w.rest waits.takes waits.gives

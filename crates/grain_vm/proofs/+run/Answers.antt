@@ -1,10 +1,13 @@
-use Rattle.std.proofs.Common.{◌≡◌, ◌∙◌, ◌<◌, ◌-◌, arith, rules, ℕ, Option, Ok, length, refl, subst, None, ap, ◌+◌, ◌++◌, ◌∷◌, [], Some, map, sym}
+use Rattle.std.proofs.Common.{◌≡◌, ◌∙◌, ◌<◌, ◌-◌, arith, rules, ℕ, Option, Ok, length, refl, subst, None, ap, ◌+◌, ◌++◌, ◌∷◌, [], Some, map, sym, true}
 use Rattle.grain_means.specs.Means.{setup}
-use Rattle.grain_frame.specs.Abstraction.{frame_in, this_of, moment, abstraction, Implements}
+use Rattle.grain_frame.specs.Abstraction.{frame_in, this_of, is_out, moment, abstraction, Implements}
 use Rattle.grain_vm.proofs.Found.{call_found, done_here, found_stepped, is_function, other_found, pointer_found, finds_of, named_found, call_refused, none_numbered, pointed_done, pointed_found}
 use Rattle.grain_vm.proofs.Calling.{call_ran, has_begun, not_begun, entered_with, kept_with, refused_here, refused_this, there_is, outer_is}
 use Rattle.grain_vm.proofs.ChainAhead.{chain_stepped}
 use Rattle.grain_vm.proofs.ReceiverAhead.{receiver_stepped}
+use Rattle.grain_vm.proofs.Waited.{leads_over}
+use Rattle.grain_vm.proofs.WaitsAhead.{waits_stepped}
+use Rattle.grain_vm.proofs.WaitsOn.{led_to, out_back, over_on, over_out, waits_first, waits_next}
 use Rattle.grain_vm.proofs.Running.{around_caught, around_on, caught_on, done_after, done_from, done_so, led, left_around, left_around_by_memory, runs_here, runs_on, stops_by_fault, stops_by_memory, stops_so, turn_falls}
 use Rattle.grain_vm.proofs.BoundFrames.{all_still, unbound_above}
 use Rattle.grain_vm.proofs.MethodOvers.{called_one, method_ran, method_refused}
@@ -287,6 +290,17 @@ loops::do_or_find-returns-in-Other g t c =
           c.args.frame.now did.new.frame c.args.run.now did.new.run c.args.steps.now did.new.steps
           c.args.host.now did.new.host did.result did.ensures.stepped);
     })
+
+pub method_runs::step_or_walk-returns-in-Waits : goal.method_runs::step_or_walk-returns-in-Waits
+method_runs::step_or_walk-returns-in-Waits g t c =
+    let did = c.step.new in
+    let waited = c.wait_for_native in
+    record {
+      stepped = waits_stepped g.H.Host.law c.args.context.program.now c.args.context.engine.now
+          (moment c.args.frame.now c.args.run.now c.args.steps.now c.args.host.now)
+          (moment did.frame did.run did.steps did.host) c.in-Ok.turn c.in-Waits.waiting c.in-Waits.is
+          c.in-Ok.ensures.steps c.requires.runs waited.ensures.goes;
+    }
 
 pub method_runs::step_or_walk-returns-in-Chain : goal.method_runs::step_or_walk-returns-in-Chain
 method_runs::step_or_walk-returns-in-Chain g t c =
@@ -733,3 +747,85 @@ finding::find_pointed-returns g t c =
           c.native_by_name.new.frame c.native_by_name.new.self c.native_by_name.new.steps
           c.native_by_name.new.host none did);
     })
+
+-- ---- instructions that wait for a native
+
+pub asks::wait_for_native-natives-init : goal.asks::wait_for_native-natives-init
+asks::wait_for_native-natives-init g t c =
+    waits_first (setup g.H.Host.law c.args.context.program.now c.args.context.engine.now)
+    (moment c.args.frame.now c.args.run.now c.args.steps.now c.args.host.now) c.args.waiting
+    c.requires.runs c.requires.none
+
+pub asks::wait_for_native-native_over-requires-clause-leads : goal.asks::wait_for_native-native_over-requires-clause-leads
+asks::wait_for_native-native_over-requires-clause-leads g t c =
+    let waits = c.natives.invariant.waits in
+    let ended = c.end_of_native-outcome in (
+      waits.takes,
+      waits.gives,
+      waits.targets,
+      leads_over c.args.context.program.now c.natives.frame c.natives.run ended.new.run
+          c.natives.waiting.lent ended.ensures.over c.natives.waiting.rest waits.takes waits.gives
+          waits.targets waits.lends waits.leads,
+    )
+
+pub asks::wait_for_native-returns-then-is_out : goal.asks::wait_for_native-returns-then-is_out
+asks::wait_for_native-returns-then-is_out g t c =
+    let m = setup g.H.Host.law c.args.context.program.now c.args.context.engine.now in
+    let was = c.natives.invariant in
+    let b = moment c.natives.frame c.natives.run c.natives.steps c.natives.host in
+    let ended = c.end_of_native-outcome in
+    record {
+      goes = λ h takes gives targets plain leads.
+          over_out {m = m} b c.natives.waiting c.position-pos.result ended.new.run ended.new.steps
+          ended.new.host ended.result.0 ended.result.1 was.waits.lends ended.ensures.over
+          ended.ensures.ends (λ place. sym c.position-pos.ensures) ended.ensures.before
+          (was.so h takes gives targets plain leads) (sym c.is_out.ensures ∙ c.if-is_out.true);
+    }
+
+pub asks::wait_for_native-returns-in_err-progress : goal.asks::wait_for_native-returns-in_err-progress
+asks::wait_for_native-returns-in_err-progress g t c =
+    let m = setup g.H.Host.law c.args.context.program.now c.args.context.engine.now in
+    let was = c.natives.invariant in
+    let b = moment c.natives.frame c.natives.run c.natives.steps c.natives.host in
+    let ended = c.end_of_native-outcome in
+    let out : is_out c.from_residual.result ≡ true = search rules in
+    record {
+      goes = λ h takes gives targets plain leads.
+          out_back c.in_err-progress.field-0.0 c.from_residual.result out
+          (over_on {m = m} b c.natives.waiting c.position-pos.result ended.new.run ended.new.steps
+          ended.new.host ended.result.0 ended.result.1 was.waits.lends ended.ensures.over
+          ended.ensures.ends (λ place. sym c.position-pos.ensures) ended.ensures.before
+          (was.so h takes gives targets plain leads) (sym c.is_out.ensures ∙ c.if-is_out.false)
+          c.in_err-progress.ensures.implements);
+    }
+
+pub asks::wait_for_native-returns-in-Leads : goal.asks::wait_for_native-returns-in-Leads
+asks::wait_for_native-returns-in-Leads g t c =
+    let m = setup g.H.Host.law c.args.context.program.now c.args.context.engine.now in
+    let was = c.natives.invariant in
+    let b = moment c.natives.frame c.natives.run c.natives.steps c.natives.host in
+    let ended = c.end_of_native-outcome in
+    record {
+      goes = λ h takes gives targets plain leads.
+          led_to c.in-Leads.is
+          (over_on {m = m} b c.natives.waiting c.position-pos.result ended.new.run ended.new.steps
+          ended.new.host ended.result.0 ended.result.1 was.waits.lends ended.ensures.over
+          ended.ensures.ends (λ place. sym c.position-pos.ensures) ended.ensures.before
+          (was.so h takes gives targets plain leads) (sym c.is_out.ensures ∙ c.if-is_out.false)
+          c.in_ok-progress.ensures.implements);
+    }
+
+pub asks::wait_for_native-natives-preserved : goal.asks::wait_for_native-natives-preserved
+asks::wait_for_native-natives-preserved g t c =
+    let m = setup g.H.Host.law c.args.context.program.now c.args.context.engine.now in
+    let ended = c.end_of_native-outcome in
+    let went = c.native_over.new in
+    waits_next {m = m}
+    {a = moment c.args.frame.now c.args.run.now c.args.steps.now c.args.host.now}
+    {b = moment c.natives.frame c.natives.run c.natives.steps c.natives.host}
+    {c = moment went.frame went.self went.steps went.host} {first = c.args.waiting}
+    {w = c.natives.waiting} {next = c.in-Waits.next} {q = c.position-pos.result}
+    {s' = ended.new.run} {n' = ended.new.steps} {host' = ended.new.host} ended.result.0
+    ended.result.1 c.natives.invariant ended.ensures.over ended.ensures.ends
+    (λ place. sym c.position-pos.ensures) ended.ensures.before
+    (sym c.is_out.ensures ∙ c.if-is_out.false) c.in-Waits.is c.in_ok-progress.ensures.implements
