@@ -1,40 +1,30 @@
 -- What follows in an instruction once a native is over for which it waits.
-use Rattle.std.proofs.Common.{◌≡◌, ◌∙◌, ◌<◌, ◌≤◌, ◌+◌, ◌-◌, ℕ, List, Option, Some, None, Bool, true, false, inl, inr, Result, Ok, Err, length, refl, sym, ap, subst, arith}
+use Rattle.std.proofs.Common.{◌≡◌, ◌∙◌, ◌≤◌, ℕ, List, Option, true, Result, Ok, Err, length, refl, sym, ap, subst, arith}
 use Rattle.std.proofs.Math.Path.{fun_ext}
-use Rattle.grain_value.specs.declared.memory.OutOfMemory.{OutOfMemory}
 use Rattle.grain_value.specs.declared.scopes.Entry.{Entry}
 use Rattle.grain_value.specs.declared.values.Dynamic.{Dynamic}
 use Rattle.grain_value.specs.declared.values.Held.{Held}
-use Rattle.grain_fault.specs.Problems.{NoMemory, problem_of}
+use Rattle.grain_fault.specs.Problems.{NoMemory}
 use Rattle.grain_fault.specs.declared.faults.EvalAltResult.{EvalAltResult}
 use Rattle.grain_program.specs.View.{View}
-use Rattle.grain_stack.specs.declared.handlers.Handler.{Handler}
 use Rattle.grain_global.specs.StepsView.{StepsView}
-use Rattle.grain_global.specs.declared.engines.Engine.{Engine}
 use Rattle.grain_means.specs.Worlds.{Frame, Place, Setup, World}
-use Rattle.grain_means.specs.Rules.{leave_by_fault, no_memory}
-use Rattle.grain_means.specs.Simulation.{Computation, Simulates}
-use Rattle.grain_means.specs.lemmas.Stretches.{compose, same}
+use Rattle.grain_means.specs.Rules.{leave_by_fault}
 use Rattle.grain_chain.specs.Walking.{is_want, outcome_of}
-use Rattle.grain_frame.specs.Abstraction.{ContinuesAt, ImplementsBound, KeepsFrame, Moment, Progresses, abstraction, frame_in, is_out, moment, this_of}
+use Rattle.grain_frame.specs.Abstraction.{KeepsFrame, abstraction, frame_in, this_of}
 use Rattle.grain_frame.specs.Receivers.{KeepsBound}
-use Rattle.grain_frame.specs.Targets.{CanBeWritten, home_of}
-use Rattle.grain_frame.specs.Waiting.{CanHold, GoesOn, ImplementsOrWaits, IsBack, IsNotLent, LandsOrWaits, LeadsTo, Lends, answer_of, asking, beside, no_memory_came, performed_of, rest_of, state_after, state_with}
+use Rattle.grain_frame.specs.Targets.{CanBeWritten}
+use Rattle.grain_frame.specs.Waiting.{CanHold, GoesOn, LeadsTo, Lends, answer_of, beside, no_memory_came, rest_of, state_after, state_with}
 use Rattle.grain_frame.specs.declared.activations.Activation.{Activation}
 use Rattle.grain_frame.specs.declared.assignments.Assignment.{Assignment}
-use Rattle.grain_frame.specs.declared.runs.Progress.{Progress}
-use Rattle.grain_frame.specs.declared.runs.Progress.TheVariants as progress
 use Rattle.grain_frame.specs.declared.runs.Run.{Run}
 use Rattle.grain_frame.specs.declared.targets.Target.{Target}
 use Rattle.grain_frame.specs.declared.targets.Target.TheVariants as to
 use Rattle.grain_frame.specs.declared.waiting.Loan.{Loan}
 use Rattle.grain_frame.specs.declared.waiting.Loan.TheVariants as have
-use Rattle.grain_frame.specs.declared.waiting.Performed.{Performed}
-use Rattle.grain_frame.specs.declared.waiting.Performed.TheVariants as performed
 use Rattle.grain_frame.specs.declared.waiting.Rest.{Rest}
 use Rattle.grain_frame.specs.declared.waiting.Rest.TheVariants as rest
-use Rattle.grain_frame.specs.declared.waiting.Waiting.{Waiting}
-use Rattle.grain_frame.specs.lemmas.Resting.{kept_free, kept_there}
+use Rattle.grain_frame.specs.lemmas.Resting.{kept_there}
 use Rattle.grain_vm.specs.Asks.{NativeOver, ScopeOver, ThisOver}
 use Rattle.grain_vm.proofs.Turns.{kept_bound}
 
@@ -158,18 +148,6 @@ module _ {H : Type 0} (p : View) (f : Activation) (s s' : Run H) (l : Loan)
       (goes_over a (can_over s s' a l lends over) leads.0, leads.1, leads.2, leads.3)
   leads_over (rest.Operate a) takes gives ts lends leads =
       (goes_operate a l lends over leads.0, leads.1, leads.2, leads.3)
-
--- what was lent is back
-pub back_over : {H : Type 0} (s s' : Run H) (r : Rest) (l : Loan) → Lends r l →
-    NativeOver l s s' → IsBack s' r
-back_over s s' (rest.Push count next) l lends over = tt
-back_over s s' (rest.Assign a) have.Nothing lends over = absurd lends
-back_over s s' (rest.Assign a) (have.Target t) lends over =
-    subst (λ (x : Target). IsNotLent s' x) lends (kept_free s' t over.back)
-back_over s s' (rest.Assign a) (have.Cell n h) lends over =
-    subst (λ (x : Target). IsNotLent s' x) (sym lends.0) over.back
-back_over s s' (rest.Assign a) (have.Apart h) lends over = absurd lends
-back_over s s' (rest.Operate a) l lends over = tt
 
 pub leads_inside : {H : Type 0} (p : View) (f : Activation) (s : Run H) (r : Rest)
     (takes gives : ℕ) (ts : List ℕ) → LeadsTo p f s r takes gives ts → f.base ≤ length s.scope

@@ -1,48 +1,27 @@
 -- An instruction that waits for a native at which a frame stands, before it goes on and afterwards.
-use Rattle.std.proofs.Common.{◌≡◌, ◌≤◌, ℕ, List, false, Result, Ok, Err, refl, sym, subst, arith}
+use Rattle.std.proofs.Common.{◌≡◌, ℕ, List, false, Result, Ok, Err, refl, sym, subst}
 use Rattle.grain_value.specs.declared.memory.OutOfMemory.{OutOfMemory}
 use Rattle.grain_value.specs.declared.values.Held.{Held}
 use Rattle.grain_program.specs.View.{View}
-use Rattle.grain_program.specs.Indices.{InPools}
 use Rattle.grain_program.specs.Effects.{gives_of, handling_of, leads_of, takes_of}
 use Rattle.grain_program.specs.declared.code.effects.Handling.TheVariants as handling
 use Rattle.grain_program.specs.declared.code.instruction_set.Op.{Op}
 use Rattle.grain_host.specs.Law.{Law}
 use Rattle.grain_global.specs.declared.engines.Engine.{Engine}
 use Rattle.grain_means.specs.Means.{setup}
-use Rattle.grain_frame.specs.Abstraction.{ImplementsBound, Moment, ReadyIn, Runs, StandsAt, Stepped, frame_in}
+use Rattle.grain_frame.specs.Abstraction.{ImplementsBound, Moment, Runs, StandsAt, Stepped, frame_in}
 use Rattle.grain_frame.specs.Targets.{home_of}
 use Rattle.grain_frame.specs.Waiting.{LeadsTo, PerformsOrWaits, asking, rest_of}
-use Rattle.grain_frame.specs.declared.activations.Activation.{Activation}
 use Rattle.grain_frame.specs.declared.runs.Progress.{Progress}
-use Rattle.grain_frame.specs.declared.runs.Run.{Run}
 use Rattle.grain_frame.specs.declared.targets.Target.TheVariants as to
 use Rattle.grain_frame.specs.declared.waiting.Performed.{Performed}
 use Rattle.grain_frame.specs.declared.waiting.Performed.TheVariants as performed
 use Rattle.grain_frame.specs.declared.waiting.Waiting.{Waiting}
 use Rattle.grain_frame.specs.lemmas.Bound.{arm_bound}
-use Rattle.grain_vm.specs.Asks.{IsWaiting}
 use Rattle.grain_vm.specs.Finding.{StepsHere, turn_of}
-use Rattle.grain_vm.specs.Methods.{NoneAbove}
 use Rattle.grain_vm.specs.declared.stepping.Turn.{Turn}
 use Rattle.grain_vm.specs.declared.stepping.Turn.TheVariants as turn
-use Rattle.grain_vm.proofs.Measure.{left, past_code}
-use Rattle.grain_vm.proofs.Turns.{none_on}
 use Rattle.grain_vm.proofs.WaitsOn.{led_back, waited}
-
--- an instruction at which a frame stands can begin
-pub stands_ready : {H : Type 0} (p : View) (f : Activation) (s : Run H) (o : Op) (next : ℕ) →
-    Runs p f s → StandsAt p f s o next → ReadyIn p f s o next × InPools p o
-stands_ready p f s o next runs at =
-    let provides = at.seen.provides in (
-      record {
-        inside = runs.inside;
-        operands = provides.enough;
-        room = omega (arith, provides.room, runs.room);
-        ahead = omega (arith, provides.wide, at.next_is);
-      },
-      provides.pools,
-    )
 
 -- it was done, or it waits, unless memory ran out
 pub turned : {H : Type 0} {law : Law H} {p : View} {engine : Engine} {a b : Moment H} {o : Op}
@@ -65,28 +44,6 @@ module _ {H : Type 0} (law : Law H) (p : View) (engine : Engine) (a b : Moment H
     (w : Waiting) (is : x ≡ turn.Waits w) (did : StepsHere (setup law p engine) a (Ok x) b) where
   it_waits : StepsHere (setup law p engine) a (Ok (turn.Waits w)) b
   it_waits = subst (λ (y : Turn). StepsHere (setup law p engine) a (Ok y) b) is did
-
-  pub waits_here : IsWaiting p b.frame b.run w
-  waits_here =
-      let o = it_waits.0 in
-      let lands = it_waits.4.lands in
-      record {
-        takes = takes_of p o;
-        gives = gives_of o;
-        targets = leads_of o it_waits.1;
-        leads = lands.0;
-        lends = lands.1;
-        kept = lands.2;
-      }
-
-  pub waits_unbound : NoneAbove a.run.level a.run.receivers →
-      NoneAbove b.run.level b.run.receivers
-  waits_unbound none =
-      let kept = it_waits.4.kept in
-      none_on a.run.receivers b.run.receivers kept.level kept.this none
-
-  pub waits_later : left engine b.run.count 16777216 ≤ left engine a.run.count a.frame.address
-  waits_later = past_code engine a.run.count b.run.count a.frame.address it_waits.4.kept.later
 
   -- and then it was done
   pub waits_stepped : {c : Moment H} {r : Result Progress OutOfMemory} → Runs p a.frame a.run →
