@@ -1,6 +1,6 @@
 -- One turn of the loop over what the walk of a chain calls: a function, or a native that asks for a call
 -- first.
-use Rattle.std.proofs.Common.{◌≡◌, ◌∙◌, ◌+◌, ◌≤◌, ℕ, List, Option, None, Bool, true, false, Result, refl, sym, ap, subst, arith}
+use Rattle.std.proofs.Common.{◌≡◌, ◌∙◌, ◌+◌, ◌≤◌, ℕ, List, [], Option, None, Bool, true, false, Result, refl, sym, ap, subst, arith}
 use Rattle.std.specs.Prelude.{Some, slice_get}
 use Rattle.grain_value.specs.declared.values.Dynamic.{Dynamic}
 use Rattle.grain_value.specs.declared.values.Held.{Held}
@@ -35,7 +35,7 @@ use Rattle.grain_vm.specs.declared.chains.Walking.{Walking}
 use Rattle.grain_vm.specs.declared.driving.AskingNative.{AskingNative}
 use Rattle.grain_vm.specs.declared.driving.Driven.TheVariants as driven
 use Rattle.grain_vm.specs.declared.methods.MethodCall.{MethodCall}
-use Rattle.grain_vm.proofs.ChainLoops.{WalkedTo, still_under_way}
+use Rattle.grain_vm.proofs.ChainLoops.{WalkedTo, only_retraced, still_under_way}
 use Rattle.grain_vm.proofs.Driven.{kept_root, lent_stands, own_root, turned}
 use Rattle.grain_vm.proofs.Lifted.{untraced, walk_called}
 
@@ -58,6 +58,17 @@ over_then s t u one two = record {
   handlers = two.handlers ∙ one.handlers;
   later = omega (arith, one.later, two.later);
 }
+
+-- a call is over that was made where the trace was another, or none
+pub over_driven : {H : Type 0} (s t u : Run H) (l : List Fault) →
+    t ≡ record s { stacks = record s.stacks { trace = l } } → MethodOver t u → MethodOver s u
+over_driven s t u l is over = over_then s t u (only_retraced s t l is) over
+
+pub over_cut : {H : Type 0} (s t cut u : Run H) (l : List Fault) →
+    t ≡ record s { stacks = record s.stacks { trace = l } } → cut ≡ untraced t → MethodOver cut u →
+    MethodOver s u
+over_cut s t cut u l is emptied over =
+    over_driven s t u l is (over_driven t cut u [] emptied over)
 
 -- One turn: the walk is driven to a call, that is done, and the walk goes on with its answer. What was left
 -- of the walk where the call began is `calling`, in the run t1.

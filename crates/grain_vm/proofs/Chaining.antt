@@ -1,5 +1,5 @@
 -- A chain: what comes before its walk.
-use Rattle.std.proofs.Common.{◌≡◌, ◌∙◌, ℕ, List, Option, Some, None, Bool, true, false, if◌then◌else◌, Result, Ok, Err, refl, ap, arith}
+use Rattle.std.proofs.Common.{◌≡◌, ◌∙◌, ℕ, List, [], Option, Some, None, Bool, true, false, if◌then◌else◌, Result, Ok, Err, refl, ap, arith}
 use Rattle.std.specs.Prelude.{is_some, slice_get}
 use Rattle.grain_value.specs.Cells.{content}
 use Rattle.grain_value.specs.Operands.{top}

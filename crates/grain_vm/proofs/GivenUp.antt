@@ -23,7 +23,7 @@ use Rattle.grain_frame.specs.declared.runs.Run.{Run}
 use Rattle.grain_frame.specs.declared.waiting.Loan.{Loan}
 use Rattle.grain_frame.specs.declared.waiting.Loan.TheVariants as have
 use Rattle.grain_vm.specs.Driving.{IsApart, beside}
-use Rattle.grain_vm.specs.Seats.{Rests, Seat, Seated, base_count, base_place, base_roots, lent_place, walk_asking, walk_seated}
+use Rattle.grain_vm.specs.Seats.{Rests, Seat, Seated, base_count, base_place, base_roots, kept_by, lent_place, walk_asking, walk_seated}
 use Rattle.grain_vm.specs.declared.driving.AskingNative.{AskingNative}
 use Rattle.grain_vm.proofs.Invoking.{under_out}
 use Rattle.grain_vm.proofs.Lifted.{over_in, untraced}
@@ -116,7 +116,7 @@ gave_up {H = H} m k f seat done named before go native s n host g q rs scope thi
       ≡ walk_seated k f seat done None (go (Failed NoMemory)) (puts rs q h) r place
       (world (beside scope this (untraced s) n (m.law.forget_after host native.asked.token)) u) = rw (
         kept_none named,
-        trace_came _ (Failed NoMemory) [] refl,
+        trace_came (kept_by named before) (Failed NoMemory) [] refl,
         puts-bound rs q h lent,
       ) refl in (
         rw stays bound,

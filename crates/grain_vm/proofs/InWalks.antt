@@ -266,10 +266,10 @@ raised_over l s s2 s3 n2 n3 own o o' apart over raised =
     (retraced_over s s2 (trace_of own (outcome_of o') s2.stacks.trace) (over_apart l s s2 apart over))
 
 -- the same from a run that had a trace
-pub walked_over : {H : Type 0} (l : Loan) (s s2 s3 : Run H) (n2 n3 : StepsView)
+pub walked_native_over : {H : Type 0} (l : Loan) (s s2 s3 : Run H) (n2 n3 : StepsView)
     (own : Option (List Fault)) (o o' : Result Dynamic EvalAltResult) → IsApart l →
     NativeOver l (untraced s) s2 → RaisesInWalk o own s2 n2 o' s3 n3 → MethodOver s s3
-walked_over l s s2 s3 n2 n3 own o o' apart over raised =
+walked_native_over l s s2 s3 n2 n3 own o o' apart over raised =
     let did = raised_over l (untraced s) s2 s3 n2 n3 own o o' apart over raised in
     record {
       scope = did.scope;

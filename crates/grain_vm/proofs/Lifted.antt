@@ -1,6 +1,6 @@
 -- What a walk calls, in the walk: the receiver of a function, and what a native has that asks for calls, is
 -- what stands at a place of the walk's.
-use Rattle.std.proofs.Common.{◌≡◌, ℕ, List, [], Option, Some, None, Bool, length, option_map, refl, sym, subst, arith}
+use Rattle.std.proofs.Common.{◌≡◌, ℕ, List, [], Option, Some, None, Bool, false, length, option_map, refl, sym, subst, arith}
 use Rattle.std.specs.Prelude.{Result}
 use Rattle.grain_value.specs.declared.scopes.Entry.{Entry}
 use Rattle.grain_value.specs.declared.values.Dynamic.{Dynamic}

@@ -13,10 +13,18 @@ answers-init g c =
 
 pub answers-preserved : goal.answers-preserved
 answers-preserved g c =
-    let a = c.in-Ok-Over.field-0-is in
-    let b = c.in-Ok-Over.outcome-is in
-    let d = c.in-Ok-Over.receiver-is in
-    ?
+    let served = rw c.in-Ok-Over.field-0-is at c.in-Ok-Over.ensures.serves in
+    goes_on (setup g.H.Host.law c.args.context.program.now c.args.context.engine.now) c.args.run.now
+    c.args.steps.now c.args.host.now c.args.walk.now c.args.missed.now c.args.answer c.answers.run
+    c.serve_request.new.run c.keep_missed.new.run c.answers.steps c.serve_request.new.steps
+    c.go_on-answer.new.steps c.answers.host c.serve_request.new.host c.answers.walk
+    c.in-Need.request (is_named c.in-Need.request.what) c.in-Ok-Over.outcome c.in-Ok-Over.receiver
+    c.go_on-answer.new.walk c.answers.missed c.keep_missed.new.missed c.go_on-answer.result
+    (rw c.in-Need.is at c.answers.invariant) served.0 c.serve_request.ensures.run
+    c.serve_request.ensures.before served.2
+    (rw c.is_named-named.ensures at c.keep_missed.ensures.kept) c.keep_missed.ensures.run
+    c.go_on-answer.ensures.did c.go_on-answer.ensures.carries c.go_on-answer.ensures.falls
+    c.go_on-answer.ensures.rooted c.go_on-answer.ensures.marked
 
 pub returns-in-Ended-clause-same : goal.returns-in-Ended-clause-same
 returns-in-Ended-clause-same g c = λ k f seat done missed scope this seated root blind is.
