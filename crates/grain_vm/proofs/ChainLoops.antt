@@ -84,7 +84,7 @@ still_bound home.Operand s t t' er is = er ∙ is
 still_bound home.This s t t' er is = (is.0, er ∙ is.1)
 
 -- the walk is under way still after a call, whatever the walk itself has become
-pub still_under_way : {H : Type 0} (p : View) (s : Run H) (k next : ℕ) (blamed : Option ℕ)
+unfoldable pub still_under_way : {H : Type 0} (p : View) (s : Run H) (k next : ℕ) (blamed : Option ℕ)
     (w : Walking) (v : Walk) (t t' : Run H) → MethodOver t t' → UnderWay p s k next blamed w t →
     UnderWay p s k next blamed (record w { walk = v }) t'
 still_under_way p s k next blamed w v t t' over way = record {
@@ -277,6 +277,6 @@ pub walked_over : {H : Type 0} (m : Setup H) (a : Moment H) (k next : ℕ) (w : 
 unfolding still_under_way
 walked_over m a k next w answer flag f1 f' s1 t1 s' n1 n2 n' host1 host2 v end r missed was over drives
     carries rooted ends carries_on before ready =
-      over_here m a k next w f1 f' t1 s' n2 n' host2 v end r missed was.frame
-      (still_under_way m.program a.run k next a.frame.slot w w.walk s1 t1 over was.way)
-      (compose was.same drives carries) rooted ends carries_on (before ∙ was.before) ready
+    over_here m a k next w f1 f' t1 s' n2 n' host2 v end r missed was.frame
+    (still_under_way m.program a.run k next a.frame.slot w w.walk s1 t1 over was.way)
+    (compose was.same drives carries) rooted ends carries_on (before ∙ was.before) ready

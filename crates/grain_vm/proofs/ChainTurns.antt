@@ -177,20 +177,20 @@ module _ {H : Type 0} (m : Setup H) (a : Moment H) (k next : ℕ) (w : Walking) 
       n3.before ≡ n2.before → TurnedTo false
   called_on c g cut now is emptied drives there rooted waits calls same_flag over went carried before2
       before3 =
-        let go = resumed m.engine m.program v v.awaits in
-        let calling : Computation H =
-        walk_calling k frame seat done g c.pos (given_to c.arguments) (lent v x) go (with_receiver v x) in
-        walked_on None false calling (
-          subst (λ (y : Option Held). Simulates m (beside was.way.scope was.way.this s1 n1 host1)
-              from_here false (beside was.way.scope was.way.this t1 n2 host2)
-              (walk_calling k frame seat done g c.pos (given_to c.arguments) (lent v y) go
-              (with_receiver v y))) (sym is) (drives g there),
-          walk_called m c g t1 s2 n2 n3 host2 host3 o left
-              (subst (λ (y : Run H). CallsMethod m c g y n2 host2 o left s2 n3 host3) emptied calls) k
-              frame seat done (lent v x) go (with_receiver v x) was.way.scope was.way.this was.way.seated
-              rooted (subst (λ (y : Option Held). Binds (with_receiver v x) (lent v x) y) is
-              (lent_stands m.program v x waits)),
-        ) refl over rooted waits same_flag went.0 went.1 went.2 went.3 carried went.4 before2 before3
+      let go = resumed m.engine m.program v v.awaits in
+      let calling : Computation H =
+      walk_calling k frame seat done g c.pos (given_to c.arguments) (lent v x) go (with_receiver v x) in
+      walked_on None false calling (
+        subst (λ (y : Option Held). Simulates m (beside was.way.scope was.way.this s1 n1 host1)
+            from_here false (beside was.way.scope was.way.this t1 n2 host2)
+            (walk_calling k frame seat done g c.pos (given_to c.arguments) (lent v y) go
+            (with_receiver v y))) (sym is) (drives g there),
+        walk_called m c g t1 s2 n2 n3 host2 host3 o left
+            (subst (λ (y : Run H). CallsMethod m c g y n2 host2 o left s2 n3 host3) emptied calls) k
+            frame seat done (lent v x) go (with_receiver v x) was.way.scope was.way.this was.way.seated
+            rooted (subst (λ (y : Option Held). Binds (with_receiver v x) (lent v x) y) is
+            (lent_stands m.program v x waits)),
+      ) refl over rooted waits same_flag went.0 went.1 went.2 went.3 carried went.4 before2 before3
 
   -- it was a native, which asked for a call first
   pub asked_on : (native : AskingNative) (named flag1 flag2 : Bool) (now : Option (List Fault)) →
@@ -203,19 +203,19 @@ module _ {H : Type 0} (m : Setup H) (a : Moment H) (k next : ℕ) (w : Walking) 
       n2.before ≡ n1.before → n3.before ≡ n2.before → TurnedTo flag2
   asked_on native named flag1 flag2 now is missed drives rooted waits walked same_flag over went carried
       before2 before3 =
-        let go = resumed m.engine m.program v v.awaits in
-        let held = apart_of native.lent in
-        let so = walked k frame drives.0 seat done now (lent v held) go (with_receiver v held)
-        was.way.scope was.way.this drives.1 was.way.seated
-        (subst (λ (y : Option Held). Rooted (first_held seat).read_only (with_receiver v y)) is rooted)
-        (lent_stands m.program v held (subst (Waits m.program v) is waits)) missed in
-        walked_on so.0 flag2
-        (walk_asking k frame seat done native.asked drives.0 (lent v held) held named now go
-        (with_receiver v held)) (
-          drives.2,
-          subst (λ (y : Option Held). Simulates m (beside was.way.scope was.way.this t1 n2 host2)
-              (walk_asking k frame seat done native.asked drives.0 (lent v held) held named now go
-              (with_receiver v held)) (is_want o) (beside was.way.scope was.way.this s2 n3 host3)
-              (walk_seated k frame seat done so.0 (go (outcome_of o))
-              (puts (with_receiver v y) (lent v y) left))) (sym is) so.2,
-        ) so.1 over rooted waits same_flag went.0 went.1 went.2 went.3 carried went.4 before2 before3
+      let go = resumed m.engine m.program v v.awaits in
+      let held = apart_of native.lent in
+      let so = walked k frame drives.0 seat done now (lent v held) go (with_receiver v held)
+      was.way.scope was.way.this drives.1 was.way.seated
+      (subst (λ (y : Option Held). Rooted (first_held seat).read_only (with_receiver v y)) is rooted)
+      (lent_stands m.program v held (subst (Waits m.program v) is waits)) missed in
+      walked_on so.0 flag2
+      (walk_asking k frame seat done native.asked drives.0 (lent v held) held named now go
+      (with_receiver v held)) (
+        drives.2,
+        subst (λ (y : Option Held). Simulates m (beside was.way.scope was.way.this t1 n2 host2)
+            (walk_asking k frame seat done native.asked drives.0 (lent v held) held named now go
+            (with_receiver v held)) (is_want o) (beside was.way.scope was.way.this s2 n3 host3)
+            (walk_seated k frame seat done so.0 (go (outcome_of o))
+            (puts (with_receiver v y) (lent v y) left))) (sym is) so.2,
+      ) so.1 over rooted waits same_flag went.0 went.1 went.2 went.3 carried went.4 before2 before3

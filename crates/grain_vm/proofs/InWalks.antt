@@ -147,29 +147,29 @@ module _ {H : Type 0} (m : Setup H) (named flag : Bool) (native : AskingNative) 
       NativeWalked m named native s n host flag o' left s3 n3 host2 (named && has_missed (outcome_of o'))
   native_walked kept ends same_flag raised =
       λ k f g seat done before q go rs scope this at seated rooted lent missed.
-          let now = kept_by named (missed_by (outcome_of o') s2.stacks.trace) in
-          let its = missed_same named flag s.stacks.trace before own missed kept in
-          let becomes = traced_so own s2 n2 o o' s3 n3 raised in (
-            now,
-            subst (λ (x : Run H). IsMissed (named && has_missed (outcome_of o')) x.stacks.trace now)
-                (sym becomes) (missed_now named own (outcome_of o') s2.stacks.trace),
-            compose
-                (walk_asked k f seat done named before go m native s s2 n n2 host host2 o left ends apart
-                same_flag g at q rs scope this seated rooted lent)
-                (same (record {
-                  this = refl;
-                  order = (later_so own s2 n2 o o' s3 n3 raised).0;
-                  equal = λ stop clear halts u place.
-                      raises_on own s2 n2 stop (stopped m stop) refl
-                      (λ a w. goes_on_from k f seat done named before go u.roots (stopped m stop) place a
-                      w)
-                      (record (world (beside scope this s2 n2 host2) u) {
-                        roots = spread (base_roots seat u.roots) (base_place seat place u.roots)
-                            (puts rs q left);
-                      }) o o' s3 n3 raised clear halts
-                      ∙ rw (becomes, its, (later_so own s2 n2 o o' s3 n3 raised).2) refl;
-                })) (persists_so own s2 n2 o o' s3 n3 raised),
-          )
+      let now = kept_by named (missed_by (outcome_of o') s2.stacks.trace) in
+      let its = missed_same named flag s.stacks.trace before own missed kept in
+      let becomes = traced_so own s2 n2 o o' s3 n3 raised in (
+        now,
+        subst (λ (x : Run H). IsMissed (named && has_missed (outcome_of o')) x.stacks.trace now)
+            (sym becomes) (missed_now named own (outcome_of o') s2.stacks.trace),
+        compose
+            (walk_asked k f seat done named before go m native s s2 n n2 host host2 o left ends apart
+            same_flag g at q rs scope this seated rooted lent)
+            (same (record {
+              this = refl;
+              order = (later_so own s2 n2 o o' s3 n3 raised).0;
+              equal = λ stop clear halts u place.
+                  raises_on own s2 n2 stop (stopped m stop) refl
+                  (λ a w. goes_on_from k f seat done named before go u.roots (stopped m stop) place a
+                  w)
+                  (record (world (beside scope this s2 n2 host2) u) {
+                    roots = spread (base_roots seat u.roots) (base_place seat place u.roots)
+                        (puts rs q left);
+                  }) o o' s3 n3 raised clear halts
+                  ∙ rw (becomes, its, (later_so own s2 n2 o o' s3 n3 raised).2) refl;
+            })) (persists_so own s2 n2 o o' s3 n3 raised),
+      )
 
 -- memory is out before its call could begin
 pub native_gave_up : {H : Type 0} (m : Setup H) (named flag : Bool) (native : AskingNative)
@@ -193,17 +193,17 @@ pub native_finished : {H : Type 0} (m : Setup H) (native : AskingNative) (s s2 s
     FinishesNative m (answered.Asks native) s n host o' left s3 n3 host2
 native_finished {H = H} m native s s2 s3 n n2 n3 host host2 o o' left ends raised =
     λ f heard scope x at.
-        let becomes : s3 ≡ s2 = traced_so None s2 n2 o o' s3 n3 raised in
-        compose (ends f (raised_to heard) scope x at)
-        (same (record {
-          this = rw becomes refl;
-          order = (later_so None s2 n2 o o' s3 n3 raised).0;
-          equal = λ stop clear halts u place.
-              raises_on None s2 n2 stop (stopped m stop) refl
-              (λ a w. heard (stopped m stop) place a w)
-              (world (state_after native.lent left scope x s2 n2 host2) u) o o' s3 n3 raised clear halts
-              ∙ rw (becomes, (later_so None s2 n2 o o' s3 n3 raised).2) refl;
-        })) (persists_so None s2 n2 o o' s3 n3 raised)
+    let becomes : s3 ≡ s2 = traced_so None s2 n2 o o' s3 n3 raised in
+    compose (ends f (raised_to heard) scope x at)
+    (same (record {
+      this = rw becomes refl;
+      order = (later_so None s2 n2 o o' s3 n3 raised).0;
+      equal = λ stop clear halts u place.
+          raises_on None s2 n2 stop (stopped m stop) refl
+          (λ a w. heard (stopped m stop) place a w)
+          (world (state_after native.lent left scope x s2 n2 host2) u) o o' s3 n3 raised clear halts
+          ∙ rw (becomes, (later_so None s2 n2 o o' s3 n3 raised).2) refl;
+    })) (persists_so None s2 n2 o o' s3 n3 raised)
 
 -- ---- what is kept
 

@@ -114,8 +114,15 @@ fn walk_chain<H: Host, L: Ledger>(
                         answer = go_on(run, context, steps, &mut walking.walk, outcome, receiver);
                     }
                     Driven::Asks(named, native) => {
-                        let (outcome, receiver) =
-                            native_in_walk(run, context, host, steps, &mut missed, named, native);
+                        let (outcome, receiver) = native_in_walk(
+                            run,
+                            context,
+                            host,
+                            steps,
+                            &mut missed,
+                            named,
+                            native,
+                        );
                         answer = go_on(run, context, steps, &mut walking.walk, outcome, receiver);
                     }
                 }

@@ -439,8 +439,8 @@ method_runs::walk_chain-calls-preserved-in-Calls g t c =
     (went.ensures.did, went.ensures.carries, went.ensures.rooted, went.ensures.marked, went.ensures.falls)
     drove.carries drove.before called.ensures.before
 
-pub method_runs::walk_chain-calls-preserved-in-Asks : goal.method_runs::walk_chain-calls-preserved-in-Asks
-method_runs::walk_chain-calls-preserved-in-Asks g t c =
+pub method_runs::walk_chain-calls-preserved : goal.method_runs::walk_chain-calls-preserved
+method_runs::walk_chain-calls-preserved g t c =
     let p = c.args.context.program.now in
     let f = c.args.frame.now in
     let k = c.args.index in
@@ -450,7 +450,7 @@ method_runs::walk_chain-calls-preserved-in-Asks g t c =
     let drove = c.in-Asks.ensures in
     let drove_to = c.drive.new in
     let called = c.native_in_walk-outcome in
-    let went = c.go_on-answer in
+    let went = c.go_on-answer-in-Asks in
     let native = c.in-Asks.native in
     let so = drove.same k frame was.way.seat (after_chain k c.args.next w.home w.was_read_only frame)
     was.missed was.way.scope was.way.this was.way.seated was.rooted
@@ -513,8 +513,8 @@ asks::native_in_walk-returns-in-Err g t c =
       before = refl;
     }
 
-pub asks::native_in_walk-returns-in-Ok : goal.asks::native_in_walk-returns-in-Ok
-asks::native_in_walk-returns-in-Ok g t c =
+pub asks::native_in_walk-returns : goal.asks::native_in_walk-returns
+asks::native_in_walk-returns g t c =
     let m = setup g.H.Host.law c.args.context.program.now c.args.context.engine.now in
     let s = c.args.run.now in
     let ended = c.end_of_native-outcome in
