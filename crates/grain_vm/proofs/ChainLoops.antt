@@ -76,7 +76,7 @@ still_back (home.Cell j) s s' es el er is = tt
 still_back home.Operand s s' es el er is = tt
 still_back home.This s s' es el er is = rw (el, er) is
 
-still_bound : {H : Type 0} (a : Home) (s t t' : Run H) → t'.receivers ≡ t.receivers →
+pub still_bound : {H : Type 0} (a : Home) (s t t' : Run H) → t'.receivers ≡ t.receivers →
     BoundAway a s t → BoundAway a s t'
 still_bound (home.Entry i) s t t' er is = er ∙ is
 still_bound (home.Cell j) s t t' er is = er ∙ is

@@ -127,8 +127,13 @@ gave_up {H = H} m k f seat done named before go native s n host g q rs scope thi
 }
 
 -- nothing of the run was lent
-pub apart_back : {H : Type 0} (l : Loan) (s : Run H) → IsApart l → given_back_run l s ≡ s
+apart_back : {H : Type 0} (l : Loan) (s : Run H) → IsApart l → given_back_run l s ≡ s
 apart_back have.Nothing s apart = refl
 apart_back (have.Target t) s apart = refl
 apart_back (have.Cell c h) s apart = absurd apart
 apart_back (have.Apart h) s apart = refl
+
+-- and only the trace has gone
+pub given_up_run : {H : Type 0} (l : Loan) (s s1 s' : Run H) → IsApart l →
+    s' ≡ given_back_run l (untraced s1) → s1 ≡ s → s' ≡ untraced s
+given_up_run l s s1 s' apart back same = back ∙ apart_back l (untraced s1) apart ∙ ap untraced same

@@ -1,7 +1,7 @@
 //! Natives that ask for calls: what they ask for is done, and the host hears what came of it, until the
 //! native is over.
 
-ghost use Rattle.std.specs.Prelude.{◌≡◌, ◌<◌, ◌≤◌, ◌-◌, ◌∷◌, [], ℕ, List, Err, None, IfOk, OnErr, OnOk, false, is_some, length, option_map, true};
+ghost use Rattle.std.specs.Prelude.{◌≡◌, ◌<◌, ◌≤◌, ◌-◌, ◌&&◌, ◌∷◌, [], ℕ, List, Err, None, IfOk, OnErr, OnOk, false, is_some, length, option_map, true};
 ghost use Rattle.grain_value.specs.declared.values.Held.{Held};
 ghost use Rattle.grain_fault.specs.Problems.{problem_of};
 ghost use Rattle.grain_fault.specs.declared.faults.EvalAltResult.TheVariants as fault;
@@ -171,7 +171,7 @@ pub(crate) fn native_in_walk<H: Host, L: Ledger>(
     ensures lent { SameFlag (apart_of native.lent) result.1 }
     ensures before { steps.new.before ≡ steps.old.before }
 {
-    let before = match take_trace(run, named && *missed) {
+    let before = match take_trace(run, is_kept(named, *missed)) {
         Ok(before) => before,
         Err(OutOfMemory) => {
             *missed = false;
@@ -182,6 +182,13 @@ pub(crate) fn native_in_walk<H: Host, L: Ledger>(
     let outcome = raised_in_walk(run, steps, outcome, before);
     *missed = misses_named(named, &outcome);
     (outcome, receiver)
+}
+
+// Whether the trace of a property that was missed is kept: a native that is called by its name keeps it.
+fn is_kept(named: bool, missed: bool) -> bool
+    ensures { result ≡ (named && missed) }
+{
+    named && missed
 }
 
 // A copy of a trace.

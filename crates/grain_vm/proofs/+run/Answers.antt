@@ -18,7 +18,7 @@ use Rattle.grain_vm.specs.Seats.{first_held}
 use Rattle.grain_vm.specs.Underway.{after_chain}
 use Rattle.grain_vm.proofs.ChainLoops.{after_blind, only_retraced, walked_first, walked_over}
 use Rattle.grain_vm.proofs.ChainTurns.{asked_on, called_on, over_cut, over_driven}
-use Rattle.grain_vm.proofs.GivenUp.{apart_back}
+use Rattle.grain_vm.proofs.GivenUp.{given_up_run}
 use Rattle.grain_vm.proofs.InWalks.{later_so, native_finished, native_gave_up, native_walked, raised_over, walked_native_over}
 use Rattle.grain_vm.proofs.Lifted.{untraced}
 use Rattle.grain_vm.proofs.Performing.{same_flag}
@@ -499,11 +499,10 @@ pub asks::native_in_walk-returns-in-Err : goal.asks::native_in_walk-returns-in-E
 asks::native_in_walk-returns-in-Err g t c =
     let m = setup g.H.Host.law c.args.context.program.now c.args.context.engine.now in
     let s = c.args.run.now in
-    let s1 = c.take_trace.new.run in
     let gave = c.give_up in
     let left : gave.new.run ≡ untraced s =
-    gave.ensures.run ∙ apart_back c.args.native.lent (untraced s1) c.requires.apart
-    ∙ ap untraced c.in-Err.ensures.refused in
+    given_up_run c.args.native.lent s c.take_trace.new.run gave.new.run c.requires.apart gave.ensures.run
+    c.in-Err.ensures.refused in
     record {
       walked = rw gave.ensures.outcome
           (native_gave_up m c.args.named c.args.missed.now c.args.native s gave.new.run
@@ -527,7 +526,7 @@ asks::native_in_walk-returns g t c =
       walked = rw c.misses_named.ensures
           (native_walked m c.args.named c.args.missed.now native s ended.new.run raised.new.run n
           ended.new.steps raised.new.steps c.args.host.now ended.new.host own ended.result.0 raised.result
-          ended.result.1 apart c.in-Ok.ensures.taken (rw c.in-Ok.ensures.empty at ended.ensures.ends)
+          ended.result.1 apart (rw c.is_kept.ensures at c.in-Ok.ensures.taken) (rw c.in-Ok.ensures.empty at ended.ensures.ends)
           ended.ensures.left raised.ensures);
       over = walked_native_over native.lent s ended.new.run raised.new.run ended.new.steps raised.new.steps
           own ended.result.0 raised.result apart (rw c.in-Ok.ensures.empty at ended.ensures.over)
