@@ -95,7 +95,7 @@ fn walk_chain<H: Host, L: Ledger>(
             let mut answer = answer;
             let mut missed = false;
             'calls: loop {
-                let (outcome, receiver) = match drive(
+                match drive(
                     run,
                     context,
                     host,
@@ -110,13 +110,22 @@ fn walk_chain<H: Host, L: Ledger>(
                     Driven::Calls(call) => {
                         run.stacks.cut_trace(0);
                         missed = false;
-                        call_method(run, context, host, steps, call)
+                        let (outcome, receiver) = call_method(run, context, host, steps, call);
+                        answer = go_on(run, context, steps, &mut walking.walk, outcome, receiver);
                     }
-                    Driven::Asks(native) => {
-                        native_in_walk(run, context, host, steps, &mut missed, native)
+                    Driven::Asks(named, native) => {
+                        let (outcome, receiver) = native_in_walk(
+                            run,
+                            context,
+                            host,
+                            steps,
+                            &mut missed,
+                            named,
+                            native,
+                        );
+                        answer = go_on(run, context, steps, &mut walking.walk, outcome, receiver);
                     }
-                };
-                answer = go_on(run, context, steps, &mut walking.walk, outcome, receiver);
+                }
             }
         }
     }

@@ -19,7 +19,15 @@ use Rattle.grain_program.specs.View.{chain_of, name_of, position_of}
 use Rattle.grain_vm.specs.Chains.{walked_frame}
 use Rattle.grain_vm.specs.Seats.{first_held}
 use Rattle.grain_vm.specs.Underway.{after_chain}
-use Rattle.grain_vm.proofs.ChainLoops.{after_blind, walked_first, walked_on, walked_over}
+use Rattle.grain_vm.proofs.ChainLoops.{after_blind, only_retraced, walked_first, walked_over}
+use Rattle.grain_vm.proofs.ChainTurns.{asked_on, called_on, over_cut, over_driven}
+use Rattle.grain_vm.proofs.GivenUp.{given_up_run}
+use Rattle.grain_vm.proofs.InWalks.{later_so, native_finished, native_gave_up, native_walked, raised_over, walked_native_over}
+use Rattle.grain_vm.proofs.Lifted.{untraced}
+use Rattle.grain_vm.proofs.Performing.{same_flag}
+use Rattle.grain_frame.specs.Waiting.{apart_of}
+use Rattle.std.specs.Prelude.{option_map}
+use Rattle.std.specs.Vec.{vec_items}
 use Rattle.grain_vm.specs.Finding.{found_of, op_on}
 use Rattle.grain_vm.specs.Receivers.{called}
 use Rattle.grain_vm.proofs.OnFrames.{callee_out, callee_refused, finds_on_of, first_found, first_on, one_less, function_performed, on_function, pointed_on, target_found, two_there}
@@ -415,6 +423,36 @@ method_runs::walk_chain-calls-init g t c =
     (rw c.in-Ok-Walks.field-0-is at c.in-Ok-Walks.ensures.waits) c.begin_chain.ensures.blames
     c.requires.none
 
+pub method_runs::walk_chain-calls-preserved-in-Calls : goal.method_runs::walk_chain-calls-preserved-in-Calls
+method_runs::walk_chain-calls-preserved-in-Calls g t c =
+    let p = c.args.context.program.now in
+    let f = c.args.frame.now in
+    let k = c.args.index in
+    let w = c.calls.walking in
+    let was = c.calls.invariant in
+    let frame = walked_frame f c.args.run.now (chain_of p k) f.slot in
+    let drove = c.in-Calls.ensures in
+    let drove_to = c.drive.new in
+    let called = c.call_method-outcome in
+    let went = c.go_on-answer in
+    let cut : Run g.row.H.Denot = record drove_to.run { stacks = c.cut_trace.new.self } in
+    let emptied : cut ≡ untraced drove_to.run = rw c.cut_trace.ensures refl in
+    let so = drove.same k frame was.way.seat (after_chain k c.args.next w.home w.was_read_only frame)
+    was.missed was.way.scope was.way.this was.way.seated was.rooted
+    (after_blind k c.args.next w.home w.was_read_only frame) was.is_missed in
+    called_on (setup g.H.Host.law p c.args.context.engine.now)
+    (moment f c.args.run.now c.args.steps.now c.args.host.now) k c.args.next w c.calls.answer
+    c.calls.missed c.calls.frame c.calls.run drove_to.run called.new.run c.calls.steps drove_to.steps
+    called.new.steps went.new.steps c.calls.host drove_to.host called.new.host drove_to.walk
+    went.new.walk c.in-Calls.call.receiver called.result.1 called.result.0 went.result was c.in-Calls.call
+    drove.waits.0.function cut so.0 refl emptied so.2 drove.waits.0.is
+    (drove.rooted (first_held was.way.seat).read_only was.rooted) drove.waits.1
+    (called.ensures.called drove.waits.0.function drove.waits.0.is) called.ensures.lent
+    (over_cut c.calls.run drove_to.run cut called.new.run drove_to.run.stacks.trace drove.run emptied
+    called.ensures.over)
+    (went.ensures.did, went.ensures.carries, went.ensures.rooted, went.ensures.marked, went.ensures.falls)
+    drove.carries drove.before called.ensures.before
+
 pub method_runs::walk_chain-calls-preserved : goal.method_runs::walk_chain-calls-preserved
 method_runs::walk_chain-calls-preserved g t c =
     let p = c.args.context.program.now in
@@ -423,22 +461,26 @@ method_runs::walk_chain-calls-preserved g t c =
     let w = c.calls.walking in
     let was = c.calls.invariant in
     let frame = walked_frame f c.args.run.now (chain_of p k) f.slot in
-    let drove = c.in-Calls.ensures in
-    let called = c.call_method-outcome in
-    let went = c.go_on-answer in
-    walked_on (setup g.H.Host.law p c.args.context.engine.now)
+    let drove = c.in-Asks.ensures in
+    let drove_to = c.drive.new in
+    let called = c.native_in_walk-outcome in
+    let went = c.go_on-answer-in-Asks in
+    let native = c.in-Asks.native in
+    let so = drove.same k frame was.way.seat (after_chain k c.args.next w.home w.was_read_only frame)
+    was.missed was.way.scope was.way.this was.way.seated was.rooted
+    (after_blind k c.args.next w.home w.was_read_only frame) was.is_missed in
+    asked_on (setup g.H.Host.law p c.args.context.engine.now)
     (moment f c.args.run.now c.args.steps.now c.args.host.now) k c.args.next w c.calls.answer
-    c.calls.frame c.calls.run called.new.run c.calls.steps c.drive.new.steps called.new.steps
-    went.new.steps c.calls.host c.drive.new.host called.new.host c.drive.new.walk went.new.walk
-    c.in-Calls.call drove.waits.0.function called.result.0 called.result.1 went.result was
-    c.drive.new.run drove.run
-    (drove.same k frame was.way.seat (after_chain k c.args.next w.home w.was_read_only frame)
-    was.way.scope was.way.this was.way.seated was.rooted
-    (after_blind k c.args.next w.home w.was_read_only frame)) drove.waits.0.is
-    (drove.rooted (first_held was.way.seat).read_only was.rooted) drove.waits.1
-    (called.ensures.called drove.waits.0.function drove.waits.0.is) called.ensures.lent
-    called.ensures.over went.ensures.did went.ensures.carries went.ensures.rooted went.ensures.marked
-    drove.carries went.ensures.falls drove.before called.ensures.before
+    c.calls.missed c.calls.frame c.calls.run drove_to.run called.new.run c.calls.steps drove_to.steps
+    called.new.steps went.new.steps c.calls.host drove_to.host called.new.host drove_to.walk
+    went.new.walk (apart_of native.lent) called.result.1 called.result.0 went.result was native
+    c.in-Asks.named drove_to.missed called.new.missed so.0 refl so.1 so.2
+    (drove.rooted (first_held was.way.seat).read_only was.rooted) drove.waits.1 called.ensures.walked
+    called.ensures.lent
+    (over_driven c.calls.run drove_to.run called.new.run drove_to.run.stacks.trace drove.run
+    called.ensures.over)
+    (went.ensures.did, went.ensures.carries, went.ensures.rooted, went.ensures.marked, went.ensures.falls)
+    drove.carries drove.before called.ensures.before
 
 pub method_runs::walk_chain-returns-in-Over : goal.method_runs::walk_chain-returns-in-Over
 method_runs::walk_chain-returns-in-Over g t c =
@@ -449,18 +491,90 @@ method_runs::walk_chain-returns-in-Over g t c =
     let was = c.calls.invariant in
     let frame = walked_frame f c.args.run.now (chain_of p k) f.slot in
     let drove = c.in-Over.ensures in
+    let drove_to = c.drive.new in
     let ended = c.finish_chain in
+    let so = drove.same k frame was.way.seat (after_chain k c.args.next w.home w.was_read_only frame)
+    was.missed was.way.scope was.way.this was.way.seated was.rooted
+    (after_blind k c.args.next w.home w.was_read_only frame) was.is_missed in
     record {
       performs = walked_over (setup g.H.Host.law p c.args.context.engine.now)
           (moment f c.args.run.now c.args.steps.now c.args.host.now) k c.args.next w c.calls.answer
-          c.calls.frame ended.new.frame c.calls.run ended.new.run c.calls.steps c.drive.new.steps
-          ended.new.steps c.calls.host c.drive.new.host c.drive.new.walk c.in-Over.end ended.result was
-          c.drive.new.run drove.run
-          (drove.same k frame was.way.seat (after_chain k c.args.next w.home w.was_read_only frame)
-          was.way.scope was.way.this was.way.seated was.rooted
-          (after_blind k c.args.next w.home w.was_read_only frame)) drove.carries
+          c.calls.missed c.calls.frame ended.new.frame c.calls.run drove_to.run ended.new.run
+          c.calls.steps drove_to.steps ended.new.steps c.calls.host drove_to.host drove_to.walk
+          c.in-Over.end ended.result so.0 was
+          (only_retraced c.calls.run drove_to.run drove_to.run.stacks.trace drove.run) so.2 drove.carries
           (drove.rooted (first_held was.way.seat).read_only was.rooted)
-          (ended.ensures.finishes c.drive.new.host) ended.ensures.carries drove.before c.requires.ready;
+          (ended.ensures.finishes drove_to.host) ended.ensures.carries drove.before c.requires.ready;
+    }
+
+-- ---- natives that a walk calls
+
+pub asks::native_in_walk-returns-in-Err : goal.asks::native_in_walk-returns-in-Err
+asks::native_in_walk-returns-in-Err g t c =
+    let m = setup g.H.Host.law c.args.context.program.now c.args.context.engine.now in
+    let s = c.args.run.now in
+    let gave = c.give_up in
+    let left : gave.new.run ≡ untraced s =
+    given_up_run c.args.native.lent s c.take_trace.new.run gave.new.run c.requires.apart gave.ensures.run
+    c.in-Err.ensures.refused in
+    record {
+      walked = rw gave.ensures.outcome
+          (native_gave_up m c.args.named c.args.missed.now c.args.native s gave.new.run
+          c.args.steps.now c.args.host.now gave.new.host left gave.ensures.host);
+      over = only_retraced s gave.new.run [] left;
+      lent = rw gave.ensures.outcome (same_flag (apart_of c.args.native.lent));
+      before = refl;
+    }
+
+pub asks::native_in_walk-returns : goal.asks::native_in_walk-returns
+asks::native_in_walk-returns g t c =
+    let m = setup g.H.Host.law c.args.context.program.now c.args.context.engine.now in
+    let s = c.args.run.now in
+    let ended = c.end_of_native-outcome in
+    let raised = c.raised_in_walk-outcome in
+    let own = option_map vec_items c.in-Ok.before in
+    let n = c.args.steps.now in
+    let native = c.args.native in
+    let apart = c.requires.apart in
+    record {
+      walked = rw c.misses_named.ensures
+          (native_walked m c.args.named c.args.missed.now native s ended.new.run raised.new.run n
+          ended.new.steps raised.new.steps c.args.host.now ended.new.host own ended.result.0 raised.result
+          ended.result.1 apart (rw c.is_kept.ensures at c.in-Ok.ensures.taken) (rw c.in-Ok.ensures.empty at ended.ensures.ends)
+          ended.ensures.left raised.ensures);
+      over = walked_native_over native.lent s ended.new.run raised.new.run ended.new.steps raised.new.steps
+          own ended.result.0 raised.result apart (rw c.in-Ok.ensures.empty at ended.ensures.over)
+          raised.ensures;
+      lent = ended.ensures.left;
+      before = (later_so own ended.new.run ended.new.steps ended.result.0 raised.result raised.new.run
+          raised.new.steps raised.ensures).1 ∙ ended.ensures.before;
+    }
+
+pub asks::finish_native-returns-in-Over : goal.asks::finish_native-returns-in-Over
+asks::finish_native-returns-in-Over g t c = record {
+  finishes = rw c.in-Over.is (refl, refl, refl, refl, refl);
+  over = only_retraced c.args.run.now c.args.run.now c.args.run.now.stacks.trace refl;
+  lent = rw c.in-Over.is (same_flag c.in-Over.outcome.1);
+  before = refl;
+}
+
+pub asks::finish_native-returns-in-Asks : goal.asks::finish_native-returns-in-Asks
+asks::finish_native-returns-in-Asks g t c =
+    let m = setup g.H.Host.law c.args.context.program.now c.args.context.engine.now in
+    let s = c.args.run.now in
+    let native = c.in-Asks.native in
+    let ended = c.end_of_native-outcome in
+    let raised = c.raised_in_walk in
+    let apart = rw c.in-Asks.is at c.requires.apart in
+    record {
+      finishes = rw c.in-Asks.is (native_finished m native s ended.new.run raised.new.run
+          c.args.steps.now ended.new.steps raised.new.steps c.args.host.now ended.new.host ended.result.0
+          raised.result ended.result.1 ended.ensures.ends raised.ensures);
+      over = raised_over native.lent s ended.new.run raised.new.run ended.new.steps raised.new.steps None
+          ended.result.0 raised.result apart ended.ensures.over raised.ensures;
+      lent = rw c.in-Asks.is ended.ensures.left;
+      before = (later_so None ended.new.run ended.new.steps ended.result.0 raised.result raised.new.run
+          raised.new.steps raised.ensures).1 ∙ ended.ensures.before;
     }
 
 -- ---- calls with a receiver

@@ -100,8 +100,8 @@ decreases-loops::run_frame g l =
 abbrev pub invariant-method_runs::walk_chain-calls : goal.invariant-method_runs::walk_chain-calls
 invariant-method_runs::walk_chain-calls g l =
     WalkedTo (setup g.H.Host.law l.context.program.now l.context.engine.now)
-    (moment l.fn.frame l.fn.run l.fn.steps l.fn.host) l.fn.index l.fn.next l.walking l.answer l.frame
-    l.run l.steps l.host
+    (moment l.fn.frame l.fn.run l.fn.steps l.fn.host) l.fn.index l.fn.next l.walking l.answer l.missed
+    l.frame l.run l.steps l.host
 
 abbrev pub decreases-method_runs::walk_chain-calls : goal.decreases-method_runs::walk_chain-calls
 decreases-method_runs::walk_chain-calls g l = left_of l.context.program.now l.walking.walk l.answer
