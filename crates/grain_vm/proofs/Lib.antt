@@ -47,3 +47,7 @@ mod Callees
 mod LentNatives
 mod OnNatives
 mod ForCells
+mod AskedOn
+mod LentCells
+mod EndedOn
+mod NamedNatives

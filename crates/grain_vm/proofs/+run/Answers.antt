@@ -1,6 +1,8 @@
 use Rattle.std.proofs.Common.{◌≡◌, ◌∙◌, ◌<◌, ◌-◌, arith, rules, ℕ, Option, Ok, length, refl, subst, None, ap, ◌+◌, ◌++◌, ◌∷◌, [], Some, map, sym}
 use Rattle.grain_means.specs.Means.{setup}
-use Rattle.grain_frame.specs.Abstraction.{frame_in, this_of, moment, abstraction, Implements}
+use Rattle.grain_frame.specs.Abstraction.{frame_in, this_of, moment, abstraction, ImplementsBound}
+use Rattle.grain_frame.specs.declared.waiting.Performed.TheVariants as performed
+use Rattle.grain_frame.specs.lemmas.Bound.{as_bound}
 use Rattle.grain_vm.proofs.Found.{call_found, done_here, found_stepped, is_function, other_found, pointer_found, finds_of, named_found, call_refused, none_numbered, pointed_done, pointed_found}
 use Rattle.grain_vm.proofs.Calling.{call_ran, has_begun, not_begun, entered_with, kept_with, refused_here, refused_this, there_is, outer_is}
 use Rattle.grain_vm.proofs.ChainAhead.{chain_stepped}
@@ -21,9 +23,11 @@ use Rattle.grain_vm.specs.Finding.{found_of, op_on}
 use Rattle.grain_vm.specs.Receivers.{called}
 use Rattle.grain_vm.proofs.OnFrames.{callee_out, callee_refused, finds_on_of, first_found, first_on, one_less, function_performed, on_function, pointed_on, target_found, two_there}
 use Rattle.grain_vm.proofs.OnCalls.{call_out, function_done, native_done}
+use Rattle.grain_vm.specs.declared.natives.OnReceiver.TheVariants as on
+use Rattle.grain_vm.proofs.EndedOn.{apart_so, cells_over, ended_cell, ended_plain, left_there, none_above}
+use Rattle.grain_vm.proofs.NamedNatives.{is_waiting, it_ended, it_led, it_waits, named_done, on_copy, waited, waits_unbound}
 use Rattle.grain_program.specs.declared.code.instruction_set.Op.TheVariants as op
 use Rattle.grain_means.specs.Rules.{function_found, call_function, function_by_name, operand_under, race_text}
-use Rattle.grain_frame.specs.lemmas.Arms.{implements_after}
 use Rattle.std.specs.Prelude.{codes}
 use Rattle.grain_value.specs.Cells.{flat}
 use Rattle.grain_value.specs.Operands.{arguments, read_write, under}
@@ -558,9 +562,8 @@ method_runs::call_on-returns-in-Function g t c =
 
 pub method_runs::call_on-returns-in-Native : goal.method_runs::call_on-returns-in-Native
 method_runs::call_on-returns-in-Native g t c =
-    let m = setup g.H.Host.law c.args.context.program.now c.args.context.engine.now in
     let taken = c.take_call in
-    let called = c.call_native_on-outcome in
+    let called = c.native_on-outcome in
     let ended = c.end_on-in-Native in
     record {
       called = native_done g.H.Host.law c.args.context.program.now c.args.context.engine.now
@@ -570,7 +573,7 @@ method_runs::call_on-returns-in-Native g t c =
           ended.new.frame ended.new.run ended.new.steps ended.result c.in-Ok.needed c.in-Native.request
           (two_there c.args.count (length c.args.run.now.stacks.operands) c.requires.some
           c.requires.ready.operands) (rw c.from-total.ensures at c.in-Ok.ensures) c.in-Native.is
-          (called.ensures.called m refl) called.ensures.run called.ensures.lent called.ensures.before
+          called.ensures.called called.ensures.over called.ensures.lent called.ensures.before
           ended.ensures.implements ended.ensures.carries;
     }
 
@@ -583,17 +586,15 @@ finding::find_named-returns-in-None g t c =
     let none : function_found p c.args.name c.args.count ≡ None = search rules in
     let named : c.name-name.result.now ≡ name_of p c.args.name =
     c.name-name.ensures ∙ ap (name_of p) c.from-in-None.ensures in
+    let did = c.call_native_by_name in
     rw c.of.ensures (record {
-      finds = finds_of g.H.Host.law p engine f c.native_by_name_on_copy.new.frame s
-          c.native_by_name_on_copy.new.self c.args.steps.now c.native_by_name_on_copy.new.steps
-          (op.Call c.args.name c.args.count) c.args.next c.args.host.now c.native_by_name_on_copy.new.host
-          c.native_by_name_on_copy.result
-          (implements_after g.H.Host.law p engine f c.native_by_name_on_copy.new.frame s
-          c.native_by_name_on_copy.new.self c.args.steps.now c.native_by_name_on_copy.new.steps s.stacks
-          s.stacks.operands c.args.host.now c.native_by_name_on_copy.new.host refl
-          c.native_by_name_on_copy.ensures.implements
-          (λ stop u place. rw (none, named, c.from-count.ensures) refl) (λ b i. i)
-          (rw c.from-count.ensures refl) (rw c.from-count.ensures (omega arith)));
+      finds = finds_of g.H.Host.law p engine f did.new.frame s did.new.run c.args.steps.now
+          did.new.steps (op.Call c.args.name c.args.count) c.args.next c.args.host.now did.new.host
+          did.result
+          (named_done g.H.Host.law p engine f did.new.frame s did.new.run c.args.steps.now
+          did.new.steps c.args.name c.args.count c.args.next c.args.host.now did.new.host did.result
+          c.name-name.result.now c.from-count.result none named c.from-count.ensures
+          did.ensures.implements);
     })
 
 pub finding::find_named-returns-in-Some : goal.finding::find_named-returns-in-Some
@@ -622,10 +623,10 @@ finding::find_pointed-returns-in-Lent g t c =
       finds = finds_of g.H.Host.law p engine f f s c.data_race.new.self c.args.steps.now
           c.data_race.new.steps (op.CallFnPtr n) c.args.next c.args.host.now c.args.host.now
           c.data_race.result
-          (raises_here g.H.Host.law p engine f s c.data_race.new.self c.args.steps.now
+          (as_bound (raises_here g.H.Host.law p engine f s c.data_race.new.self c.args.steps.now
           c.data_race.new.steps c.args.host.now
           (Plain (DataRace (race_text [])) (position_of p f.address)) c.data_race.result
-          c.data_race.ensures c.requires.ready.inside (λ stop u place. rw none refl));
+          c.data_race.ensures c.requires.ready.inside (λ stop u place. rw none refl)));
     })
 
 pub finding::find_pointed-returns-in-Other : goal.finding::find_pointed-returns-in-Other
@@ -645,12 +646,12 @@ finding::find_pointed-returns-in-Other g t c =
       finds = finds_of g.H.Host.law p engine f f s c.not_a_pointer.new.self c.args.steps.now
           c.not_a_pointer.new.steps (op.CallFnPtr n) c.args.next c.args.host.now c.args.host.now
           c.not_a_pointer.result
-          (raises_here g.H.Host.law p engine f s c.not_a_pointer.new.self c.args.steps.now
+          (as_bound (raises_here g.H.Host.law p engine f s c.not_a_pointer.new.self c.args.steps.now
           c.not_a_pointer.new.steps c.args.host.now x c.not_a_pointer.result
           (c.not_a_pointer.ensures v stands.1) c.requires.ready.inside
           (λ stop u place. call_refused (stopped (setup g.H.Host.law p engine) stop) n c.args.next
           (frame_in f s place) (world (abstraction s c.args.steps.now c.args.host.now) u) v read
-          stands.2));
+          stands.2)));
     })
 
 pub finding::find_pointed-returns-in-Some : goal.finding::find_pointed-returns-in-Some
@@ -719,17 +720,84 @@ finding::find_pointed-returns g t c =
     (rw word at (sym c.in-None.is ∙ c.function_named.ensures.exact)) in
     let none : function_by_name p q.name (length q.curry + n) ≡ None =
     none_numbered p (function_by_text p q.name (length q.curry + n)) missing in
-    let did = subst (λ (k : ℕ). Implements (setup g.H.Host.law p engine) (moment f s1
+    let called = c.native_by_name in
+    let did = subst (λ (k : ℕ). ImplementsBound (setup g.H.Host.law p engine) (moment f s1
     c.args.steps.now c.args.host.now) (λ m place w. call_function m None q.name k (frame_in f s1
-    place) c.args.next w) (c.args.next ∷ []) k 1 s1.stacks.handlers c.native_by_name.result (moment
-    c.native_by_name.new.frame c.native_by_name.new.self c.native_by_name.new.steps
-    c.native_by_name.new.host)) total c.native_by_name.ensures.implements in
+    place) c.args.next w) (c.args.next ∷ []) k 1 s1.stacks.handlers called.result (moment
+    called.new.frame called.new.run called.new.steps called.new.host)) total
+    called.ensures.implements in
     rw c.of-in-None.ensures (record {
-      finds = finds_of g.H.Host.law p engine f c.native_by_name.new.frame s
-          c.native_by_name.new.self c.args.steps.now c.native_by_name.new.steps (op.CallFnPtr n)
-          c.args.next c.args.host.now c.native_by_name.new.host c.native_by_name.result
+      finds = finds_of g.H.Host.law p engine f called.new.frame s called.new.run c.args.steps.now
+          called.new.steps (op.CallFnPtr n) c.args.next c.args.host.now called.new.host called.result
           (pointed_done g.H.Host.law p engine f s s1 c.args.steps.now n c.args.next
           c.args.host.now v q values read there.2 c.into_vec.ensures enough spreads others
-          c.native_by_name.new.frame c.native_by_name.new.self c.native_by_name.new.steps
-          c.native_by_name.new.host none did);
+          called.new.frame called.new.run called.new.steps called.new.host none did);
     })
+
+-- ---- natives that are called on a receiver
+
+pub asks::native_on-returns-in-Over : goal.asks::native_on-returns-in-Over
+asks::native_on-returns-in-Over g t c =
+    let m = setup g.H.Host.law c.args.context.program.now c.args.context.engine.now in
+    let called = c.call_native_on in
+    let did = c.in-Over.ensures.called m refl in
+    record {
+      called = did.1;
+      over = cells_over c.args.run.now called.new.run called.ensures.run;
+      lent = did.0;
+      before = called.ensures.before;
+    }
+
+pub asks::native_on-returns-in-None : goal.asks::native_on-returns-in-None
+asks::native_on-returns-in-None g t c =
+    let m = setup g.H.Host.law c.args.context.program.now c.args.context.engine.now in
+    let called = c.call_native_on in
+    let over = c.finish_native-outcome in
+    let native = c.in-Asks.native in
+    let cell = c.in-Asks.cell in
+    let did = ended_plain m c.args.request c.args.run.now called.new.run over.new.run c.args.steps.now
+    called.new.steps over.new.steps c.args.host.now called.new.host over.new.host over.result.0
+    (on.Asks native cell) native cell over.result.1 refl (c.in-Asks.ensures.called m refl)
+    called.ensures.run called.ensures.before over.ensures.finishes over.ensures.over over.ensures.lent
+    over.ensures.before c.in-None.is in
+    record { called = did.called; over = did.over; lent = did.lent; before = did.before }
+
+pub asks::native_on-returns-in-Some : goal.asks::native_on-returns-in-Some
+asks::native_on-returns-in-Some g t c =
+    let m = setup g.H.Host.law c.args.context.program.now c.args.context.engine.now in
+    let called = c.call_native_on in
+    let over = c.finish_native-outcome in
+    let native = c.in-Asks.native in
+    let cell = c.in-Asks.cell in
+    let back = c.give_back_to_cell-receiver in
+    let did = ended_cell m c.args.request c.args.run.now called.new.run over.new.run c.args.steps.now
+    called.new.steps over.new.steps c.args.host.now called.new.host over.new.host over.result.0
+    (on.Asks native cell) native cell over.result.1 refl (c.in-Asks.ensures.called m refl)
+    called.ensures.run called.ensures.before over.ensures.finishes over.ensures.over over.ensures.lent
+    over.ensures.before c.in-Some.cell back.result back.new.run c.in-Some.is back.ensures.receiver
+    back.ensures.run in
+    record { called = did.called; over = did.over; lent = did.lent; before = did.before }
+
+-- ---- natives of a name that no function has
+
+pub asks::native_by_name-returns-in-Leads : goal.asks::native_by_name-returns-in-Leads
+asks::native_by_name-returns-in-Leads g t c = record {
+  implements = it_led c.in-Leads.progress
+      (it_waits c.in_ok-native_by_name.field-0 (performed.Leads c.in-Leads.progress) c.in-Leads.is
+      c.in_ok-native_by_name.ensures.implements);
+}
+
+pub asks::native_by_name-returns-in-Waits : goal.asks::native_by_name-returns-in-Waits
+asks::native_by_name-returns-in-Waits g t c = record {
+  implements = waited c.in-Waits.waiting
+      (it_waits c.in_ok-native_by_name.field-0 (performed.Waits c.in-Waits.waiting) c.in-Waits.is
+      c.in_ok-native_by_name.ensures.implements) c.wait_for_native.result c.wait_for_native.ensures.goes;
+}
+
+pub asks::call_native_by_name-returns : goal.asks::call_native_by_name-returns
+asks::call_native_by_name-returns g t c =
+    let did = c.native_by_name-progress in
+    record {
+      implements = on_copy did.new.frame did.new.run did.new.steps did.new.host
+          did.ensures.implements;
+    }
