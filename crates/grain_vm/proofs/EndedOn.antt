@@ -1,5 +1,5 @@
 -- A native that was called on a receiver, and asked for calls first, is over: what it was lent is back.
-use Rattle.std.proofs.Common.{◌≡◌, ◌∙◌, ◌≤◌, ℕ, List, [], ◌∷◌, ◌++◌, Option, Some, None, Result, length, take, refl, sym, ap, subst, arith}
+use Rattle.std.proofs.Common.{◌≡◌, ◌∙◌, ◌≤◌, ℕ, List, [], ◌∷◌, ◌++◌, Option, Some, None, false, Result, length, take, refl, sym, ap, subst, arith}
 use Rattle.std.specs.Prelude.{is_some, slice_set, true}
 use Rattle.grain_value.specs.Cells.{idle}
 use Rattle.grain_value.specs.declared.scopes.Entry.{Entry}

@@ -1,7 +1,7 @@
 //! Natives that ask for calls: what they ask for is done, and the host hears what came of it, until the
 //! native is over.
 
-ghost use Rattle.std.specs.Prelude.{◌≡◌, ◌<◌, ◌≤◌, ◌-◌, ◌∷◌, [], ℕ, List, Err, None, IfOk, OnErr, OnOk, false, is_some, length, true};
+ghost use Rattle.std.specs.Prelude.{◌≡◌, ◌<◌, ◌≤◌, ◌-◌, ◌∷◌, [], ℕ, List, Err, None, IfOk, OnErr, OnOk, false, is_some, length, option_map, true};
 ghost use Rattle.grain_value.specs.declared.values.Held.{Held};
 ghost use Rattle.grain_fault.specs.declared.faults.EvalAltResult.TheVariants as fault;
 ghost use Rattle.grain_means.specs.Worlds.{Setup};
@@ -181,7 +181,8 @@ pub(crate) fn native_in_walk<H: Host, L: Ledger>(
 
 // Takes the trace away, and gives it if it is to be kept.
 fn take_trace<H: Host>(run: &mut Run<H>, kept: bool) -> Result<Option<Vec<Fault>>, OutOfMemory>
-    ensures taken { IfOk result (λ before. IsMissed kept run.old.stacks.trace before) }
+    ensures taken { IfOk result (λ before.
+        IsMissed kept run.old.stacks.trace (option_map (λ v. v.items) before)) }
     ensures empty { OnOk result
         (run.new ≡ record run.old { stacks = record run.old.stacks { trace = [] } }) }
     ensures refused { OnErr result (run.new ≡ run.old) }
@@ -219,7 +220,8 @@ fn raised_in_walk<H: Host, L: Ledger>(
     outcome: Result<Dynamic, EvalAltResult>,
     before: Option<Vec<Fault>>,
 ) -> Result<Dynamic, EvalAltResult>
-    ensures { RaisesInWalk outcome before run.old steps.old result run.new steps.new }
+    ensures { RaisesInWalk outcome (option_map (λ v. v.items) before) run.old steps.old result run.new
+        steps.new }
 {
     if outcome.is_ok() || is_out(&outcome) {
         return outcome;

@@ -783,15 +783,15 @@ asks::native_on-returns-in-Some g t c =
 pub asks::native_by_name-returns-in-Leads : goal.asks::native_by_name-returns-in-Leads
 asks::native_by_name-returns-in-Leads g t c = record {
   implements = it_led c.in-Leads.progress
-      (it_waits c.in_ok-native_by_name.field-0 (performed.Leads c.in-Leads.progress) c.in-Leads.is
-      c.in_ok-native_by_name.ensures.implements);
+      (it_waits c.in_ok-progress.field-0 (performed.Leads c.in-Leads.progress) c.in-Leads.is
+      c.in_ok-progress.ensures.implements);
 }
 
 pub asks::native_by_name-returns-in-Waits : goal.asks::native_by_name-returns-in-Waits
 asks::native_by_name-returns-in-Waits g t c = record {
   implements = waited c.in-Waits.waiting
-      (it_waits c.in_ok-native_by_name.field-0 (performed.Waits c.in-Waits.waiting) c.in-Waits.is
-      c.in_ok-native_by_name.ensures.implements) c.wait_for_native.result c.wait_for_native.ensures.goes;
+      (it_waits c.in_ok-progress.field-0 (performed.Waits c.in-Waits.waiting) c.in-Waits.is
+      c.in_ok-progress.ensures.implements) c.wait_for_native.result c.wait_for_native.ensures.goes;
 }
 
 pub asks::call_native_by_name-returns : goal.asks::call_native_by_name-returns
