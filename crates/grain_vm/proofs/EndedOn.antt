@@ -26,7 +26,7 @@ use Rattle.grain_frame.specs.declared.waiting.Loan.{Loan}
 use Rattle.grain_frame.specs.declared.waiting.Loan.TheVariants as have
 use Rattle.grain_vm.specs.Asks.{FinishesNative, raised_to}
 use Rattle.grain_vm.specs.Driving.{IsApart, SameFlag, beside, name_in}
-use Rattle.grain_vm.specs.Methods.{Hears, MethodOver, NoneAbove, given_to}
+use Rattle.grain_vm.specs.Methods.{Hears, MethodOver, given_to}
 use Rattle.grain_vm.specs.OnReceivers.{CallsNativeOn, heard_on, on_asking, receiver_after, roots_below}
 use Rattle.grain_vm.specs.Receivers.{CallsOn, HearsRoot, NativeCalled, native_call}
 use Rattle.grain_vm.specs.declared.driving.AskingNative.{AskingNative}
@@ -179,6 +179,20 @@ pub record CalledNative {H : Type 0} (m : Setup H) (r : Request) (s : Run H) (n 
   pub lent : SameFlag r.receiver left
   pub before : n'.before ≡ n.before
 
+module _ {H : Type 0} (m : Setup H) (r : Request) (s s1 : Run H) (n n1 : StepsView) (host host1 : H)
+    (native : AskingNative) (back : Option LentCell)
+    (calls : CallsNativeOn m r s n host (on.Asks native back) s1 n1 host1) where
+  -- the native can go on
+  pub apart_so : IsApart native.lent
+  apart_so = subst (λ (y : Loan). IsApart y) (sym calls.1) tt
+
+  -- what it was lent is there when it is over
+  pub left_there : (left : Option Held) → SameFlag (apart_of native.lent) left → is_some left ≡ true
+  left_there left flag =
+      let l = receiver_back calls.0 left
+      (subst (λ (y : Loan). SameFlag (apart_of y) left) calls.1 flag) in
+      ap (λ (y : Option Held). is_some y) l.1
+
 module _ {H : Type 0} (m : Setup H) (r : Request) (s s1 s2 : Run H) (n n1 n2 : StepsView)
     (host host1 host2 : H) (o : Result Dynamic EvalAltResult) (x : OnReceiver) (native : AskingNative)
     (back : Option LentCell) (left : Option Held) (is : x ≡ on.Asks native back)
@@ -186,20 +200,6 @@ module _ {H : Type 0} (m : Setup H) (r : Request) (s s1 s2 : Run H) (n n1 n2 : S
     (cells : s1 ≡ record s { cells = s1.cells }) (began : n1.before ≡ n.before) where
   asks : CallsNativeOn m r s n host (on.Asks native back) s1 n1 host1
   asks = subst (λ (y : OnReceiver). CallsNativeOn m r s n host y s1 n1 host1) is calls
-
-  -- the native can go on
-  pub apart_so : IsApart native.lent
-  apart_so = subst (λ (y : Loan). IsApart y) (sym asks.1) tt
-
-  pub none_above : NoneAbove s.level s.receivers → NoneAbove s1.level s1.receivers
-  none_above none = subst (λ (q : Run H). NoneAbove q.level q.receivers) (sym cells) none
-
-  -- what it was lent is there when it is over
-  pub left_there : SameFlag (apart_of native.lent) left → is_some left ≡ true
-  left_there flag =
-      let l = receiver_back asks.0 left
-      (subst (λ (y : Loan). SameFlag (apart_of y) left) asks.1 flag) in
-      ap (λ (y : Option Held). is_some y) l.1
 
   -- it went on until it was over
   module _ (finishes : FinishesNative m (answered.Asks native) s1 n1 host1 o left s2 n2 host2)

@@ -1,5 +1,13 @@
 -- A call of a name that no function has: the native of that name is called, and goes on until it is over.
-use Rattle.std.proofs.Common.{◌≡◌, ◌∙◌, ◌≤◌, ◌+◌, ◌-◌, ℕ, List, [], ◌∷◌, Option, None, false, Result, Ok, Err, inl, inr, length, refl, sym, ap, subst, arith}
+use Rattle.std.proofs.Common.{◌≡◌, ◌∙◌, ◌≤◌, ◌+◌, ◌-◌, ℕ, List, [], ◌∷◌, Option, Some, None, Bool, true, false, Result, Ok, Err, inl, inr, length, nat_lt, refl, sym, ap, subst, arith}
+use Rattle.std.specs.Prelude.{if◌then◌else◌}
+use Rattle.grain_value.specs.Cells.{flat}
+use Rattle.grain_value.specs.Looking.{pointer_of}
+use Rattle.grain_value.specs.Operands.{arguments, under}
+use Rattle.grain_value.specs.declared.values.Dynamic.{Dynamic}
+use Rattle.grain_value.specs.declared.values.FnPtr.{FnPtr}
+use Rattle.grain_fault.specs.Problems.{NoMemory}
+use Rattle.grain_program.specs.declared.code.functions.Function.{Function}
 use Rattle.grain_value.specs.declared.memory.OutOfMemory.{OutOfMemory}
 use Rattle.grain_value.specs.declared.values.Held.{Held}
 use Rattle.grain_host.specs.Law.{Law}
@@ -8,12 +16,12 @@ use Rattle.grain_program.specs.declared.code.instruction_set.Op.TheVariants as o
 use Rattle.grain_global.specs.StepsView.{StepsView}
 use Rattle.grain_global.specs.declared.engines.Engine.{Engine}
 use Rattle.grain_stack.specs.declared.handlers.Handler.{Handler}
-use Rattle.grain_means.specs.Worlds.{Setup}
+use Rattle.grain_means.specs.Worlds.{is_stop, Frame, Setup, World}
 use Rattle.grain_means.specs.Means.{setup}
-use Rattle.grain_means.specs.Rules.{call_function, function_found}
-use Rattle.grain_means.specs.Simulation.{Computation}
+use Rattle.grain_means.specs.Rules.{all_or_race, call_function, call_pointer, enter_function, flat_all, flat_or_race, function_by_name, function_found, leave_by_fault, native, operand_under, pointer_called, pushed, raised, spread}
+use Rattle.grain_means.specs.Simulation.{Computation, stopped, world}
 use Rattle.grain_means.specs.lemmas.Stretches.{compose}
-use Rattle.grain_frame.specs.Abstraction.{ContinuesAt, ImplementsBound, KeepsFrame, Moment, PerformsBound, Progresses, frame_in, moment}
+use Rattle.grain_frame.specs.Abstraction.{ContinuesAt, ImplementsBound, KeepsFrame, Moment, PerformsBound, Progresses, abstraction, frame_in, is_out, moment}
 use Rattle.grain_frame.specs.Targets.{home_of}
 use Rattle.grain_frame.specs.Waiting.{ImplementsOrWaits, LeadsTo, asking, rest_of}
 use Rattle.grain_frame.specs.declared.activations.Activation.{Activation}
@@ -25,9 +33,12 @@ use Rattle.grain_frame.specs.declared.waiting.Performed.{Performed}
 use Rattle.grain_frame.specs.declared.waiting.Performed.TheVariants as performed
 use Rattle.grain_frame.specs.declared.waiting.Waiting.{Waiting}
 use Rattle.grain_frame.specs.lemmas.Arms.{taken_back}
-use Rattle.grain_frame.specs.lemmas.Bound.{bound_as}
+use Rattle.grain_frame.specs.lemmas.Bound.{as_bound, bound_as}
+use Rattle.grain_frame.specs.lemmas.Failing.{native_stops, wants_memory}
 use Rattle.grain_vm.specs.Asks.{IsWaiting}
+use Rattle.grain_vm.specs.Finding.{Finds}
 use Rattle.grain_vm.specs.Methods.{NoneAbove}
+use Rattle.grain_vm.specs.declared.finding.Found.{Found}
 use Rattle.grain_vm.proofs.Turns.{kept_bound, none_on}
 
 -- ---- an instruction that waits, and then goes on
@@ -129,10 +140,11 @@ it_led p did =
 
 -- or memory ran out
 pub it_ended : {H : Type 0} {m : Setup H} {a b : Moment H} {rule : Computation H} {ts : List ℕ}
-    {takes gives : ℕ} {hs : List Handler} (e : OutOfMemory) →
-    ImplementsOrWaits m a rule ts takes gives hs (Err e) b →
-    ImplementsBound m a rule ts takes gives hs (Err e) b
-it_ended e did =
+    {takes gives : ℕ} {hs : List Handler} (e : OutOfMemory) (r : Result Progress OutOfMemory) →
+    is_out r ≡ true → ImplementsOrWaits m a rule ts takes gives hs (Err e) b →
+    ImplementsBound m a rule ts takes gives hs r b
+it_ended e (Ok y) out did = absurd cc
+it_ended e (Err y) out did =
     record { same = did.same; kept = did.kept; lands = tt; before = did.before }
 
 -- ---- on a copy of the frame
@@ -167,3 +179,53 @@ named_done law p engine f f' s s' n n' name count next host host' r word k none 
     (λ m place w. call_function m None word j (frame_in f s place) next w) (next ∷ []) j 1
     s.stacks.handlers r (moment f' s' n' host')) counted did))
     (λ stop u place bound. rw none refl)
+
+-- ---- memory is out before a pointer is called
+
+same_both : {A : Type 0} (b : Bool) (x : A) → (if b then x else x) ≡ x
+same_both true x = refl
+same_both false x = refl
+
+module _ {S : Type 0} (m : Setup S) (w : World S) (halts : is_stop m.stop w.passed ≡ true) where
+  entered_stops : (g : Function) (count : ℕ) (f : Frame) (next : ℕ) →
+      enter_function m g count f next w ≡ leave_by_fault m f NoMemory w
+  entered_stops g count f next =
+      rw halts (same_both (nat_lt w.count m.engine.limits.operations) (leave_by_fault m f NoMemory w))
+
+  called_stops : (o : Option Function) (name : List ℕ) (count : ℕ) (f : Frame) (next : ℕ) →
+      call_function m o name count f next w ≡ leave_by_fault m f NoMemory w
+  called_stops None name count f next = by (flat_all w.cells (arguments count f.operands)) where
+    by : (hs : Option (List Held)) → all_or_race m hs f w (λ args. native m name None args f w
+        (λ v w1. pushed m f next (under count f.operands) v w1) (raised m f))
+        ≡ leave_by_fault m f NoMemory w
+    by None = rw halts refl
+    by (Some args) =
+        native_stops m name None args f w (λ v w1. pushed m f next (under count f.operands) v w1)
+        (raised m f) halts (λ y. rw halts refl)
+  called_stops (Some g) name count f next = entered_stops g count f next
+
+  named_stops : (o : Option FnPtr) (v : Dynamic) (n next : ℕ) (f : Frame) →
+      pointer_called m o v n next f w ≡ leave_by_fault m f NoMemory w
+  named_stops None v n next f = rw halts refl
+  named_stops (Some p) v n next f =
+      called_stops (function_by_name m.program p.name (length p.curry + n)) p.name (length p.curry + n)
+      (spread p n f) next
+
+  pub pointed_stops : (n next : ℕ) (f : Frame) →
+      call_pointer m n next f w ≡ leave_by_fault m f NoMemory w
+  pointed_stops n next f = by (flat w.cells (operand_under n f.operands).value) where
+    by : (o : Option Dynamic) →
+        flat_or_race m o [] f w (λ v. pointer_called m (pointer_of v) v n next f w)
+        ≡ leave_by_fault m f NoMemory w
+    by None = rw halts refl
+    by (Some v) = named_stops (pointer_of v) v n next f
+
+pub pointed_out : {H : Type 0} (law : Law H) (p : View) (engine : Engine) (f : Activation) (s : Run H)
+    (n : StepsView) (host : H) (count next : ℕ) (r : Result Found OutOfMemory) → is_out r ≡ true →
+    f.base ≤ length s.scope →
+    Finds (setup law p engine) (moment f s n host) (op.CallFnPtr count) next r (moment f s n host)
+pointed_out law p engine f s n host count next (Ok y) out inside = absurd cc
+pointed_out law p engine f s n host count next (Err y) out inside =
+    as_bound (wants_memory law p engine f s n host (Err y) refl inside
+    (λ stop u place halts. pointed_stops (stopped (setup law p engine) stop)
+    (world (abstraction s n host) u) halts count next (frame_in f s place)))

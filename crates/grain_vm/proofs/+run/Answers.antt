@@ -1,6 +1,8 @@
-use Rattle.std.proofs.Common.{◌≡◌, ◌∙◌, ◌<◌, ◌-◌, arith, rules, ℕ, Option, Ok, length, refl, subst, None, ap, ◌+◌, ◌++◌, ◌∷◌, [], Some, map, sym}
+use Rattle.std.proofs.Common.{◌≡◌, ◌∙◌, ◌<◌, ◌-◌, arith, rules, ℕ, Option, Ok, length, refl, subst, None, ap, ◌+◌, ◌++◌, ◌∷◌, [], Some, map, sym, true}
 use Rattle.grain_means.specs.Means.{setup}
-use Rattle.grain_frame.specs.Abstraction.{frame_in, this_of, moment, abstraction, ImplementsBound}
+use Rattle.grain_frame.specs.Abstraction.{frame_in, is_out, this_of, moment, abstraction, ImplementsBound}
+use Rattle.grain_vm.specs.Driving.{IsApart}
+use Rattle.grain_vm.specs.Methods.{NoneAbove}
 use Rattle.grain_frame.specs.declared.waiting.Performed.TheVariants as performed
 use Rattle.grain_frame.specs.lemmas.Bound.{as_bound}
 use Rattle.grain_vm.proofs.Found.{call_found, done_here, found_stepped, is_function, other_found, pointer_found, finds_of, named_found, call_refused, none_numbered, pointed_done, pointed_found}
@@ -24,8 +26,8 @@ use Rattle.grain_vm.specs.Receivers.{called}
 use Rattle.grain_vm.proofs.OnFrames.{callee_out, callee_refused, finds_on_of, first_found, first_on, one_less, function_performed, on_function, pointed_on, target_found, two_there}
 use Rattle.grain_vm.proofs.OnCalls.{call_out, function_done, native_done}
 use Rattle.grain_vm.specs.declared.natives.OnReceiver.TheVariants as on
-use Rattle.grain_vm.proofs.EndedOn.{apart_so, cells_over, ended_cell, ended_plain, left_there, none_above}
-use Rattle.grain_vm.proofs.NamedNatives.{is_waiting, it_ended, it_led, it_waits, named_done, on_copy, waited, waits_unbound}
+use Rattle.grain_vm.proofs.EndedOn.{apart_so, cells_over, ended_cell, ended_plain, left_there}
+use Rattle.grain_vm.proofs.NamedNatives.{it_ended, it_led, it_waits, named_done, on_copy, pointed_out, waited}
 use Rattle.grain_program.specs.declared.code.instruction_set.Op.TheVariants as op
 use Rattle.grain_means.specs.Rules.{function_found, call_function, function_by_name, operand_under, race_text}
 use Rattle.std.specs.Prelude.{codes}
@@ -520,6 +522,18 @@ method_runs::find_on-returns-in-First g t c =
           (rw (there.3, there.4, one_less there.2) at called_on.ensures.called));
     })
 
+pub method_runs::find_on-find_pointed-requires : goal.method_runs::find_on-find_pointed-requires
+method_runs::find_on-find_pointed-requires g t c κs within =
+    let p = c.args.context.program.now in
+    let f = c.args.frame.now in
+    let s = c.args.run.now in
+    let found = c.find_callee in
+    let there = target_found g.H.Host.law p c.args.context.engine.now f s c.args.steps.now
+    c.args.host.now c.args.destination c.args.count c.args.next
+    (called p s.cells s.stacks.operands f.address c.args.count) refl c.in-Ok.callee c.in-Target.is
+    found.new.run found.new.steps (rw c.from-total.ensures at c.in-Ok.ensures) in
+    let unchanged : found.new.run ≡ s = there.1 in search rules
+
 pub method_runs::find_on-call_on-requires : goal.method_runs::find_on-call_on-requires
 method_runs::find_on-call_on-requires g t c =
     let p = c.args.context.program.now in
@@ -654,6 +668,27 @@ finding::find_pointed-returns-in-Other g t c =
           stands.2)));
     })
 
+pub finding::find_pointed-returns-in_err-name-in-Pointer :
+    goal.finding::find_pointed-returns-in_err-name-in-Pointer
+finding::find_pointed-returns-in_err-name-in-Pointer g t c =
+    let out : is_out c.from_residual.result ≡ true = search rules in
+    record {
+      finds = pointed_out g.H.Host.law c.args.context.program.now c.args.context.engine.now
+          c.args.frame.now c.args.run.now c.args.steps.now c.args.host.now c.args.count c.args.next
+          c.from_residual.result out c.requires.ready.inside;
+    }
+
+pub finding::find_pointed-returns-in_err-spread-in-Pointer :
+    goal.finding::find_pointed-returns-in_err-spread-in-Pointer
+finding::find_pointed-returns-in_err-spread-in-Pointer g t c =
+    let out : is_out c.from_residual-in_err-spread-in-Pointer.result ≡ true = search rules in
+    let stays : c.spread.new.self ≡ c.args.run.now.stacks = search rules in
+    rw stays (record {
+      finds = pointed_out g.H.Host.law c.args.context.program.now c.args.context.engine.now
+          c.args.frame.now c.args.run.now c.args.steps.now c.args.host.now c.args.count c.args.next
+          c.from_residual-in_err-spread-in-Pointer.result out c.requires.ready.inside;
+    })
+
 pub finding::find_pointed-returns-in-Some : goal.finding::find_pointed-returns-in-Some
 finding::find_pointed-returns-in-Some g t c =
     let p = c.args.context.program.now in
@@ -778,7 +813,39 @@ asks::native_on-returns-in-Some g t c =
     back.ensures.run in
     record { called = did.called; over = did.over; lent = did.lent; before = did.before }
 
+pub asks::native_on-finish_native-outcome-requires :
+    goal.asks::native_on-finish_native-outcome-requires
+asks::native_on-finish_native-outcome-requires g t c κs within =
+    let m = setup g.H.Host.law c.args.context.program.now c.args.context.engine.now in
+    let called = c.call_native_on in
+    let native = c.in-Asks.native in
+    let apart : IsApart native.lent = apart_so m c.args.request c.args.run.now called.new.run
+    c.args.steps.now called.new.steps c.args.host.now called.new.host native c.in-Asks.cell
+    (c.in-Asks.ensures.called m refl) in
+    let none : NoneAbove called.new.run.level called.new.run.receivers =
+    subst (λ (q : Run g.row.H.Denot). NoneAbove q.level q.receivers) (sym called.ensures.run)
+    c.requires.none in
+    let same : called.new.run.count ≡ c.args.run.now.count =
+    ap (λ (q : Run g.row.H.Denot). q.count) called.ensures.run in search rules
+
+pub asks::native_on-give_back_to_cell-receiver-requires :
+    goal.asks::native_on-give_back_to_cell-receiver-requires
+asks::native_on-give_back_to_cell-receiver-requires g t c =
+    let m = setup g.H.Host.law c.args.context.program.now c.args.context.engine.now in
+    let called = c.call_native_on in
+    left_there m c.args.request c.args.run.now called.new.run c.args.steps.now called.new.steps
+    c.args.host.now called.new.host c.in-Asks.native c.in-Asks.cell (c.in-Asks.ensures.called m refl)
+    c.finish_native-outcome.result.1 c.finish_native-outcome.ensures.lent
+
 -- ---- natives of a name that no function has
+
+pub asks::native_by_name-returns-in_err-progress : goal.asks::native_by_name-returns-in_err-progress
+asks::native_by_name-returns-in_err-progress g t c =
+    let out : is_out c.from_residual.result ≡ true = search rules in
+    record {
+      implements = it_ended c.in_err-progress.field-0.0 c.from_residual.result out
+          c.in_err-progress.ensures.implements;
+    }
 
 pub asks::native_by_name-returns-in-Leads : goal.asks::native_by_name-returns-in-Leads
 asks::native_by_name-returns-in-Leads g t c = record {
