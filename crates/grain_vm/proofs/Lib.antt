@@ -55,3 +55,7 @@ mod ForCells
 mod Waited
 mod WaitsOn
 mod WaitsAhead
+mod AskedOn
+mod LentCells
+mod EndedOn
+mod NamedNatives

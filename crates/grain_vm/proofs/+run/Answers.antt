@@ -1,6 +1,11 @@
 use Rattle.std.proofs.Common.{◌≡◌, ◌∙◌, ◌<◌, ◌-◌, arith, rules, ℕ, Option, Ok, length, refl, subst, None, ap, ◌+◌, ◌++◌, ◌∷◌, [], Some, map, sym, true}
 use Rattle.grain_means.specs.Means.{setup}
 use Rattle.grain_frame.specs.Abstraction.{frame_in, this_of, is_out, moment, abstraction, Implements}
+use Rattle.grain_frame.specs.Abstraction.{frame_in, is_out, this_of, moment, abstraction, ImplementsBound}
+use Rattle.grain_vm.specs.Driving.{IsApart}
+use Rattle.grain_vm.specs.Methods.{NoneAbove}
+use Rattle.grain_frame.specs.declared.waiting.Performed.TheVariants as performed
+use Rattle.grain_frame.specs.lemmas.Bound.{as_bound}
 use Rattle.grain_vm.proofs.Found.{call_found, done_here, found_stepped, is_function, other_found, pointer_found, finds_of, named_found, call_refused, none_numbered, pointed_done, pointed_found}
 use Rattle.grain_vm.proofs.Calling.{call_ran, has_begun, not_begun, entered_with, kept_with, refused_here, refused_this, there_is, outer_is}
 use Rattle.grain_vm.proofs.ChainAhead.{chain_stepped}
@@ -32,9 +37,11 @@ use Rattle.grain_vm.specs.Finding.{found_of, op_on}
 use Rattle.grain_vm.specs.Receivers.{called}
 use Rattle.grain_vm.proofs.OnFrames.{callee_out, callee_refused, finds_on_of, first_found, first_on, one_less, function_performed, on_function, pointed_on, target_found, two_there}
 use Rattle.grain_vm.proofs.OnCalls.{call_out, function_done, native_done}
+use Rattle.grain_vm.specs.declared.natives.OnReceiver.TheVariants as on
+use Rattle.grain_vm.proofs.EndedOn.{apart_so, cells_over, ended_cell, ended_plain, left_there}
+use Rattle.grain_vm.proofs.NamedNatives.{it_ended, it_led, it_waits, named_done, on_copy, pointed_out, waited}
 use Rattle.grain_program.specs.declared.code.instruction_set.Op.TheVariants as op
 use Rattle.grain_means.specs.Rules.{function_found, call_function, function_by_name, operand_under, race_text}
-use Rattle.grain_frame.specs.lemmas.Arms.{implements_after}
 use Rattle.std.specs.Prelude.{codes}
 use Rattle.grain_value.specs.Cells.{flat}
 use Rattle.grain_value.specs.Operands.{arguments, read_write, under}
@@ -644,6 +651,18 @@ method_runs::find_on-returns-in-First g t c =
           (rw (there.3, there.4, one_less there.2) at called_on.ensures.called));
     })
 
+pub method_runs::find_on-find_pointed-requires : goal.method_runs::find_on-find_pointed-requires
+method_runs::find_on-find_pointed-requires g t c κs within =
+    let p = c.args.context.program.now in
+    let f = c.args.frame.now in
+    let s = c.args.run.now in
+    let found = c.find_callee in
+    let there = target_found g.H.Host.law p c.args.context.engine.now f s c.args.steps.now
+    c.args.host.now c.args.destination c.args.count c.args.next
+    (called p s.cells s.stacks.operands f.address c.args.count) refl c.in-Ok.callee c.in-Target.is
+    found.new.run found.new.steps (rw c.from-total.ensures at c.in-Ok.ensures) in
+    let unchanged : found.new.run ≡ s = there.1 in search rules
+
 pub method_runs::find_on-call_on-requires : goal.method_runs::find_on-call_on-requires
 method_runs::find_on-call_on-requires g t c =
     let p = c.args.context.program.now in
@@ -686,9 +705,8 @@ method_runs::call_on-returns-in-Function g t c =
 
 pub method_runs::call_on-returns-in-Native : goal.method_runs::call_on-returns-in-Native
 method_runs::call_on-returns-in-Native g t c =
-    let m = setup g.H.Host.law c.args.context.program.now c.args.context.engine.now in
     let taken = c.take_call in
-    let called = c.call_native_on-outcome in
+    let called = c.native_on-outcome in
     let ended = c.end_on-in-Native in
     record {
       called = native_done g.H.Host.law c.args.context.program.now c.args.context.engine.now
@@ -698,7 +716,7 @@ method_runs::call_on-returns-in-Native g t c =
           ended.new.frame ended.new.run ended.new.steps ended.result c.in-Ok.needed c.in-Native.request
           (two_there c.args.count (length c.args.run.now.stacks.operands) c.requires.some
           c.requires.ready.operands) (rw c.from-total.ensures at c.in-Ok.ensures) c.in-Native.is
-          (called.ensures.called m refl) called.ensures.run called.ensures.lent called.ensures.before
+          called.ensures.called called.ensures.over called.ensures.lent called.ensures.before
           ended.ensures.implements ended.ensures.carries;
     }
 
@@ -711,17 +729,15 @@ finding::find_named-returns-in-None g t c =
     let none : function_found p c.args.name c.args.count ≡ None = search rules in
     let named : c.name-name.result.now ≡ name_of p c.args.name =
     c.name-name.ensures ∙ ap (name_of p) c.from-in-None.ensures in
+    let did = c.call_native_by_name in
     rw c.of.ensures (record {
-      finds = finds_of g.H.Host.law p engine f c.native_by_name_on_copy.new.frame s
-          c.native_by_name_on_copy.new.self c.args.steps.now c.native_by_name_on_copy.new.steps
-          (op.Call c.args.name c.args.count) c.args.next c.args.host.now c.native_by_name_on_copy.new.host
-          c.native_by_name_on_copy.result
-          (implements_after g.H.Host.law p engine f c.native_by_name_on_copy.new.frame s
-          c.native_by_name_on_copy.new.self c.args.steps.now c.native_by_name_on_copy.new.steps s.stacks
-          s.stacks.operands c.args.host.now c.native_by_name_on_copy.new.host refl
-          c.native_by_name_on_copy.ensures.implements
-          (λ stop u place. rw (none, named, c.from-count.ensures) refl) (λ b i. i)
-          (rw c.from-count.ensures refl) (rw c.from-count.ensures (omega arith)));
+      finds = finds_of g.H.Host.law p engine f did.new.frame s did.new.run c.args.steps.now
+          did.new.steps (op.Call c.args.name c.args.count) c.args.next c.args.host.now did.new.host
+          did.result
+          (named_done g.H.Host.law p engine f did.new.frame s did.new.run c.args.steps.now
+          did.new.steps c.args.name c.args.count c.args.next c.args.host.now did.new.host did.result
+          c.name-name.result.now c.from-count.result none named c.from-count.ensures
+          did.ensures.implements);
     })
 
 pub finding::find_named-returns-in-Some : goal.finding::find_named-returns-in-Some
@@ -750,10 +766,10 @@ finding::find_pointed-returns-in-Lent g t c =
       finds = finds_of g.H.Host.law p engine f f s c.data_race.new.self c.args.steps.now
           c.data_race.new.steps (op.CallFnPtr n) c.args.next c.args.host.now c.args.host.now
           c.data_race.result
-          (raises_here g.H.Host.law p engine f s c.data_race.new.self c.args.steps.now
+          (as_bound (raises_here g.H.Host.law p engine f s c.data_race.new.self c.args.steps.now
           c.data_race.new.steps c.args.host.now
           (Plain (DataRace (race_text [])) (position_of p f.address)) c.data_race.result
-          c.data_race.ensures c.requires.ready.inside (λ stop u place. rw none refl));
+          c.data_race.ensures c.requires.ready.inside (λ stop u place. rw none refl)));
     })
 
 pub finding::find_pointed-returns-in-Other : goal.finding::find_pointed-returns-in-Other
@@ -773,12 +789,33 @@ finding::find_pointed-returns-in-Other g t c =
       finds = finds_of g.H.Host.law p engine f f s c.not_a_pointer.new.self c.args.steps.now
           c.not_a_pointer.new.steps (op.CallFnPtr n) c.args.next c.args.host.now c.args.host.now
           c.not_a_pointer.result
-          (raises_here g.H.Host.law p engine f s c.not_a_pointer.new.self c.args.steps.now
+          (as_bound (raises_here g.H.Host.law p engine f s c.not_a_pointer.new.self c.args.steps.now
           c.not_a_pointer.new.steps c.args.host.now x c.not_a_pointer.result
           (c.not_a_pointer.ensures v stands.1) c.requires.ready.inside
           (λ stop u place. call_refused (stopped (setup g.H.Host.law p engine) stop) n c.args.next
           (frame_in f s place) (world (abstraction s c.args.steps.now c.args.host.now) u) v read
-          stands.2));
+          stands.2)));
+    })
+
+pub finding::find_pointed-returns-in_err-name-in-Pointer :
+    goal.finding::find_pointed-returns-in_err-name-in-Pointer
+finding::find_pointed-returns-in_err-name-in-Pointer g t c =
+    let out : is_out c.from_residual.result ≡ true = search rules in
+    record {
+      finds = pointed_out g.H.Host.law c.args.context.program.now c.args.context.engine.now
+          c.args.frame.now c.args.run.now c.args.steps.now c.args.host.now c.args.count c.args.next
+          c.from_residual.result out c.requires.ready.inside;
+    }
+
+pub finding::find_pointed-returns-in_err-spread-in-Pointer :
+    goal.finding::find_pointed-returns-in_err-spread-in-Pointer
+finding::find_pointed-returns-in_err-spread-in-Pointer g t c =
+    let out : is_out c.from_residual-in_err-spread-in-Pointer.result ≡ true = search rules in
+    let stays : c.spread.new.self ≡ c.args.run.now.stacks = search rules in
+    rw stays (record {
+      finds = pointed_out g.H.Host.law c.args.context.program.now c.args.context.engine.now
+          c.args.frame.now c.args.run.now c.args.steps.now c.args.host.now c.args.count c.args.next
+          c.from_residual-in_err-spread-in-Pointer.result out c.requires.ready.inside;
     })
 
 pub finding::find_pointed-returns-in-Some : goal.finding::find_pointed-returns-in-Some
@@ -847,19 +884,18 @@ finding::find_pointed-returns g t c =
     (rw word at (sym c.in-None.is ∙ c.function_named.ensures.exact)) in
     let none : function_by_name p q.name (length q.curry + n) ≡ None =
     none_numbered p (function_by_text p q.name (length q.curry + n)) missing in
-    let did = subst (λ (k : ℕ). Implements (setup g.H.Host.law p engine) (moment f s1
+    let called = c.native_by_name in
+    let did = subst (λ (k : ℕ). ImplementsBound (setup g.H.Host.law p engine) (moment f s1
     c.args.steps.now c.args.host.now) (λ m place w. call_function m None q.name k (frame_in f s1
-    place) c.args.next w) (c.args.next ∷ []) k 1 s1.stacks.handlers c.native_by_name.result (moment
-    c.native_by_name.new.frame c.native_by_name.new.self c.native_by_name.new.steps
-    c.native_by_name.new.host)) total c.native_by_name.ensures.implements in
+    place) c.args.next w) (c.args.next ∷ []) k 1 s1.stacks.handlers called.result (moment
+    called.new.frame called.new.run called.new.steps called.new.host)) total
+    called.ensures.implements in
     rw c.of-in-None.ensures (record {
-      finds = finds_of g.H.Host.law p engine f c.native_by_name.new.frame s
-          c.native_by_name.new.self c.args.steps.now c.native_by_name.new.steps (op.CallFnPtr n)
-          c.args.next c.args.host.now c.native_by_name.new.host c.native_by_name.result
+      finds = finds_of g.H.Host.law p engine f called.new.frame s called.new.run c.args.steps.now
+          called.new.steps (op.CallFnPtr n) c.args.next c.args.host.now called.new.host called.result
           (pointed_done g.H.Host.law p engine f s s1 c.args.steps.now n c.args.next
           c.args.host.now v q values read there.2 c.into_vec.ensures enough spreads others
-          c.native_by_name.new.frame c.native_by_name.new.self c.native_by_name.new.steps
-          c.native_by_name.new.host none did);
+          called.new.frame called.new.run called.new.steps called.new.host none did);
     })
 
 -- ---- instructions that wait for a native
@@ -943,3 +979,102 @@ asks::wait_for_native-natives-preserved g t c =
     ended.result.1 c.natives.invariant ended.ensures.over ended.ensures.ends
     (λ place. sym c.position-pos.ensures) ended.ensures.before
     (sym c.is_out.ensures ∙ c.if-is_out.false) c.in-Waits.is c.in_ok-progress.ensures.implements
+-- ---- natives that are called on a receiver
+
+pub asks::native_on-returns-in-Over : goal.asks::native_on-returns-in-Over
+asks::native_on-returns-in-Over g t c =
+    let m = setup g.H.Host.law c.args.context.program.now c.args.context.engine.now in
+    let called = c.call_native_on in
+    let did = c.in-Over.ensures.called m refl in
+    record {
+      called = did.1;
+      over = cells_over c.args.run.now called.new.run called.ensures.run;
+      lent = did.0;
+      before = called.ensures.before;
+    }
+
+pub asks::native_on-returns-in-None : goal.asks::native_on-returns-in-None
+asks::native_on-returns-in-None g t c =
+    let m = setup g.H.Host.law c.args.context.program.now c.args.context.engine.now in
+    let called = c.call_native_on in
+    let over = c.finish_native-outcome in
+    let native = c.in-Asks.native in
+    let cell = c.in-Asks.cell in
+    let did = ended_plain m c.args.request c.args.run.now called.new.run over.new.run c.args.steps.now
+    called.new.steps over.new.steps c.args.host.now called.new.host over.new.host over.result.0
+    (on.Asks native cell) native cell over.result.1 refl (c.in-Asks.ensures.called m refl)
+    called.ensures.run called.ensures.before over.ensures.finishes over.ensures.over over.ensures.lent
+    over.ensures.before c.in-None.is in
+    record { called = did.called; over = did.over; lent = did.lent; before = did.before }
+
+pub asks::native_on-returns-in-Some : goal.asks::native_on-returns-in-Some
+asks::native_on-returns-in-Some g t c =
+    let m = setup g.H.Host.law c.args.context.program.now c.args.context.engine.now in
+    let called = c.call_native_on in
+    let over = c.finish_native-outcome in
+    let native = c.in-Asks.native in
+    let cell = c.in-Asks.cell in
+    let back = c.give_back_to_cell-receiver in
+    let did = ended_cell m c.args.request c.args.run.now called.new.run over.new.run c.args.steps.now
+    called.new.steps over.new.steps c.args.host.now called.new.host over.new.host over.result.0
+    (on.Asks native cell) native cell over.result.1 refl (c.in-Asks.ensures.called m refl)
+    called.ensures.run called.ensures.before over.ensures.finishes over.ensures.over over.ensures.lent
+    over.ensures.before c.in-Some.cell back.result back.new.run c.in-Some.is back.ensures.receiver
+    back.ensures.run in
+    record { called = did.called; over = did.over; lent = did.lent; before = did.before }
+
+pub asks::native_on-finish_native-outcome-requires :
+    goal.asks::native_on-finish_native-outcome-requires
+asks::native_on-finish_native-outcome-requires g t c κs within =
+    let m = setup g.H.Host.law c.args.context.program.now c.args.context.engine.now in
+    let called = c.call_native_on in
+    let native = c.in-Asks.native in
+    let apart : IsApart native.lent = apart_so m c.args.request c.args.run.now called.new.run
+    c.args.steps.now called.new.steps c.args.host.now called.new.host native c.in-Asks.cell
+    (c.in-Asks.ensures.called m refl) in
+    let none : NoneAbove called.new.run.level called.new.run.receivers =
+    subst (λ (q : Run g.row.H.Denot). NoneAbove q.level q.receivers) (sym called.ensures.run)
+    c.requires.none in
+    let same : called.new.run.count ≡ c.args.run.now.count =
+    ap (λ (q : Run g.row.H.Denot). q.count) called.ensures.run in search rules
+
+pub asks::native_on-give_back_to_cell-receiver-requires :
+    goal.asks::native_on-give_back_to_cell-receiver-requires
+asks::native_on-give_back_to_cell-receiver-requires g t c =
+    let m = setup g.H.Host.law c.args.context.program.now c.args.context.engine.now in
+    let called = c.call_native_on in
+    left_there m c.args.request c.args.run.now called.new.run c.args.steps.now called.new.steps
+    c.args.host.now called.new.host c.in-Asks.native c.in-Asks.cell (c.in-Asks.ensures.called m refl)
+    c.finish_native-outcome.result.1 c.finish_native-outcome.ensures.lent
+
+-- ---- natives of a name that no function has
+
+pub asks::native_by_name-returns-in_err-progress : goal.asks::native_by_name-returns-in_err-progress
+asks::native_by_name-returns-in_err-progress g t c =
+    let out : is_out c.from_residual.result ≡ true = search rules in
+    record {
+      implements = it_ended c.in_err-progress.field-0.0 c.from_residual.result out
+          c.in_err-progress.ensures.implements;
+    }
+
+pub asks::native_by_name-returns-in-Leads : goal.asks::native_by_name-returns-in-Leads
+asks::native_by_name-returns-in-Leads g t c = record {
+  implements = it_led c.in-Leads.progress
+      (it_waits c.in_ok-progress.field-0 (performed.Leads c.in-Leads.progress) c.in-Leads.is
+      c.in_ok-progress.ensures.implements);
+}
+
+pub asks::native_by_name-returns-in-Waits : goal.asks::native_by_name-returns-in-Waits
+asks::native_by_name-returns-in-Waits g t c = record {
+  implements = waited c.in-Waits.waiting
+      (it_waits c.in_ok-progress.field-0 (performed.Waits c.in-Waits.waiting) c.in-Waits.is
+      c.in_ok-progress.ensures.implements) c.wait_for_native.result c.wait_for_native.ensures.goes;
+}
+
+pub asks::call_native_by_name-returns : goal.asks::call_native_by_name-returns
+asks::call_native_by_name-returns g t c =
+    let did = c.native_by_name-progress in
+    record {
+      implements = on_copy did.new.frame did.new.run did.new.steps did.new.host
+          did.ensures.implements;
+    }
