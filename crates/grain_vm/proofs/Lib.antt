@@ -47,3 +47,13 @@ mod Callees
 mod LentNatives
 mod OnNatives
 mod ForCells
+mod Followed
+mod Untold
+mod ToldSo
+mod BackCalls
+mod BackNatives
+mod NativesBack
+mod NativeOvers
+mod AskEnds
+mod Taken
+mod CalledBack

@@ -1,5 +1,5 @@
 -- A native that a walk calls and that asks for calls first.
-use Rattle.std.specs.Prelude.{◌×◌, List, Option, Bool, Result}
+use Rattle.std.specs.Prelude.{ℕ, List, Option, Bool, Result}
 use Rattle.grain_value.specs.declared.scopes.Entry.{Entry}
 use Rattle.grain_value.specs.declared.values.Dynamic.{Dynamic}
 use Rattle.grain_value.specs.declared.values.Held.{Held}

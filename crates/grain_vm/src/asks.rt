@@ -1,17 +1,18 @@
 //! Natives that ask for calls: what they ask for is done, and the host hears what came of it, until the
 //! native is over.
 
-ghost use Rattle.std.specs.Prelude.{◌≡◌, ◌<◌, ◌≤◌, ◌-◌, ◌∷◌, [], ℕ, List, Err, None, IfOk, OnErr, OnOk, false, is_some, length, true};
+ghost use Rattle.std.specs.Prelude.{◌≡◌, ◌<◌, ◌≤◌, ◌-◌, ◌∷◌, [], ℕ, List, Err, None, IfOk, OnErr, OnOk, false, is_some, length, option_map, true};
 ghost use Rattle.grain_value.specs.declared.values.Held.{Held};
 ghost use Rattle.grain_fault.specs.declared.faults.EvalAltResult.TheVariants as fault;
 ghost use Rattle.grain_means.specs.Worlds.{Setup};
 ghost use Rattle.grain_means.specs.Rules.{call_function};
+ghost use Rattle.grain_means.specs.Simulation.{StopPersists};
 ghost use Rattle.grain_chain.specs.Walking.{is_want};
 ghost use Rattle.grain_frame.specs.Abstraction.{ImplementsBound, frame_in, moment, setup_of};
 ghost use Rattle.grain_frame.specs.Targets.{home_of};
 ghost use Rattle.grain_frame.specs.Waiting.{IsKept, LeadsTo, apart_of, asking, given_back_run, rest_of};
 ghost use Rattle.grain_frame.specs.declared.targets.Target.TheVariants as to;
-ghost use Rattle.grain_vm.specs.Asks.{CallsBack, EndsNative, FinishesNative, IsMissed, IsWaiting, NativeOver, RaisesInWalk, TellsOf, TookOne};
+ghost use Rattle.grain_vm.specs.Asks.{CallsBack, EndsNative, FinishesNative, IsHeard, IsMissed, IsWaiting, NativeOver, RaisesInWalk, TellsOf, TookOne, told_fault, told_is_out};
 ghost use Rattle.grain_vm.specs.Backs.{BeginsBack, FindsBack, NativeCallsBack};
 ghost use Rattle.grain_vm.specs.Driving.{IsApart, IsApartIn, IsNative, SameFlag, left_by};
 ghost use Rattle.grain_vm.specs.Methods.{MethodOver, NoneAbove};
@@ -181,7 +182,8 @@ pub(crate) fn native_in_walk<H: Host, L: Ledger>(
 
 // Takes the trace away, and gives it if it is to be kept.
 fn take_trace<H: Host>(run: &mut Run<H>, kept: bool) -> Result<Option<Vec<Fault>>, OutOfMemory>
-    ensures taken { IfOk result (λ before. IsMissed kept run.old.stacks.trace before) }
+    ensures taken { IfOk result (λ before.
+        IsMissed kept run.old.stacks.trace (option_map (λ v. v.items) before)) }
     ensures empty { OnOk result
         (run.new ≡ record run.old { stacks = record run.old.stacks { trace = [] } }) }
     ensures refused { OnErr result (run.new ≡ run.old) }
@@ -219,7 +221,8 @@ fn raised_in_walk<H: Host, L: Ledger>(
     outcome: Result<Dynamic, EvalAltResult>,
     before: Option<Vec<Fault>>,
 ) -> Result<Dynamic, EvalAltResult>
-    ensures { RaisesInWalk outcome before run.old steps.old result run.new steps.new }
+    ensures { RaisesInWalk outcome (option_map (λ v. v.items) before) run.old steps.old result run.new
+        steps.new }
 {
     if outcome.is_ok() || is_out(&outcome) {
         return outcome;
@@ -352,16 +355,26 @@ fn told<H: Host, L: Ledger>(
     came: Result<Dynamic, EvalAltResult>,
 ) -> Result<Result<Dynamic, HostFault>, EvalAltResult>
     ensures tells { (m : Setup H) → TellsOf m pos came run.now steps.old result steps.new }
+    ensures heard { IfOk result (λ o. IsHeard came) }
+    // Want of memory is handed on.
+    ensures carries { StopPersists (is_want came) steps.old.passed (told_is_out result)
+        steps.new.passed }
     ensures before { steps.new.before ≡ steps.old.before }
 {
-    let fault = match came {
+    match came {
+        Err(fault) => fault_told(fault),
         Ok(value) => match run.read_of(value) {
-            Err(OutOfMemory) => return Err(EvalAltResult::Memory),
-            Ok(Some(value)) => return Ok(Ok(value)),
-            Ok(None) => raise_race(run.alloc, steps, pos),
+            Err(OutOfMemory) => Err(EvalAltResult::Memory),
+            Ok(Some(value)) => Ok(Ok(value)),
+            Ok(None) => fault_told(raise_race(run.alloc, steps, pos)),
         },
-        Err(fault) => fault,
-    };
+    }
+}
+
+// The host is told of a fault if a script may catch it and the host may answer it.
+fn fault_told(fault: EvalAltResult) -> Result<Result<Dynamic, HostFault>, EvalAltResult>
+    ensures { result ≡ told_fault fault }
+{
     if !fault.is_catchable() {
         return Err(fault);
     }
@@ -393,11 +406,13 @@ fn call_back<H: Host, L: Ledger>(
 {
     match find_back(run, context, pos, pointer, values) {
         Err(OutOfMemory) => Err(EvalAltResult::Memory),
-        Ok(Needed::Function(call)) => {
-            let (outcome, _receiver) = call_method(run, context, host, steps, call);
-            outcome
-        }
-        Ok(Needed::Native(request)) => native_back(run, context, host, steps, request),
+        Ok(needed) => match needed {
+            Needed::Function(call) => {
+                let (outcome, _receiver) = call_method(run, context, host, steps, call);
+                outcome
+            }
+            Needed::Native(request) => native_back(run, context, host, steps, request),
+        },
     }
 }
 
