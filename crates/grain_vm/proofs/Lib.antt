@@ -59,3 +59,13 @@ mod AskedOn
 mod LentCells
 mod EndedOn
 mod NamedNatives
+mod Followed
+mod Untold
+mod ToldSo
+mod BackCalls
+mod BackNatives
+mod NativesBack
+mod NativeOvers
+mod AskEnds
+mod Taken
+mod CalledBack

@@ -1,5 +1,5 @@
 -- Natives that ask for calls: what they ask for is done, until they are over.
-use Rattle.std.specs.Prelude.{◌≡◌, ◌⊎◌, ◌<◌, ◌≤◌, ◌+◌, ℕ, List, Option, Some, None, Bool, true, false, Result, Ok, Err, length}
+use Rattle.std.specs.Prelude.{◌≡◌, ◌⊎◌, ◌<◌, ◌≤◌, ◌+◌, ℕ, List, Option, Some, None, Bool, true, false, if◌then◌else◌, Result, Ok, Err, length}
 use Rattle.grain_value.specs.Tree.{Tree}
 use Rattle.grain_value.specs.declared.scopes.Entry.{Entry}
 use Rattle.grain_value.specs.declared.values.Dynamic.{Dynamic}
@@ -73,6 +73,15 @@ told_of (Err x) c m place w = given_up m (c place) (Failed (problem_of x)) w
 abbrev pub told_is_out : Result (Result Dynamic EvalAltResult) EvalAltResult → Bool
 told_is_out (Ok o) = false
 told_is_out (Err x) = no_memory (problem_of x)
+
+-- what the host is told of a fault, if it is told of it
+abbrev pub told_fault : EvalAltResult → Result (Result Dynamic EvalAltResult) EvalAltResult
+told_fault x = if is_told (problem_of x) then Ok (Err x) else Err x
+
+-- the host may be told of how a call ended
+abbrev pub IsHeard : Result Dynamic EvalAltResult → Type 0
+IsHeard (Ok v) = Unit {0}
+IsHeard (Err x) = is_told (problem_of x) ≡ true
 
 -- what the host is told of how a call ended
 abbrev pub TellsOf : {H : Type 0} → Setup H → Position → Result Dynamic EvalAltResult → Run H →

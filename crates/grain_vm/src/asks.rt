@@ -8,12 +8,13 @@ ghost use Rattle.grain_fault.specs.declared.faults.EvalAltResult.TheVariants as 
 ghost use Rattle.grain_means.specs.Worlds.{Failed, Setup};
 ghost use Rattle.grain_means.specs.Rules.{call_function};
 ghost use Rattle.grain_means.specs.Rules.InWorld.{trace_of};
+ghost use Rattle.grain_means.specs.Simulation.{StopPersists};
 ghost use Rattle.grain_chain.specs.Walking.{is_want};
 ghost use Rattle.grain_frame.specs.Abstraction.{ImplementsBound, frame_in, moment, setup_of};
 ghost use Rattle.grain_frame.specs.Targets.{home_of};
 ghost use Rattle.grain_frame.specs.Waiting.{IsKept, LeadsTo, apart_of, asking, given_back_run, rest_of};
 ghost use Rattle.grain_frame.specs.declared.targets.Target.TheVariants as to;
-ghost use Rattle.grain_vm.specs.Asks.{CallsBack, EndsNative, FinishesNative, IsMissed, IsWaiting, NativeOver, RaisesInWalk, RaisesTraced, TellsOf, TookOne};
+ghost use Rattle.grain_vm.specs.Asks.{CallsBack, EndsNative, FinishesNative, IsMissed, IsWaiting, NativeOver, RaisesInWalk, RaisesTraced, TellsOf, TookOne, IsHeard, told_fault, told_is_out};
 ghost use Rattle.grain_vm.specs.Backs.{BeginsBack, FindsBack, NativeCallsBack};
 ghost use Rattle.grain_vm.specs.Driving.{IsApart, IsApartIn, IsNative, SameFlag, left_by};
 ghost use Rattle.grain_vm.specs.Methods.{MethodOver, NoneAbove};
@@ -415,16 +416,26 @@ fn told<H: Host, L: Ledger>(
     came: Result<Dynamic, EvalAltResult>,
 ) -> Result<Result<Dynamic, HostFault>, EvalAltResult>
     ensures tells { (m : Setup H) → TellsOf m pos came run.now steps.old result steps.new }
+    ensures heard { IfOk result (λ o. IsHeard came) }
+    // Want of memory is handed on.
+    ensures carries { StopPersists (is_want came) steps.old.passed (told_is_out result)
+        steps.new.passed }
     ensures before { steps.new.before ≡ steps.old.before }
 {
-    let fault = match came {
+    match came {
+        Err(fault) => fault_told(fault),
         Ok(value) => match run.read_of(value) {
-            Err(OutOfMemory) => return Err(EvalAltResult::Memory),
-            Ok(Some(value)) => return Ok(Ok(value)),
-            Ok(None) => raise_race(run.alloc, steps, pos),
+            Err(OutOfMemory) => Err(EvalAltResult::Memory),
+            Ok(Some(value)) => Ok(Ok(value)),
+            Ok(None) => fault_told(raise_race(run.alloc, steps, pos)),
         },
-        Err(fault) => fault,
-    };
+    }
+}
+
+// The host is told of a fault if a script may catch it and the host may answer it.
+fn fault_told(fault: EvalAltResult) -> Result<Result<Dynamic, HostFault>, EvalAltResult>
+    ensures { result ≡ told_fault fault }
+{
     if !fault.is_catchable() {
         return Err(fault);
     }
@@ -456,11 +467,13 @@ fn call_back<H: Host, L: Ledger>(
 {
     match find_back(run, context, pos, pointer, values) {
         Err(OutOfMemory) => Err(EvalAltResult::Memory),
-        Ok(Needed::Function(call)) => {
-            let (outcome, _receiver) = call_method(run, context, host, steps, call);
-            outcome
-        }
-        Ok(Needed::Native(request)) => native_back(run, context, host, steps, request),
+        Ok(needed) => match needed {
+            Needed::Function(call) => {
+                let (outcome, _receiver) = call_method(run, context, host, steps, call);
+                outcome
+            }
+            Needed::Native(request) => native_back(run, context, host, steps, request),
+        },
     }
 }
 

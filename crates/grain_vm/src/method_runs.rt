@@ -3,6 +3,7 @@
 
 ghost use Rattle.std.specs.Prelude.{◌≡◌, ◌<◌, ◌≤◌, ◌+◌, ◌-◌, ◌∷◌, [], length, slice_get, Some};
 ghost use Rattle.grain_frame.specs.Abstraction.{abstraction, continuation, frame_in, is_out, ContinuesAt, KeepsFrame, PerformsBound, Ready, ReadyIn, Runs, Stepped, setup_of, moment};
+ghost use Rattle.grain_vm.specs.Asks.{TookOne};
 ghost use Rattle.grain_vm.specs.Attempts.{CallsNothing};
 ghost use Rattle.grain_program.specs.declared.code.functions.Function.{Function};
 ghost use Rattle.grain_program.specs.TypedAt.{IsTypedAt};
@@ -316,6 +317,7 @@ pub(crate) fn call_method<H: Host, L: Ledger>(
         run.new steps.new host.new }
     ensures over { MethodOver run.old run.new }
     ensures lent { SameFlag call.receiver result.1 }
+    ensures took { TookOne context.entry.engine.now run.old result.0 run.new }
     ensures before { steps.new.before ≡ steps.old.before }
 {
     let pos = call.pos;

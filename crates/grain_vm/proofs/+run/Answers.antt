@@ -1,9 +1,8 @@
-use Rattle.std.proofs.Common.{◌≡◌, ◌∙◌, ◌<◌, ◌-◌, arith, rules, ℕ, Option, Ok, length, refl, subst, None, ap, ◌+◌, ◌++◌, ◌∷◌, [], Some, map, sym, true}
+use Rattle.std.proofs.Common.{◌≡◌, ◌∙◌, ◌<◌, ◌-◌, arith, rules, ℕ, Option, Ok, length, refl, subst, None, ap, ◌+◌, ◌++◌, ◌∷◌, [], Some, map, sym, true, Err, inr}
 use Rattle.grain_means.specs.Means.{setup}
-use Rattle.grain_frame.specs.Abstraction.{frame_in, this_of, is_out, moment, abstraction, Implements}
-use Rattle.grain_frame.specs.Abstraction.{frame_in, is_out, this_of, moment, abstraction, ImplementsBound}
+use Rattle.grain_frame.specs.Abstraction.{frame_in, this_of, is_out, moment, abstraction, Implements, ImplementsBound}
 use Rattle.grain_vm.specs.Driving.{IsApart}
-use Rattle.grain_vm.specs.Methods.{NoneAbove}
+use Rattle.grain_vm.specs.Methods.{NoneAbove, given_to}
 use Rattle.grain_frame.specs.declared.waiting.Performed.TheVariants as performed
 use Rattle.grain_frame.specs.lemmas.Bound.{as_bound}
 use Rattle.grain_vm.proofs.Found.{call_found, done_here, found_stepped, is_function, other_found, pointer_found, finds_of, named_found, call_refused, none_numbered, pointed_done, pointed_found}
@@ -31,7 +30,7 @@ use Rattle.grain_vm.proofs.InWalks.{later_so, native_finished, native_gave_up, n
 use Rattle.grain_vm.proofs.Lifted.{untraced}
 use Rattle.grain_vm.proofs.Performing.{same_flag}
 use Rattle.grain_frame.specs.Waiting.{apart_of}
-use Rattle.std.specs.Prelude.{option_map}
+use Rattle.std.specs.Prelude.{option_map, codes}
 use Rattle.std.specs.Vec.{vec_items}
 use Rattle.grain_vm.specs.Finding.{found_of, op_on}
 use Rattle.grain_vm.specs.Receivers.{called}
@@ -42,7 +41,6 @@ use Rattle.grain_vm.proofs.EndedOn.{apart_so, cells_over, ended_cell, ended_plai
 use Rattle.grain_vm.proofs.NamedNatives.{it_ended, it_led, it_waits, named_done, on_copy, pointed_out, waited}
 use Rattle.grain_program.specs.declared.code.instruction_set.Op.TheVariants as op
 use Rattle.grain_means.specs.Rules.{function_found, call_function, function_by_name, operand_under, race_text}
-use Rattle.std.specs.Prelude.{codes}
 use Rattle.grain_value.specs.Cells.{flat}
 use Rattle.grain_value.specs.Operands.{arguments, read_write, under}
 use Rattle.grain_value.specs.Writing.{type_name_of}
@@ -52,6 +50,13 @@ use Rattle.grain_stack.specs.Views.{StacksView}
 use Rattle.grain_means.specs.Simulation.{stopped, world}
 use Rattle.grain_frame.specs.declared.runs.Run.{Run}
 use Rattle.grain_frame.specs.lemmas.Failing.{raises_here}
+use Rattle.grain_vm.proofs.Taken.{took_falls, took_ran, took_refused}
+use Rattle.grain_vm.proofs.AskEnds.{asked_again, asked_first, native_ended, past_native, still_kept}
+use Rattle.grain_vm.proofs.BackCalls.{back_called, back_native_called, back_out}
+use Rattle.grain_vm.proofs.CalledBack.{back_finished, back_refused, level_up, none_up}
+use Rattle.grain_vm.proofs.MethodEntries.{over_faulted}
+use Rattle.grain_vm.specs.Backs.{FindsBack}
+use Rattle.grain_vm.specs.declared.methods.Needed.{Needed}
 use Rattle.grain_vm.proofs.+run.Goals as goal
 
 pub loops::call-returns-in-Err-clause-goes : goal.loops::call-returns-in-Err-clause-goes
@@ -385,6 +390,9 @@ method_runs::call_method-returns-in-Err g t c =
           called).0;
       over = called.1;
       lent = called.2;
+      took = took_refused m c.args.call.pos found.result.now (given_to c.args.call.arguments)
+          c.args.run.now c.args.steps.now c.args.host.now o.0 entered.run entered.steps entered.host
+          c.in-Err.ensures.enters.2;
       before = c.enter_method.ensures.before;
     }
 
@@ -406,6 +414,9 @@ method_runs::call_method-returns-in-Ok g t c =
           found.ensures.value there called).0;
       over = called.1;
       lent = called.2;
+      took = took_ran m.engine found.result.now c.args.call.receiver c.args.run.now entered.run
+          ran.new.run left.new.run left.result.0 c.in-Ok.ensures.enters.1 ran.ensures.around.later
+          left.ensures.left;
       before = left.ensures.before ∙ (ran.ensures.around.before ∙ c.enter_method.ensures.before);
     }
 
@@ -1077,4 +1088,141 @@ asks::call_native_by_name-returns g t c =
     record {
       implements = on_copy did.new.frame did.new.run did.new.steps did.new.host
           did.ensures.implements;
+-- ---- calls that natives ask for
+
+pub asks::call_back-returns-in-Err : goal.asks::call_back-returns-in-Err
+asks::call_back-returns-in-Err g t c =
+    let s = c.args.run.now in
+    record {
+      called = back_out (setup g.H.Host.law c.args.context.program.now c.args.context.engine.now)
+          c.args.pos c.args.pointer c.args.values s c.args.steps.now c.args.host.now;
+      over = over_faulted s s s.count s.fault refl (omega arith);
+      took = inr refl;
+      before = refl;
+    }
+
+pub asks::call_back-returns-in-Function : goal.asks::call_back-returns-in-Function
+asks::call_back-returns-in-Function g t c =
+    let m = setup g.H.Host.law c.args.context.program.now c.args.context.engine.now in
+    let found = subst (λ (n : Needed). FindsBack m.program m.engine c.args.pos c.args.pointer
+    c.args.values (Ok n)) c.in-Function.is c.in-Ok.ensures in
+    let called = c.call_method-outcome in
+    record {
+      called = back_called m c.args.pos c.args.pointer c.args.values c.args.run.now called.new.run
+          c.args.steps.now called.new.steps c.args.host.now called.new.host called.result.0
+          c.in-Function.call found.0.function called.result.1 found found.0.is
+          (called.ensures.called found.0.function found.0.is);
+      over = called.ensures.over;
+      took = called.ensures.took;
+      before = called.ensures.before;
+    }
+
+pub asks::call_back-returns-in-Native : goal.asks::call_back-returns-in-Native
+asks::call_back-returns-in-Native g t c =
+    let m = setup g.H.Host.law c.args.context.program.now c.args.context.engine.now in
+    let found = subst (λ (n : Needed). FindsBack m.program m.engine c.args.pos c.args.pointer
+    c.args.values (Ok n)) c.in-Native.is c.in-Ok.ensures in
+    let called = c.native_back in
+    record {
+      called = back_native_called m c.args.pos c.args.pointer c.args.values c.args.run.now
+          called.new.run c.args.steps.now called.new.steps c.args.host.now called.new.host
+          called.result c.in-Native.request found called.ensures.called;
+      over = called.ensures.over;
+      took = called.ensures.took;
+      before = called.ensures.before;
+    }
+
+pub asks::native_back-returns-in-Some : goal.asks::native_back-returns-in-Some
+asks::native_back-returns-in-Some g t c =
+    let m = setup g.H.Host.law c.args.context.program.now c.args.context.engine.now in
+    let begun = c.begin_native_back in
+    let did = back_refused m c.args.request c.args.run.now c.args.steps.now c.args.host.now
+    c.in-Some.fault begun.new.run begun.new.steps begun.new.host c.in-Some.ensures.begins in
+    record {
+      called = did.0;
+      over = did.1;
+      took = did.2;
+      before = begun.ensures.before;
+    }
+
+pub asks::native_back-returns-in-None : goal.asks::native_back-returns-in-None
+asks::native_back-returns-in-None g t c =
+    let m = setup g.H.Host.law c.args.context.program.now c.args.context.engine.now in
+    let begun = c.begin_native_back in
+    let asked = c.perform_request-answered in
+    let over = c.finish_native-outcome in
+    let did = back_finished m c.args.request c.args.run.now c.args.steps.now c.args.host.now
+    begun.new.run begun.new.steps begun.new.host c.in-None.ensures.begins c.requires.apart
+    asked.result asked.new.steps asked.new.host asked.ensures.does over.result.0 over.result.1
+    over.new.run over.new.steps over.new.host
+    (rw asked.ensures.run at over.ensures.finishes) (rw asked.ensures.run at over.ensures.over)
+    (record over.new.run { level = over.new.run.level - 1 }) refl in
+    record {
+      called = did.0;
+      over = did.1;
+      took = did.2;
+      before = over.ensures.before ∙ (asked.ensures.before ∙ begun.ensures.before);
+    }
+
+pub asks::end_of_native-asks-init : goal.asks::end_of_native-asks-init
+asks::end_of_native-asks-init g t c =
+    asked_first (setup g.H.Host.law c.args.context.program.now c.args.context.engine.now)
+    c.args.native c.args.run.now c.args.steps.now c.args.host.now c.requires.kept c.requires.none
+
+pub asks::end_of_native-asks-preserved : goal.asks::end_of_native-asks-preserved
+asks::end_of_native-asks-preserved g t c =
+    let m = setup g.H.Host.law c.args.context.program.now c.args.context.engine.now in
+    let called = c.call_back-came in
+    let heard = c.in-Ok.ensures in
+    let went = c.resume_native in
+    asked_again m c.args.native c.args.run.now c.args.steps.now c.args.host.now c.asks.asked
+    c.asks.lent c.asks.run c.asks.steps c.asks.host c.asks.invariant called.result called.new.run
+    called.new.steps called.new.host called.ensures.called called.ensures.over (Ok c.in-Ok.told)
+    c.told.new.steps (heard.tells m) heard.carries c.in-Ok.told refl c.in-Asks.next c.in-Asks.left
+    went.new.self went.new.steps went.new.host c.in-Asks.ensures.tells
+    (went.ensures.before ∙ (c.told.ensures.before ∙ called.ensures.before))
+
+pub asks::end_of_native-asks-smaller : goal.asks::end_of_native-asks-smaller
+asks::end_of_native-asks-smaller g t c =
+    let called = c.call_back-came in
+    took_falls c.args.context.engine.now c.asks.run called.new.run called.result
+    c.resume_native.new.self.count called.ensures.took c.in-Ok.ensures.heard
+    (ap (λ (q : Run g.row.H.Denot). q.count) c.in-Asks.ensures.tells.run.others)
+
+pub asks::end_of_native-returns-in-Err : goal.asks::end_of_native-returns-in-Err
+asks::end_of_native-returns-in-Err g t c =
+    let m = setup g.H.Host.law c.args.context.program.now c.args.context.engine.now in
+    let called = c.call_back-came in
+    let heard = c.in-Err.ensures in
+    let gone = c.forget_native in
+    let did = past_native m c.args.native c.args.run.now c.args.steps.now c.args.host.now c.asks.asked
+    c.asks.lent c.asks.run c.asks.steps c.asks.host c.asks.invariant called.result called.new.run
+    called.new.steps called.new.host called.ensures.called called.ensures.over (Err c.in-Err.fault)
+    c.told.new.steps (heard.tells m) heard.carries c.in-Err.fault refl gone.new.self gone.new.host
+    gone.result gone.ensures.run gone.ensures.host gone.ensures.apart in
+    record {
+      ends = did.0;
+      over = did.1;
+      left = did.2;
+      before = c.told.ensures.before ∙ (called.ensures.before ∙ c.asks.invariant.before);
+    }
+
+pub asks::end_of_native-returns-in-Over : goal.asks::end_of_native-returns-in-Over
+asks::end_of_native-returns-in-Over g t c =
+    let m = setup g.H.Host.law c.args.context.program.now c.args.context.engine.now in
+    let called = c.call_back-came in
+    let heard = c.in-Ok.ensures in
+    let went = c.resume_native in
+    let did = native_ended m c.args.native c.args.run.now c.args.steps.now c.args.host.now
+    c.asks.asked c.asks.lent c.asks.run c.asks.steps c.asks.host c.asks.invariant called.result
+    called.new.run called.new.steps called.new.host called.ensures.called called.ensures.over
+    (Ok c.in-Ok.told) c.told.new.steps (heard.tells m) heard.carries c.in-Ok.told refl
+    c.in-Over.outcome c.in-Over.left went.new.self went.new.steps went.new.host
+    c.in-Over.ensures.tells in
+    record {
+      ends = did.0;
+      over = did.1;
+      left = did.2;
+      before = went.ensures.before ∙ (c.told.ensures.before
+          ∙ (called.ensures.before ∙ c.asks.invariant.before));
     }

@@ -5,6 +5,7 @@ use Rattle.grain_vm.specs.Driving.{left_of}
 use Rattle.grain_vm.proofs.ChainLoops.{WalkedTo}
 use Rattle.grain_vm.specs.Calls.{entry_of}
 use Rattle.grain_vm.specs.Catching.{activation_at}
+use Rattle.grain_vm.proofs.AskEnds.{AskedSoFar}
 use Rattle.grain_vm.proofs.Measure.{left}
 use Rattle.grain_vm.proofs.Running.{RunsTo}
 use Rattle.grain_vm.proofs.WaitsOn.{WaitsSo}
@@ -134,3 +135,13 @@ invariant-asks::wait_for_native-natives g l =
 
 abbrev pub decreases-asks::wait_for_native-natives : goal.decreases-asks::wait_for_native-natives
 decreases-asks::wait_for_native-natives g l = waits_left l.waiting.rest
+
+-- what a native asks for now, after all that it asked for before
+abbrev pub invariant-asks::end_of_native-asks : goal.invariant-asks::end_of_native-asks
+invariant-asks::end_of_native-asks g l =
+    AskedSoFar (setup g.H.Host.law l.context.program.now l.context.engine.now) l.fn.native l.fn.run
+    l.fn.steps l.fn.host l.asked l.lent l.run l.steps l.host
+
+-- each call that it hears of takes an operation
+abbrev pub decreases-asks::end_of_native-asks : goal.decreases-asks::end_of_native-asks
+decreases-asks::end_of_native-asks g l = left l.context.engine.now l.run.count 16777216
