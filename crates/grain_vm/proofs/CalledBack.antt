@@ -20,10 +20,9 @@ use Rattle.grain_frame.specs.declared.waiting.Loan.{Loan}
 use Rattle.grain_vm.specs.Asks.{FinishesNative, TookOne, raised_to}
 use Rattle.grain_vm.specs.Backs.{BeginsBack, IsRequestBack, NativeCallsBack}
 use Rattle.grain_vm.specs.Driving.{DoesRequest}
-use Rattle.grain_vm.specs.Methods.{Hears, MethodOver, NoneAbove}
+use Rattle.grain_vm.specs.Methods.{Hears, MethodOver}
 use Rattle.grain_vm.specs.declared.driving.Answered.{Answered}
 use Rattle.grain_vm.specs.declared.driving.Answered.TheVariants as answered
-use Rattle.grain_vm.proofs.BoundFrames.{none_above}
 use Rattle.grain_vm.proofs.NativesBack.{back_asks, back_over, calls_native}
 use Rattle.grain_vm.proofs.Taken.{took_both}
 use Rattle.grain_vm.proofs.ToldSo.{out_still}
@@ -42,17 +41,11 @@ module _ {H : Type 0} (m : Setup H) (r : Request) (s : Run H) (n : StepsView) (h
   up : s1.level ≡ s.level + 1
   up = ap (λ (q : Run H). q.level) begins.0
 
-  pub none_up : NoneAbove s.level s.receivers → NoneAbove s1.level s1.receivers
-  none_up none = rw begins.0 (none_above s.level None s.receivers none)
-
   module _ (none : r.receiver ≡ None) (a : Answered) (n2 : StepsView) (host2 : H)
       (does : (home : Home) → DoesRequest m.law r home s1.cells n1 host1 a n2 host2)
       (o : Result Dynamic EvalAltResult) (left : Option Held) (s2 : Run H) (n3 : StepsView)
       (host3 : H) (finishes : FinishesNative m a s1 n2 host2 o left s2 n3 host3)
       (over : MethodOver s1 s2) (s3 : Run H) (is : s3 ≡ record s2 { level = s2.level - 1 }) where
-    pub level_up : 0 < s2.level
-    level_up = omega (arith, over.level, up)
-
     level_back : s2.level - 1 ≡ s.level
     level_back = omega (arith, over.level, up)
 

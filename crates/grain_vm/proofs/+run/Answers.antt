@@ -51,9 +51,9 @@ use Rattle.grain_means.specs.Simulation.{stopped, world}
 use Rattle.grain_frame.specs.declared.runs.Run.{Run}
 use Rattle.grain_frame.specs.lemmas.Failing.{raises_here}
 use Rattle.grain_vm.proofs.Taken.{took_falls, took_ran, took_refused}
-use Rattle.grain_vm.proofs.AskEnds.{asked_again, asked_first, native_ended, past_native, still_kept}
+use Rattle.grain_vm.proofs.AskEnds.{asked_again, asked_first, native_ended, past_native}
 use Rattle.grain_vm.proofs.BackCalls.{back_called, back_native_called, back_out}
-use Rattle.grain_vm.proofs.CalledBack.{back_finished, back_refused, level_up, none_up}
+use Rattle.grain_vm.proofs.CalledBack.{back_finished, back_refused}
 use Rattle.grain_vm.proofs.MethodEntries.{over_faulted}
 use Rattle.grain_vm.specs.Backs.{FindsBack}
 use Rattle.grain_vm.specs.declared.methods.Needed.{Needed}
