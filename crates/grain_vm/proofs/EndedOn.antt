@@ -1,5 +1,5 @@
 -- A native that was called on a receiver, and asked for calls first, is over: what it was lent is back.
-use Rattle.std.proofs.Common.{◌≡◌, ◌∙◌, ◌≤◌, ℕ, List, [], ◌∷◌, ◌++◌, Option, Some, None, false, Result, length, take, refl, sym, ap, subst, arith}
+use Rattle.std.proofs.Common.{◌≡◌, ◌∙◌, List, [], ◌∷◌, ◌++◌, Option, Some, None, false, Result, length, take, refl, sym, ap, subst, arith}
 use Rattle.std.specs.Prelude.{is_some, slice_set, true}
 use Rattle.grain_value.specs.Cells.{idle}
 use Rattle.grain_value.specs.declared.scopes.Entry.{Entry}
@@ -28,7 +28,7 @@ use Rattle.grain_vm.specs.Asks.{FinishesNative, raised_to}
 use Rattle.grain_vm.specs.Driving.{IsApart, SameFlag, beside, name_in}
 use Rattle.grain_vm.specs.Methods.{Hears, MethodOver, given_to}
 use Rattle.grain_vm.specs.OnReceivers.{CallsNativeOn, heard_on, on_asking, receiver_after, roots_below}
-use Rattle.grain_vm.specs.Receivers.{CallsOn, HearsRoot, NativeCalled, native_call}
+use Rattle.grain_vm.specs.Receivers.{HearsRoot, NativeCalled, native_call}
 use Rattle.grain_vm.specs.declared.driving.AskingNative.{AskingNative}
 use Rattle.grain_vm.specs.declared.driving.Answered.TheVariants as answered
 use Rattle.grain_vm.specs.declared.natives.LentCell.{LentCell}

@@ -217,8 +217,7 @@ module _ {H : Type 0} (law : Law H) (p : View) (engine : Engine) (f : Activation
         (same (record {
           this = comes.this;
           order = comes.order;
-          equal = λ stop clear halts u place.
-              comes.equal stop clear halts u place ∙ rw none refl;
+          equal = λ stop clear halts u place. comes.equal stop clear halts u place ∙ rw none refl;
         })) did.same tt;
     kept = kept_before f f2 s s1 s2 others did.kept;
     lands = lands_on engine s s2 (record s.stacks { operands = s1.stacks.operands }) f f2

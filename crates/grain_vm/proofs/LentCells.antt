@@ -24,7 +24,6 @@ use Rattle.grain_vm.specs.Driving.{AsksHost, DescribesAfter, DoesRequest, Raises
 use Rattle.grain_vm.specs.Methods.{given_to}
 use Rattle.grain_vm.specs.OnReceivers.{AsksOn, CallsNativeOn, CallsOnCell, receiver_after}
 use Rattle.grain_vm.specs.Receivers.{CallsOn, ReadsForCell, native_call}
-use Rattle.grain_vm.specs.declared.driving.Answered.{Answered}
 use Rattle.grain_vm.specs.declared.driving.Answered.TheVariants as answered
 use Rattle.grain_vm.specs.declared.driving.AskingNative.{AskingNative}
 use Rattle.grain_vm.specs.declared.natives.LentCell.{LentCell}

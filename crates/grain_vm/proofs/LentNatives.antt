@@ -125,8 +125,8 @@ written_so law host key values h = at (law.writes host key) where
   at true = refl
   at false = refl
 
--- The host has a native of this name, for a receiver and these arguments, which was called and asks for a call
--- first.
+-- The host has a native of this name, for a receiver and these arguments, which was called and asks for a
+-- call first.
 pub record AsksFirst {H : Type 0} (law : Law H) (host : H) (name : List ℕ) (h : Held)
     (args : List Held) (q : Position) (n : StepsView) (a : AskingNative) (n' : StepsView) (host' : H) :
     Type 0 where
