@@ -990,6 +990,7 @@ asks::wait_for_native-natives-preserved g t c =
     ended.result.1 c.natives.invariant ended.ensures.over ended.ensures.ends
     (λ place. sym c.position-pos.ensures) ended.ensures.before
     (sym c.is_out.ensures ∙ c.if-is_out.false) c.in-Waits.is c.in_ok-progress.ensures.implements
+
 -- ---- natives that are called on a receiver
 
 pub asks::native_on-returns-in-Over : goal.asks::native_on-returns-in-Over
@@ -1088,6 +1089,8 @@ asks::call_native_by_name-returns g t c =
     record {
       implements = on_copy did.new.frame did.new.run did.new.steps did.new.host
           did.ensures.implements;
+    }
+
 -- ---- calls that natives ask for
 
 pub asks::call_back-returns-in-Err : goal.asks::call_back-returns-in-Err
