@@ -251,29 +251,29 @@ module _ {H : Type 0} (m : Setup H) (native : AskingNative) (s : Run H) (n : Ste
   module _ (o : Result Dynamic EvalAltResult) (is : r ≡ Ok o) (w : Resumed) (t2 : Run H)
       (k3 : StepsView) (mid2 : H)
       (resumes : TellsHost m.law a.token (host_outcome_of o) l native.pos t1 k2 mid1 w t2 k3 mid2)
-      where
-    resumed : (o : Result Dynamic EvalAltResult) →
-        TellsHost m.law a.token (host_outcome_of o) l native.pos t1 k2 mid1 w t2 k3 mid2 →
-        (f : Option Place → Frame) (heard : Hears H) (scope : List Entry) (x : Option Held) →
-        IsAt m f native.pos → Simulates m (state_with l scope x t1 k2 mid1) (telling f heard (Ok o))
-        (resumed_is_out w) (resumed_state l w scope x t2 k3 mid2) (resumed_continuation w t2 f heard)
-    resumed (Ok v) tells f heard scope x at = tells.same m f a heard scope x refl at refl
-    resumed (Err e) tells f heard scope x at = tells.same m f a heard scope x refl at refl
+    where
+      resumed : (o : Result Dynamic EvalAltResult) →
+          TellsHost m.law a.token (host_outcome_of o) l native.pos t1 k2 mid1 w t2 k3 mid2 →
+          (f : Option Place → Frame) (heard : Hears H) (scope : List Entry) (x : Option Held) →
+          IsAt m f native.pos → Simulates m (state_with l scope x t1 k2 mid1) (telling f heard (Ok o))
+          (resumed_is_out w) (resumed_state l w scope x t2 k3 mid2) (resumed_continuation w t2 f heard)
+      resumed (Ok v) tells f heard scope x at = tells.same m f a heard scope x refl at refl
+      resumed (Err e) tells f heard scope x at = tells.same m f a heard scope x refl at refl
 
-    went_on : (f : Option Place → Frame) (heard : Hears H) (scope : List Entry) (x : Option Held) →
-        IsAt m f native.pos → Simulates m (state_with native.lent scope x s n host)
-        (asking (home_of to.This) s native.asked native.lent f heard) (resumed_is_out w)
-        (resumed_state l w scope x t2 k3 mid2) (resumed_continuation w t2 f heard)
-    went_on f heard scope x at =
-        compose (subst (λ (q : Result (Result Dynamic EvalAltResult) EvalAltResult).
-        Simulates m (state_with native.lent scope x s n host)
-        (asking (home_of to.This) s native.asked native.lent f heard) (told_is_out q)
-        (state_with l scope x t1 k2 mid1) (telling f heard q)) is (so_far f heard scope x at))
-        (resumed o resumes f heard scope x at) tt
+      went_on : (f : Option Place → Frame) (heard : Hears H) (scope : List Entry) (x : Option Held) →
+          IsAt m f native.pos → Simulates m (state_with native.lent scope x s n host)
+          (asking (home_of to.This) s native.asked native.lent f heard) (resumed_is_out w)
+          (resumed_state l w scope x t2 k3 mid2) (resumed_continuation w t2 f heard)
+      went_on f heard scope x at =
+          compose (subst (λ (q : Result (Result Dynamic EvalAltResult) EvalAltResult).
+          Simulates m (state_with native.lent scope x s n host)
+          (asking (home_of to.This) s native.asked native.lent f heard) (told_is_out q)
+          (state_with l scope x t1 k2 mid1) (telling f heard q)) is (so_far f heard scope x at))
+          (resumed o resumes f heard scope x at) tt
 
-    still_over : OverSoFar native.lent s t2
-    still_over = over_told s t1 t2 native.lent l was.loan w
-        (over_called s t t1 over native.lent was.over) resumes.run
+      still_over : OverSoFar native.lent s t2
+      still_over = over_told s t1 t2 native.lent l was.loan w
+          (over_called s t t1 over native.lent was.over) resumes.run
 
   -- the native is over
   ended : (z : Result Dynamic EvalAltResult) (left : Option Held) (t2 : Run H) (k3 : StepsView)

@@ -160,31 +160,31 @@ module _ {H : Type 0} (law : Law H) (p : View) (engine : Engine) (q : Position) 
 
   -- the operation is taken
   module _ (b : Bool) (eb : b ≡ true) (does : Taking (Ok b)) (run : ChargeResult engine s t (Ok b))
-      where
-    counted : (t ≡ record s { count = s.count + 1 }) × (s.count < engine.limits.operations)
-    counted = by b eb run where
-      by : (b : Bool) → b ≡ true → ChargeResult engine s t (Ok b) →
-          (t ≡ record s { count = s.count + 1 }) × (s.count < engine.limits.operations)
-      by false eb run = absurd cc
-      by true eb run = run
+    where
+      counted : (t ≡ record s { count = s.count + 1 }) × (s.count < engine.limits.operations)
+      counted = by b eb run where
+        by : (b : Bool) → b ≡ true → ChargeResult engine s t (Ok b) →
+            (t ≡ record s { count = s.count + 1 }) × (s.count < engine.limits.operations)
+        by false eb run = absurd cc
+        by true eb run = run
 
-    pub back_deep : (n' : StepsView) → n' ≡ record k { passed = k.passed + 1 } →
-        nat_le engine.limits.levels t.level ≡ true → Begun (Some (fault.ErrorStackOverflow q)) t n'
-    back_deep n' marked high = (
-      over_counted s t counted.0,
-      refl,
-      λ c scope x heard at.
-          rw marked (then_exactly (back_taken c scope x heard at b eb does)
-          (back_too_deep c scope x heard at high)),
-    )
+      pub back_deep : (n' : StepsView) → n' ≡ record k { passed = k.passed + 1 } →
+          nat_le engine.limits.levels t.level ≡ true → Begun (Some (fault.ErrorStackOverflow q)) t n'
+      back_deep n' marked high = (
+        over_counted s t counted.0,
+        refl,
+        λ c scope x heard at.
+            rw marked (then_exactly (back_taken c scope x heard at b eb does)
+            (back_too_deep c scope x heard at high)),
+      )
 
-    pub back_up : nat_le engine.limits.levels t.level ≡ false → (level : ℕ) → level ≡ t.level + 1 →
-        (s' : Run H) → s' ≡ record t { level = level } → Begun None s' k
-    back_up low level more s' is = (
-      is ∙ (ap (λ (l : ℕ). record t { level = l }) more
-          ∙ ap (λ (r : Run H). record r { level = r.level + 1 }) counted.0),
-      counted.1,
-      λ c scope x heard at.
-          rw (is, more) (then_exactly (back_taken c scope x heard at b eb does)
-          (back_level c scope x heard at low (ap (λ (r : Run H). r.level) counted.0))),
-    )
+      pub back_up : nat_le engine.limits.levels t.level ≡ false → (level : ℕ) → level ≡ t.level + 1 →
+          (s' : Run H) → s' ≡ record t { level = level } → Begun None s' k
+      back_up low level more s' is = (
+        is ∙ (ap (λ (l : ℕ). record t { level = l }) more
+            ∙ ap (λ (r : Run H). record r { level = r.level + 1 }) counted.0),
+        counted.1,
+        λ c scope x heard at.
+            rw (is, more) (then_exactly (back_taken c scope x heard at b eb does)
+            (back_level c scope x heard at low (ap (λ (r : Run H). r.level) counted.0))),
+      )

@@ -93,9 +93,9 @@ module _ {H : Type 0} (m : Setup H) (r : Request) (s : Run H) (n : StepsView) (h
         × TookOne m.engine s o s3
     back_finished = (
       (λ c scope x heard asked.
-      compose (same (begins.2 c scope x heard asked.at))
-      (compose (finished c asked scope x heard a does finishes) (lands c asked scope x heard)
-      (out_still (is_want o) n3.passed)) tt),
+          compose (same (begins.2 c scope x heard asked.at))
+          (compose (finished c asked scope x heard a does finishes) (lands c asked scope x heard)
+          (out_still (is_want o) n3.passed)) tt),
       record {
         scope = of (λ q. q.scope) ∙ (over.scope ∙ first (λ q. q.scope));
         saved = of (λ q. q.saved) ∙ (over.saved ∙ first (λ q. q.saved));

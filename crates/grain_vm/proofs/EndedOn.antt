@@ -74,53 +74,53 @@ heard_back (Some c) heard a w roots l =
 module _ {H : Type 0} (m : Setup H) (native : AskingNative) (g l : Held) (s1 s2 : Run H)
     (n1 n2 : StepsView) (host1 host2 : H) (o : Result Dynamic EvalAltResult) (left : Option Held)
     (lent : native.lent ≡ have.Apart g) (is_left : left ≡ Some l) (flag : l.read_only ≡ g.read_only)
-    where
-  -- what it was lent was at the code's `this`
-  abbrev Finished : Loan → Type 0
-  Finished loan =
-      (f : Option Place → Frame) (heard : Hears H) (scope : List Entry) (x : Option Held) →
-      IsAt m f native.pos →
-      Simulates m (state_with loan scope x s1 n1 host1)
-      (asking (home_of to.This) s1 native.asked loan f (raised_to heard)) (is_want o)
-      (state_after loan left scope x s2 n2 host2) (λ m place w. heard m place (outcome_of o) w)
+  where
+    -- what it was lent was at the code's `this`
+    abbrev Finished : Loan → Type 0
+    Finished loan =
+        (f : Option Place → Frame) (heard : Hears H) (scope : List Entry) (x : Option Held) →
+        IsAt m f native.pos →
+        Simulates m (state_with loan scope x s1 n1 host1)
+        (asking (home_of to.This) s1 native.asked loan f (raised_to heard)) (is_want o)
+        (state_after loan left scope x s2 n2 host2) (λ m place w. heard m place (outcome_of o) w)
 
-  -- so it is where that is a root of its own
-  ended_at : Finished (have.Apart g) → (back : Option LentCell) (f : Option Place → Frame) →
-      IsAt m f native.pos → (scope : List Entry) (this : Option Held) (heard : HearsRoot H) →
-      Simulates m (beside scope this s1 n1 host1) (on_asking native.asked f g back heard) (is_want o)
-      (beside scope this (run_back back l s2) n2 host2)
-      (λ m place w. heard m place (length w.roots) (outcome_of o)
-      (record w { roots = w.roots ++ receiver_after back l ∷ [] }))
-  ended_at finished back f at scope this heard = record {
-    order = (finished f (λ m place a w. End a w) scope this at).order;
-    leads = λ stop clear halts u place bound.
-        let below : List Held = roots_below back u.roots in
-        let bs : List Held = below ++ g ∷ [] in
-        let spot : Option Place = Some (new_root below) in
-        let deaf : Hears H = λ r q a w.
-        heard_on back (length below) (heard r place (length u.roots)) a w in
-        let led = (finished (λ q. f place) deaf scope this (λ q. at place)).leads stop clear halts
-        (record u { roots = bs }) spot (found-new below g) in
-        let there : puts bs spot left ≡ below ++ l ∷ [] =
-        ap (puts bs spot) is_left ∙ put-left below g l flag in
-        let same = puts-bound u.roots place this bound in (
-          rw same bound,
-          λ a w run. led.1 a w
-              (subst (λ (us : List Held). Ends (stopped m stop) (deaf (stopped m stop) spot (outcome_of o)
-              (record (world (beside scope left s2 n2 host2) u) { roots = us })) a w) (sym there)
-              (rw (heard_back back (heard (stopped m stop) place (length u.roots)) (outcome_of o)
-              (world (beside scope left s2 n2 host2) u) u.roots l) (rw same at run))),
-        );
-  }
+    -- so it is where that is a root of its own
+    ended_at : Finished (have.Apart g) → (back : Option LentCell) (f : Option Place → Frame) →
+        IsAt m f native.pos → (scope : List Entry) (this : Option Held) (heard : HearsRoot H) →
+        Simulates m (beside scope this s1 n1 host1) (on_asking native.asked f g back heard) (is_want o)
+        (beside scope this (run_back back l s2) n2 host2)
+        (λ m place w. heard m place (length w.roots) (outcome_of o)
+        (record w { roots = w.roots ++ receiver_after back l ∷ [] }))
+    ended_at finished back f at scope this heard = record {
+      order = (finished f (λ m place a w. End a w) scope this at).order;
+      leads = λ stop clear halts u place bound.
+          let below : List Held = roots_below back u.roots in
+          let bs : List Held = below ++ g ∷ [] in
+          let spot : Option Place = Some (new_root below) in
+          let deaf : Hears H = λ r q a w.
+          heard_on back (length below) (heard r place (length u.roots)) a w in
+          let led = (finished (λ q. f place) deaf scope this (λ q. at place)).leads stop clear halts
+          (record u { roots = bs }) spot (found-new below g) in
+          let there : puts bs spot left ≡ below ++ l ∷ [] =
+          ap (puts bs spot) is_left ∙ put-left below g l flag in
+          let same = puts-bound u.roots place this bound in (
+            rw same bound,
+            λ a w run. led.1 a w
+                (subst (λ (us : List Held). Ends (stopped m stop) (deaf (stopped m stop) spot (outcome_of o)
+                (record (world (beside scope left s2 n2 host2) u) { roots = us })) a w) (sym there)
+                (rw (heard_back back (heard (stopped m stop) place (length u.roots)) (outcome_of o)
+                (world (beside scope left s2 n2 host2) u) u.roots l) (rw same at run))),
+          );
+    }
 
-  pub ended_on : FinishesNative m (answered.Asks native) s1 n1 host1 o left s2 n2 host2 →
-      (back : Option LentCell) (f : Option Place → Frame) → IsAt m f native.pos →
-      (scope : List Entry) (this : Option Held) (heard : HearsRoot H) →
-      Simulates m (beside scope this s1 n1 host1) (on_asking native.asked f g back heard) (is_want o)
-      (beside scope this (run_back back l s2) n2 host2)
-      (λ m place w. heard m place (length w.roots) (outcome_of o)
-      (record w { roots = w.roots ++ receiver_after back l ∷ [] }))
-  ended_on finished = ended_at (subst Finished lent finished)
+    pub ended_on : FinishesNative m (answered.Asks native) s1 n1 host1 o left s2 n2 host2 →
+        (back : Option LentCell) (f : Option Place → Frame) → IsAt m f native.pos →
+        (scope : List Entry) (this : Option Held) (heard : HearsRoot H) →
+        Simulates m (beside scope this s1 n1 host1) (on_asking native.asked f g back heard) (is_want o)
+        (beside scope this (run_back back l s2) n2 host2)
+        (λ m place w. heard m place (length w.roots) (outcome_of o)
+        (record w { roots = w.roots ++ receiver_after back l ∷ [] }))
+    ended_on finished = ended_at (subst Finished lent finished)
 
 -- ---- the call on the receiver
 

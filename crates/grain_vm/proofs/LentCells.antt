@@ -90,14 +90,16 @@ module _ {H : Type 0} (law : Law H) (m : Setup H) (own : m.law ≡ law) (name : 
         } = put_back back.0 back.1
         ∙ ap (λ (y : Run H). record y {
           cells = slice_set y.cells k (idle (record c { value = back.0.value }));
-        }) is_lent in
-        (kept, λ f at.
-        subst (λ (y : Run H). CallsOn m (native_call f name (given_to ts)) h s n host o h y n' host')
-        (sym run_is)
-        (calls_on_cell m name q ts h f at s n host law own (InScope 0) read.2.0 read.2.1 o back.0 n'
-        host' k c cell is
-        (subst (λ (y : Option Held). AsksHost law host name (InScope 0) (Some x) read.2.0 q n
-        (answered.Over (o, y)) n' host') back.1 (asked read.2.0 (InScope 0) described))))
+        }) is_lent in (
+          kept,
+          λ f at.
+              subst (λ (y : Run H). CallsOn m (native_call f name (given_to ts)) h s n host o h y n' host')
+              (sym run_is)
+              (calls_on_cell m name q ts h f at s n host law own (InScope 0) read.2.0 read.2.1 o back.0 n'
+              host' k c cell is
+              (subst (λ (y : Option Held). AsksHost law host name (InScope 0) (Some x) read.2.0 q n
+              (answered.Over (o, y)) n' host') back.1 (asked read.2.0 (InScope 0) described))),
+        )
 
     -- it asks for a call first
     pub lends_first : (native : AskingNative) (n' : StepsView) (host' : H) →
@@ -145,16 +147,19 @@ module _ {H : Type 0} (m : Setup H) (r : Request) (held : Held) (lent_so : r.rec
       cell_of held.value ≡ None → ((home : Home) →
       DoesRequest law (record r { receiver = Some held }) home s.cells n host (answered.Over o) n'
       host') → t ≡ s → SameFlag (Some held) o.1 → CallsNativeOn m r s n host (on.Over o) t n' host'
-  called_over law own o plain does same flag = (flag_as o.1 flag, λ h x f is back at.
-      let e : held ≡ h = is_held h is in
-      subst (λ (y : Run H). CallsOn m (native_call f (name_in r.what) (given_to r.arguments)) h s n host
-      o.0 x y n' host') (sym same)
-      (calls_request law m own (InScope 0) r h x f at s n host o.0 n' host'
-      (subst (λ (y : Held). cell_of y.value ≡ None) e plain)
-      (subst (λ (y : Held). DoesRequest law (record r { receiver = Some y }) (InScope 0) s.cells n host
-      (answered.Over (o.0, Some x)) n' host') e
-      (subst (λ (y : Option Held). DoesRequest law (record r { receiver = Some held }) (InScope 0)
-      s.cells n host (answered.Over (o.0, y)) n' host') back (does (InScope 0))))))
+  called_over law own o plain does same flag = (
+    flag_as o.1 flag,
+    λ h x f is back at.
+        let e : held ≡ h = is_held h is in
+        subst (λ (y : Run H). CallsOn m (native_call f (name_in r.what) (given_to r.arguments)) h s n host
+        o.0 x y n' host') (sym same)
+        (calls_request law m own (InScope 0) r h x f at s n host o.0 n' host'
+        (subst (λ (y : Held). cell_of y.value ≡ None) e plain)
+        (subst (λ (y : Held). DoesRequest law (record r { receiver = Some y }) (InScope 0) s.cells n host
+        (answered.Over (o.0, Some x)) n' host') e
+        (subst (λ (y : Option Held). DoesRequest law (record r { receiver = Some held }) (InScope 0)
+        s.cells n host (answered.Over (o.0, y)) n' host') back (does (InScope 0))))),
+  )
 
   -- it asks for a call first
   pub called_first : (law : Law H) → m.law ≡ law → (a : AskingNative) → cell_of held.value ≡ None →

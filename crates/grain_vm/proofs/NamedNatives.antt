@@ -64,8 +64,10 @@ progresses_through : {H : Type 0} (engine : Engine) (s t s' : Run H) (f g f' : A
 progresses_through engine s t s' f g f' later same (inl taken) =
     inl (omega (arith, taken.0, later), omega (arith, taken.1, later))
 progresses_through engine s t s' f g f' later same (inr further) =
-    inr (omega (arith, further.0, later),
-    omega (arith, further.1, ap (λ (a : Activation). a.address) same))
+    inr (
+      omega (arith, further.0, later),
+      omega (arith, further.1, ap (λ (a : Activation). a.address) same),
+    )
 
 -- where it led from where it waited
 lands_through : {H : Type 0} (engine : Engine) (s t s' : Run H) (f g f' : Activation) (ts : List ℕ)

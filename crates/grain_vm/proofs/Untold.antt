@@ -95,14 +95,14 @@ module _ {S : Type 0} (m : Setup S) (q : Position) (g : Function) (args : List H
   entered_untold w =
       by (nat_le m.engine.limits.levels w.level) refl
       (nat_lt m.engine.limits.variables (length g.params)) refl where
-    by : (b : Bool) → nat_le m.engine.limits.levels w.level ≡ b → (c : Bool) →
-        nat_lt m.engine.limits.variables (length g.params) ≡ c →
-        ends_untold (body_entered (stopped m None) (λ w1. End (Failed NoMemory) w1)
-        (λ x w1. End (Failed x) w1) q g args None
-        (body_over (stopped m None) q g (λ a w1. End a w1)) w) ≡ true
-    by true is c also = rw is refl
-    by false is true also = rw (is, also) refl
-    by false is false also = rw (is, also) refl
+        by : (b : Bool) → nat_le m.engine.limits.levels w.level ≡ b → (c : Bool) →
+            nat_lt m.engine.limits.variables (length g.params) ≡ c →
+            ends_untold (body_entered (stopped m None) (λ w1. End (Failed NoMemory) w1)
+            (λ x w1. End (Failed x) w1) q g args None
+            (body_over (stopped m None) q g (λ a w1. End a w1)) w) ≡ true
+        by true is c also = rw is refl
+        by false is true also = rw (is, also) refl
+        by false is false also = rw (is, also) refl
 
   under_untold : (w : World S) →
       ends_untold (function_under (stopped m None) q g args (λ a w1. End a w1) None w) ≡ true
