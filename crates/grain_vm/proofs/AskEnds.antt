@@ -187,7 +187,7 @@ asked_first m native s n host kept none = record {
   before = refl;
 }
 
--- the call that it asks for now was done, and this is told of it
+-- the call that it asks for now was done, and the host hears this of it
 module _ {H : Type 0} (m : Setup H) (native : AskingNative) (s : Run H) (n : StepsView) (host : H)
     (a : Asked) (l : Loan) (t : Run H) (k : StepsView) (mid : H)
     (was : AskedSoFar m native s n host a l t k mid) (came : Result Dynamic EvalAltResult)

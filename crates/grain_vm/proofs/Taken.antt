@@ -1,4 +1,4 @@
--- A call that a host is told of has taken an operation.
+-- A call that a host hears of has taken an operation.
 use Rattle.std.proofs.Common.{◌≡◌, ◌∙◌, ◌≤◌, ◌<◌, ℕ, List, Option, true, false, Result, Ok, Err, inl, inr, sym, ap, arith}
 use Rattle.grain_value.specs.declared.values.Dynamic.{Dynamic}
 use Rattle.grain_value.specs.declared.values.Held.{Held}

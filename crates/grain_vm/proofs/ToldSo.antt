@@ -1,4 +1,4 @@
--- What a host is told of how a call ended that it asked for.
+-- What a host hears of how a call ended that it asked for.
 use Rattle.std.proofs.Common.{◌≡◌, ◌∙◌, ℕ, Bool, true, false, Result, Ok, Err, if◌then◌else◌, not, ◌&&◌, refl, sym, ap, subst, arith}
 use Rattle.grain_value.specs.declared.values.Dynamic.{Dynamic}
 use Rattle.grain_fault.specs.Classes.{catchable}
@@ -22,7 +22,7 @@ pub out_still : (b : Bool) (p : ℕ) → StopPersists b p b p
 out_still false p = tt
 out_still true p = (refl, refl)
 
--- of a fault the host is told, or not
+-- the host hears of a fault, or not
 module _ (x : EvalAltResult) where
   pub told_plainly : is_told (problem_of x) ≡ true → told_fault x ≡ Ok (Err x)
   told_plainly is = ap (λ (b : Bool). if b then Ok (Err x) else Err x) is
@@ -73,7 +73,7 @@ module _ (x : EvalAltResult) where
     by true is = rw (told_plainly is, told_want is) tt
     by false is = rw (told_nothing is) (out_still (no_memory (problem_of x)) p)
 
--- the host is told of a fault, or not
+-- the host hears of a fault, or not
 abbrev told_or_not : {S : Type 0} → EvalAltResult → Bool → Setup S → Callback → World S → Act S
 told_or_not x b m c w =
     if b then told m c (FaultOf (problem_of x)) w else given_up m c (Failed (problem_of x)) w

@@ -63,7 +63,7 @@ CallsBack {H = H} m q p values s n host o s' n' host' =
     (λ m place w. called_back m (heard m place) (c place) w) (is_want o)
     (beside scope x s' n' host') (λ m place w. heard m place (outcome_of o) w)
 
--- what the host is told of, or what goes on without it
+-- what the host hears of, or what goes on without it
 abbrev pub told_of : {H : Type 0} → Result (Result Dynamic EvalAltResult) EvalAltResult →
     (Option Place → Callback) → Computation H
 told_of (Ok (Ok v)) c m place w = told m (c place) (Value v) w
@@ -74,7 +74,7 @@ abbrev pub told_is_out : Result (Result Dynamic EvalAltResult) EvalAltResult →
 told_is_out (Ok o) = false
 told_is_out (Err x) = no_memory (problem_of x)
 
--- what the host is told of a fault, if it is told of it
+-- what the host hears of a fault, if it hears of it
 abbrev pub told_fault : EvalAltResult → Result (Result Dynamic EvalAltResult) EvalAltResult
 told_fault x = if is_told (problem_of x) then Ok (Err x) else Err x
 
@@ -83,7 +83,7 @@ abbrev pub IsHeard : Result Dynamic EvalAltResult → Type 0
 IsHeard (Ok v) = Unit {0}
 IsHeard (Err x) = is_told (problem_of x) ≡ true
 
--- what the host is told of how a call ended
+-- what the host hears of how a call ended
 abbrev pub TellsOf : {H : Type 0} → Setup H → Position → Result Dynamic EvalAltResult → Run H →
     StepsView → Result (Result Dynamic EvalAltResult) EvalAltResult → StepsView → Type 0
 TellsOf {H = H} m q came s n r n' =
@@ -93,7 +93,7 @@ TellsOf {H = H} m q came s n r n' =
     (λ m place w. called_back_over m (c place) (outcome_of came) w) (told_is_out r)
     (beside scope x s n' host) (told_of r c)
 
--- a call that the host is told of has taken an operation, which was left
+-- a call that the host hears of has taken an operation, which was left
 abbrev pub TookOne : {H : Type 0} → Engine → Run H → Result Dynamic EvalAltResult → Run H → Type 0
 TookOne engine s (Ok v) s' = (s.count < s'.count) × (s.count < engine.limits.operations)
 TookOne engine s (Err x) s' =
@@ -196,8 +196,8 @@ abbrev pub IsMissed : Bool → List Fault → Option (List Fault) → Type 0
 IsMissed true trace missed = missed ≡ Some trace
 IsMissed false trace missed = missed ≡ None
 
--- whether a native ended with the fault that there is no such property, and whether with the one that there is
--- no such indexer
+-- whether a native ended with the fault that there is no such property, and whether with the one that
+-- there is no such indexer
 abbrev pub has_missed : Answer → Bool
 has_missed (Came v) = false
 has_missed (Failed x) = is_dot_expr x

@@ -407,7 +407,7 @@ fn end_of_native<H: Host, L: Ledger>(
     }
 }
 
-// What the host is told of a call that it asked for: the value as it is read, or the fault. A fault that the
+// What the host hears of a call that it asked for: the value as it is read, or the fault. A fault that the
 // host is not told of is given apart.
 fn told<H: Host, L: Ledger>(
     run: &Run<H>,
@@ -432,7 +432,7 @@ fn told<H: Host, L: Ledger>(
     }
 }
 
-// The host is told of a fault if a script may catch it and the host may answer it.
+// The host hears of a fault if a script may catch it and the host may answer it.
 fn fault_told(fault: EvalAltResult) -> Result<Result<Dynamic, HostFault>, EvalAltResult>
     ensures { result ≡ told_fault fault }
 {

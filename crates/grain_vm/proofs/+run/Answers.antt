@@ -558,7 +558,8 @@ asks::native_in_walk-returns g t c =
       walked = rw c.misses_named.ensures
           (native_walked m c.args.named c.args.missed.now native s ended.new.run raised.new.run n
           ended.new.steps raised.new.steps c.args.host.now ended.new.host own ended.result.0 raised.result
-          ended.result.1 apart (rw c.is_kept.ensures at c.in-Ok.ensures.taken) (rw c.in-Ok.ensures.empty at ended.ensures.ends)
+          ended.result.1 apart (rw c.is_kept.ensures at c.in-Ok.ensures.taken)
+          (rw c.in-Ok.ensures.empty at ended.ensures.ends)
           ended.ensures.left raised.ensures);
       over = walked_native_over native.lent s ended.new.run raised.new.run ended.new.steps raised.new.steps
           own ended.result.0 raised.result apart (rw c.in-Ok.ensures.empty at ended.ensures.over)
