@@ -1,5 +1,5 @@
 -- Instructions that wait for a native, after a stretch at which the frame stays.
-use Rattle.std.proofs.Common.{◌≡◌, ◌∙◌, ◌≤◌, ℕ, List, [], ◌∷◌, Option, Some, None, true, false, Result, Ok, Err, length, refl, sym, ap, subst, arith}
+use Rattle.std.proofs.Common.{◌≡◌, ◌∙◌, ◌≤◌, ◌+◌, ℕ, List, [], ◌∷◌, Option, Some, None, true, false, Result, Ok, Err, length, refl, sym, ap, subst, arith}
 use Rattle.grain_value.specs.declared.scopes.Entry.{Entry}
 use Rattle.grain_value.specs.declared.stores.Cell.{Cell}
 use Rattle.grain_value.specs.declared.values.Dynamic.{Dynamic}
@@ -263,14 +263,14 @@ module _ {H : Type 0} (law : Law H) (p : View) (engine : Engine) (f : Activation
         (λ m place x w. fault_rest g (rest.Assign a) (frame_in f s) m place x w) a.target l end
         writable kept)
 
--- the fault of an op-assignment is passed over, and its trace is gone
+-- the fault of an op-assignment is raised, at a mark, and passed over: its trace is gone
 pub passed_over : {H : Type 0} (law : Law H) (p : View) (engine : Engine) (f : Activation)
     (s : Run H) (n : StepsView) (host : H) (a : Assignment) (h : Held) (x : Problem)
-    (cut : StacksView) (f' : Activation) (s' : Run H) (n' : StepsView) (host' : H)
+    (cut : StacksView) (k : StepsView) (f' : Activation) (s' : Run H) (n' : StepsView) (host' : H)
     {r : Result Performed OutOfMemory} → cut ≡ record s.stacks { trace = [] } →
-    h.read_only ≡ false → GoesOn p f s a →
+    k ≡ record n { passed = n.passed + 1 } → h.read_only ≡ false → GoesOn p f s a →
     says_missing (name_of p a.operator.op_assign_name) x ≡ true →
-    ImplementsOrWaits (setup law p engine) (moment f (record s { stacks = cut }) n host)
+    ImplementsOrWaits (setup law p engine) (moment f (record s { stacks = cut }) k host)
     (λ m place w. operator_at m (home_of a.target place) (assigned_name m.program a.variable)
     (name_of m.program a.operator.op_name) h
     (read_write (content_at (record s { stacks = cut }) a.target))
@@ -281,13 +281,14 @@ pub passed_over : {H : Type 0} (law : Law H) (p : View) (engine : Engine) (f : A
     (assigned_name m.program a.variable) a.operator h (kept_operand a.kept s.stacks.operands)
     a.next (frame_in f s place) x w)
     (a.next ∷ []) 1 0 s.stacks.handlers r (moment f' s' n' host')
-passed_over {H = H} law p engine f s n host a h x cut f' s' n' host' {r} is plain can missing
-    does =
-    waits_then law p engine f s untraced n n host host f' s' n' host'
+passed_over {H = H} law p engine f s n host a h x cut k f' s' n' host' {r} is counted plain can
+    missing does =
+    waits_then law p engine f s untraced n passed host host f' s' n' host'
     (reading refl (omega arith) (λ stop clear halts u place bound.
     failed_is s u place bound n host (stopped (setup law p engine) stop) a.operator a.target
     (assigned_name p a.variable) h (kept_operand a.kept s.stacks.operands) a.next
-    (frame_in f s place) x plain can.target missing)) (record {
+    (frame_in f s place) x plain can.target missing (clear n.passed (omega arith) (omega arith))))
+    (record {
       chunk = refl;
       base = refl;
       scope = can.inside;
@@ -300,12 +301,15 @@ passed_over {H = H} law p engine f s n host a h x cut f' s' n' host' {r} is plai
       later = omega arith;
     }) refl refl
     (subst (λ (d : Dynamic). Asks d) (content_beside s (record s.stacks { trace = [] }) a.target)
-    (rw is at does)) where
+    (rw (is, counted) at does)) where
       untraced : Run H
       untraced = record s { stacks = record s.stacks { trace = [] } }
 
+      passed : StepsView
+      passed = record n { passed = n.passed + 1 }
+
       Asks : Dynamic → Type 0
-      Asks d = ImplementsOrWaits (setup law p engine) (moment f untraced n host)
+      Asks d = ImplementsOrWaits (setup law p engine) (moment f untraced passed host)
           (λ m place w. operator_at m (home_of a.target place) (assigned_name m.program a.variable)
           (name_of m.program a.operator.op_name) h (read_write d)
           (kept_operand a.kept s.stacks.operands) a.next (frame_in f s place) w)

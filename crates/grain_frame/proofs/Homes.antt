@@ -1,5 +1,5 @@
 -- A target in the meaning: where its value is held, and what is written there.
-use Rattle.std.proofs.Common.{◌≡◌, ◌∙◌, ℕ, List, [], Option, Some, None, Bool, false, refl, ap, subst, sym, true}
+use Rattle.std.proofs.Common.{◌≡◌, ◌∙◌, ◌+◌, ℕ, List, [], Option, Some, None, Bool, false, refl, ap, subst, sym, true}
 use Rattle.std.specs.Prelude.{option_map, slice_get, slice_set}
 use Rattle.grain_value.specs.Cells.{idle, is_busy}
 use Rattle.grain_value.specs.Operands.{read_write}
@@ -13,7 +13,7 @@ use Rattle.grain_program.specs.View.{name_of}
 use Rattle.grain_program.specs.declared.code.parts.AssignOp.{AssignOp}
 use Rattle.grain_means.specs.Worlds.{Act, Frame, Place, Setup, World}
 use Rattle.grain_means.specs.Places.{or_unit}
-use Rattle.grain_means.specs.Rules.{at_place_of, back_in_cells, back_in_roots, back_in_scope, cell_written, content_now, held_at, held_or, in_entry, marked, op_assign_failed_at, operator_at, written_at}
+use Rattle.grain_means.specs.Rules.{at_place_of, back_in_cells, back_in_roots, back_in_scope, cell_written, content_now, held_at, held_or, in_entry, is_stop, marked, op_assign_failed_at, operator_at, written_at}
 use Rattle.grain_means.specs.Simulation.{Binds, Environment, after, puts, world}
 use Rattle.grain_means.specs.lemmas.PlaceLaws.{find-put}
 use Rattle.grain_means.specs.lemmas.Roots.{puts-bound}
@@ -145,17 +145,18 @@ module _ {H : Type 0} (s : Run H) (u : Environment) (place : Option Place)
       by_this (Some g) None bound can = absurd bound
       by_this (Some g) (Some p) bound can = ap (λ (o : Option Held). (or_unit o).value) bound
 
-    -- where the host has no op-assignment of its name, its operator is asked
+    -- where the host has no op-assignment of its name, its operator is asked after a mark
     pub failed_is : (m : Setup H) (a : AssignOp) (t : Target) (name : List ℕ) (h v : Held)
         (next : ℕ) (f : Frame) (x : Problem) → h.read_only ≡ false → CanHold s t →
-        says_missing (name_of m.program a.op_assign_name) x ≡ true →
+        says_missing (name_of m.program a.op_assign_name) x ≡ true → is_stop m.stop n.passed ≡ false →
         op_assign_failed_at m (home_of t place) name a h v next f x (world (abstraction s n host) u)
         ≡ operator_at m (home_of t place) name (name_of m.program a.op_name) h
         (read_write (content_at s t)) v next f
-        (record (world (abstraction s n host) u) { trace = [] })
-    failed_is m a t name h v next f x plain can missing =
+        (record (world (abstraction s n host) u) { passed = n.passed + 1; trace = [] })
+    failed_is m a t name h v next f x plain can missing goes =
         asked ∙ ap (λ (g : Held). operator_at m (home_of t place) name
-        (name_of m.program a.op_name) h g v next f (record w { trace = [] })) held_same where
+        (name_of m.program a.op_name) h g v next f
+        (record w { passed = n.passed + 1; trace = [] })) held_same where
           w : World H
           w = world (abstraction s n host) u
 
@@ -164,8 +165,9 @@ module _ {H : Type 0} (s : Run H) (u : Environment) (place : Option Place)
 
           asked : op_assign_failed_at m (home_of t place) name a h v next f x w
               ≡ operator_at m (home_of t place) name (name_of m.program a.op_name) h
-              (record h { value = now }) v next f (record w { trace = [] })
-          asked = rw missing refl
+              (record h { value = now }) v next f
+              (record w { passed = n.passed + 1; trace = [] })
+          asked = rw (missing, goes) refl
 
           held_same : record h { value = now } ≡ read_write (content_at s t)
           held_same = flagged now h.read_only plain

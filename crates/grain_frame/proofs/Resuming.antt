@@ -16,7 +16,7 @@ use Rattle.grain_host.specs.Law as reply
 use Rattle.grain_global.specs.StepsView.{StepsView}
 use Rattle.grain_means.specs.Worlds.{Act, Answer, Callback, End, Frame, Go, InHost, Place, Receiver, Setup, Then, World}
 use Rattle.grain_means.specs.Worlds as worlds
-use Rattle.grain_means.specs.Rules.{cells_with, is_stop, lent_held, position, receiver_rewritten, roots_with, scope_with, told, went_on, with_token}
+use Rattle.grain_means.specs.Rules.{cells_with, is_stop, lent_held, position, receiver_rewritten, roots_with, scope_with, told, trace_kept, went_on, with_token}
 use Rattle.grain_means.specs.Simulation.{Binds, Environment, after, puts, stopped, world}
 use Rattle.grain_means.specs.lemmas.Stretches.{continued}
 use Rattle.grain_frame.specs.Natives.{IsAt}
@@ -119,6 +119,7 @@ module _ {H : Type 0} (law : Law H) (token : ℕ) (o : Outcome) (l : Loan) (q : 
           scope = scope_with (with_left (receiver_in (home_of to.This) s l place) left)
               (state_with l scope x s n host).scope;
           roots = roots_with (with_left (receiver_in (home_of to.This) s l place) left) u.roots;
+          trace = trace_kept said s.stacks.trace;
           passed = n.passed + 1 + 1;
         })
     answered m f a scope x own is u place first second =
@@ -137,6 +138,7 @@ module _ {H : Type 0} (law : Law H) (token : ℕ) (o : Outcome) (l : Loan) (q : 
           host = h;
           scope = scope_with (with_left r left) (state_with l scope x s n host).scope;
           roots = roots_with (with_left r left) u.roots;
+          trace = trace_kept said s.stacks.trace;
           passed = n.passed + 1 + 1;
         })) goes)
 
@@ -144,8 +146,8 @@ module _ {H : Type 0} (law : Law H) (token : ℕ) (o : Outcome) (l : Loan) (q : 
     pub tells_over : (ans : Result Dynamic EvalAltResult) (trace : List Fault) (e : Run H)
         (given : Option Held) → e ≡ given_back_run l' (traced trace) → given ≡ apart_of l' →
         ((m : Setup H) (c : Callback) (w : World H) → position m c.frame ≡ q →
-        w.trace ≡ s.stacks.trace → went_on m c said w ≡ End (answer_of ans)
-        (record w { trace = trace; cells = cells_with c.receiver w.cells })) →
+        w.trace ≡ s.stacks.trace → went_on m c said (record w { trace = trace_kept said w.trace })
+        ≡ End (answer_of ans) (record w { trace = trace; cells = cells_with c.receiver w.cells })) →
         TellsHost law token o l q s n host (went.Over ans given) e heard_counts mid
     tells_over ans trace e given is gives ends = record {
       same = λ m f a heard scope x own at is_token. rw gives (continued heard

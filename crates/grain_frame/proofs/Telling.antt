@@ -5,7 +5,7 @@ use Rattle.grain_fault.specs.Problems.{NoMemory}
 use Rattle.grain_host.specs.Law.{Outcome, Reply}
 use Rattle.grain_means.specs.Worlds.{Act, Callback, End, Receiver, Setup, World}
 use Rattle.grain_means.specs.Worlds as worlds
-use Rattle.grain_means.specs.Rules.{cells_with, is_stop, lent_held, receiver_rewritten, roots_with, scope_with, told, went_on, with_token, without_token}
+use Rattle.grain_means.specs.Rules.{cells_with, is_stop, lent_held, receiver_rewritten, roots_with, scope_with, told, trace_kept, went_on, with_token, without_token}
 
 same_token : (token : ℕ) → nat_eq token token ≡ true
 same_token token = at (nat_eq token token) refl where
@@ -41,6 +41,7 @@ module _ {S : Type 0} (m : Setup S) (c : Callback) (o : Outcome) (w : World S) w
         host = m.law.resume_after w.host c.token o (lent_held c.receiver);
         scope = scope_with r w.scope;
         roots = roots_with r w.roots;
+        trace = trace_kept said w.trace;
         passed = w.passed + 1 + 1;
       })
   told_so said r first second says is =

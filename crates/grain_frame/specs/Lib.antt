@@ -7,6 +7,7 @@ pub mod Operated
 pub mod Natives
 pub mod Targets
 pub mod Waiting
+pub mod Rests
 pub mod This
 pub mod Refusals
 pub mod Pointers

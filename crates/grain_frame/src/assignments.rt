@@ -99,7 +99,6 @@ impl<H: Host> Run<H> {
     ) -> Result<Performed, OutOfMemory>
         requires ready { Ready frame.old self.old (op.AssignLocalOp slot name assign_op) next }
         requires pools { InPools context.program.now (op.AssignLocalOp slot name assign_op) }
-        requires untraced { self.old.stacks.trace ≡ [] }
         ensures performs { PerformsOrWaits (setup_of H.law context.entry)
             (moment frame.old self.old steps.old host.old) (op.AssignLocalOp slot name assign_op)
             next result (moment frame.new self.new steps.new host.new) }
@@ -149,7 +148,6 @@ impl<H: Host> Run<H> {
     ) -> Result<Performed, OutOfMemory>
         requires can { CanAssign context.program.now frame.old self.old assignment }
         requires writable { HoldsWritable self.old assignment.target }
-        requires untraced { self.old.stacks.trace ≡ [] }
         ensures implements { (h : Held) → h.read_only ≡ false →
             ImplementsOrWaits (setup_of H.law context.entry)
             (moment frame.old self.old steps.old host.old)

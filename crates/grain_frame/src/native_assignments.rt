@@ -197,7 +197,6 @@ impl<H: Host> Run<H> {
     ) -> Result<Performed, OutOfMemory>
         requires can { CanAssign context.program.now frame.old self.old assignment }
         requires writable { HoldsWritable self.old assignment.target }
-        requires untraced { self.old.stacks.trace ≡ [] }
         ensures implements { (h : Held) → h.read_only ≡ false →
             ImplementsOrWaits (setup_of H.law context.entry)
             (moment frame.old self.old steps.old host.old)

@@ -11,10 +11,12 @@ ghost use Rattle.grain_fault.specs.Problems.{problem_of};
 ghost use Rattle.grain_program.specs.View.{name_of};
 ghost use Rattle.grain_means.specs.Rules.{assigned_at, flattened, op_assign_failed_at, operator_at};
 ghost use Rattle.grain_frame.specs.Abstraction.{frame_in, ImplementsBound, setup_of, moment};
+ghost use Rattle.grain_frame.specs.Rests.{WaitsLess};
 ghost use Rattle.grain_frame.specs.Waiting.{CanHold, GoesOn, ImplementsOrWaits, IsBack, IsLentCell, IsNotLent, LeadsTo, answer_of, no_memory_came, rest_of, value_rest};
 ghost use Rattle.grain_frame.specs.Natives.{Describes};
 ghost use Rattle.grain_frame.specs.Targets.{CanBeLent, assigned_name, content_at, home_of, kept_operand};
 ghost use Rattle.grain_frame.specs.declared.targets.Target.{Target};
+ghost use Rattle.grain_frame.specs.declared.waiting.Rest.TheVariants as rest;
 
 use crate::activations::Activation;
 use crate::assignments::{Assignment, operand};
@@ -53,6 +55,7 @@ impl<H: Host> Run<H> {
             (λ m place w. rest_of h rest (frame_in frame.old self.old) m place (answer_of outcome)
             w) targets takes gives self.old.stacks.handlers result
             (moment frame.new self.new steps.new host.new) }
+        ensures less { WaitsLess rest result }
     {
         match outcome {
             Ok(value) => Performed::of(self.value_came(context, steps, frame, rest, value)),
@@ -102,8 +105,8 @@ impl<H: Host> Run<H> {
         }
     }
 
-    // What follows from a fault of the host's op-assignment: where it has none of that name, its
-    // operator is asked.
+    // What follows from a fault of the host's op-assignment: where it has none of that name, the fault is
+    // raised, at a mark, and passed over without its trace, and the host's operator is asked.
     pub(crate) fn op_assign_failed<L: Ledger>(
         &mut self,
         context: Context<'_>,
@@ -124,9 +127,11 @@ impl<H: Host> Run<H> {
             assignment.next (frame_in frame.old self.old place) (problem_of fault) w)
             (assignment.next ∷ []) 1 0 self.old.stacks.handlers result
             (moment frame.new self.new steps.new host.new) }
+        ensures less { WaitsLess (rest.Assign assignment) result }
     {
         let name = context.program.name(assignment.operator.op_assign_name);
         if says_missing(name, &fault) {
+            steps.mark();
             self.stacks.cut_trace(0);
             self.operator_assigned(context, host, steps, frame, assignment)
         } else {
@@ -157,6 +162,7 @@ impl<H: Host> Run<H> {
             assignment.next (frame_in frame.old self.old place) w)
             (assignment.next ∷ []) 1 0 self.old.stacks.handlers result
             (moment frame.new self.new steps.new host.new) }
+        ensures less { WaitsLess (rest.Assign assignment) result }
     {
         let mut arguments = Arguments::new(self.alloc);
         self.push_content(&mut arguments, assignment.target)?;

@@ -154,7 +154,6 @@ impl<H: Host> Run<H> {
     ) -> Result<Performed, OutOfMemory>
         requires ready { Ready frame.old self.old (op.AssignThisOp assign_op) next }
         requires pools { InPools context.program.now (op.AssignThisOp assign_op) }
-        requires untraced { self.old.stacks.trace ≡ [] }
         ensures performs { PerformsOrWaits (setup_of H.law context.entry)
             (moment frame.old self.old steps.old host.old) (op.AssignThisOp assign_op) next result
             (moment frame.new self.new steps.new host.new) }

@@ -1,7 +1,7 @@
 -- What came of the beginning of a chain whose root was found.
 use Rattle.std.proofs.Common.{◌≡◌, ◌∙◌, ◌≤◌, ℕ, List, [], ◌∷◌, Option, Bool, false, Result, length, refl, ap, subst, arith}
 use Rattle.std.proofs.Math.Path.{fun_ext}
-use Rattle.std.specs.Prelude.{Some, Ok, Err, is_err, true}
+use Rattle.std.specs.Prelude.{Some, None, Ok, Err, is_err, true}
 use Rattle.grain_value.specs.declared.memory.OutOfMemory.{OutOfMemory}
 use Rattle.grain_value.specs.declared.values.Held.{Held}
 use Rattle.grain_host.specs.Law.{Law}
@@ -170,7 +170,7 @@ module _ {H : Type 0} (law : Law H) (p : View) (engine : Engine) (f : Activation
     under_way = did.under_way;
     same = subst (λ (g : Option Place → Frame). Simulates set (abstraction s n host) (instruction k)
         (is_out answer) (beside did.under_way.scope did.under_way.this s' n' host)
-        (chain_left set g k next w.home w.was_read_only did.under_way.seat w.walk answer))
+        (chain_left set g k next w.home w.was_read_only did.under_way.seat None w.walk answer))
         (same_frame k (first_slot k))
         (compose {one = false}
         (reading refl (omega arith) (λ stop clear halts u place bound. refl)) did.same tt);

@@ -169,9 +169,9 @@ finishes m f f' s s1 s' n n' host w end r back is does =
     let h : Held = record { value = x.value; read_only = w.was_read_only } in
     let here = subst (Ended m f f' s s' n n' host w.index w.next w.blamed (end_of end) r) is does in
     record {
-      same = λ seat scope this away seated rooted.
+      same = λ seat scope this missed away seated rooted.
           compose (finished m w.index w.next (over_frame f s w.blamed) (end_of end) s n host scope this x
-          w.home w.was_read_only seat away back rooted)
+          missed w.home w.was_read_only seat away back rooted)
           (ended m f f' s s' n n' host w.index w.next w.blamed (end_of end) r w.home h here) tt;
       kept = ended_kept m f f' s s' n n' host w.index w.next w.blamed (end_of end) r w.home h back here;
       lands = ended_lands m f f' s s' n n' host w.index w.next w.blamed (end_of end) r w.home h here;

@@ -1,5 +1,5 @@
 -- A chain: what comes before its walk.
-use Rattle.std.proofs.Common.{◌≡◌, ◌∙◌, ℕ, List, Option, Some, None, Bool, true, false, if◌then◌else◌, Result, Ok, Err, refl, ap, arith}
+use Rattle.std.proofs.Common.{◌≡◌, ◌∙◌, ℕ, List, [], Option, Some, None, Bool, true, false, if◌then◌else◌, Result, Ok, Err, refl, ap, arith}
 use Rattle.std.specs.Prelude.{is_some, slice_get}
 use Rattle.grain_value.specs.Cells.{content}
 use Rattle.grain_value.specs.Operands.{top}
@@ -35,6 +35,7 @@ use Rattle.grain_vm.specs.declared.roots.FoundRoot.{FoundRoot}
 use Rattle.grain_frame.specs.declared.runs.Progress.{Progress}
 use Rattle.grain_frame.specs.declared.runs.Progress.TheVariants as progress
 use Rattle.grain_frame.specs.declared.runs.Run.{Run}
+use Rattle.grain_vm.proofs.Lifted.{untraced}
 use Rattle.grain_vm.proofs.Starting.{some_same}
 
 -- ---- the frame's slot
@@ -74,6 +75,46 @@ unblamed m f f' s s' n n' host host' x {rule} {ts} {takes} {gives} {hs} r does =
   same = does.same;
   kept = kept_unblamed f f' s s' x does.kept;
   lands = continues_still m.engine s s' f f' x ts takes gives hs r does.lands;
+  before = does.before;
+}
+
+-- ---- the trace
+
+lands_untraced : {H : Type 0} (engine : Engine) (s s' : Run H) (f f' : Activation) (ts : List ℕ)
+    (takes gives : ℕ) (hs : List Handler) (r : Result Progress OutOfMemory) →
+    ContinuesAt engine (untraced s) f s' f' ts takes gives hs r →
+    ContinuesAt engine s f s' f' ts takes gives hs r
+lands_untraced engine s s' f f' ts takes gives hs (Ok progress.Continues) l = l
+lands_untraced engine s s' f f' ts takes gives hs (Ok progress.Returned) l = l
+lands_untraced engine s s' f f' ts takes gives hs (Ok progress.Failed) l = l
+lands_untraced engine s s' f f' ts takes gives hs (Err e) l = l
+
+-- what was done once the trace was gone
+pub emptied : {H : Type 0} (m : Setup H) (f f' : Activation) (s s' : Run H) (n n' : StepsView)
+    (host host' : H) {rule : Computation H} {ts : List ℕ} {takes gives : ℕ} {hs : List Handler}
+    (r : Result Progress OutOfMemory) →
+    Implements m (moment f (untraced s) n host) rule ts takes gives hs r (moment f' s' n' host') →
+    Implements m (moment f s n host) (λ q place w. rule q place (record w { trace = [] })) ts takes gives
+    hs r (moment f' s' n' host')
+emptied m f f' s s' n n' host host' {rule} {ts} {takes} {gives} {hs} r does = record {
+  same = record {
+    this = does.same.this;
+    order = does.same.order;
+    equal = λ stop clear halts u place. does.same.equal stop clear halts u place;
+  };
+  kept = record {
+    chunk = does.kept.chunk;
+    base = does.kept.base;
+    scope = does.kept.scope;
+    room = does.kept.room;
+    noted = does.kept.noted;
+    outer = does.kept.outer;
+    saved = does.kept.saved;
+    level = does.kept.level;
+    this = does.kept.this;
+    later = does.kept.later;
+  };
+  lands = lands_untraced m.engine s s' f f' ts takes gives hs r does.lands;
   before = does.before;
 }
 

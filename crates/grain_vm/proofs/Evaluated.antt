@@ -214,6 +214,7 @@ module _ {H : Type 0} (counted : Counted H) (law : Law H) (p : View) (e : Engine
           entries = start.entries;
           contents = start.contents;
           reaches = start.reaches;
+          waits = start.waits;
           hands = λ s. vouched;
         }
 

@@ -6,6 +6,7 @@ use Rattle.grain_value.specs.declared.scopes.Entry.{Entry}
 use Rattle.grain_value.specs.declared.values.Held.{Held}
 use Rattle.grain_value.specs.Scopes.{set_held}
 use Rattle.grain_global.specs.StepsView.{StepsView}
+use Rattle.grain_fault.specs.declared.traces.Fault.{Fault}
 use Rattle.grain_means.specs.Worlds.{Frame, Place, Setup}
 use Rattle.grain_means.specs.Tasks.{Done, Walked}
 use Rattle.grain_means.specs.Rules.Chains.{chain_over}
@@ -23,7 +24,8 @@ use Rattle.grain_vm.proofs.Rooting.{newest_put}
 use Rattle.grain_vm.proofs.Walked.{over_added, over_this}
 
 module _ {H : Type 0} (m : Setup H) (k next : ℕ) (g : Option Place → Frame) (o : Walked)
-    (s : Run H) (n : StepsView) (host : H) (scope : List Entry) (this : Option Held) (x : Held) where
+    (s : Run H) (n : StepsView) (host : H) (scope : List Entry) (this : Option Held) (x : Held)
+    (missed : Option (List Fault)) where
   held_so : (y : Held) (b : Bool) → y.read_only ≡ b → y ≡ record { value = y.value; read_only = b }
   held_so y b e = rw (← e) refl
 
@@ -34,7 +36,7 @@ module _ {H : Type 0} (m : Setup H) (k next : ℕ) (g : Option Place → Frame) 
   pub finished : (a : Home) (b : Bool) (seat : Seat) → IsAway a b seat scope this s →
       CanPutBack s a → x.read_only ≡ (first_held seat).read_only →
       Simulates m (beside scope this s n host)
-      (walk_seated k g seat (after_chain k next a b g) (Done o) (x ∷ [])) false
+      (walk_seated k g seat (after_chain k next a b g) missed (Done o) (x ∷ [])) false
       (abstraction (with_root s a (put_back b)) n host)
       (λ q place w. chain_over q k next (g place) o w)
   finished (home.Entry i) b seat (h, is, own, sets, now) can flag =
@@ -43,7 +45,7 @@ module _ {H : Type 0} (m : Setup H) (k next : ℕ) (g : Option Place → Frame) 
         order = omega arith;
         equal = λ stop clear halts u place.
             rw is (over_added m k next g h (λ y w. record w { scope = set_held w.scope i y })
-            (stopped m stop) o x place (world (beside scope this s n host) u)
+            missed (stopped m stop) o x place (world (beside scope this s n host) u)
             (flag ∙ ap (λ (q : Seat). (first_held q).read_only) is))
             ∙ ap (λ (l : List Entry). chain_over (stopped m stop) k next (g place) o
             (record (world (abstraction s n host) u) { scope = l }))
@@ -58,7 +60,7 @@ module _ {H : Type 0} (m : Setup H) (k next : ℕ) (g : Option Place → Frame) 
             rw (is, es) (over_added m k next g h
             (λ y w. record w {
               cells = slice_set w.cells j (idle (record { value = y.value; read_only = b }));
-            }) (stopped m stop) o x place (world (beside s.scope this s n host) u)
+            }) missed (stopped m stop) o x place (world (beside s.scope this s n host) u)
             (flag ∙ ap (λ (q : Seat). (first_held q).read_only) is));
       })
   finished home.Operand b seat (h, is, es, now) can flag =
@@ -66,13 +68,13 @@ module _ {H : Type 0} (m : Setup H) (k next : ℕ) (g : Option Place → Frame) 
         this = sym now;
         order = omega arith;
         equal = λ stop clear halts u place.
-            rw (is, es) (over_added m k next g h (λ y w. w) (stopped m stop) o x place
+            rw (is, es) (over_added m k next g h (λ y w. w) missed (stopped m stop) o x place
             (world (beside s.scope this s n host) u)
             (flag ∙ ap (λ (q : Seat). (first_held q).read_only) is));
       })
   finished home.This b seat (h, is, own, es, now) can flag =
       let own_flag = flag ∙ ap (λ (q : Seat). (first_held q).read_only) is in
-      rw is (over_this k next g h b m o x (beside scope this s n host)
+      rw is (over_this k next g h b missed m o x (beside scope this s n host)
       (abstraction (with_root s home.This (put_back b)) n host) now
       (rw (es, newest_put s.level s.receivers (put_back b) can, held_so x b (own_flag ∙ own)) refl)
       own_flag)

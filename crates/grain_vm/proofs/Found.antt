@@ -27,7 +27,7 @@ use Rattle.grain_means.specs.Simulation.{Simulates, SimulatesExactly}
 use Rattle.grain_means.specs.Means.{setup}
 use Rattle.grain_means.specs.lemmas.Stretches.{same, compose}
 use Rattle.grain_global.specs.StepsView.{StepsView}
-use Rattle.grain_frame.specs.Abstraction.{ContinuesAt, Implements, KeepsFrame, Moment, Performs, Runs, StandsAt, Stepped, abstraction, continuation, frame_in, is_out, moment, this_of}
+use Rattle.grain_frame.specs.Abstraction.{ContinuesAt, ImplementsBound, KeepsFrame, Moment, PerformsBound, Runs, StandsAt, Stepped, abstraction, continuation, frame_in, is_out, moment}
 use Rattle.grain_vm.specs.Attempts.{IsPending}
 use Rattle.grain_vm.specs.Finding.{Finds, FindsFunction, FindsHere, IsCall, found_of}
 use Rattle.grain_frame.specs.declared.activations.Activation.{Activation}
@@ -37,7 +37,8 @@ use Rattle.grain_vm.specs.declared.finding.Found.{Found}
 use Rattle.grain_vm.specs.declared.finding.Found.TheVariants as found
 use Rattle.grain_frame.specs.declared.runs.Progress.{Progress}
 use Rattle.grain_frame.specs.declared.runs.Run.{Run}
-use Rattle.grain_frame.specs.lemmas.Arms.{arm, done, lands_on, taken_back}
+use Rattle.grain_frame.specs.lemmas.Arms.{done, lands_on, taken_back}
+use Rattle.grain_frame.specs.lemmas.Bound.{arm_bound}
 use Rattle.grain_frame.specs.Receivers.{KeepsBound}
 
 -- a function that is there has a number among them
@@ -206,20 +207,18 @@ module _ {H : Type 0} (law : Law H) (p : View) (engine : Engine) (f : Activation
   -- the instruction was done by what was done from there on
   pub pointed_done : (f2 : Activation) (s2 : Run H) (n2 : StepsView) (host2 : H)
       {r : Result Progress OutOfMemory} → function_by_name p q.name total ≡ None →
-      Implements (setup law p engine) (moment f s1 n host)
+      ImplementsBound (setup law p engine) (moment f s1 n host)
       (λ m place w. call_function m None q.name total (frame_in f s1 place) next w)
-      (next ∷ []) total 1 s1.stacks.handlers r (moment f2 s2 n2
-      host2) →
-      Performs (setup law p engine) (moment f s n host) (op.CallFnPtr count) next r
+      (next ∷ []) total 1 s1.stacks.handlers r (moment f2 s2 n2 host2) →
+      PerformsBound (setup law p engine) (moment f s n host) (op.CallFnPtr count) next r
       (moment f2 s2 n2 host2)
   pointed_done f2 s2 n2 host2 {r} none did = record {
-    same = record {
-      this = did.same.this ∙ ap (λ (q : Run H). this_of q) others;
-      order = did.same.order;
-      equal = λ stop clear halts u place.
-          comes.equal stop (λ k a b. absurd (omega (arith, a, b))) tt u place
-          ∙ rw none (did.same.equal stop clear halts u place);
-    };
+    same = compose {one = false}
+        (same (record {
+          this = comes.this;
+          order = comes.order;
+          equal = λ stop clear halts u place. comes.equal stop clear halts u place ∙ rw none refl;
+        })) did.same tt;
     kept = kept_before f f2 s s1 s2 others did.kept;
     lands = lands_on engine s s2 (record s.stacks { operands = s1.stacks.operands }) f f2
         (next ∷ []) (next ∷ []) total 1 (count + 1) 1 s.stacks.handlers r
@@ -239,7 +238,7 @@ call_refused m count next f w v read none = rw (read, none) refl
 pub finds_of : {H : Type 0} (law : Law H) (p : View) (engine : Engine) (f f' : Activation)
     (s s' : Run H) (n n' : StepsView) (o : Op) (next : ℕ) (host host' : H)
     (r : Result Progress OutOfMemory) →
-    Performs (setup law p engine) (moment f s n host) o next r (moment f' s' n' host') →
+    PerformsBound (setup law p engine) (moment f s n host) o next r (moment f' s' n' host') →
     Finds (setup law p engine) (moment f s n host) o next (found_of r) (moment f' s' n' host')
 finds_of law p engine f f' s s' n n' o next host host' (Ok q) did = did
 finds_of law p engine f f' s s' n n' o next host host' (Err e) did = did
@@ -259,13 +258,13 @@ found_here : {H : Type 0} (law : Law H) (p : View) (engine : Engine) (f f' : Act
     Finds (setup law p engine) (moment f s n host) o next r (moment f' s' n' host') →
     FindsHere (setup law p engine) (moment f s n host) r (moment f' s' n' host')
 found_here law p engine f f' s s' n n' o next host host' (Ok (found.Done q)) runs at call did =
-    arm refl call.keeps at runs did
+    arm_bound refl call.keeps at runs did
 found_here law p engine f f' s s' n n' o next host host' (Ok (found.Function number to)) runs at
     call did =
     subst (λ (k : ℕ). FindsHere (setup law p engine) (moment f s n host) (Ok
     (found.Function number k)) (moment f' s' n' host')) (sym did.0) (o, at, call, did.1)
 found_here law p engine f f' s s' n n' o next host host' (Err e) runs at call did =
-    arm refl call.keeps at runs did
+    arm_bound refl call.keeps at runs did
 
 -- the frame has its chunk and its base, whatever its instruction came to
 found_kept : {H : Type 0} (law : Law H) (p : View) (engine : Engine) (f f' : Activation)

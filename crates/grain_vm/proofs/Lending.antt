@@ -1,5 +1,5 @@
 -- The natives that a walk needs, wherever the walk's first root stands.
-use Rattle.std.proofs.Common.{◌≡◌, ℕ, ◌+◌, ◌&&◌, List, [], Option, Some, None, Bool, true, false, length, map, refl, ap, sym, ◌∙◌, arith}
+use Rattle.std.proofs.Common.{◌≡◌, ℕ, ◌+◌, ◌&&◌, List, [], Option, Some, None, Bool, true, false, length, map, option_map, refl, ap, sym, ◌∙◌, arith}
 use Rattle.std.specs.Prelude.{if◌then◌else◌}
 use Rattle.grain_value.specs.Operands.{read_write, values_in}
 use Rattle.grain_value.specs.Tree.{Tree}
@@ -10,21 +10,23 @@ use Rattle.grain_value.specs.declared.values.Held.{Held}
 use Rattle.grain_value.specs.declared.natives.Native.{Native}
 use Rattle.grain_fault.specs.Positions.{at_position_if_none}
 use Rattle.grain_fault.specs.Problems.{Problem, Plain, DataRace, NonPureCall, NoMemory}
+use Rattle.grain_fault.specs.declared.traces.Fault.{Fault}
 use Rattle.grain_host.specs.Law.{Law, native_of, receiver_after, written}
 use Rattle.grain_host.specs.Law as reply
 use Rattle.grain_host.specs.Signatures.{not_found}
-use Rattle.grain_means.specs.Worlds.{is_stop, Answer, Came, Failed, Act, Frame, Place, Setup, World}
+use Rattle.grain_means.specs.Worlds.{is_stop, Answer, Came, Failed, Act, Frame, Go, InHost, Place, Setup, Then, World}
 use Rattle.grain_means.specs.Places.{find}
-use Rattle.grain_means.specs.Tasks.{Task, Need, Call}
+use Rattle.grain_means.specs.Tasks.{Task, Call}
 use Rattle.grain_means.specs.Rules.{race_text, flat_all}
-use Rattle.grain_means.specs.Rules.Natives.{Receiver, trees_in, kinds_in, first_is_read_only, given, lent_held, given_back, cells_given_back, roots_given_back, native_found_or, host_called_or}
-use Rattle.grain_means.specs.Rules.InWorld.{at_step, needed, failed_so, walks}
+use Rattle.grain_means.specs.Rules.Natives.{Receiver, trees_in, kinds_in, first_is_read_only, given, lent_held, given_back, cells_given_back, roots_given_back, receiver_left, cells_lent, with_token, native_over, native_found_or, host_called_or}
+use Rattle.grain_means.specs.Rules.InWorld.{at_step, missed_by, needed, failed_so, placed, trace_of}
 use Rattle.grain_means.specs.Simulation.{Binds, LocalState, Environment, Computation, Simulates, puts, stopped, world}
 use Rattle.grain_means.specs.Driving.{all_given}
 use Rattle.grain_means.specs.lemmas.LentPlaces.{needs_none, needs_constant, needs_value, needs_fault}
 use Rattle.grain_means.specs.lemmas.Spreading.{Rooted, spread}
 use Rattle.grain_frame.specs.lemmas.Bound.{reading}
-use Rattle.grain_vm.specs.Seats.{Rests, Seat, Seated, base_count, base_place, base_roots, first_held, walk_seated}
+use Rattle.grain_frame.specs.declared.native_calls.Asked.{Asked}
+use Rattle.grain_vm.specs.Seats.{Rests, Seat, Seated, base_count, base_place, base_roots, first_held, goes_on_from, kept_by, lent_place, walk_asking, walk_needing, walk_seated}
 use Rattle.grain_vm.proofs.Seated.{count_base, found_base, given_there, held_there, lent_there, put_at, receiver_at}
 
 -- what stands at a place is in no entry and in no cell
@@ -54,6 +56,49 @@ back_is law s key values bs p g e n count rs rooted (Some q) None at = absurd at
 back_is law s key values bs p g e n count rs rooted (Some q) (Some x) at =
     put_at bs p g e n count rs rooted q (written law s key values x).value
 
+-- what a native has that asks for a call stands where it was lent from
+left_is : {S : Type 0} (law : Law S) (s : S) (key : ℕ) (values : List Tree) (p : Place) (n : ℕ)
+    (rs : List Held) (q : Option Place) (x : Option Held) → Binds rs q x →
+    receiver_left law s key values (receiver_at p n q x)
+    ≡ lent_place (receiver_after law s key x values) (option_map (placed p n) q)
+left_is law s key values p n rs None None at = refl
+left_is law s key values p n rs None (Some x) at = absurd at
+left_is law s key values p n rs (Some q) None at = absurd at
+left_is law s key values p n rs (Some q) (Some x) at = refl
+
+-- and is in no cell
+none_lent : (h : Option Held) (p : Option Place) (cells : List Cell) →
+    cells_lent (lent_place h p) cells ≡ cells
+none_lent None p cells = refl
+none_lent (Some h) None cells = refl
+none_lent (Some h) (Some p) cells = refl
+
+-- a native asks for a call first
+module _ {S : Type 0} (n : Setup S) (k : ℕ) (g : Frame) (c : Call) (r : Option Receiver)
+    (heard : Answer → World S → Act S) (w : World S) (args : List Held) (one : Native)
+    (is : native_of n.law w.host c.name (kinds_in (given r args)) ≡ Some one)
+    (writes : (one.writes && first_is_read_only (given r args)) ≡ false)
+    (clear : is_stop n.stop w.passed ≡ false) (still : is_stop n.stop (w.passed + 1) ≡ false) where
+  needs_asked : (a : Asked) → reply.Ask a.token a.pointer a.values
+      ≡ n.law.call_reply w.host one.key (lent_held r) (trees_in args) →
+      needed n k g c r heard w (Some args)
+      ≡ Then (Go (InHost (record {
+        receiver = receiver_left n.law w.host one.key (trees_in args) r;
+        frame = at_step n.program k c.step c.position g;
+        token = a.token;
+        pointer = a.pointer;
+        values = a.values;
+      })) (record w {
+        host = n.law.call_after w.host one.key (lent_held r) (trees_in args);
+        scope = given_back n.law w.host one.key (trees_in args) r w.scope;
+        cells = cells_lent (receiver_left n.law w.host one.key (trees_in args) r)
+            (cells_given_back n.law w.host one.key (trees_in args) r w.cells);
+        roots = roots_given_back n.law w.host one.key (trees_in args) r w.roots;
+        passed = w.passed + 1 + 1;
+        tokens = with_token a.token w.tokens;
+      })) (native_over (heard (Failed NoMemory)) (λ v w1. heard (Came v) w1) (failed_so n heard))
+  needs_asked a said = rw (is, writes, clear, still, ← said) refl
+
 -- a native that a walk needs is not called where memory is out, whatever it is lent
 module _ {S : Type 0} (n : Setup S) (k : ℕ) (g : Frame) (c : Call) (r : Option Receiver)
     (heard : Answer → World S → Act S) (w : World S) (halts : is_stop n.stop w.passed ≡ true) where
@@ -80,16 +125,20 @@ module _ {S : Type 0} (n : Setup S) (k : ℕ) (g : Frame) (c : Call) (r : Option
       found_out args (native_of n.law w.host c.name (kinds_in (given r args)))
 
 module _ {S : Type 0} (m : Setup S) (k : ℕ) (f : Option Place → Frame) (seat : Seat)
-    (done : Rests S) where
+    (done : Rests S) (named : Bool) (missed : Option (List Fault)) where
   -- a native that a walk needs, to which this is lent
   module _ (c : Call) (go : Answer → Task) (rs : List Held) (x : Option Held)
       (rooted : Rooted (first_held seat).read_only rs) (at : Binds rs c.receiver x)
       (ls : LocalState S) (seated : Seated seat ls.this) where
     abbrev before : Computation S
-    before = walk_seated k f seat done (Need c go) rs
+    before = walk_needing k f seat done named missed c go rs
 
     abbrev after : Answer → List Held → Computation S
-    after a us = walk_seated k f seat done (go a) us
+    after a us = walk_seated k f seat done (kept_by named (missed_by a [])) (go a) us
+
+    -- the state once it has answered so
+    abbrev traced : Answer → LocalState S → LocalState S
+    traced a l = record l { trace = trace_of (kept_by named missed) a [] }
 
     -- the place of the first root, how many roots there are, and what is lent
     abbrev base : Option Place → Environment → Place
@@ -102,11 +151,13 @@ module _ {S : Type 0} (m : Setup S) (k : ℕ) (f : Option Place → Frame) (seat
     receiver place u = receiver_at (base place u) (count u) c.receiver x
 
     abbrev heard : Setup S → Option Place → Environment → Answer → World S → Act S
-    heard n place u a w =
-        walks n k (f place) (base place u) (count u) (go a) (done n place (length u.roots)) w
+    heard n place u a w = goes_on_from k f seat done named missed go u.roots n place a w
 
     abbrev now : Option Place → Environment → World S
-    now place u = record (world ls u) { roots = spread (base_roots seat u.roots) (base place u) rs }
+    now place u = record (world ls u) {
+      roots = spread (base_roots seat u.roots) (base place u) rs;
+      trace = [];
+    }
 
     abbrev by_args : Setup S → Option Place → Environment → Option Receiver → Option (List Held) →
         Act S
@@ -125,14 +176,16 @@ module _ {S : Type 0} (m : Setup S) (k : ℕ) (f : Option Place → Frame) (seat
 
     -- an argument is a cell whose content is lent
     pub hears_race : flat_all ls.cells (map read_write c.values) ≡ None →
-        Simulates m ls before false (record ls { passed = ls.passed + 1 })
+        Simulates m ls before false
+        (traced (Failed (Plain (DataRace (race_text [])) c.position))
+        (record ls { passed = ls.passed + 1 }))
         (after (Failed (Plain (DataRace (race_text [])) c.position)) rs)
     hears_race none =
         reading refl (omega arith) (λ stop clear halts u place bound.
         rw (none, clear ls.passed (omega arith) (omega arith)) refl)
 
     -- memory is out, before any mark
-    pub hears_memory : Simulates m ls before true ls (after (Failed NoMemory) rs)
+    pub hears_memory : Simulates m ls before true (traced (Failed NoMemory) ls) (after (Failed NoMemory) rs)
     hears_memory =
         reading refl (omega arith) (λ stop clear halts u place bound.
         asks (stopped m stop) place u (flat_all ls.cells (map read_write c.values)) bound refl
@@ -160,7 +213,9 @@ module _ {S : Type 0} (m : Setup S) (k : ℕ) (f : Option Place → Frame) (seat
 
       -- there is no such native
       pub hears_none : native_of m.law ls.host c.name (kinds_in (all_given x args)) ≡ None →
-          Simulates m ls before false (record ls { passed = ls.passed + 1 })
+          Simulates m ls before false
+          (traced (Failed (not_found c.name (values_in (all_given x args)) c.position))
+          (record ls { passed = ls.passed + 1 }))
           (after (Failed (not_found c.name (values_in (all_given x args)) c.position)) rs)
       hears_none none =
           reading refl (omega arith) (λ stop clear halts u place bound.
@@ -176,7 +231,9 @@ module _ {S : Type 0} (m : Setup S) (k : ℕ) (f : Option Place → Frame) (seat
       pub hears_constant : (one : Native) →
           native_of m.law ls.host c.name (kinds_in (all_given x args)) ≡ Some one →
           (one.writes && first_is_read_only (all_given x args)) ≡ true →
-          Simulates m ls before false (record ls { passed = ls.passed + 1 })
+          Simulates m ls before false
+          (traced (Failed (Plain (NonPureCall c.name) c.position))
+          (record ls { passed = ls.passed + 1 }))
           (after (Failed (Plain (NonPureCall c.name) c.position)) rs)
       hears_constant one is writes =
           reading refl (omega arith) (λ stop clear halts u place bound.
@@ -212,7 +269,7 @@ module _ {S : Type 0} (m : Setup S) (k : ℕ) (f : Option Place → Frame) (seat
                   (receiver place u)
                   (spread (base_roots seat u.roots) (base place u) rs);
               passed = passed;
-            }) ≡ after a back n place (world (answered passed) u)
+            }) ≡ after a back n place (world (traced a (answered passed)) u)
         served_is n place u a passed bound = rw (
           scope_is m.law ls.host one.key (trees_in args) (base place u) (count u) c.receiver x ls.scope,
           cells_are m.law ls.host one.key (trees_in args) (base place u) (count u) c.receiver x ls.cells,
@@ -232,7 +289,8 @@ module _ {S : Type 0} (m : Setup S) (k : ℕ) (f : Option Place → Frame) (seat
 
         pub hears_value : (v : Dynamic) →
             reply.Done v ≡ m.law.call_reply ls.host one.key x (trees_in args) →
-            Simulates m ls before false (answered (ls.passed + 1 + 1)) (after (Came v) back)
+            Simulates m ls before false (traced (Came v) (answered (ls.passed + 1 + 1)))
+            (after (Came v) back)
         hears_value v said =
             reading refl (omega arith) (λ stop clear halts u place bound.
             let n = stopped m stop in
@@ -245,7 +303,8 @@ module _ {S : Type 0} (m : Setup S) (k : ℕ) (f : Option Place → Frame) (seat
 
         pub hears_fault : (y : Problem) →
             reply.Failed y ≡ m.law.call_reply ls.host one.key x (trees_in args) →
-            Simulates m ls before false (answered (ls.passed + 1 + 1 + 1))
+            Simulates m ls before false
+            (traced (Failed (at_position_if_none c.position y)) (answered (ls.passed + 1 + 1 + 1)))
             (after (Failed (at_position_if_none c.position y)) back)
         hears_fault y said =
             reading refl (omega arith) (λ stop clear halts u place bound.
@@ -258,3 +317,62 @@ module _ {S : Type 0} (m : Setup S) (k : ℕ) (f : Option Place → Frame) (seat
             (clear (ls.passed + 1 + 1) (omega arith) (omega arith))
             ∙ served_is n place u (Failed (at_position_if_none c.position y))
             (ls.passed + 1 + 1 + 1) bound)
+
+        -- it asks for a call first, in a frame that blames its step
+        abbrev pub asking_frame : Option Place → Frame
+        asking_frame place = at_step m.program k c.step c.position (f place)
+
+        pub hears_asked : (a : Asked) → reply.Ask a.token a.pointer a.values
+            ≡ m.law.call_reply ls.host one.key x (trees_in args) →
+            Simulates m ls before false (record (answered (ls.passed + 1 + 1)) { trace = [] })
+            (walk_asking k f seat done a asking_frame c.receiver
+            (receiver_after m.law ls.host one.key x (trees_in args)) named missed go back)
+        hears_asked a said =
+            reading refl (omega arith) (λ stop clear halts u place bound.
+            let n = stopped m stop in
+            asks n place u (Some args) bound flat
+            ∙ needs_asked n k (f place) c (receiver place u) (heard n place u) (now place u) args one
+            (kinds_of place u (Some one) is) (flag_of place u one false writes)
+            (clear ls.passed (omega arith) (omega arith))
+            (clear (ls.passed + 1) (omega arith) (omega arith)) a
+            (said_is place u (reply.Ask a.token a.pointer a.values) said)
+            ∙ asked_is n place u a bound) where
+              asked_is : (n : Setup S) (place : Option Place) (u : Environment) (a : Asked) →
+                  Binds u.roots place ls.this → Then (Go (InHost (record {
+                    receiver = receiver_left m.law ls.host one.key (trees_in args) (receiver place u);
+                    frame = at_step m.program k c.step c.position (f place);
+                    token = a.token;
+                    pointer = a.pointer;
+                    values = a.values;
+                  })) (record (now place u) {
+                    host = m.law.call_after ls.host one.key
+                        (lent_held (receiver place u)) (trees_in args);
+                    scope = given_back m.law ls.host one.key (trees_in args)
+                        (receiver place u) ls.scope;
+                    cells = cells_lent
+                        (receiver_left m.law ls.host one.key (trees_in args) (receiver place u))
+                        (cells_given_back m.law ls.host one.key (trees_in args)
+                        (receiver place u) ls.cells);
+                    roots = roots_given_back m.law ls.host one.key (trees_in args)
+                        (receiver place u)
+                        (spread (base_roots seat u.roots) (base place u) rs);
+                    passed = ls.passed + 1 + 1;
+                    tokens = with_token a.token u.tokens;
+                  })) (native_over (heard n place u (Failed NoMemory))
+                  (λ v w1. heard n place u (Came v) w1) (failed_so n (heard n place u)))
+                  ≡ walk_asking k f seat done a asking_frame c.receiver
+                  (receiver_after m.law ls.host one.key x (trees_in args)) named missed go back n place
+                  (world (record (answered (ls.passed + 1 + 1)) { trace = [] }) u)
+              asked_is n place u a bound = rw (
+                left_is m.law ls.host one.key (trees_in args) (base place u) (count u) rs c.receiver x at,
+                scope_is m.law ls.host one.key (trees_in args) (base place u) (count u) c.receiver x
+                    ls.scope,
+                cells_are m.law ls.host one.key (trees_in args) (base place u) (count u) c.receiver x
+                    ls.cells,
+                none_lent (receiver_after m.law ls.host one.key x (trees_in args))
+                    (option_map (placed (base place u) (count u)) c.receiver) ls.cells,
+                back_is m.law ls.host one.key (trees_in args) (base_roots seat u.roots) (base place u)
+                    (first_held seat) (found_base seat place u.roots ls.this seated bound) (count u)
+                    (count_base seat u.roots) rs rooted c.receiver x at,
+                held_there rs (base place u) (count u) c.receiver x at,
+              ) refl

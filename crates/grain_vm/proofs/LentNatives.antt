@@ -6,6 +6,7 @@ use Rattle.grain_value.specs.Tree.{Tree}
 use Rattle.grain_value.specs.declared.natives.Native.{Native}
 use Rattle.grain_value.specs.declared.scopes.Entry.{Entry}
 use Rattle.grain_value.specs.declared.values.Dynamic.{Dynamic}
+use Rattle.grain_value.specs.declared.values.FnPtr.{FnPtr}
 use Rattle.grain_value.specs.declared.values.Held.{Held}
 use Rattle.grain_fault.specs.Positions.{at_position_if_none}
 use Rattle.grain_fault.specs.Problems.{Problem, Plain, NonPureCall, NoMemory, problem_of}
@@ -15,12 +16,12 @@ use Rattle.grain_host.specs.Law.{Law, native_of, written}
 use Rattle.grain_host.specs.Law as reply
 use Rattle.grain_host.specs.Signatures.{not_found}
 use Rattle.grain_global.specs.StepsView.{StepsView}
-use Rattle.grain_means.specs.Worlds.{is_stop, Act, Answer, Came, Failed, Frame, Setup, World}
+use Rattle.grain_means.specs.Worlds.{is_stop, Act, Answer, Came, Failed, Frame, Go, InHost, Setup, Then, World}
 use Rattle.grain_means.specs.Rules.Chains.{new_root}
 use Rattle.grain_means.specs.Rules.Faults.{position}
 use Rattle.grain_means.specs.Rules.Homes.{AtPlace, Home}
 use Rattle.grain_means.specs.Rules.InWorld.{failed_so, lent_at}
-use Rattle.grain_means.specs.Rules.Natives.{Receiver, cells_given_back, first_is_read_only, given, given_back, host_called_or, kinds_in, lent_held, native_found_or, native_or, roots_given_back, trees_in}
+use Rattle.grain_means.specs.Rules.Natives.{Receiver, cells_given_back, cells_lent, first_is_read_only, given, given_back, host_called_or, kinds_in, lent_held, native_found_or, native_or, native_over, receiver_left, roots_given_back, trees_in, with_token}
 use Rattle.grain_means.specs.Rules.Receivers.{native_lent}
 use Rattle.grain_means.specs.Simulation.{Environment, NoStopWithin, StopsHere, stopped, world}
 use Rattle.grain_means.specs.lemmas.PlaceLaws.{some-inj}
@@ -28,9 +29,12 @@ use Rattle.grain_chain.specs.Walking.{is_want, no_memory, outcome_of}
 use Rattle.grain_frame.specs.Natives.{Seeks}
 use Rattle.grain_frame.specs.declared.native_calls.Sought.TheVariants as sought
 use Rattle.grain_frame.specs.declared.runs.Run.{Run}
-use Rattle.grain_vm.specs.Driving.{AsksHost, HearsHost, beside, lent_from}
+use Rattle.grain_frame.specs.declared.native_calls.Asked.{Asked}
+use Rattle.grain_frame.specs.declared.waiting.Loan.TheVariants as have
+use Rattle.grain_vm.specs.Driving.{AsksHost, HearsEnd, HearsHost, beside, lent_from}
+use Rattle.grain_vm.specs.declared.driving.AskingNative.{AskingNative}
+use Rattle.grain_vm.specs.declared.driving.Answered.TheVariants as answered
 use Rattle.grain_vm.proofs.OnReceivers.{look-new, put-left}
-use Rattle.grain_vm.proofs.Performing.{written_flag}
 
 -- what a native does on what it is lent, in a frame at this position
 module _ {S : Type 0} (n : Setup S) (g : Frame) (q : Position) (at : position n g ≡ q) (name : List ℕ)
@@ -95,6 +99,68 @@ module _ {S : Type 0} (n : Setup S) (g : Frame) (q : Position) (at : position n 
           is_stop n.stop (w.passed + 1 + 1) ≡ false →
           asked ≡ heard (Failed (at_position_if_none q y)) (served (w.passed + 1 + 1 + 1))
       asks_fault y said last = rw (is, writes, clear, still, ← said, last, at) refl
+
+      -- it asks for a call first
+      pub asks_first : (token : ℕ) (p : FnPtr) (values : List Tree) →
+          reply.Ask token p values ≡ n.law.call_reply w.host one.key (lent_held r) (trees_in args) →
+          asked ≡ Then (Go (InHost (record {
+            receiver = receiver_left n.law w.host one.key (trees_in args) r;
+            frame = g;
+            token = token;
+            pointer = p;
+            values = values;
+          })) (record (served (w.passed + 1 + 1)) {
+            cells = cells_lent (receiver_left n.law w.host one.key (trees_in args) r)
+                (cells_given_back n.law w.host one.key (trees_in args) r w.cells);
+            tokens = with_token token w.tokens;
+          })) (native_over (heard (Failed NoMemory)) (λ v w1. heard (Came v) w1) (failed_so n heard))
+      asks_first token p values said = rw (is, writes, clear, still, ← said) refl
+
+-- what is lent keeps its flag
+pub written_so : {H : Type 0} (law : Law H) (host : H) (key : ℕ) (values : List Tree) (h : Held) →
+    (written law host key values h).read_only ≡ h.read_only
+written_so law host key values h = at (law.writes host key) where
+  at : (b : Bool) →
+      (if b then record h { value = law.call_written host key h values } else h).read_only ≡ h.read_only
+  at true = refl
+  at false = refl
+
+-- The host has a native of this name, for a receiver and these arguments, which was called and asks for a
+-- call first.
+pub record AsksFirst {H : Type 0} (law : Law H) (host : H) (name : List ℕ) (h : Held)
+    (args : List Held) (q : Position) (n : StepsView) (a : AskingNative) (n' : StepsView) (host' : H) :
+    Type 0 where
+  pub one : Native
+  pub is : native_of law host name (kinds_in (h ∷ args)) ≡ Some one
+  pub writes : (one.writes && first_is_read_only (h ∷ args)) ≡ false
+  pub said : reply.Ask a.asked.token a.asked.pointer a.asked.values
+      ≡ law.call_reply host one.key (Some h) (trees_in args)
+  pub after : host' ≡ law.call_after host one.key (Some h) (trees_in args)
+  pub lent : a.lent ≡ have.Apart (written law host one.key (trees_in args) h)
+  pub pos : a.pos ≡ q
+  pub marks : n' ≡ record n { passed = n.passed + 1 + 1 }
+
+pub first_of : {H : Type 0} (law : Law H) (host : H) (name : List ℕ) (home : Home) (h : Held)
+    (args : List Held) (q : Position) (n : StepsView) (a : AskingNative) (n' : StepsView) (host' : H) →
+    AsksHost law host name home (Some h) args q n (answered.Asks a) n' host' →
+    AsksFirst law host name h args q n a n' host'
+first_of law host name home h args q n a n' host' (inl none) = absurd none
+first_of law host name home h args q n a n' host' (inr (inl none)) = absurd none
+first_of law host name home h args q n a n' host' (inr (inr (key, values, seeks, heard))) =
+    let did = subst (λ (ts : List Tree). HearsHost law host seeks.0.key (Some h) ts q n
+    (answered.Asks a) n' host') seeks.4
+    (subst (λ (j : ℕ). HearsHost law host j (Some h) values q n (answered.Asks a) n' host') seeks.3
+    heard) in
+    record {
+      one = seeks.0;
+      is = seeks.1;
+      writes = seeks.2;
+      said = did.0;
+      after = did.1;
+      lent = did.2;
+      pos = did.3;
+      marks = did.4;
+    }
 
 -- The host was asked for a native of this name, for a receiver and these arguments, as the code says.
 module _ {H : Type 0} (law : Law H) (m : Setup H) (own : m.law ≡ law)
@@ -175,7 +241,7 @@ module _ {H : Type 0} (law : Law H) (m : Setup H) (own : m.law ≡ law)
             host = host_after;
             roots = us;
             passed = passed;
-          })) (put-left bs h left_after (written_flag m.law host one.key (trees_in args) h))
+          })) (put-left bs h left_after (written_so m.law host one.key (trees_in args) h))
 
       follows_value : (v : Dynamic) →
           reply.Done v ≡ m.law.call_reply host one.key (Some h) (trees_in args) →
@@ -204,7 +270,7 @@ module _ {H : Type 0} (law : Law H) (m : Setup H) (own : m.law ≡ law)
         (one : Native) →
         native_of m.law host name (kinds_in (given receiver args)) ≡ Some one →
         (one.writes && first_is_read_only (given receiver args)) ≡ false →
-        HearsHost m.law host one.key (Some h) (trees_in args) q n o n' host' (Some left) →
+        HearsEnd m.law host one.key (Some h) (trees_in args) q n o n' host' (Some left) →
         Follows o n' host' left
     follows_called (Ok v) n' host' left one is writes did =
         rw (did.1, some-inj did.2, did.3) (follows_value one is writes v did.0)
@@ -215,7 +281,7 @@ module _ {H : Type 0} (law : Law H) (m : Setup H) (own : m.law ≡ law)
 
     -- the host was asked
     pub follows_asked : (o : Result Dynamic EvalAltResult) (n' : StepsView) (host' : H) (left : Held) →
-        AsksHost law host name home (Some h) args q n o n' host' (Some left) →
+        AsksHost law host name home (Some h) args q n (answered.Over (o, Some left)) n' host' →
         Follows o n' host' left
     follows_asked (Ok v) n' host' left (inl wants) = absurd wants
     follows_asked (Err e) n' host' left (inl wants) =
@@ -225,12 +291,67 @@ module _ {H : Type 0} (law : Law H) (m : Setup H) (own : m.law ≡ law)
         rw (refuses.1, some-inj refuses.2, refuses.3) (follows_refused e refuses.0)
     follows_asked o n' host' left (inr (inr (key, values, seeks, heard))) =
         follows_called o n' host' left seeks.0 (found (Some seeks.0) seeks.1) seeks.2
-        (subst (λ (l : Law H). HearsHost l host seeks.0.key (Some h) (trees_in args) q n o n' host'
+        (subst (λ (l : Law H). HearsEnd l host seeks.0.key (Some h) (trees_in args) q n o n' host'
         (Some left)) (sym own)
-        (subst (λ (ts : List Tree). HearsHost law host seeks.0.key (Some h) ts q n o n' host' (Some left))
+        (subst (λ (ts : List Tree). HearsEnd law host seeks.0.key (Some h) ts q n o n' host' (Some left))
         seeks.4
-        (subst (λ (j : ℕ). HearsHost law host j (Some h) values q n o n' host' (Some left)) seeks.3
+        (subst (λ (j : ℕ). HearsEnd law host j (Some h) values q n o n' host' (Some left)) seeks.3
         heard)))
+
+    -- the call that the native asks for, and then what follows
+    abbrev pub asking_so : Option ℕ → Asked → StepsView → H → Held → Act H
+    asking_so stop a n' host' left =
+        Then (Go (InHost (record {
+          receiver = Some (record { home = AtPlace (new_root bs); held = left });
+          frame = g;
+          token = a.token;
+          pointer = a.pointer;
+          values = a.values;
+        })) (record (with_root n' host' left) { tokens = with_token a.token u.tokens }))
+        (native_over (heard (Failed NoMemory)) (λ v w1. heard (Came v) w1)
+        (failed_so (stopped m stop) heard))
+
+    -- the native asks for that first
+    abbrev pub FollowsFirst : Asked → StepsView → H → Held → Type 0
+    FollowsFirst a n' host' left =
+        (stop : Option ℕ) → NoStopWithin stop n.passed n'.passed →
+        native_lent (stopped m stop) name args g heard (new_root bs) (with_root n host h)
+        ≡ asking_so stop a n' host' left
+
+    follows_call : (one : Native) (a : Asked) →
+        native_of m.law host name (kinds_in (given receiver args)) ≡ Some one →
+        (one.writes && first_is_read_only (given receiver args)) ≡ false →
+        reply.Ask a.token a.pointer a.values ≡ m.law.call_reply host one.key (Some h) (trees_in args) →
+        FollowsFirst a (record n { passed = n.passed + 1 + 1 })
+        (m.law.call_after host one.key (Some h) (trees_in args))
+        (written m.law host one.key (trees_in args) h)
+    follows_call one a is writes said stop clear =
+        let host_after : H = m.law.call_after host one.key (Some h) (trees_in args) in
+        let left : Held = written m.law host one.key (trees_in args) h in
+        ap (lent_to stop n host) is_lent
+        ∙ asks_first (stopped m stop) g q at name receiver args heard (with_root n host h) one is writes
+        (clear n.passed (omega arith) (omega arith)) (clear (n.passed + 1) (omega arith) (omega arith))
+        a.token a.pointer a.values said
+        ∙ ap (λ (us : List Held). Then (Go (InHost (record {
+          receiver = Some (record { home = AtPlace (new_root bs); held = left });
+          frame = g;
+          token = a.token;
+          pointer = a.pointer;
+          values = a.values;
+        })) (record (with_root n host h) {
+          host = host_after;
+          roots = us;
+          passed = n.passed + 1 + 1;
+          tokens = with_token a.token u.tokens;
+        })) (native_over (heard (Failed NoMemory)) (λ v w1. heard (Came v) w1)
+        (failed_so (stopped m stop) heard)))
+        (put-left bs h left (written_so m.law host one.key (trees_in args) h))
+
+    pub follows_first : (a : AskingNative) (n' : StepsView) (host' : H)
+        (did : AsksFirst m.law host name h args q n a n' host') →
+        FollowsFirst a.asked n' host' (written m.law host did.one.key (trees_in args) h)
+    follows_first a n' host' did =
+        rw (did.marks, did.after) (follows_call did.one a.asked did.is did.writes did.said)
 
 later : (n n' : StepsView) (k : ℕ) → n.passed ≤ k → n' ≡ record n { passed = k } →
     n.passed ≤ n'.passed
@@ -238,7 +359,7 @@ later n n' k more is = subst (λ (l : StepsView). n.passed ≤ l.passed) (sym is
 
 hears_later : {H : Type 0} (law : Law H) (host : H) (key : ℕ) (x : Option Held) (values : List Tree)
     (q : Position) (n : StepsView) (o : Result Dynamic EvalAltResult) (n' : StepsView) (host' : H)
-    (left : Option Held) → HearsHost law host key x values q n o n' host' left → n.passed ≤ n'.passed
+    (left : Option Held) → HearsEnd law host key x values q n o n' host' left → n.passed ≤ n'.passed
 hears_later law host key x values q n (Ok v) n' host' left did =
     later n n' (n.passed + 1 + 1) (omega arith) did.3
 hears_later law host key x values q n (Err e) n' host' left (inl wants) =
@@ -250,7 +371,7 @@ hears_later law host key x values q n (Err e) n' host' left (inr did) =
 pub asks_later : {H : Type 0} (law : Law H) (host : H) (name : List ℕ) (home : Home) (x : Option Held)
     (args : List Held) (q : Position) (n : StepsView) (o : Result Dynamic EvalAltResult)
     (n' : StepsView) (host' : H) (left : Option Held) →
-    AsksHost law host name home x args q n o n' host' left → n.passed ≤ n'.passed
+    AsksHost law host name home x args q n (answered.Over (o, left)) n' host' → n.passed ≤ n'.passed
 asks_later law host name home x args q n (Ok v) n' host' left (inl wants) = absurd wants
 asks_later law host name home x args q n (Err e) n' host' left (inl wants) =
     later n n' n.passed (omega arith) wants.3
@@ -259,3 +380,9 @@ asks_later law host name home x args q n (Err e) n' host' left (inr (inl refuses
     later n n' (n.passed + 1) (omega arith) refuses.3
 asks_later law host name home x args q n o n' host' left (inr (inr (key, values, seeks, heard))) =
     hears_later law host key x values q n o n' host' left heard
+
+pub first_later : {H : Type 0} (law : Law H) (host : H) (name : List ℕ) (h : Held) (args : List Held)
+    (q : Position) (n : StepsView) (a : AskingNative) (n' : StepsView) (host' : H) →
+    AsksFirst law host name h args q n a n' host' → n.passed ≤ n'.passed
+first_later law host name h args q n a n' host' did =
+    later n n' (n.passed + 1 + 1) (omega arith) did.marks

@@ -15,6 +15,7 @@ mod CaughtFrames
 mod Reading
 mod Performing
 mod Driven
+mod Handing
 mod Rooting
 mod Walked
 mod Starting
@@ -25,6 +26,9 @@ mod Lending
 mod MethodCalls
 mod MethodOvers
 mod Lifted
+mod Missing
+mod GivenUp
+mod InWalks
 mod Flags
 mod BoundFrames
 mod Invoking
@@ -37,6 +41,7 @@ mod Refused
 mod Begins
 mod ChainEnds
 mod ChainLoops
+mod ChainTurns
 mod ChainAhead
 mod OnFrames
 mod ReceiverAhead
@@ -47,3 +52,20 @@ mod Callees
 mod LentNatives
 mod OnNatives
 mod ForCells
+mod Waited
+mod WaitsOn
+mod WaitsAhead
+mod AskedOn
+mod LentCells
+mod EndedOn
+mod NamedNatives
+mod Followed
+mod Untold
+mod ToldSo
+mod BackCalls
+mod BackNatives
+mod NativesBack
+mod NativeOvers
+mod AskEnds
+mod Taken
+mod CalledBack

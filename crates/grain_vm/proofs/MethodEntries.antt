@@ -119,7 +119,7 @@ module _ {H : Type 0} (law : Law H) (p : View) (engine : Engine) (q : Position) 
     continued_beside (Err e) out go fails scope x m place u = refl
 
     -- the operation is taken so under any scope and `this`
-    taking_beside : (r : Result Bool OutOfMemory) → SimulatesTaking r t k mid →
+    pub taking_beside : (r : Result Bool OutOfMemory) → SimulatesTaking r t k mid →
         (out go : Computation H) (fails : Setup H → Option Place → Problem → World H → Act H)
         (scope : List Entry) (x : Option Held) →
         SimulatesExactly (setup law p engine) (beside scope x s n host)

@@ -43,7 +43,7 @@ use Rattle.grain_vm.specs.declared.methods.Needed.TheVariants as needed
 use Rattle.grain_vm.specs.declared.receivers.Destination.{Destination}
 use Rattle.grain_vm.proofs.ChainEnds.{lands_whole}
 use Rattle.grain_vm.proofs.Invoking.{given_curried}
-use Rattle.grain_vm.proofs.OnReceivers.{calls_on_new, look-new}
+use Rattle.grain_vm.proofs.OnReceivers.{calls_on_new, look-new, receiver_back}
 
 -- ---- the arguments
 
@@ -233,27 +233,6 @@ module _ {H : Type 0} (law : Law H) (p : View) (engine : Engine) (f : Activation
     before = ends.before ∙ before;
   }
 
--- a native leaves all of a run but the cells
-pub native_over : {H : Type 0} (s s' : Run H) → s' ≡ record s { cells = s'.cells } → MethodOver s s'
-native_over s s' is = rw is (record {
-  scope = refl;
-  saved = refl;
-  level = refl;
-  receivers = refl;
-  room = refl;
-  noted = refl;
-  outer = refl;
-  operands = refl;
-  handlers = refl;
-  later = omega arith;
-})
-
--- the receiver is there after the call, with the flag that it had
-pub receiver_back : (h : Held) (left : Option Held) → SameFlag (Some h) left →
-    (l : Held) × (left ≡ Some l) × (l.read_only ≡ h.read_only)
-receiver_back h None flag = absurd flag
-receiver_back h (Some l) flag = (l, refl, flag)
-
 module _ {H : Type 0} (law : Law H) (p : View) (engine : Engine) (f : Activation) (s s1 s2 : Run H)
     (n n1 n2 : StepsView) (host host2 : H) (d : Destination) (r : FnPtr) (k next : ℕ)
     (o : Result Dynamic EvalAltResult) (left : Option Held) (f' : Activation) (s' : Run H)
@@ -306,9 +285,9 @@ module _ {H : Type 0} (law : Law H) (p : View) (engine : Engine) (f : Activation
   pub native_done : (x : Needed) (q : Request) → k + 1 < length s.stacks.operands →
       TakesCall p s n f.address r k (Ok x) s1 n1 → x ≡ needed.Native q →
       NativeCalled (setup law p engine) q s1 n1 host o left s2 n2 host2 →
-      s2 ≡ record s1 { cells = s2.cells } → SameFlag q.receiver left → n2.before ≡ n1.before → Ends →
+      MethodOver s1 s2 → SameFlag q.receiver left → n2.before ≡ n1.before → Ends →
       StopPersists (is_want o) n2.passed (is_out res) n'.passed → Done
-  native_done x q there takes is calls same_run flag before ends carries =
+  native_done x q there takes is calls over flag before ends carries =
       call_done law p engine f s n host d r k next
       (native_call (frame_in f after_taking) (name_in q.what) (given_to q.arguments)) o back.0 s2 n2
       host2 f' s' n' res there (begins_native law p engine f s n host d r k next q needs.0)
@@ -320,8 +299,7 @@ module _ {H : Type 0} (law : Law H) (p : View) (engine : Engine) (f : Activation
       s1 y host o back.0 s2 n2 host2) needs.2
       (calls (receiver_in s k) back.0 (frame_in f after_taking) needs.0.3 back.1
       (λ place. sym needs.0.2))))
-      (native_over after_taking s2 (subst (λ (y : Run H). s2 ≡ record y { cells = s2.cells }) needs.1
-      same_run))
+      (subst (λ (y : Run H). MethodOver y s2) needs.1 over)
       (before ∙ ap (λ (y : StepsView). y.before) needs.2) (ends back.0 host2 back.1) carries where
         needs : TakesCall p s n f.address r k (Ok (needed.Native q)) s1 n1
         needs = subst (λ (y : Needed). TakesCall p s n f.address r k (Ok y) s1 n1) is takes

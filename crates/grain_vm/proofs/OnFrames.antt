@@ -218,7 +218,7 @@ module _ {H : Type 0} (law : Law H) (p : View) (engine : Engine) (f f' : Activat
       Finds (setup law p engine) (moment f s n host) (op.CallFnPtr count) next r (moment f' s' n' host') →
       Finds (setup law p engine) (moment f s n host) (op_on d count) next r (moment f' s' n' host')
   pointed_on at (Ok (found.Done q)) did =
-      as_op d count next (bound_as (as_bound did)
+      as_op d count next (bound_as did
       (λ stop u place bound. is_pointer_call law p engine f s n host d count next at stop u place))
   pointed_on at (Ok (found.Function number to)) did = (
     did.0,
@@ -234,7 +234,7 @@ module _ {H : Type 0} (law : Law H) (p : View) (engine : Engine) (f f' : Activat
     },
   )
   pointed_on at (Err e) did =
-      as_op d count next (bound_as (as_bound did)
+      as_op d count next (bound_as did
       (λ stop u place bound. is_pointer_call law p engine f s n host d count next at stop u place))
 
 -- ---- the first argument is called

@@ -25,18 +25,18 @@ use Rattle.grain_means.specs.Simulation.{Environment, NoStopWithin, StopsHere, s
 use Rattle.grain_means.specs.lemmas.PlaceLaws.{set-again, set-get, some-inj, take-after}
 use Rattle.grain_chain.specs.Walking.{is_want, no_memory, outcome_of}
 use Rattle.grain_chain.specs.declared.requests.Request.{Request}
-use Rattle.grain_frame.specs.declared.native_calls.Arguments.{Arguments}
 use Rattle.grain_frame.specs.declared.runs.Run.{Run}
 use Rattle.grain_frame.specs.lemmas.Bound.{reading}
-use Rattle.grain_vm.specs.Driving.{AsksHost, DescribesAfter, DoesRequest, RaisesOne, WantsMemory, beside, name_in}
+use Rattle.grain_vm.specs.Driving.{AsksHost, DoesRequest, RaisesOne, WantsMemory, beside, name_in}
 use Rattle.grain_vm.specs.Methods.{given_to}
-use Rattle.grain_vm.specs.Receivers.{CallsOn, LendsCell, NativeCalled, ReadsForCell, native_call}
+use Rattle.grain_vm.specs.Receivers.{CallsOn, native_call}
+use Rattle.grain_vm.specs.declared.driving.Answered.TheVariants as answered
 use Rattle.grain_vm.proofs.LentNatives.{asks_later, asks_out, follows_asked}
 use Rattle.grain_vm.proofs.OnReceivers.{look-new}
 
 -- ---- what is lent of a cell goes back
 
-take-new : (bs : List Held) (h : Held) → take (length bs) (bs ++ h ∷ []) ≡ bs
+pub take-new : (bs : List Held) (h : Held) → take (length bs) (bs ++ h ∷ []) ≡ bs
 take-new bs h = take-after bs (h ∷ []) (length bs) 0 (omega arith) ∙ append-nil bs
 
 -- a cell that is not lent
@@ -62,7 +62,7 @@ module _ {S : Type 0} (heard : Answer → World S → Act S) (w : World S) (k : 
     cells = slice_set (slice_set w.cells k (lent c)) k (idle (record c { value = v }));
   }
 
-  goes_back : (m : Setup S) (a : Answer) (x : Held) →
+  pub goes_back : (m : Setup S) (a : Answer) (x : Held) →
       cell_given_back m k c (length w.roots) heard a (cell_lent x) ≡ heard a (cell_back x.value)
   goes_back m a x =
       ap (λ (y : Held). heard a (record (cell_back y.value) {
@@ -152,11 +152,11 @@ module _ {H : Type 0} (m : Setup H) (name : List ℕ) (q : Position) (ts : List 
       CallsOn m (native_call f name (given_to ts)) h s n host o left t n' host'
 
   -- the world with this receiver
-  abbrev with_root : List Entry → Option Held → Environment → Run H → StepsView → H → Held → World H
+  abbrev pub with_root : List Entry → Option Held → Environment → Run H → StepsView → H → Held → World H
   with_root scope this u t l k x =
       record (world (beside scope this t l k) u) { roots = u.roots ++ x ∷ [] }
 
-  abbrev read : List Entry → Option Held → Environment → Option ℕ → Frame →
+  abbrev pub read : List Entry → Option Held → Environment → Option ℕ → Frame →
       (Answer → World H → Act H) → Option (List Held) → Act H
   read scope this u stop g heard o =
       native_on_read (stopped m stop) o name g heard (new_root u.roots)
@@ -235,7 +235,7 @@ module _ {H : Type 0} (m : Setup H) (name : List ℕ) (q : Position) (ts : List 
 
   module _ (law : Law H) (own : m.law ≡ law) (home : Home) (args : List Held)
       (flat : flat_all s.cells (given_to ts) ≡ Some args) where
-    reads : (scope : List Entry) (this : Option Held) (u : Environment) (stop : Option ℕ) (g : Frame)
+    pub reads : (scope : List Entry) (this : Option Held) (u : Environment) (stop : Option ℕ) (g : Frame)
         (heard : Answer → World H → Act H) (cell : Option ℕ) → cell_of h.value ≡ cell →
         read scope this u stop g heard (flat_all s.cells (given_to ts))
         ≡ native_on (stopped m stop) cell h name args g heard (new_root u.roots)
@@ -250,7 +250,7 @@ module _ {H : Type 0} (m : Setup H) (name : List ℕ) (q : Position) (ts : List 
     -- the host was asked, for a receiver that is no cell
     pub calls_asked : (o : Result Dynamic EvalAltResult) (left : Held) (n' : StepsView) (host' : H) →
         cell_of h.value ≡ None →
-        AsksHost law host name home (Some h) args q n o n' host' (Some left) →
+        AsksHost law host name home (Some h) args q n (answered.Over (o, Some left)) n' host' →
         Calls o left s n' host'
     calls_asked o left n' host' none asked =
         by_acts o left s n' host'
@@ -261,10 +261,10 @@ module _ {H : Type 0} (m : Setup H) (name : List ℕ) (q : Position) (ts : List 
         n' host' left asked stop clear halts)
 
     -- for what a cell holds
-    calls_on_cell : (o : Result Dynamic EvalAltResult) (left : Held) (n' : StepsView) (host' : H)
+    pub calls_on_cell : (o : Result Dynamic EvalAltResult) (left : Held) (n' : StepsView) (host' : H)
         (k : ℕ) (c : Held) → cell_of h.value ≡ Some k → slice_get s.cells k ≡ Some (idle c) →
-        AsksHost law host name home (Some (record c { read_only = h.read_only })) args q n o n' host'
-        (Some left) →
+        AsksHost law host name home (Some (record c { read_only = h.read_only })) args q n
+        (answered.Over (o, Some left)) n' host' →
         Calls o h (record s {
           cells =
               slice_set (slice_set s.cells k (lent c)) k (idle (record c { value = left.value }));
@@ -286,12 +286,13 @@ module _ {H : Type 0} (m : Setup H) (name : List ℕ) (q : Position) (ts : List 
         ∙ goes_back heard (with_root scope this u s n' host' h) k c (stopped m stop) (outcome_of o) left)
 
 -- a request for a native was done, whose receiver is no cell
-calls_request : {H : Type 0} (law : Law H) (m : Setup H)
+pub calls_request : {H : Type 0} (law : Law H) (m : Setup H)
     (own : m.law ≡ law) (home : Home) (r : Request) (h left : Held) (f : Option Place → Frame)
     (at : (place : Option Place) → position m (f place) ≡ r.pos) (s : Run H) (n : StepsView)
     (host : H) (o : Result Dynamic EvalAltResult) (n' : StepsView) (host' : H) →
     cell_of h.value ≡ None →
-    DoesRequest law (record r { receiver = Some h }) home s.cells n host o n' host' (Some left) →
+    DoesRequest law (record r { receiver = Some h }) home s.cells n host
+    (answered.Over (o, Some left)) n' host' →
     CallsOn m (native_call f (name_in r.what) (given_to r.arguments)) h s n host o left s n' host'
 calls_request law m own home r h left f at s n host o n' host' plain (inl wants) =
     calls_out m (name_in r.what) r.pos r.arguments h f at s n host o left n' host' wants
@@ -305,84 +306,3 @@ calls_request law m own home r h left f at s n host o n' host' plain
     (inr (inr (args, flat, asked))) =
     calls_asked m (name_in r.what) r.pos r.arguments h f at s n host law own home args flat o left
     n' host' plain asked
-
-module _ {H : Type 0} (m : Setup H) (r : Request) (held : Held) (lent : r.receiver ≡ Some held)
-    (s : Run H) (n : StepsView) (host : H) (o : Result Dynamic EvalAltResult) (t : Run H)
-    (n' : StepsView) (host' : H) where
-  -- so it is whatever the receiver is called
-  pub native_called : (law : Law H) → m.law ≡ law → Home → (left : Option Held) →
-      cell_of held.value ≡ None → ((home : Home) →
-      DoesRequest law (record r { receiver = Some held }) home s.cells n host o n' host' left) →
-      t ≡ s → NativeCalled m r s n host o left t n' host'
-  native_called law own home left plain does same = λ h x f is back at.
-      let e : held ≡ h = some-inj (sym lent ∙ is) in
-      subst (λ (y : Run H). CallsOn m (native_call f (name_in r.what) (given_to r.arguments)) h s n host o
-      x y n' host') (sym same)
-      (calls_request law m own home r h x f at s n host o n' host'
-      (subst (λ (y : Held). cell_of y.value ≡ None) e plain)
-      (subst (λ (y : Held). DoesRequest law (record r { receiver = Some y }) home s.cells n host o n'
-      host' (Some x)) e
-      (subst (λ (y : Option Held). DoesRequest law (record r { receiver = Some held }) home s.cells n
-      host o n' host' y) back (does home))))
-
-  -- and where it is a cell
-  pub cell_called : (k : ℕ) → cell_of held.value ≡ Some k →
-      LendsCell m (name_in r.what) r.pos r.arguments k held.read_only s n host o t n' host' →
-      NativeCalled m r s n host o (Some held) t n' host'
-  cell_called k is_cell lends = λ h x f is back at.
-      let e : held ≡ h = some-inj (sym lent ∙ is) in
-      subst (λ (y : Held). CallsOn m (native_call f (name_in r.what) (given_to r.arguments)) h s n host o
-      y t n' host') (some-inj back)
-      (subst (λ (y : Held). CallsOn m (native_call f (name_in r.what) (given_to r.arguments)) y s n host o
-      held t n' host') e (lends held f is_cell refl at))
-
--- ---- a native that is lent what a cell holds
-
-idle-inj : (a b : Held) → Some (idle a) ≡ Some (idle b) → a ≡ b
-idle-inj a b e = ap (λ (c : Cell). c.held) (some-inj e)
-
-module _ {H : Type 0} (law : Law H) (m : Setup H) (own : m.law ≡ law)
-    (name : List ℕ) (q : Position) (ts : List Tree) (k : ℕ) (flag : Bool) (s : Run H) (n : StepsView)
-    (host : H) where
-  abbrev pub Lends : Result Dynamic EvalAltResult → Run H → StepsView → H → Type 0
-  Lends o t n' host' = LendsCell m name q ts k flag s n host o t n' host'
-
-  pub lends_out : (e : EvalAltResult) → problem_of e ≡ NoMemory → Lends (Err e) s n host
-  lends_out e wants = λ h f is same at.
-      calls_out m name q ts h f at s n host (Err e) h n host (wants, refl, refl, refl)
-
-  pub lends_refused : (e : EvalAltResult) (n' : StepsView) →
-      RaisesOne (Plain (DataRace (race_text [])) q) e n n' →
-      ReadsForCell s.cells k flag ts None → Lends (Err e) s n' host
-  lends_refused e n' raises none = λ h f is same at.
-      calls_refused m name q ts h f at s n host e n' k raises is none
-
-  -- What was read before the cell was lent is what it then held, and what is left of that is back.
-  pub lends_asked : (a : Arguments) (c : Held) (o : Result Dynamic EvalAltResult) (left : Held)
-      (n' : StepsView) (host' : H) (home : Home) (taken back : List Cell) (away : Run H) →
-      ReadsForCell s.cells k flag ts (Some a) → slice_get s.cells k ≡ Some (idle c) →
-      taken ≡ slice_set s.cells k (lent c) → away ≡ record s { cells = taken } →
-      back ≡ slice_set away.cells k (idle (record c { value = left.value })) →
-      ((args : List Held) (home : Home) →
-      DescribesAfter (Some (record c { read_only = flag })) a args →
-      AsksHost law host name home (Some (record c { read_only = flag })) args q n o n' host'
-      (Some left)) →
-      Lends o (record away { cells = back }) n' host'
-  lends_asked a c o left n' host' home taken back away (d, there, (args, flat, describes)) is took went
-      put_back asked = λ h f cell same at.
-      let last : Cell = idle (record c { value = left.value }) in
-      let cells_are : back ≡ slice_set (slice_set s.cells k (lent c)) k last =
-      put_back ∙ ap (λ (t : Run H). slice_set t.cells k last) went
-      ∙ ap (λ (cs : List Cell). slice_set cs k last) took in
-      let run_is : record away { cells = back }
-      ≡ record s { cells = slice_set (slice_set s.cells k (lent c)) k last } =
-      ap (λ (t : Run H). record t { cells = back }) went
-      ∙ ap (λ (cs : List Cell). record s { cells = cs }) cells_are in
-      subst (λ (t : Run H). CallsOn m (native_call f name (given_to ts)) h s n host o h t n' host')
-      (sym run_is)
-      (calls_on_cell m name q ts h f at s n host law own home args flat o left n' host' k c cell is
-      (subst (λ (b : Bool). AsksHost law host name home (Some (record c { read_only = b })) args q n o n'
-      host' (Some left)) (sym same)
-      (asked args home
-      (subst (λ (x : Held). DescribesAfter (Some (record x { read_only = flag })) a args)
-      (idle-inj d c (sym there ∙ is)) describes))))

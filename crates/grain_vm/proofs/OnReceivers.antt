@@ -1,5 +1,5 @@
 -- Calls on a receiver that is added to the roots.
-use Rattle.std.proofs.Common.{◌≡◌, ◌∙◌, List, [], ◌∷◌, ◌++◌, Bool, Option, Some, Result, length, sym, ap, subst, arith}
+use Rattle.std.proofs.Common.{◌≡◌, ◌∙◌, List, [], ◌∷◌, ◌++◌, Bool, Option, Some, None, Result, length, refl, sym, ap, subst, arith}
 use Rattle.std.specs.Prelude.{slice_set}
 use Rattle.grain_value.specs.declared.values.Dynamic.{Dynamic}
 use Rattle.grain_value.specs.declared.values.Held.{Held}
@@ -17,7 +17,7 @@ use Rattle.grain_means.specs.lemmas.PlaceLaws.{get-after, set-after}
 use Rattle.grain_means.specs.lemmas.Roots.{puts-bound}
 use Rattle.grain_chain.specs.Walking.{outcome_of}
 use Rattle.grain_frame.specs.declared.runs.Run.{Run}
-use Rattle.grain_vm.specs.Driving.{beside}
+use Rattle.grain_vm.specs.Driving.{SameFlag, beside}
 use Rattle.grain_vm.specs.Methods.{CallsMethod, Hears, given_to}
 use Rattle.grain_vm.specs.Receivers.{CallsOn, function_call}
 use Rattle.grain_vm.specs.declared.methods.MethodCall.{MethodCall}
@@ -44,6 +44,12 @@ pub put-left : (bs : List Held) (h l : Held) → l.read_only ≡ h.read_only →
     put (bs ++ h ∷ []) (new_root bs) l.value ≡ bs ++ l ∷ []
 put-left bs h l same =
     put-new bs h l.value ∙ ap (λ (x : Held). bs ++ x ∷ []) (of_same_flag h l same)
+
+-- the receiver is there after a call, with the flag that it had
+pub receiver_back : (h : Held) (left : Option Held) → SameFlag (Some h) left →
+    (l : Held) × (left ≡ Some l) × (l.read_only ≡ h.read_only)
+receiver_back h None flag = absurd flag
+receiver_back h (Some l) flag = (l, refl, flag)
 
 -- A function was called wherever its receiver stands. So it is where the receiver is a new root.
 pub calls_on_new : {H : Type 0} (m : Setup H) (c : MethodCall) (g : Function) (s s' : Run H)

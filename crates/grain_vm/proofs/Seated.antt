@@ -3,6 +3,7 @@
 use Rattle.std.proofs.Common.{◌≡◌, ◌∙◌, ◌+◌, ℕ, List, Option, Some, None, Bool, length, option_map, refl, sym, ap, subst, arith}
 use Rattle.grain_value.specs.declared.values.Dynamic.{Dynamic}
 use Rattle.grain_value.specs.declared.values.Held.{Held}
+use Rattle.grain_fault.specs.declared.traces.Fault.{Fault}
 use Rattle.grain_means.specs.Worlds.{Frame, Place, Setup}
 use Rattle.grain_means.specs.Places.{find, or_unit, put}
 use Rattle.grain_means.specs.Tasks.{Task, play}
@@ -91,22 +92,22 @@ held_there rs p n (Some q) (Some x) at = refl
 -- ---- what a walk does by itself
 
 module _ {S : Type 0} (m : Setup S) (k : ℕ) (f : Option Place → Frame) (seat : Seat)
-    (done : Rests S) where
+    (done : Rests S) (missed : Option (List Fault)) where
   reads : (ls : LocalState S) (stop : Option ℕ) (u : Environment) (place : Option Place) (t : Task)
       (rs : List Held) → Seated seat ls.this → Binds u.roots place ls.this →
       Rooted (first_held seat).read_only rs →
-      walk_seated k f seat done t rs (stopped m stop) place (world ls u)
-      ≡ played (stopped m stop) k (f place) (base_place seat place u.roots)
+      walk_seated k f seat done missed t rs (stopped m stop) place (world ls u)
+      ≡ played (stopped m stop) k (f place) (base_place seat place u.roots) missed
       (done (stopped m stop) place (length u.roots))
       (record (world ls u) { roots = base_roots seat u.roots })
       (play stop ls.cells t (record { roots = rs; passed = ls.passed }))
   reads ls stop u place t rs seated bound rooted =
-      ap (λ (n : ℕ). walks (stopped m stop) k (f place) (base_place seat place u.roots) n t
+      ap (λ (n : ℕ). walks (stopped m stop) k (f place) (base_place seat place u.roots) n missed t
       (done (stopped m stop) place (length u.roots))
       (record (world ls u) {
         roots = spread (base_roots seat u.roots) (base_place seat place u.roots) rs;
       })) (count_base seat u.roots)
-      ∙ plays (stopped m stop) k (f place) (base_place seat place u.roots)
+      ∙ plays (stopped m stop) k (f place) (base_place seat place u.roots) missed
       (done (stopped m stop) place (length u.roots))
       (record (world ls u) { roots = base_roots seat u.roots }) (first_held seat)
       (found_base seat place u.roots ls.this seated bound) t
@@ -120,12 +121,12 @@ module _ {S : Type 0} (m : Setup S) (k : ℕ) (f : Option Place → Frame) (seat
       StopsHere out stop (ls.passed + marks) →
       play stop ls.cells t (record { roots = rs; passed = ls.passed })
       ≡ play stop ls.cells t' (record { roots = rs'; passed = ls.passed + marks })) →
-      Simulates m ls (walk_seated k f seat done t rs) out
-      (record ls { passed = ls.passed + marks }) (walk_seated k f seat done t' rs')
+      Simulates m ls (walk_seated k f seat done missed t rs) out
+      (record ls { passed = ls.passed + marks }) (walk_seated k f seat done missed t' rs')
   walks_on ls marks t t' rs rs' out seated rooted rooted' does =
       reading refl (omega arith) (λ stop clear halts u place bound.
       reads ls stop u place t rs seated bound rooted
-      ∙ ap (played (stopped m stop) k (f place) (base_place seat place u.roots)
+      ∙ ap (played (stopped m stop) k (f place) (base_place seat place u.roots) missed
       (done (stopped m stop) place (length u.roots))
       (record (world ls u) { roots = base_roots seat u.roots })) (does stop clear halts)
       ∙ sym (reads (record ls { passed = ls.passed + marks }) stop u place t' rs' seated bound

@@ -62,7 +62,7 @@ module _ {H : Type 0} (m : Setup H) (k next : ℕ) (t : Task) (g : Option Place 
   Alike =
       (stop : Option ℕ) (u : Environment) (place : Option Place) → Binds u.roots place (this_of s) →
       rule (stopped m stop) place (world (abstraction s n host) u)
-      ≡ walk_seated k g seat (after_chain k next a b g) t (first_held seat ∷ []) (stopped m stop) place
+      ≡ walk_seated k g seat (after_chain k next a b g) None t (first_held seat ∷ []) (stopped m stop) place
       (world (beside scope this s1 n host) u)
 
   pub started : (w : Walk) (answer : WalkAnswer) → Seated seat this → this ≡ this_of s → Alike →
@@ -70,14 +70,14 @@ module _ {H : Type 0} (m : Setup H) (k next : ℕ) (t : Task) (g : Option Place 
       Rooted (first_held seat).read_only (roots_at w answer) →
       n1 ≡ record n { passed = n.passed + w.marks } →
       Simulates m (abstraction s n host) rule (is_out answer) (beside scope this s1 n1 host)
-      (chain_left m g k next a b seat w answer)
+      (chain_left m g k next a b seat None w answer)
   started w answer seated same_this alike did rooted marks =
       compose {one = false}
       (reading same_this (omega arith) (λ stop clear halts u place bound. alike stop u place bound))
       (subst (λ (l : StepsView). Simulates m (beside scope this s1 n host)
-      (walk_seated k g seat (after_chain k next a b g) t (first_held seat ∷ [])) (is_out answer)
-      (beside scope this s1 l host) (chain_left m g k next a b seat w answer)) (sym marks)
-      (did_on m k g seat (after_chain k next a b g) scope this seated s1 (first_held seat ∷ []) t w
+      (walk_seated k g seat (after_chain k next a b g) None t (first_held seat ∷ [])) (is_out answer)
+      (beside scope this s1 l host) (chain_left m g k next a b seat None w answer)) (sym marks)
+      (did_on m k g seat (after_chain k next a b g) scope this seated s1 None (first_held seat ∷ []) t w
       answer n host did refl rooted)) tt
 
 -- ---- each kind of root

@@ -5,6 +5,7 @@ use Rattle.std.proofs.lemmas.List.{append-nil}
 use Rattle.grain_value.specs.laws.Same.{value_of-tree}
 use Rattle.grain_value.specs.declared.values.Dynamic.{Dynamic}
 use Rattle.grain_value.specs.declared.values.Held.{Held}
+use Rattle.grain_fault.specs.declared.traces.Fault.{Fault}
 use Rattle.grain_means.specs.Worlds.{Frame, Place, Setup, World}
 use Rattle.grain_means.specs.Places.{find, look, put}
 use Rattle.grain_means.specs.Tasks.{Task, Walked, Done}
@@ -31,9 +32,9 @@ module _ {H : Type 0} (m : Setup H) (k next : ℕ) (g : Option Place → Frame) 
   -- it begins
   pub begun_added : (n : Setup H) (t : Task) (place : Option Place) (w : World H) →
       walk_from n k t next (g place) h back w
-      ≡ walk_seated k g (Added h) after t (h ∷ []) n place w
+      ≡ walk_seated k g (Added h) after None t (h ∷ []) n place w
   begun_added n t place w =
-      ap (λ (l : List Held). walks n k (g place) (new_root w.roots) (length w.roots + 1) t
+      ap (λ (l : List Held). walks n k (g place) (new_root w.roots) (length w.roots + 1) None t
       (λ o w1. chain_over n k next (g place) o
       (back (look w1.roots (new_root w.roots)) (record w1 { roots = take (length w.roots) w1.roots })))
       (record w { roots = l })) (sym (spread-added w.roots h h [] refl))
@@ -45,11 +46,11 @@ module _ {H : Type 0} (m : Setup H) (k next : ℕ) (g : Option Place → Frame) 
       ∙ ap (λ (v : Dynamic). record x { value = v }) (value_of-tree x.value)
 
   -- it is over
-  pub over_added : (n : Setup H) (o : Walked) (x : Held) (place : Option Place) (w : World H) →
+  pub over_added : (missed : Option (List Fault)) (n : Setup H) (o : Walked) (x : Held) (place : Option Place) (w : World H) →
       x.read_only ≡ h.read_only →
-      walk_seated k g (Added h) after (Done o) (x ∷ []) n place w
+      walk_seated k g (Added h) after missed (Done o) (x ∷ []) n place w
       ≡ chain_over n k next (g place) o (back x w)
-  over_added n o x place w flag =
+  over_added missed n o x place w flag =
       ap (λ (l : List Held). chain_over n k next (g place) o
       (back (look l (record { root = length w.roots; path = [] }))
       (record w { roots = take (length w.roots) l }))) (spread-added w.roots h x [] flag)
@@ -65,25 +66,25 @@ module _ {H : Type 0} (k next : ℕ) (g : Option Place → Frame) (h : Held) (b 
   -- it begins
   pub begun_this : (n : Setup H) (t : Task) (p : Place) (w : World H) → find w.roots p ≡ Some h →
       walk_at n k t next (g (Some p)) p w
-      ≡ walk_seated k g (AtThis h) (after_chain k next home.This b g) t (h ∷ []) n (Some p) w
+      ≡ walk_seated k g (AtThis h) (after_chain k next home.This b g) None t (h ∷ []) n (Some p) w
   begun_this n t p w there =
-      ap (λ (l : List Held). walks n k (g (Some p)) p (length w.roots) t
+      ap (λ (l : List Held). walks n k (g (Some p)) p (length w.roots) None t
       (λ o w1. chain_over n k next (g (Some p)) o w1) (record w { roots = l }))
       (sym (append-nil (put w.roots p h.value) ∙ put-find w.roots p h there))
 
   -- It is over, and the code's `this` is what became of it.
-  pub over_this : (m : Setup H) (o : Walked) (x : Held) (old new : LocalState H) →
+  pub over_this : (missed : Option (List Fault)) (m : Setup H) (o : Walked) (x : Held) (old new : LocalState H) →
       old.this ≡ Some h → new ≡ record old { this = Some x } → x.read_only ≡ h.read_only →
       Simulates m old
-      (walk_seated k g (AtThis h) (after_chain k next home.This b g) (Done o) (x ∷ [])) false new
+      (walk_seated k g (AtThis h) (after_chain k next home.This b g) missed (Done o) (x ∷ [])) false new
       (λ n place w. chain_over n k next (g place) o w)
-  over_this m o x old new held becomes flag =
+  over_this missed m o x old new held becomes flag =
       rw becomes (while_bound (omega arith) (λ stop clear halts u place bound.
       by stop u place (subst (λ (y : Option Held). Binds u.roots place y) held bound))) where
         by : (stop : Option ℕ) (u : Environment) (place : Option Place) →
             Binds u.roots place (Some h) →
             Binds (puts u.roots place (Some x)) place (Some x)
-            × (walk_seated k g (AtThis h) (after_chain k next home.This b g) (Done o) (x ∷ [])
+            × (walk_seated k g (AtThis h) (after_chain k next home.This b g) missed (Done o) (x ∷ [])
             (stopped m stop) place (world old u)
             ≡ chain_over (stopped m stop) k next (g place) o
             (world (record old { this = Some x }) (simulation.after u place (Some x))))

@@ -1,5 +1,5 @@
 -- Natives that ask for calls: what they ask for is done, until they are over.
-use Rattle.std.specs.Prelude.{◌≡◌, ◌⊎◌, ◌<◌, ◌≤◌, ◌+◌, ℕ, List, Option, Some, None, Bool, true, false, Result, Ok, Err, length}
+use Rattle.std.specs.Prelude.{◌≡◌, ◌⊎◌, ◌<◌, ◌≤◌, ◌+◌, ℕ, List, Option, Some, None, Bool, true, false, if◌then◌else◌, Result, Ok, Err, length}
 use Rattle.grain_value.specs.Tree.{Tree}
 use Rattle.grain_value.specs.declared.scopes.Entry.{Entry}
 use Rattle.grain_value.specs.declared.values.Dynamic.{Dynamic}
@@ -22,7 +22,7 @@ use Rattle.grain_means.specs.Simulation.{Computation, LocalState, Simulates, Sim
 use Rattle.grain_frame.specs.Natives.{IsAt}
 use Rattle.grain_frame.specs.Receivers.{KeepsBound}
 use Rattle.grain_frame.specs.Targets.{home_of}
-use Rattle.grain_frame.specs.Waiting.{IsKept, LeadsTo, Lends, asking, beside, state_after, state_with}
+use Rattle.grain_frame.specs.Waiting.{IsKept, IsKeptAt, IsNotLent, LeadsTo, Lends, asking, beside, state_after, state_with}
 use Rattle.grain_frame.specs.declared.activations.Activation.{Activation}
 use Rattle.grain_frame.specs.declared.runs.Run.{Run}
 use Rattle.grain_frame.specs.declared.targets.Target.TheVariants as to
@@ -74,6 +74,15 @@ abbrev pub told_is_out : Result (Result Dynamic EvalAltResult) EvalAltResult →
 told_is_out (Ok o) = false
 told_is_out (Err x) = no_memory (problem_of x)
 
+-- what the host is told of a fault, if it is told of it
+abbrev pub told_fault : EvalAltResult → Result (Result Dynamic EvalAltResult) EvalAltResult
+told_fault x = if is_told (problem_of x) then Ok (Err x) else Err x
+
+-- the host may be told of how a call ended
+abbrev pub IsHeard : Result Dynamic EvalAltResult → Type 0
+IsHeard (Ok v) = Unit {0}
+IsHeard (Err x) = is_told (problem_of x) ≡ true
+
 -- what the host is told of how a call ended
 abbrev pub TellsOf : {H : Type 0} → Setup H → Position → Result Dynamic EvalAltResult → Run H →
     StepsView → Result (Result Dynamic EvalAltResult) EvalAltResult → StepsView → Type 0
@@ -105,6 +114,13 @@ ThisOver (have.Target t) s s' = KeepsBound s.level s.receivers s'.receivers
 ThisOver (have.Cell n h) s s' = s'.receivers ≡ s.receivers
 ThisOver (have.Apart h) s s' = s'.receivers ≡ s.receivers
 
+-- what it was lent stands in the run again
+abbrev pub IsBackAt : {H : Type 0} → Run H → Loan → Type 0
+IsBackAt s have.Nothing = Unit {0}
+IsBackAt s (have.Target t) = IsKeptAt s t
+IsBackAt s (have.Cell n h) = IsNotLent s (to.Cell n)
+IsBackAt s (have.Apart h) = Unit {0}
+
 -- A native that asked for calls is over: but for what it was lent, the cells, the count, how often a frame
 -- was entered, the trace and the fault all is as it was before.
 pub record NativeOver {H : Type 0} (l : Loan) (s s' : Run H) : Type 0 where
@@ -117,6 +133,7 @@ pub record NativeOver {H : Type 0} (l : Loan) (s s' : Run H) : Type 0 where
   pub outer : s'.stacks.outer ≡ s.stacks.outer
   pub operands : s'.stacks.operands ≡ s.stacks.operands
   pub handlers : s'.stacks.handlers ≡ s.stacks.handlers
+  pub back : IsBackAt s' l
   pub later : s.count ≤ s'.count
 
 -- The native was called back and called until it was over, wherever the frame stands and whatever follows.

@@ -25,7 +25,7 @@ use Rattle.grain_means.specs.Rules.{flat_all, kinds_in, race_text, trees_in, fir
 use Rattle.grain_means.specs.Simulation.{Binds, Computation, LocalState, Simulates, puts}
 use Rattle.grain_means.specs.lemmas.Spreading.{Rooted}
 use Rattle.grain_global.specs.StepsView.{StepsView}
-use Rattle.grain_chain.specs.Walking.{is_want, no_memory, outcome_of, still}
+use Rattle.grain_chain.specs.Walking.{call_for, is_want, no_memory, outcome_of, still, task_for}
 use Rattle.grain_chain.specs.declared.requests.Request.{Request}
 use Rattle.grain_chain.specs.declared.requests.What.{What}
 use Rattle.grain_chain.specs.declared.requests.What.TheVariants as what
@@ -43,7 +43,7 @@ use Rattle.grain_frame.specs.declared.waiting.Loan.{Loan}
 use Rattle.grain_frame.specs.declared.waiting.Loan.TheVariants as have
 use Rattle.grain_fault.specs.declared.traces.Fault.{Fault}
 use Rattle.grain_means.specs.Rules.InWorld.{missed_by, trace_of}
-use Rattle.grain_vm.specs.Seats.{Rests, Seat, Seated, first_held, walk_asking, walk_seated}
+use Rattle.grain_vm.specs.Seats.{Rests, Seat, Seated, first_held, kept_by, walk_asking, walk_needing, walk_seated}
 use Rattle.grain_vm.specs.declared.driving.Answered.{Answered}
 use Rattle.grain_vm.specs.declared.driving.Answered.TheVariants as answered
 use Rattle.grain_vm.specs.declared.driving.WalkEnd.{WalkEnd}
@@ -102,6 +102,12 @@ HearsHost law host key x values p n (answered.Asks native) n' host' =
     × (host' ≡ law.call_after host key x values)
     × (native.lent ≡ lent_of (receiver_after law host key x values)) × (native.pos ≡ p)
     × (n' ≡ record n { passed = n.passed + 1 + 1 })
+
+-- a request is for a native that is called by its name
+abbrev pub is_named : What → Bool
+is_named (what.Native name) = true
+is_named (what.Compiled n) = false
+is_named (what.Pointer f) = false
 
 -- the native is over, and so
 abbrev pub IfOver : Answered → (Result Dynamic EvalAltResult → Option Held → Type 0) → Type 0
@@ -190,31 +196,47 @@ abbrev pub answered_is_out : Answered → Bool
 answered_is_out (answered.Over o) = is_want o.0
 answered_is_out (answered.Asks native) = false
 
--- what follows once a native of a walk was called
+-- what follows once a native of a walk was called, by its name or as a pointer names it
 abbrev pub AnsweredTo : {H : Type 0} → Setup H → LocalState H → Computation H → ℕ →
-    (Option Place → Frame) → Seat → Rests H → Option (List Fault) → Option Place → (Answer → Task) →
-    List Held → Answered → LocalState H → Type 0
-AnsweredTo m old start k f seat done missed q go rs (answered.Over o) new =
-    Simulates m old start (is_want o.0) (record new { trace = trace_of missed (outcome_of o.0) [] })
-    (walk_seated k f seat done (missed_by (outcome_of o.0) []) (go (outcome_of o.0)) (puts rs q o.1))
-AnsweredTo m old start k f seat done missed q go rs (answered.Asks native) new =
+    (Option Place → Frame) → Seat → Rests H → Bool → Option (List Fault) → Option Place →
+    (Answer → Task) → List Held → Answered → LocalState H → Type 0
+AnsweredTo m old start k f seat done named missed q go rs (answered.Over o) new =
+    Simulates m old start (is_want o.0)
+    (record new { trace = trace_of (kept_by named missed) (outcome_of o.0) [] })
+    (walk_seated k f seat done (kept_by named (missed_by (outcome_of o.0) [])) (go (outcome_of o.0))
+    (puts rs q o.1))
+AnsweredTo m old start k f seat done named missed q go rs (answered.Asks native) new =
     (g : Option Place → Frame) × IsAt m g native.pos
     × Simulates m old start false (record new { trace = [] })
-    (walk_asking k f seat done native.asked g q (apart_of native.lent) missed go
+    (walk_asking k f seat done native.asked g q (apart_of native.lent) named missed go
     (puts rs q (apart_of native.lent)))
 
+-- what a walk of the chain of this index has left to do, wherever it stands
+abbrev pub Starting : Type 0 → Type 0
+Starting H = ℕ → (Option Place → Frame) → Seat → Rests H → Option (List Fault) → Option Place →
+    (Answer → Task) → List Held → Computation H
+
 -- A call of a native that a walk needs was done, with this outcome, and this is what is left of what was lent
--- to it; or the native asks for a call first. So it is in each walk that has the task, wherever the walk
--- stands.
-abbrev pub Answers : {H : Type 0} → Setup H → (Option Place → (Answer → Task) → Task) →
-    Option Held → Run H → StepsView → H → Answered → Run H → StepsView → H → Type 0
-Answers {H = H} m task lent s n host r s' n' host' =
+-- to it; or the native asks for a call first. So it is in each walk that has this left to do, wherever the
+-- walk stands.
+abbrev pub Answers : {H : Type 0} → Setup H → Bool → Starting H → Option Held → Run H → StepsView → H →
+    Answered → Run H → StepsView → H → Type 0
+Answers {H = H} m named start lent s n host r s' n' host' =
     (k : ℕ) (f : Option Place → Frame) (seat : Seat) (done : Rests H) (missed : Option (List Fault))
     (q : Option Place) (go : Answer → Task) (rs : List Held) (scope : List Entry)
     (this : Option Held) → Seated seat this → Rooted (first_held seat).read_only rs →
     Binds rs q lent →
-    AnsweredTo m (beside scope this s n host) (walk_seated k f seat done missed (task q go) rs) k f seat
-    done missed q go rs r (beside scope this s' n' host')
+    AnsweredTo m (beside scope this s n host) (start k f seat done missed q go rs) k f seat done named
+    missed q go rs r (beside scope this s' n' host')
+
+-- a walk calls the native of this name that a request asks for
+abbrev pub needing : {H : Type 0} → Bool → List ℕ → Request → Starting H
+needing named name r k f seat done missed q go rs =
+    walk_needing k f seat done named missed (call_for name r q) go rs
+
+-- a walk has the task of a request
+abbrev pub having : {H : Type 0} → What → Request → Starting H
+having x r k f seat done missed q go rs = walk_seated k f seat done missed (task_for x r q go) rs
 
 -- what is done after a walk does not depend on whether something changed
 abbrev pub IgnoresChange : {H : Type 0} → Rests H → Type 0

@@ -88,7 +88,8 @@ abbrev pub StepsHere : {H : Type 0} → Setup H → Moment H → Result Turn Out
     Moment H → Type 0
 StepsHere m a (Ok (turn.Done p)) b = Stepped m a (Ok p) b
 StepsHere m a (Ok (turn.Waits w)) b = (o : Op) × (next : ℕ)
-    × StandsAt m.program a.frame a.run o next × PerformsOrWaits m a o next (Ok (performed.Waits w)) b
+    × (handling_of o ≡ handling.Keep) × StandsAt m.program a.frame a.run o next
+    × PerformsOrWaits m a o next (Ok (performed.Waits w)) b
 StepsHere m a (Ok (turn.Chain index next)) b =
     StandsAt m.program a.frame a.run (op.Chain index) next × (b ≡ a)
 StepsHere m a (Ok (turn.Receiver d count next)) b =

@@ -17,7 +17,7 @@ use Rattle.grain_program.specs.declared.code.functions.Function.{Function}
 use Rattle.grain_global.specs.StepsView.{StepsView}
 use Rattle.grain_global.specs.declared.engines.Engine.{Engine}
 use Rattle.grain_stack.specs.Views.{innermost, with_frame}
-use Rattle.grain_chain.specs.Walking.{is_want, outcome_of, task_for}
+use Rattle.grain_chain.specs.Walking.{is_want, outcome_of}
 use Rattle.grain_chain.specs.declared.requests.Request.{Request}
 use Rattle.grain_chain.specs.declared.requests.What.{What}
 use Rattle.grain_chain.specs.declared.requests.What.TheVariants as what
@@ -29,7 +29,7 @@ use Rattle.grain_frame.specs.Receivers.{others_at}
 use Rattle.grain_frame.specs.declared.receivers.Bound.{Bound}
 use Rattle.grain_frame.specs.declared.runs.Run.{Run}
 use Rattle.grain_vm.specs.Calls.{WrapsSo, caller_of}
-use Rattle.grain_vm.specs.Driving.{Answers, SameFlag, beside, left_by}
+use Rattle.grain_vm.specs.Driving.{Answers, IsApartIn, SameFlag, beside, having, is_named, left_by}
 use Rattle.grain_vm.specs.declared.driving.Answered.{Answered}
 use Rattle.grain_vm.specs.declared.calls.FrameEnd.{FrameEnd}
 use Rattle.grain_vm.specs.declared.calls.FrameEnd.TheVariants as frame_end
@@ -88,8 +88,8 @@ NeedsSo p r (Err back) = (back ≡ r) × IsPointer r.what
 abbrev pub ServesRequest : {H : Type 0} → Setup H → Request → Run H → StepsView → H →
     Result Answered MethodCall → Run H → StepsView → H → Type 0
 ServesRequest m r s n host (Ok a) s' n' host' =
-    SameFlag r.receiver (left_by a)
-    × Answers m (λ q go. task_for r.what r q go) r.receiver s n host a s' n' host'
+    SameFlag r.receiver (left_by a) × IsApartIn a
+    × Answers m (is_named r.what) (having r.what r) r.receiver s n host a s' n' host'
 ServesRequest m r s n host (Err c) s' n' host' =
     CallsFunction m.program r c × (n' ≡ n) × (host' ≡ host)
 

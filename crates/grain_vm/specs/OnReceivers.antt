@@ -1,5 +1,5 @@
 -- A native that is called on a receiver and asks for calls first: where the receiver is meanwhile.
-use Rattle.std.specs.Prelude.{◌≡◌, ℕ, List, [], ◌∷◌, ◌++◌, Option, Some, None, Result, length, take, slice_set}
+use Rattle.std.specs.Prelude.{◌≡◌, ℕ, List, [], ◌∷◌, ◌++◌, Option, Some, None, Result, false, length, take, slice_set}
 use Rattle.grain_value.specs.Tree.{Tree}
 use Rattle.grain_value.specs.Cells.{idle}
 use Rattle.grain_value.specs.declared.scopes.Entry.{Entry}

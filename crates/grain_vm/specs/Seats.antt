@@ -1,14 +1,14 @@
 -- Where a walk's first root stands while the code has it, and what is left of the walk there.
-use Rattle.std.specs.Prelude.{◌≡◌, ◌+◌, ℕ, List, [], ◌∷◌, ◌++◌, Option, Some, None, length, option_map}
+use Rattle.std.specs.Prelude.{◌≡◌, ◌+◌, ℕ, List, [], ◌∷◌, ◌++◌, Option, Some, None, Bool, true, false, length, option_map}
 use Rattle.grain_value.specs.declared.values.Held.{Held}
 use Rattle.grain_fault.specs.declared.places.Position.{Position}
 use Rattle.grain_program.specs.declared.code.functions.Function.{Function}
 use Rattle.grain_fault.specs.Problems.{NoMemory}
 use Rattle.grain_fault.specs.declared.traces.Fault.{Fault}
 use Rattle.grain_means.specs.Worlds.{Act, Answer, AtPlace, Came, Failed, Frame, Go, InHost, Place, Receiver, Setup, Then, World}
-use Rattle.grain_means.specs.Tasks.{Task, Walked}
+use Rattle.grain_means.specs.Tasks.{Call, Task, Walked}
 use Rattle.grain_means.specs.Rules.{native_over, with_token}
-use Rattle.grain_means.specs.Rules.InWorld.{failed_so, function_called, missed_by, placed, trace_of, walks}
+use Rattle.grain_means.specs.Rules.InWorld.{failed_so, function_called, missed_by, performed, placed, trace_of, walks}
 use Rattle.grain_frame.specs.declared.native_calls.Asked.{Asked}
 use Rattle.grain_means.specs.Rules.Chains.{new_root}
 use Rattle.grain_means.specs.Simulation.{Computation}
@@ -58,6 +58,12 @@ lent_place (Some h) (Some p) = Some (record { home = AtPlace p; held = h })
 abbrev pub Rests : Type 0 → Type 0
 Rests S = Setup S → Option Place → ℕ → Walked → World S → Act S
 
+-- what is kept of a property that was missed: a native that is called by its name asks for properties too,
+-- and one that a pointer names does not
+abbrev pub kept_by : Bool → Option (List Fault) → Option (List Fault)
+kept_by true missed = missed
+kept_by false missed = None
+
 module _ {S : Type 0} (k : ℕ) (f : Option Place → Frame) (seat : Seat) (done : Rests S) where
   -- The walk of the chain of index k in a frame: these are its own roots now, and this is left to do;
   -- and then what follows from how it ends. If a property was missed just now, `missed` is the trace of that
@@ -74,13 +80,13 @@ module _ {S : Type 0} (k : ℕ) (f : Option Place → Frame) (seat : Seat) (done
       walks m k (f place) (base_place seat place roots) (base_count seat (length roots)) None (go a)
       (done m place (length roots)) w1
 
-  -- and with that of a native
-  abbrev pub goes_on_from : Option (List Fault) → (Answer → Task) → List Held → Setup S →
+  -- and with that of a native, which is called by its name or which a pointer names
+  abbrev pub goes_on_from : Bool → Option (List Fault) → (Answer → Task) → List Held → Setup S →
       Option Place → Answer → World S → Act S
-  goes_on_from missed go roots m place a w1 =
+  goes_on_from named missed go roots m place a w1 =
       walks m k (f place) (base_place seat place roots) (base_count seat (length roots))
-      (missed_by a w1.trace) (go a) (done m place (length roots))
-      (record w1 { trace = trace_of missed a w1.trace })
+      (kept_by named (missed_by a w1.trace)) (go a) (done m place (length roots))
+      (record w1 { trace = trace_of (kept_by named missed) a w1.trace })
 
   -- The walk calls a function at this position, on these arguments, under what stands at a place of its
   -- own, if one is given; and goes on with the answer.
@@ -94,13 +100,24 @@ module _ {S : Type 0} (k : ℕ) (f : Option Place → Frame) (seat : Seat) (done
         trace = [];
       })
 
+  -- the walk calls a native so, which is lent what stands at a place of the walk's own, if one is given
+  abbrev pub walk_needing : Bool → Option (List Fault) → Call → (Answer → Task) → List Held →
+      Computation S
+  walk_needing named missed c go rs m place w =
+      let p = base_place seat place w.roots in
+      performed m k (f place) c (option_map (placed p (base_count seat (length w.roots))) c.receiver)
+      (goes_on_from named missed go w.roots m place) (record w {
+        roots = spread (base_roots seat w.roots) p rs;
+        trace = [];
+      })
+
   -- The walk calls a native, which is lent what stands at a place of the walk's own, if one is given, and
   -- asks for this call first, in a frame at this position; and the walk goes on with its answer.
-  abbrev pub walk_asking : Asked → (Option Place → Frame) → Option Place → Option Held →
+  abbrev pub walk_asking : Asked → (Option Place → Frame) → Option Place → Option Held → Bool →
       Option (List Fault) → (Answer → Task) → List Held → Computation S
-  walk_asking asked g lent held missed go rs m place w =
+  walk_asking asked g lent held named missed go rs m place w =
       let p = base_place seat place w.roots in
-      let heard = goes_on_from missed go w.roots m place in
+      let heard = goes_on_from named missed go w.roots m place in
       Then (Go (InHost (record {
         receiver = lent_place held (option_map (placed p (base_count seat (length w.roots))) lent);
         frame = g place;

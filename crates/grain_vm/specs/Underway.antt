@@ -54,20 +54,20 @@ use Rattle.grain_vm.specs.declared.roots.Home.TheVariants as home
 abbrev pub driven_is_out : Driven → Bool
 driven_is_out (driven.Over end) = end_is_out end
 driven_is_out (driven.Calls c) = false
-driven_is_out (driven.Asks native) = false
+driven_is_out (driven.Asks named native) = false
 
 -- the walk's first root has this flag
 abbrev pub RootedTo : Bool → Walk → Driven → Type 0
 RootedTo b w (driven.Over end) = w.trail.here.read_only ≡ b
 RootedTo b w (driven.Calls c) = Rooted b (with_receiver w c.receiver)
-RootedTo b w (driven.Asks native) = Rooted b (with_receiver w (apart_of native.lent))
+RootedTo b w (driven.Asks named native) = Rooted b (with_receiver w (apart_of native.lent))
 
 -- a walk that calls a function waits for its answer, and there are fewer requests than n after it
 abbrev pub WaitsFor : View → Walk → Driven → ℕ → Type 0
 WaitsFor p w (driven.Over end) n = Unit {0}
 WaitsFor p w (driven.Calls c) n =
     HasFunction p c × Waits p w c.receiver × (still p w w.awaits < n)
-WaitsFor p w (driven.Asks native) n =
+WaitsFor p w (driven.Asks named native) n =
     IsApart native.lent × Waits p w (apart_of native.lent) × (still p w w.awaits < n)
 
 -- What is left of a walk that was driven so far: nothing but its end; or the call of a function and what
@@ -79,11 +79,11 @@ abbrev pub DrivesTo : {H : Type 0} → Setup H → LocalState H → Computation 
 DrivesTo m old start k f seat done missed w (driven.Over end) new =
     Simulates m old start (end_is_out end) new
     (walk_seated k f seat done missed (Done (end_of end)) (w.trail.here ∷ []))
-DrivesTo m old start k f seat done missed w (driven.Asks native) new =
+DrivesTo m old start k f seat done missed w (driven.Asks named native) new =
     (g : Option Place → Frame) × IsAt m g native.pos
     × Simulates m old start false new
     (walk_asking k f seat done native.asked g (lent w (apart_of native.lent)) (apart_of native.lent)
-    missed (resumed m.engine m.program w w.awaits) (with_receiver w (apart_of native.lent)))
+    named missed (resumed m.engine m.program w w.awaits) (with_receiver w (apart_of native.lent)))
 DrivesTo m old start k f seat done missed w (driven.Calls c) new =
     (g : Function) → slice_get m.program.functions c.number ≡ Some g →
     Simulates m old start false new

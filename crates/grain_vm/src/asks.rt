@@ -1,17 +1,20 @@
 //! Natives that ask for calls: what they ask for is done, and the host hears what came of it, until the
 //! native is over.
 
-ghost use Rattle.std.specs.Prelude.{◌≡◌, ◌<◌, ◌≤◌, ◌-◌, ◌∷◌, [], ℕ, List, Err, None, IfOk, OnErr, OnOk, false, is_some, length, true};
+ghost use Rattle.std.specs.Prelude.{◌≡◌, ◌<◌, ◌≤◌, ◌-◌, ◌&&◌, ◌∷◌, [], ℕ, List, Err, None, IfOk, OnErr, OnOk, false, is_some, length, option_map, true};
 ghost use Rattle.grain_value.specs.declared.values.Held.{Held};
+ghost use Rattle.grain_fault.specs.Problems.{problem_of};
 ghost use Rattle.grain_fault.specs.declared.faults.EvalAltResult.TheVariants as fault;
-ghost use Rattle.grain_means.specs.Worlds.{Setup};
+ghost use Rattle.grain_means.specs.Worlds.{Failed, Setup};
 ghost use Rattle.grain_means.specs.Rules.{call_function};
+ghost use Rattle.grain_means.specs.Rules.InWorld.{trace_of};
+ghost use Rattle.grain_means.specs.Simulation.{StopPersists};
 ghost use Rattle.grain_chain.specs.Walking.{is_want};
 ghost use Rattle.grain_frame.specs.Abstraction.{ImplementsBound, frame_in, moment, setup_of};
 ghost use Rattle.grain_frame.specs.Targets.{home_of};
 ghost use Rattle.grain_frame.specs.Waiting.{IsKept, LeadsTo, apart_of, asking, given_back_run, rest_of};
 ghost use Rattle.grain_frame.specs.declared.targets.Target.TheVariants as to;
-ghost use Rattle.grain_vm.specs.Asks.{CallsBack, EndsNative, FinishesNative, IsMissed, IsWaiting, NativeOver, RaisesInWalk, TellsOf, TookOne};
+ghost use Rattle.grain_vm.specs.Asks.{CallsBack, EndsNative, FinishesNative, IsMissed, IsWaiting, NativeOver, RaisesInWalk, RaisesTraced, TellsOf, TookOne, IsHeard, told_fault, told_is_out};
 ghost use Rattle.grain_vm.specs.Backs.{BeginsBack, FindsBack, NativeCallsBack};
 ghost use Rattle.grain_vm.specs.Driving.{IsApart, IsApartIn, IsNative, SameFlag, left_by};
 ghost use Rattle.grain_vm.specs.Methods.{MethodOver, NoneAbove};
@@ -20,9 +23,7 @@ ghost use Rattle.grain_vm.specs.WalkNatives.{NativeWalked};
 
 use crate::calls::deeper;
 use crate::chains::is_want;
-use crate::driving::{
-    Answered, AskingNative, lacks_indexer, misses_property, perform_request, raise_race,
-};
+use crate::driving::{Answered, AskingNative, misses_named, perform_request, raise_race};
 use crate::method_runs::call_method;
 use crate::methods::{Needed, Outcome, resolve_request, with_curried};
 use crate::natives::{OnReceiver, call_native_on, give_back_to_cell};
@@ -149,7 +150,8 @@ pub(crate) fn native_by_name<H: Host, L: Ledger>(
 }
 
 // Goes on with a native that a walk calls, until it is over. If a property was missed before, and there is
-// no indexer either, the trace of that fault stands again; notes whether a property is missed now.
+// no indexer either, the trace of that fault stands again; notes whether a property is missed now. A native
+// that is not called by its name asks for no property.
 #[cycle(run)]
 #[cold]
 #[inline(never)]
@@ -159,39 +161,58 @@ pub(crate) fn native_in_walk<H: Host, L: Ledger>(
     host: &mut H,
     steps: &mut Steps<L>,
     missed: &mut bool,
+    named: bool,
     native: AskingNative,
 ) -> Outcome
     requires apart { IsApart native.lent }
     requires none { NoneAbove run.old.level run.old.receivers }
-    ensures walked { NativeWalked (setup_of H.law context.entry) native run.old steps.old host.old
+    ensures walked { NativeWalked (setup_of H.law context.entry) named native run.old steps.old host.old
         missed.old result.0 result.1 run.new steps.new host.new missed.new }
     ensures over { MethodOver run.old run.new }
     ensures lent { SameFlag (apart_of native.lent) result.1 }
     ensures before { steps.new.before ≡ steps.old.before }
 {
-    let before = match take_trace(run, *missed) {
+    let before = match take_trace(run, is_kept(named, *missed)) {
         Ok(before) => before,
-        Err(OutOfMemory) => return give_up(run, host, native),
+        Err(OutOfMemory) => {
+            *missed = false;
+            return give_up(run, host, native);
+        }
     };
     let (outcome, receiver) = end_of_native(run, context, host, steps, native);
     let outcome = raised_in_walk(run, steps, outcome, before);
-    *missed = misses_property(&outcome);
+    *missed = misses_named(named, &outcome);
     (outcome, receiver)
+}
+
+// Whether the trace of a property that was missed is kept: a native that is called by its name keeps it.
+fn is_kept(named: bool, missed: bool) -> bool
+    ensures { result ≡ (named && missed) }
+{
+    named && missed
+}
+
+// A copy of a trace.
+fn copy_of_trace(alloc: Global, trace: &[Fault]) -> Result<Vec<Fault>, OutOfMemory>
+    ensures { IfOk result (λ copy. copy.items ≡ trace.now) }
+{
+    let mut copy = Vec::new(alloc);
+    'entries: for entry in trace {
+        copy.push(*entry)?;
+    }
+    Ok(copy)
 }
 
 // Takes the trace away, and gives it if it is to be kept.
 fn take_trace<H: Host>(run: &mut Run<H>, kept: bool) -> Result<Option<Vec<Fault>>, OutOfMemory>
-    ensures taken { IfOk result (λ before. IsMissed kept run.old.stacks.trace before) }
+    ensures taken { IfOk result (λ before.
+        IsMissed kept run.old.stacks.trace (option_map (λ v. v.items) before)) }
     ensures empty { OnOk result
         (run.new ≡ record run.old { stacks = record run.old.stacks { trace = [] } }) }
     ensures refused { OnErr result (run.new ≡ run.old) }
 {
     let before = if kept {
-        let mut copy = Vec::new(run.alloc);
-        'entries: for entry in run.stacks.trace() {
-            copy.push(*entry)?;
-        }
-        Some(copy)
+        Some(copy_of_trace(run.alloc, run.stacks.trace())?)
     } else {
         None
     };
@@ -219,20 +240,63 @@ fn raised_in_walk<H: Host, L: Ledger>(
     outcome: Result<Dynamic, EvalAltResult>,
     before: Option<Vec<Fault>>,
 ) -> Result<Dynamic, EvalAltResult>
-    ensures { RaisesInWalk outcome before run.old steps.old result run.new steps.new }
+    ensures { RaisesInWalk outcome (option_map (λ v. v.items) before) run.old steps.old result run.new
+        steps.new }
 {
-    if outcome.is_ok() || is_out(&outcome) {
-        return outcome;
-    }
-    if let Some(before) = before {
-        if lacks_indexer(&outcome) {
-            if let Err(OutOfMemory) = run.stacks.put_trace(before) {
-                return Err(EvalAltResult::Memory);
+    match outcome {
+        Ok(value) => Ok(value),
+        Err(fault) => {
+            if is_want(&fault) {
+                return Err(fault);
             }
+            raise_traced(run, steps, fault, before)
         }
     }
-    steps.mark();
-    outcome
+}
+
+// The same of a fault that is no want of memory.
+fn raise_traced<H: Host, L: Ledger>(
+    run: &mut Run<H>,
+    steps: &mut Steps<L>,
+    raised: EvalAltResult,
+    before: Option<Vec<Fault>>,
+) -> Result<Dynamic, EvalAltResult>
+    ensures { RaisesTraced raised (option_map (λ v. v.items) before) run.old steps.old result run.new
+        steps.new }
+{
+    match keep_trace(run, &raised, before) {
+        Err(OutOfMemory) => Err(EvalAltResult::Memory),
+        Ok(()) => {
+            steps.mark();
+            Err(raised)
+        }
+    }
+}
+
+// Puts the trace before in the place of the present one, if one was kept and a fault says that there is no
+// indexer.
+fn keep_trace<H: Host>(
+    run: &mut Run<H>,
+    raised: &EvalAltResult,
+    before: Option<Vec<Fault>>,
+) -> Result<(), OutOfMemory>
+    ensures kept { OnOk result (run.new ≡ record run.old {
+      stacks = record run.old.stacks {
+        trace = trace_of (option_map (λ v. v.items) before) (Failed (problem_of raised.now))
+            run.old.stacks.trace;
+      };
+    }) }
+    ensures refused { OnErr result (run.new ≡ run.old) }
+{
+    match before {
+        None => Ok(()),
+        Some(before) => {
+            if !raised.is_indexing_type() {
+                return Ok(());
+            }
+            run.stacks.put_trace(before)
+        }
+    }
 }
 
 // Calls a native on a receiver, and goes on with it until it is over.
@@ -352,16 +416,26 @@ fn told<H: Host, L: Ledger>(
     came: Result<Dynamic, EvalAltResult>,
 ) -> Result<Result<Dynamic, HostFault>, EvalAltResult>
     ensures tells { (m : Setup H) → TellsOf m pos came run.now steps.old result steps.new }
+    ensures heard { IfOk result (λ o. IsHeard came) }
+    // Want of memory is handed on.
+    ensures carries { StopPersists (is_want came) steps.old.passed (told_is_out result)
+        steps.new.passed }
     ensures before { steps.new.before ≡ steps.old.before }
 {
-    let fault = match came {
+    match came {
+        Err(fault) => fault_told(fault),
         Ok(value) => match run.read_of(value) {
-            Err(OutOfMemory) => return Err(EvalAltResult::Memory),
-            Ok(Some(value)) => return Ok(Ok(value)),
-            Ok(None) => raise_race(run.alloc, steps, pos),
+            Err(OutOfMemory) => Err(EvalAltResult::Memory),
+            Ok(Some(value)) => Ok(Ok(value)),
+            Ok(None) => fault_told(raise_race(run.alloc, steps, pos)),
         },
-        Err(fault) => fault,
-    };
+    }
+}
+
+// The host is told of a fault if a script may catch it and the host may answer it.
+fn fault_told(fault: EvalAltResult) -> Result<Result<Dynamic, HostFault>, EvalAltResult>
+    ensures { result ≡ told_fault fault }
+{
     if !fault.is_catchable() {
         return Err(fault);
     }
@@ -393,11 +467,13 @@ fn call_back<H: Host, L: Ledger>(
 {
     match find_back(run, context, pos, pointer, values) {
         Err(OutOfMemory) => Err(EvalAltResult::Memory),
-        Ok(Needed::Function(call)) => {
-            let (outcome, _receiver) = call_method(run, context, host, steps, call);
-            outcome
-        }
-        Ok(Needed::Native(request)) => native_back(run, context, host, steps, request),
+        Ok(needed) => match needed {
+            Needed::Function(call) => {
+                let (outcome, _receiver) = call_method(run, context, host, steps, call);
+                outcome
+            }
+            Needed::Native(request) => native_back(run, context, host, steps, request),
+        },
     }
 }
 

@@ -1,27 +1,26 @@
 //! Drives the walks of chains: asks the host for what a walk needs, until the walk is over or calls a
 //! function of the program.
 
-ghost use Rattle.std.specs.Prelude.{◌≡◌, ◌+◌, ◌∷◌, [], ℕ, List, length, Option, Bool, IfOk};
+ghost use Rattle.std.specs.Prelude.{◌≡◌, ◌+◌, ◌&&◌, ◌∷◌, [], ℕ, List, length, Option, Bool, IfOk};
 ghost use Rattle.grain_value.specs.View.{tree};
 ghost use Rattle.grain_value.specs.declared.values.Held.{Held};
 ghost use Rattle.grain_value.specs.declared.scopes.Entry.{Entry};
 ghost use Rattle.grain_fault.specs.Problems.{Plain, DataRace};
 ghost use Rattle.grain_means.specs.Worlds.{Setup, Frame, Place};
-ghost use Rattle.grain_means.specs.Tasks.{Need};
 ghost use Rattle.grain_means.specs.Driving.{all_given};
 ghost use Rattle.grain_means.specs.Simulation.{StopPersists};
 ghost use Rattle.grain_means.specs.lemmas.Spreading.{Rooted};
 ghost use Rattle.grain_means.specs.Rules.Homes.{Home};
 ghost use Rattle.grain_means.specs.Rules.{race_text, trees_in};
-ghost use Rattle.grain_chain.specs.Walking.{call_for, CanCall, is_out, is_want, left_to_do, outcome_of, resumed, roots_at, roots_of, still, with_receiver, Did, Falls, Waits};
+ghost use Rattle.grain_chain.specs.Walking.{CanCall, is_out, is_want, left_to_do, outcome_of, resumed, roots_at, roots_of, still, with_receiver, Did, Falls, Waits};
 ghost use Rattle.grain_frame.specs.Abstraction.{setup_of};
 ghost use Rattle.grain_frame.specs.Natives.{Seeks};
 ghost use Rattle.grain_means.specs.Rules.InWorld.{missed_by, trace_of};
 ghost use Rattle.grain_fault.specs.declared.traces.Fault.{Fault as Entered};
 ghost use Rattle.grain_vm.specs.Asks.{IsMissed, has_missed, has_no_indexer};
-ghost use Rattle.grain_vm.specs.Driving.{beside, left_by, left_of, name_in, Answers, DescribesAfter, IsNative, ReadsAll, lent_from, RaisesOne, AsksHost, DoesRequest, HearsHost, IsApartIn, SameFlag, IgnoresChange};
+ghost use Rattle.grain_vm.specs.Driving.{beside, left_by, left_of, name_in, needing, is_named as named_in, Answers, DescribesAfter, IsNative, ReadsAll, lent_from, RaisesOne, AsksHost, DoesRequest, HearsHost, IsApartIn, SameFlag, IgnoresChange};
 ghost use Rattle.grain_vm.specs.Methods.{ServesRequest};
-ghost use Rattle.grain_vm.specs.Seats.{Rests, Seat, Seated, first_held, walk_seated};
+ghost use Rattle.grain_vm.specs.Seats.{Rests, Seat, Seated, first_held, kept_by, walk_seated};
 ghost use Rattle.grain_vm.specs.Underway.{DrivesTo, RootedTo, WaitsFor, driven_is_out};
 
 use crate::methods::{MethodCall, Needed, Outcome, resolve_request};
@@ -211,8 +210,8 @@ pub(crate) fn perform_request<H: Host, L: Ledger>(
     request: Request,
 ) -> Answered
     requires native { IsNative request.what }
-    ensures same { (m : Setup H) → m.law ≡ H.law → Answers m
-        (λ q go. Need (call_for (name_in request.what) request q) go) request.receiver run.old
+    ensures same { (m : Setup H) (named : Bool) → m.law ≡ H.law →
+        Answers m named (needing named (name_in request.what) request) request.receiver run.old
         steps.old host.old result run.new steps.new host.new }
     ensures does { (home : Home) → DoesRequest H.law request home run.old.cells steps.old host.old
         result steps.new host.new }
@@ -340,8 +339,8 @@ pub enum Driven {
     Over(WalkEnd),
     /// To the call of a function.
     Calls(MethodCall),
-    /// To the call of a native, which asks for a call first.
-    Asks(AskingNative),
+    /// To the call of a native, which asks for a call first. Says whether it was called by its name.
+    Asks(bool, AskingNative),
 }
 
 // Drives a walk on from an answer, to its end or to the next call of a function of the program.
@@ -380,11 +379,12 @@ pub(crate) fn drive<H: Host, L: Ledger>(
     'answers: loop {
         match answer {
             WalkAnswer::Need(request) => {
+                let named = is_named(&request.what);
                 match serve_request(run, context, host, steps, request) {
                     Err(call) => return Driven::Calls(call),
-                    Ok(Answered::Asks(native)) => return Driven::Asks(native),
+                    Ok(Answered::Asks(native)) => return Driven::Asks(named, native),
                     Ok(Answered::Over((outcome, receiver))) => {
-                        keep_missed(run, missed, &outcome);
+                        keep_missed(run, missed, named, &outcome);
                         answer = go_on(run, context, steps, walk, outcome, receiver);
                     }
                 }
@@ -397,28 +397,45 @@ pub(crate) fn drive<H: Host, L: Ledger>(
     }
 }
 
+// Whether a request is for a native that is called by its name.
+fn is_named(what: &What) -> bool
+    ensures { result ≡ named_in what.now }
+{
+    matches!(what, What::Native(_))
+}
+
 // After the call of a native that left no frames. If a property was missed before, and there is no indexer
-// either, the trace of that fault stays; else there is none. Notes whether a property is missed now.
+// either, the trace of that fault stays; else there is none. Notes whether a property is missed now. A native
+// that is not called by its name asks for no property.
 fn keep_missed<H: Host>(
     run: &mut Run<H>,
     missed: &mut bool,
+    named: bool,
     outcome: &Result<Dynamic, EvalAltResult>,
 )
     ensures kept { (before : Option (List Entered)) → IsMissed missed.old run.old.stacks.trace before →
-        (run.new.stacks.trace ≡ trace_of before (outcome_of outcome.now) [])
-        × IsMissed missed.new run.new.stacks.trace (missed_by (outcome_of outcome.now) []) }
+        (run.new.stacks.trace ≡ trace_of (kept_by named before) (outcome_of outcome.now) [])
+        × IsMissed missed.new run.new.stacks.trace
+        (kept_by named (missed_by (outcome_of outcome.now) [])) }
     ensures run { run.new ≡ record run.old {
       stacks = record run.old.stacks { trace = run.new.stacks.trace };
     } }
 {
-    if !(*missed && lacks_indexer(outcome)) {
+    if !(named && *missed && lacks_indexer(outcome)) {
         run.stacks.cut_trace(0);
     }
-    *missed = misses_property(outcome);
+    *missed = named && misses_property(outcome);
+}
+
+// Whether a call ended with the fault that there is no such property, if it was called by its name.
+pub(crate) fn misses_named(named: bool, outcome: &Result<Dynamic, EvalAltResult>) -> bool
+    ensures { result ≡ (named && has_missed (outcome_of outcome.now)) }
+{
+    named && misses_property(outcome)
 }
 
 // Whether a call ended with the fault that there is no such property.
-pub(crate) fn misses_property(outcome: &Result<Dynamic, EvalAltResult>) -> bool
+fn misses_property(outcome: &Result<Dynamic, EvalAltResult>) -> bool
     ensures { result ≡ has_missed (outcome_of outcome.now) }
 {
     match outcome {
@@ -428,7 +445,7 @@ pub(crate) fn misses_property(outcome: &Result<Dynamic, EvalAltResult>) -> bool
 }
 
 // Whether a call ended with the fault that there is no such indexer.
-pub(crate) fn lacks_indexer(outcome: &Result<Dynamic, EvalAltResult>) -> bool
+fn lacks_indexer(outcome: &Result<Dynamic, EvalAltResult>) -> bool
     ensures { result ≡ has_no_indexer (outcome_of outcome.now) }
 {
     match outcome {

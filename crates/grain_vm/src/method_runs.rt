@@ -3,6 +3,7 @@
 
 ghost use Rattle.std.specs.Prelude.{◌≡◌, ◌<◌, ◌≤◌, ◌+◌, ◌-◌, ◌∷◌, [], length, slice_get, Some};
 ghost use Rattle.grain_frame.specs.Abstraction.{abstraction, continuation, frame_in, is_out, ContinuesAt, KeepsFrame, PerformsBound, Ready, ReadyIn, Runs, Stepped, setup_of, moment};
+ghost use Rattle.grain_vm.specs.Asks.{TookOne};
 ghost use Rattle.grain_vm.specs.Attempts.{CallsNothing};
 ghost use Rattle.grain_program.specs.declared.code.functions.Function.{Function};
 ghost use Rattle.grain_program.specs.TypedAt.{IsTypedAt};
@@ -95,7 +96,7 @@ fn walk_chain<H: Host, L: Ledger>(
             let mut answer = answer;
             let mut missed = false;
             'calls: loop {
-                let (outcome, receiver) = match drive(
+                match drive(
                     run,
                     context,
                     host,
@@ -110,13 +111,22 @@ fn walk_chain<H: Host, L: Ledger>(
                     Driven::Calls(call) => {
                         run.stacks.cut_trace(0);
                         missed = false;
-                        call_method(run, context, host, steps, call)
+                        let (outcome, receiver) = call_method(run, context, host, steps, call);
+                        answer = go_on(run, context, steps, &mut walking.walk, outcome, receiver);
                     }
-                    Driven::Asks(native) => {
-                        native_in_walk(run, context, host, steps, &mut missed, native)
+                    Driven::Asks(named, native) => {
+                        let (outcome, receiver) = native_in_walk(
+                            run,
+                            context,
+                            host,
+                            steps,
+                            &mut missed,
+                            named,
+                            native,
+                        );
+                        answer = go_on(run, context, steps, &mut walking.walk, outcome, receiver);
                     }
-                };
-                answer = go_on(run, context, steps, &mut walking.walk, outcome, receiver);
+                }
             }
         }
     }
@@ -307,6 +317,7 @@ pub(crate) fn call_method<H: Host, L: Ledger>(
         run.new steps.new host.new }
     ensures over { MethodOver run.old run.new }
     ensures lent { SameFlag call.receiver result.1 }
+    ensures took { TookOne context.entry.engine.now run.old result.0 run.new }
     ensures before { steps.new.before ≡ steps.old.before }
 {
     let pos = call.pos;

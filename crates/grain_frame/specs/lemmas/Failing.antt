@@ -1,5 +1,5 @@
 -- Faults that are raised, and stretches that stop at their first mark because memory is wanted.
-use Rattle.std.proofs.Common.{◌≡◌, ◌∙◌, ◌≤◌, ℕ, List, [], ◌∷◌, Option, Some, None, Result, Ok, Err, Bool, true, false, if◌then◌else◌, ◌&&◌, length, refl, sym, ap, arith}
+use Rattle.std.proofs.Common.{◌≡◌, ◌∙◌, ◌≤◌, ℕ, List, [], ◌∷◌, Option, Some, None, Result, Ok, Err, Bool, true, false, if◌then◌else◌, ◌&&◌, length, refl, ap, arith}
 use Rattle.std.specs.Prelude.{slice_get, slice_set}
 use Rattle.grain_value.specs.Cells.{content, flat, idle}
 use Rattle.grain_value.specs.Looking.{cell_of}
@@ -13,7 +13,6 @@ use Rattle.grain_host.specs.Law.{Law, native_of}
 use Rattle.grain_program.specs.View.{View, name_of, position_of}
 use Rattle.grain_program.specs.declared.code.parts.AssignOp.{AssignOp}
 use Rattle.grain_fault.specs.declared.faults.EvalAltResult.{EvalAltResult}
-use Rattle.grain_fault.specs.declared.traces.Fault.{Fault}
 use Rattle.grain_fault.specs.Problems.{Problem, Plain, NoMemory, NonPureCall}
 use Rattle.grain_global.specs.declared.engines.Engine.{Engine}
 use Rattle.grain_stack.specs.declared.handlers.Handler.{Handler}
@@ -122,43 +121,35 @@ operator_stops m a name op h u v next f w halts =
     assigned_at m a (record h { value = q }) name next f w1)) (raised m f)
     halts (λ y. rw halts refl)
 
--- so does the fault of an op-assignment, whether or not the host's operator is asked then, if there is no
--- trace
+-- so does the fault of an op-assignment, whether or not the host's operator is asked then
 pub op_assign_stops : {S : Type 0} (m : Setup S) (a : Home) (name : List ℕ) (o : AssignOp)
     (h v : Held) (next : ℕ) (f : Frame) (w : World S) → is_stop m.stop w.passed ≡ true →
-    w.trace ≡ [] → StopsAtMark m f w (op_assign_failed_at m a name o h v next f)
-op_assign_stops {S = S} m a name o h v next f w halts untraced x =
+    StopsAtMark m f w (op_assign_failed_at m a name o h v next f)
+op_assign_stops {S = S} m a name o h v next f w halts x =
     at (says_missing (name_of m.program o.op_assign_name) x) where
-      u : Held
-      u = record h { value = content_now a h w }
-
       at : (b : Bool) →
-          (if b then operator_at m a name (name_of m.program o.op_name) h u v next f
-          (record w { trace = [] })
+          (if b then marked m f w (λ w1. operator_at m a name (name_of m.program o.op_name) h
+          (record h { value = content_now a h w1 }) v next f (record w1 { trace = [] }))
           else raised m f x w) ≡ leave_by_fault m f NoMemory w
-      at true =
-          operator_stops m a name (name_of m.program o.op_name) h u v next f
-          (record w { trace = [] }) halts
-          ∙ ap (λ (t : List Fault). leave_by_fault m f NoMemory (record w { trace = t }))
-          (sym untraced)
+      at true = rw halts refl
       at false = rw halts refl
 
 -- so does what an op-assignment gives, whatever it is
 pub store_stops : {S : Type 0} (m : Setup S) (a : Home) (name : List ℕ) (r : Outcome) (o : AssignOp)
     (h : Held) (u : Dynamic) (v : Held) (next : ℕ) (f : Frame) (w : World S) →
-    is_stop m.stop w.passed ≡ true → w.trace ≡ [] →
+    is_stop m.stop w.passed ≡ true →
     outcome_at m a name r o h u v next f w ≡ leave_by_fault m f NoMemory w
-store_stops m a name NotBuiltIn o h u v next f w halts untraced =
+store_stops m a name NotBuiltIn o h u v next f w halts =
     native_stops m (name_of m.program o.op_assign_name)
     (Some (record { home = a; held = record h { value = u } })) (v ∷ []) f w
     (λ r w1. onward m f (stepped f next (below f.operands)) w1)
     (op_assign_failed_at m a name o h v next f) halts
-    (op_assign_stops m a name o h v next f w halts untraced)
-store_stops m a name (Gave x) o h u v next f w halts untraced =
+    (op_assign_stops m a name o h v next f w halts)
+store_stops m a name (Gave x) o h u v next f w halts =
     written_stops m a (record h { value = x }) name f w
     (onward m f (stepped f next (below f.operands))) halts
-store_stops m a name (ArithmeticFault t) o h u v next f w halts untraced = rw halts refl
-store_stops m a name (TooLarge t) o h u v next f w halts untraced = rw halts refl
+store_stops m a name (ArithmeticFault t) o h u v next f w halts = rw halts refl
+store_stops m a name (TooLarge t) o h u v next f w halts = rw halts refl
 
 -- a rule that stops at its first mark, where memory is out before anything is done
 pub wants_memory : {H : Type 0} (law : Law H) (p : View) (engine : Engine) (f : Activation)

@@ -14,6 +14,7 @@ use Rattle.grain_means.specs.Means.{setup}
 use Rattle.grain_means.specs.Simulation.{Binds, Computation, Environment, SimulatesExactly, stopped, world}
 use Rattle.grain_means.specs.lemmas.Stretches.{compose, same}
 use Rattle.grain_frame.specs.Abstraction.{Implements, ImplementsBound, Moment, abstraction, frame_in, is_out, moment, native_continuation, this_of}
+use Rattle.grain_frame.specs.Rests.{WaitsLess}
 use Rattle.grain_frame.specs.Waiting.{ImplementsOrWaits, LeadsTo, Lends, fault_rest, performed_of, value_rest}
 use Rattle.grain_frame.specs.declared.activations.Activation.{Activation}
 use Rattle.grain_frame.specs.declared.native_calls.Asked.{Asked}
@@ -96,6 +97,17 @@ module _ {H : Type 0} {m : Setup H} {a b : Moment H} {ts : List ℕ} {takes give
     lands = does.lands;
     before = does.before;
   }
+
+-- one that is done waits for nothing more
+pub less_led : (x : Rest) (r : Result Progress OutOfMemory) (q : Result Performed OutOfMemory) →
+    q ≡ performed_of r → WaitsLess x q
+less_led x (Ok p) q is = subst (λ (y : Result Performed OutOfMemory). WaitsLess x y) (sym is) tt
+less_led x (Err e) q is = subst (λ (y : Result Performed OutOfMemory). WaitsLess x y) (sym is) tt
+
+-- nor does one where memory ran out
+pub less_out : (x : Rest) (q : Result Performed OutOfMemory) → is_out q ≡ true → WaitsLess x q
+less_out x (Ok y) out = absurd cc
+less_out x (Err e) out = tt
 
 -- a native that is lent nothing asks for a call
 pub native_waits : {H : Type 0} (law : Law H) (p : View) (engine : Engine) (f : Activation)

@@ -20,7 +20,7 @@ use Rattle.grain_means.proofs.Naming.{Stands, all_wider, held_at_names, held_wid
 use Rattle.grain_means.proofs.Containing.Roots.{firm_look, look_stands}
 use Rattle.grain_means.proofs.Plain.{NamesNone, no_cell, op_assigned_plain}
 use Rattle.grain_means.proofs.Containing.Parts.{Operands, Arguments, FrameNames, HoldsPlain, home_plain, standing_names, may_stand}
-use Rattle.grain_means.proofs.Containing.Steps.{Stays, Here, frame_wider, raising, pushing, going_on, reading, looking, last, less, moves, asking, giving}
+use Rattle.grain_means.proofs.Containing.Steps.{Stays, Here, frame_wider, marking, raising, pushing, going_on, reading, looking, last, less, moves, asking, giving}
 use Rattle.grain_means.proofs.Containing.Entries.{assigns_at, refuses}
 use Rattle.grain_means.proofs.Containing.Frames.{Grounds}
 
@@ -69,13 +69,14 @@ module _ {S : Type 0} {m : Setup S} (on : Grounds m) where
         HoldsPlain b w.scope w.roots → Stands clean n v → ProblemNames clean n x →
         Stays on n low f names (rules.op_assign_failed_at m b name a h v next f x w)
     by_host_failed b name a h v next x w at own plain right bound =
-        let u : Held = record h { value = content_now b h w } in
+        let go : World S → Act S = λ w1. rules.operator_at m b name (name_of m.program a.op_name) h
+        (record h { value = content_now b h w1 }) v next f (record w1 { trace = [] }) in
         by_test (Stays on n low f names) (says_missing (name_of m.program a.op_assign_name) x)
-        (rules.operator_at m b name (name_of m.program a.op_name) h u v next f
-        (record w { trace = [] }))
-        (rules.raised m f x w)
-        (λ missing. by_operator b name (name_of m.program a.op_name) h u v next (record w { trace = [] })
-        at (content_names b h w at own plain) right)
+        (rules.marked m f w go) (rules.raised m f x w)
+        (λ missing. marking on n low f names w go at
+        (by_operator b name (name_of m.program a.op_name) h (record h { value = content_now b h w })
+        v next (record w { passed = w.passed + 1; trace = [] }) at (content_names b h w at own plain)
+        right))
         (λ other. raising on n low f names x w at bound)
 
   -- once the store has grown
@@ -108,7 +109,7 @@ module _ {S : Type 0} {m : Setup S} (on : Grounds m) where
         let wide : FrameNames clean k f = frame_wider on n k f le names in
         by_host_failed k more f wide b name a h v next x w1 there (owns_wider k le more wide b h own)
         lends (stands_wider n k le v right) bound)
-        (name_of m.program a.op_assign_name) (v ∷ []) (record w { trace = [] }) at
+        (name_of m.program a.op_assign_name) (v ∷ []) w at
         (home_plain clean n b (record h { value = u }) (left, plain)) stands (right, tt)
 
     pub stores_outcome : (b : Home) (name : List ℕ) (o : Outcome) → NamesNone o → (a : AssignOp)

@@ -14,16 +14,16 @@ use Rattle.grain_ops.specs.Outcomes.{Outcome, NotBuiltIn, Gave, ArithmeticFault,
 use Rattle.grain_value.specs.Cells.{flat}
 use Rattle.grain_means.proofs.Readable.{IsHomeOf, home_in_entry}
 use Rattle.grain_means.proofs.Unlent.{flat_stays}
-use Rattle.grain_means.specs.Worlds.{World, Setup, Go, InHost, Came}
+use Rattle.grain_means.specs.Worlds.{Act, World, Setup, Go, InHost, Came}
 use Rattle.grain_means.specs.Ends.{Ends}
 use Rattle.grain_host.specs.Signatures.{not_found, says_missing}
 use Rattle.grain_host.specs.Law as reply
 use Rattle.grain_value.specs.declared.natives.Native.{Native}
-use Rattle.grain_means.specs.Rules.{Home, Receiver, assigned_at, assignment_to_constant, content_now, entry_of_slot, flattened, given as given_to, held_at, is_read_only, native_assigned_at, onward, op_assign_failed_at, op_assigned, operator_at, outcome_at, position, push_outcome, pushed, stepped, store_outcome}
+use Rattle.grain_means.specs.Rules.{Home, Receiver, assigned_at, assignment_to_constant, content_now, entry_of_slot, flattened, given as given_to, held_at, is_read_only, marked, native_assigned_at, onward, op_assign_failed_at, op_assigned, operator_at, outcome_at, position, push_outcome, pushed, stepped, store_outcome}
 use Rattle.grain_means.specs.Comes.{ProgramPoint}
 use Rattle.grain_means.specs.Causes.{Question, native_asked, reply_to, asks_first, EndsWith, HasNoBuiltIn, AssignsByHost, AsksAgain, AsksSecond, AsksNative, IsCalled, ReadsTop, Holds, AssignsConstant, Operates, ReadsLent, AnswersLent, IsLent, AssignsLent, AsksFirst, asked_by, asked_in}
 use Rattle.grain_means.proofs.Footing.{Sits, by_test}
-use Rattle.grain_means.proofs.Tally.Frames.{Walk, Even, Steady, start, steady, even_onward, point, all_there}
+use Rattle.grain_means.proofs.Tally.Frames.{Walk, Even, Steady, start, steady, even_marked, even_onward, point, all_there}
 use Rattle.grain_means.proofs.Tally.Faults.{why, even_raised, even_flat, even_flat_in, even_on}
 use Rattle.grain_means.proofs.Tally.Natives.{FailedSo}
 use Rattle.grain_means.proofs.Tally.Natives.{Gave as HasGiven}
@@ -85,10 +85,6 @@ module _ {S : Type 0} {m : Setup S} (walk : Walk m) where
         (is_home : IsHomeOf (cell_of h.value) home)
         (by_host : AssignsByHost m a home h u v o f now)
         (answers_lent : AnswersLentTo m (point walk o) name) where
-      -- the host is asked with an empty trace
-      abbrev emptied : World S
-      emptied = record (start walk) { trace = [] }
-
       abbrev first_question : Question S
       first_question = asks_first m a home h u v now
 
@@ -99,12 +95,12 @@ module _ {S : Type 0} {m : Setup S} (walk : Walk m) where
       abbrev Readable : World S → Type 0
       Readable w = (c : Dynamic) × (flat w.cells h.value ≡ Some c)
 
-      -- the first question left a world, after r instructions, and without its trace the operator is asked
-      -- for
+      -- the first question left a world, after r instructions, and after a mark and without its trace the
+      -- operator is asked for
       module _ (left : World S) (r : ℕ) (s : Steady walk r left) (readable : Readable left)
           (x : Problem) (ends : EndsWith m f now first_question x left) (missing : says x ≡ true) where
         abbrev w : World S
-        w = record left { trace = [] }
+        w = record left { passed = left.passed + 1; trace = [] }
 
         abbrev now_held : Held
         now_held = record h { value = content_now home h w }
@@ -146,20 +142,26 @@ module _ {S : Type 0} {m : Setup S} (walk : Walk m) where
               lends (inr (first, over)) none =
                   answers_lent question asked_so n e called z (inr (first, w1, over, none))
 
-        even_operator : Even walk r
-            (operator_at m home name (name_of m.program a.op_name) h now_held v (f.address + width) f w)
+        abbrev again : World S → Act S
+        again w1 =
+            operator_at m home name (name_of m.program a.op_name) h
+            (record h { value = content_now home h w1 }) v (f.address + width) f
+            (record w1 { trace = [] })
+
+        even_operator : Even walk r (marked m f left again)
         even_operator =
-            even_native walk o width stands w r s refl (name_of m.program a.op_name) None copies asks
+            even_marked walk r left s again
+            (even_native walk o width stands w r s refl (name_of m.program a.op_name) None copies asks
             (λ y. inr (a, home, h, u, v, by_host, inr asks_again))
             (λ z w1. flattened m (read_write z) name f w1 (λ y.
             assigned_at m home (record h { value = y }) name (f.address + width) f w1))
             (λ n e called z l w1 how after empty. given n e called z l w1 how after.0 empty
-            (flat_stays w.cells w1.cells h.value readable.0 readable.1 after.2))
+            (flat_stays w.cells w1.cells h.value readable.0 readable.1 after.2)))
 
       -- how the first native failed
       ends_so : (n : Native) → native_asked m first_question ≡ Some n → IsCalled first_question n →
           (x : Problem) (w : World S) →
-          FailedSo walk emptied (name_of m.program a.op_assign_name)
+          FailedSo walk (start walk) (name_of m.program a.op_assign_name)
           (Some (record { home = home; held = record h { value = u } })) (v ∷ []) n x w →
           EndsWith m f now first_question x w
       ends_so n e called x w (inl how) = inr (n, e, called, inl how)
@@ -174,7 +176,7 @@ module _ {S : Type 0} {m : Setup S} (walk : Walk m) where
           let args : List Held = v ∷ [] in
           let q : AsksNative m first_question (point walk o) =
           inr (a, home, h, u, v, by_host, inl refl) in
-          even_found walk o width stands emptied (now.ran + 1) (steady walk) refl word r args q
+          even_found walk o width stands (start walk) (now.ran + 1) (steady walk) trace word r args q
           f.operands
           (λ z w1. onward m f (stepped f (f.address + width) (below f.operands)) w1)
           (op_assign_failed_at m home name a h v (f.address + width) f)
@@ -182,10 +184,10 @@ module _ {S : Type 0} {m : Setup S} (walk : Walk m) where
           (below f.operands)) w1 after.0 empty (inl refl) sits_on)
           (λ e. let x = not_found word (values_in (given_to r args)) (position m f) in
           by_test (Even walk (now.ran + 1)) (says x) _ _
-          (λ missing. even_operator emptied (now.ran + 1) (steady walk) (u, by_host.content) x
+          (λ missing. even_operator (start walk) (now.ran + 1) (steady walk) (u, by_host.content) x
           (inl (e, refl, refl)) missing)
-          (λ other. none_raised walk o width stands emptied (now.ran + 1) (steady walk) refl word r args
-          q f.operands (all_there walk o) (inr (
+          (λ other. none_raised walk o width stands (start walk) (now.ran + 1) (steady walk) trace word r
+          args q f.operands (all_there walk o) (inr (
             a,
             home,
             h,
@@ -193,8 +195,8 @@ module _ {S : Type 0} {m : Setup S} (walk : Walk m) where
             v,
             by_host,
             inl (refl, other),
-          )) e)) (refused_raised walk o width stands emptied (now.ran + 1) (steady walk) refl word r
-          args q f.operands (all_there walk o))
+          )) e)) (refused_raised walk o width stands (start walk) (now.ran + 1) (steady walk) trace
+          word r args q f.operands (all_there walk o))
           (λ n e called x l w1 how reason after.
           by_test (Even walk l) (says x) _ _
           (λ missing. even_operator w1 l after.0

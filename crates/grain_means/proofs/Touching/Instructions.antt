@@ -151,6 +151,12 @@ module _ {S : Type 0} (m : Setup S) (t : Option Place) (old : List Held) (f : Fr
       (λ q. assigns_at m t old f is a may (record h { value = q }) name next w1 there))
       refuses op (u ∷ v ∷ []) w at
 
+  -- the operator of an op-assignment that the host does not have
+  abbrev again : Home → List ℕ → AssignOp → Held → Held → ℕ → World S → Act S
+  again a name o h v next w =
+      rules.operator_at m a name (name_of m.program o.op_name) h
+      (record h { value = content_now a h w }) v next f (record w { trace = [] })
+
   by_host : (a : Home) → MayAt m t old a → (name : List ℕ) (o : AssignOp) (h : Held) (u : Dynamic)
       (v : Held) (next : ℕ) (w : World S) → Here w →
       Keeps (rules.native_assigned_at m a name o h u v next f w)
@@ -161,13 +167,13 @@ module _ {S : Type 0} (m : Setup S) (t : Option Place) (old : List Held) (f : Fr
       (rules.op_assign_failed_at m a name o h v next f)
       (λ r w1 there. goes_on (stepped f next (below f.operands)) is w1 there)
       (λ x w1 there. by_test Keeps (says_missing (name_of m.program o.op_assign_name) x)
-      (rules.operator_at m a name (name_of m.program o.op_name) h
-      (record h { value = content_now a h w1 }) v next f (record w1 { trace = [] }))
+      (rules.marked m f w1 (again a name o h v next))
       (rules.raised m f x w1)
-      (λ missing. by_operator a may name (name_of m.program o.op_name) h
-      (record h { value = content_now a h w1 }) v next (record w1 { trace = [] }) there)
+      (λ missing. marks m t old f w1 (again a name o h v next) there
+      (by_operator a may name (name_of m.program o.op_name) h (record h { value = content_now a h w1 })
+      v next (record w1 { passed = w1.passed + 1; trace = [] }) there))
       (λ other. refuses x w1 there))
-      (name_of m.program o.op_assign_name) (v ∷ []) (record w { trace = [] }) at
+      (name_of m.program o.op_assign_name) (v ∷ []) w at
 
   stores_outcome : (a : Home) → MayAt m t old a → (name : List ℕ) (r : Outcome) (o : AssignOp)
       (h : Held) (u : Dynamic) (v : Held) (next : ℕ) (w : World S) → Here w →

@@ -63,12 +63,12 @@ EndsWith m f w q x v =
     ⊎ ((a : AsksFirst m q n f w) ×
     Ends m (Go (InHost (asked_by m a)) (asked_in m a)) (Failed x) v)))
 
--- an op-assignment that begins in this world asks, without a trace, for the host's op-assignment, to which
--- what it writes is lent
+-- an op-assignment that begins in this world asks for the host's op-assignment, to which what it writes is
+-- lent
 abbrev pub asks_first : {S : Type 0} → Setup S → AssignOp → Home → Held → Dynamic → Held → World S →
     Question S
 asks_first m a i h u v w = record {
-  world = record (begun w) { trace = [] };
+  world = begun w;
   name = name_of m.program a.op_assign_name;
   lent = Some (record { home = i; held = record h { value = u } });
   args = v ∷ [];
@@ -76,7 +76,7 @@ asks_first m a i h u v w = record {
 
 -- The question is the second of an op-assignment that no built-in does: it asks for the operator, on
 -- what stands there then, where the first ended with the fault that no function of its name is
--- found. The trace of that fault is gone.
+-- found. That fault was raised at a mark, and its trace is gone.
 abbrev pub AsksAgain : {S : Type 0} → Setup S → AssignOp → Home → Held → Dynamic → Held →
     Question S → ProgramPoint S → Type 0
 AsksAgain {S = S} m a i h u v q at =
@@ -84,7 +84,7 @@ AsksAgain {S = S} m a i h u v q at =
     EndsWith m at.frame at.world (asks_first m a i h u v at.world) x w ×
     (says_missing (name_of m.program a.op_assign_name) x ≡ true) ×
     (q ≡ record {
-      world = record w { trace = [] };
+      world = record w { passed = w.passed + 1; trace = [] };
       name = name_of m.program a.op_name;
       lent = None;
       args = record h { value = content_now i h w } ∷ v ∷ [];

@@ -13,7 +13,7 @@ use Rattle.grain_ops.specs.Operators.{operation, assignment}
 use Rattle.grain_means.specs.Worlds.{Frame, World, Act, Setup}
 use Rattle.grain_host.specs.Signatures.{says_missing}
 use Rattle.grain_means.specs.Rules.Frames.{stepped, is_read_only}
-use Rattle.grain_means.specs.Rules.Faults.{position, raised}
+use Rattle.grain_means.specs.Rules.Faults.{marked, position, raised}
 use Rattle.grain_means.specs.Rules.Going.{onward, pushed}
 use Rattle.grain_means.specs.Rules.Reads.{flattened}
 use Rattle.grain_means.specs.Rules.Entries.{at_slot, assigned_at, assignment_to_constant}
@@ -45,24 +45,22 @@ module _ {S : Type 0} (m : Setup S) where
       (λ r w1. flattened m (read_write r) name f w1 (λ q.
       assigned_at m a (record h { value = q }) name next f w1)) (raised m f)
 
-  -- The fault of the host's op-assignment. Where there is none of its name, its operator is asked, on what
-  -- stands there then, and the trace of that fault is gone.
+  -- The fault of the host's op-assignment. Where there is none of its name, that fault is raised, at a mark,
+  -- and is passed over: its trace is gone, and the operator is asked, on what stands there then.
   abbrev pub op_assign_failed_at : Home → List ℕ → AssignOp → Held → Held → ℕ → Frame → Problem →
       World S → Act S
   op_assign_failed_at a name o h v next f x w =
       if says_missing (name_of m.program o.op_assign_name) x then
-      operator_at a name (name_of m.program o.op_name) h
-      (record h { value = content_now a h w }) v next f (record w { trace = [] })
+      marked m f w (λ w1. operator_at a name (name_of m.program o.op_name) h
+      (record h { value = content_now a h w1 }) v next f (record w1 { trace = [] }))
       else raised m f x w
 
-  -- The host's op-assignment, to which what is written is lent. It begins with an empty trace, which
-  -- changes nothing where an instruction begins: there the trace is empty.
+  -- the host's op-assignment, to which what is written is lent
   abbrev pub native_assigned_at : Home → List ℕ → AssignOp → Held → Dynamic → Held → ℕ → Frame →
       World S → Act S
   native_assigned_at a name o h u v next f w =
       native m (name_of m.program o.op_assign_name)
-      (Some (record { home = a; held = record h { value = u } })) (v ∷ []) f
-      (record w { trace = [] })
+      (Some (record { home = a; held = record h { value = u } })) (v ∷ []) f w
       (λ r w1. onward m f (stepped f next (below f.operands)) w1)
       (op_assign_failed_at a name o h v next f)
 

@@ -1,10 +1,17 @@
-use Rattle.std.proofs.Common.{◌≡◌, ◌∙◌, ◌<◌, ◌-◌, arith, rules, ℕ, Option, Ok, length, refl, subst, None, ap, ◌+◌, ◌++◌, ◌∷◌, [], Some, map, sym}
+use Rattle.std.proofs.Common.{◌≡◌, ◌∙◌, ◌<◌, ◌-◌, arith, rules, ℕ, Option, Ok, length, refl, subst, None, ap, ◌+◌, ◌++◌, ◌∷◌, [], Some, map, sym, true, Err, inr}
 use Rattle.grain_means.specs.Means.{setup}
-use Rattle.grain_frame.specs.Abstraction.{frame_in, this_of, moment, abstraction, Implements}
+use Rattle.grain_frame.specs.Abstraction.{frame_in, this_of, is_out, moment, abstraction, Implements, ImplementsBound}
+use Rattle.grain_vm.specs.Driving.{IsApart}
+use Rattle.grain_vm.specs.Methods.{NoneAbove, given_to}
+use Rattle.grain_frame.specs.declared.waiting.Performed.TheVariants as performed
+use Rattle.grain_frame.specs.lemmas.Bound.{as_bound}
 use Rattle.grain_vm.proofs.Found.{call_found, done_here, found_stepped, is_function, other_found, pointer_found, finds_of, named_found, call_refused, none_numbered, pointed_done, pointed_found}
 use Rattle.grain_vm.proofs.Calling.{call_ran, has_begun, not_begun, entered_with, kept_with, refused_here, refused_this, there_is, outer_is}
 use Rattle.grain_vm.proofs.ChainAhead.{chain_stepped}
 use Rattle.grain_vm.proofs.ReceiverAhead.{receiver_stepped}
+use Rattle.grain_vm.proofs.Waited.{leads_over}
+use Rattle.grain_vm.proofs.WaitsAhead.{waits_stepped}
+use Rattle.grain_vm.proofs.WaitsOn.{led_to, out_back, over_on, over_out, waits_first, waits_next}
 use Rattle.grain_vm.proofs.Running.{around_caught, around_on, caught_on, done_after, done_from, done_so, led, left_around, left_around_by_memory, runs_here, runs_on, stops_by_fault, stops_by_memory, stops_so, turn_falls}
 use Rattle.grain_vm.proofs.BoundFrames.{all_still, unbound_above}
 use Rattle.grain_vm.proofs.MethodOvers.{called_one, method_ran, method_refused}
@@ -16,15 +23,24 @@ use Rattle.grain_program.specs.View.{chain_of, name_of, position_of}
 use Rattle.grain_vm.specs.Chains.{walked_frame}
 use Rattle.grain_vm.specs.Seats.{first_held}
 use Rattle.grain_vm.specs.Underway.{after_chain}
-use Rattle.grain_vm.proofs.ChainLoops.{after_blind, walked_first, walked_on, walked_over}
+use Rattle.grain_vm.proofs.ChainLoops.{after_blind, only_retraced, walked_first, walked_over}
+use Rattle.grain_vm.proofs.ChainTurns.{asked_on, called_on, over_cut, over_driven}
+use Rattle.grain_vm.proofs.GivenUp.{given_up_run}
+use Rattle.grain_vm.proofs.InWalks.{later_so, native_finished, native_gave_up, native_walked, raised_over, walked_native_over}
+use Rattle.grain_vm.proofs.Lifted.{untraced}
+use Rattle.grain_vm.proofs.Performing.{same_flag}
+use Rattle.grain_frame.specs.Waiting.{apart_of}
+use Rattle.std.specs.Prelude.{option_map, codes}
+use Rattle.std.specs.Vec.{vec_items}
 use Rattle.grain_vm.specs.Finding.{found_of, op_on}
 use Rattle.grain_vm.specs.Receivers.{called}
 use Rattle.grain_vm.proofs.OnFrames.{callee_out, callee_refused, finds_on_of, first_found, first_on, one_less, function_performed, on_function, pointed_on, target_found, two_there}
 use Rattle.grain_vm.proofs.OnCalls.{call_out, function_done, native_done}
+use Rattle.grain_vm.specs.declared.natives.OnReceiver.TheVariants as on
+use Rattle.grain_vm.proofs.EndedOn.{apart_so, cells_over, ended_cell, ended_plain, left_there}
+use Rattle.grain_vm.proofs.NamedNatives.{it_ended, it_led, it_waits, named_done, on_copy, pointed_out, waited}
 use Rattle.grain_program.specs.declared.code.instruction_set.Op.TheVariants as op
 use Rattle.grain_means.specs.Rules.{function_found, call_function, function_by_name, operand_under, race_text}
-use Rattle.grain_frame.specs.lemmas.Arms.{implements_after}
-use Rattle.std.specs.Prelude.{codes}
 use Rattle.grain_value.specs.Cells.{flat}
 use Rattle.grain_value.specs.Operands.{arguments, read_write, under}
 use Rattle.grain_value.specs.Writing.{type_name_of}
@@ -34,6 +50,13 @@ use Rattle.grain_stack.specs.Views.{StacksView}
 use Rattle.grain_means.specs.Simulation.{stopped, world}
 use Rattle.grain_frame.specs.declared.runs.Run.{Run}
 use Rattle.grain_frame.specs.lemmas.Failing.{raises_here}
+use Rattle.grain_vm.proofs.Taken.{took_falls, took_ran, took_refused}
+use Rattle.grain_vm.proofs.AskEnds.{asked_again, asked_first, native_ended, past_native}
+use Rattle.grain_vm.proofs.BackCalls.{back_called, back_native_called, back_out}
+use Rattle.grain_vm.proofs.CalledBack.{back_finished, back_refused}
+use Rattle.grain_vm.proofs.MethodEntries.{over_faulted}
+use Rattle.grain_vm.specs.Backs.{FindsBack}
+use Rattle.grain_vm.specs.declared.methods.Needed.{Needed}
 use Rattle.grain_vm.proofs.+run.Goals as goal
 
 pub loops::call-returns-in-Err-clause-goes : goal.loops::call-returns-in-Err-clause-goes
@@ -288,6 +311,17 @@ loops::do_or_find-returns-in-Other g t c =
           c.args.host.now did.new.host did.result did.ensures.stepped);
     })
 
+pub method_runs::step_or_walk-returns-in-Waits : goal.method_runs::step_or_walk-returns-in-Waits
+method_runs::step_or_walk-returns-in-Waits g t c =
+    let did = c.step.new in
+    let waited = c.wait_for_native in
+    record {
+      stepped = waits_stepped g.H.Host.law c.args.context.program.now c.args.context.engine.now
+          (moment c.args.frame.now c.args.run.now c.args.steps.now c.args.host.now)
+          (moment did.frame did.run did.steps did.host) c.in-Ok.turn c.in-Waits.waiting c.in-Waits.is
+          c.in-Ok.ensures.steps c.requires.runs waited.ensures.goes;
+    }
+
 pub method_runs::step_or_walk-returns-in-Chain : goal.method_runs::step_or_walk-returns-in-Chain
 method_runs::step_or_walk-returns-in-Chain g t c =
     let did = c.step.new in
@@ -356,6 +390,9 @@ method_runs::call_method-returns-in-Err g t c =
           called).0;
       over = called.1;
       lent = called.2;
+      took = took_refused m c.args.call.pos found.result.now (given_to c.args.call.arguments)
+          c.args.run.now c.args.steps.now c.args.host.now o.0 entered.run entered.steps entered.host
+          c.in-Err.ensures.enters.2;
       before = c.enter_method.ensures.before;
     }
 
@@ -377,6 +414,9 @@ method_runs::call_method-returns-in-Ok g t c =
           found.ensures.value there called).0;
       over = called.1;
       lent = called.2;
+      took = took_ran m.engine found.result.now c.args.call.receiver c.args.run.now entered.run
+          ran.new.run left.new.run left.result.0 c.in-Ok.ensures.enters.1 ran.ensures.around.later
+          left.ensures.left;
       before = left.ensures.before ∙ (ran.ensures.around.before ∙ c.enter_method.ensures.before);
     }
 
@@ -401,6 +441,36 @@ method_runs::walk_chain-calls-init g t c =
     (rw c.in-Ok-Walks.field-0-is at c.in-Ok-Walks.ensures.waits) c.begin_chain.ensures.blames
     c.requires.none
 
+pub method_runs::walk_chain-calls-preserved-in-Calls : goal.method_runs::walk_chain-calls-preserved-in-Calls
+method_runs::walk_chain-calls-preserved-in-Calls g t c =
+    let p = c.args.context.program.now in
+    let f = c.args.frame.now in
+    let k = c.args.index in
+    let w = c.calls.walking in
+    let was = c.calls.invariant in
+    let frame = walked_frame f c.args.run.now (chain_of p k) f.slot in
+    let drove = c.in-Calls.ensures in
+    let drove_to = c.drive.new in
+    let called = c.call_method-outcome in
+    let went = c.go_on-answer in
+    let cut : Run g.row.H.Denot = record drove_to.run { stacks = c.cut_trace.new.self } in
+    let emptied : cut ≡ untraced drove_to.run = rw c.cut_trace.ensures refl in
+    let so = drove.same k frame was.way.seat (after_chain k c.args.next w.home w.was_read_only frame)
+    was.missed was.way.scope was.way.this was.way.seated was.rooted
+    (after_blind k c.args.next w.home w.was_read_only frame) was.is_missed in
+    called_on (setup g.H.Host.law p c.args.context.engine.now)
+    (moment f c.args.run.now c.args.steps.now c.args.host.now) k c.args.next w c.calls.answer
+    c.calls.missed c.calls.frame c.calls.run drove_to.run called.new.run c.calls.steps drove_to.steps
+    called.new.steps went.new.steps c.calls.host drove_to.host called.new.host drove_to.walk
+    went.new.walk c.in-Calls.call.receiver called.result.1 called.result.0 went.result was c.in-Calls.call
+    drove.waits.0.function cut so.0 refl emptied so.2 drove.waits.0.is
+    (drove.rooted (first_held was.way.seat).read_only was.rooted) drove.waits.1
+    (called.ensures.called drove.waits.0.function drove.waits.0.is) called.ensures.lent
+    (over_cut c.calls.run drove_to.run cut called.new.run drove_to.run.stacks.trace drove.run emptied
+    called.ensures.over)
+    (went.ensures.did, went.ensures.carries, went.ensures.rooted, went.ensures.marked, went.ensures.falls)
+    drove.carries drove.before called.ensures.before
+
 pub method_runs::walk_chain-calls-preserved : goal.method_runs::walk_chain-calls-preserved
 method_runs::walk_chain-calls-preserved g t c =
     let p = c.args.context.program.now in
@@ -409,22 +479,26 @@ method_runs::walk_chain-calls-preserved g t c =
     let w = c.calls.walking in
     let was = c.calls.invariant in
     let frame = walked_frame f c.args.run.now (chain_of p k) f.slot in
-    let drove = c.in-Calls.ensures in
-    let called = c.call_method-outcome in
-    let went = c.go_on-answer in
-    walked_on (setup g.H.Host.law p c.args.context.engine.now)
+    let drove = c.in-Asks.ensures in
+    let drove_to = c.drive.new in
+    let called = c.native_in_walk-outcome in
+    let went = c.go_on-answer-in-Asks in
+    let native = c.in-Asks.native in
+    let so = drove.same k frame was.way.seat (after_chain k c.args.next w.home w.was_read_only frame)
+    was.missed was.way.scope was.way.this was.way.seated was.rooted
+    (after_blind k c.args.next w.home w.was_read_only frame) was.is_missed in
+    asked_on (setup g.H.Host.law p c.args.context.engine.now)
     (moment f c.args.run.now c.args.steps.now c.args.host.now) k c.args.next w c.calls.answer
-    c.calls.frame c.calls.run called.new.run c.calls.steps c.drive.new.steps called.new.steps
-    went.new.steps c.calls.host c.drive.new.host called.new.host c.drive.new.walk went.new.walk
-    c.in-Calls.call drove.waits.0.function called.result.0 called.result.1 went.result was
-    c.drive.new.run drove.run
-    (drove.same k frame was.way.seat (after_chain k c.args.next w.home w.was_read_only frame)
-    was.way.scope was.way.this was.way.seated was.rooted
-    (after_blind k c.args.next w.home w.was_read_only frame)) drove.waits.0.is
-    (drove.rooted (first_held was.way.seat).read_only was.rooted) drove.waits.1
-    (called.ensures.called drove.waits.0.function drove.waits.0.is) called.ensures.lent
-    called.ensures.over went.ensures.did went.ensures.carries went.ensures.rooted went.ensures.marked
-    drove.carries went.ensures.falls drove.before called.ensures.before
+    c.calls.missed c.calls.frame c.calls.run drove_to.run called.new.run c.calls.steps drove_to.steps
+    called.new.steps went.new.steps c.calls.host drove_to.host called.new.host drove_to.walk
+    went.new.walk (apart_of native.lent) called.result.1 called.result.0 went.result was native
+    c.in-Asks.named drove_to.missed called.new.missed so.0 refl so.1 so.2
+    (drove.rooted (first_held was.way.seat).read_only was.rooted) drove.waits.1 called.ensures.walked
+    called.ensures.lent
+    (over_driven c.calls.run drove_to.run called.new.run drove_to.run.stacks.trace drove.run
+    called.ensures.over)
+    (went.ensures.did, went.ensures.carries, went.ensures.rooted, went.ensures.marked, went.ensures.falls)
+    drove.carries drove.before called.ensures.before
 
 pub method_runs::walk_chain-returns-in-Over : goal.method_runs::walk_chain-returns-in-Over
 method_runs::walk_chain-returns-in-Over g t c =
@@ -435,18 +509,90 @@ method_runs::walk_chain-returns-in-Over g t c =
     let was = c.calls.invariant in
     let frame = walked_frame f c.args.run.now (chain_of p k) f.slot in
     let drove = c.in-Over.ensures in
+    let drove_to = c.drive.new in
     let ended = c.finish_chain in
+    let so = drove.same k frame was.way.seat (after_chain k c.args.next w.home w.was_read_only frame)
+    was.missed was.way.scope was.way.this was.way.seated was.rooted
+    (after_blind k c.args.next w.home w.was_read_only frame) was.is_missed in
     record {
       performs = walked_over (setup g.H.Host.law p c.args.context.engine.now)
           (moment f c.args.run.now c.args.steps.now c.args.host.now) k c.args.next w c.calls.answer
-          c.calls.frame ended.new.frame c.calls.run ended.new.run c.calls.steps c.drive.new.steps
-          ended.new.steps c.calls.host c.drive.new.host c.drive.new.walk c.in-Over.end ended.result was
-          c.drive.new.run drove.run
-          (drove.same k frame was.way.seat (after_chain k c.args.next w.home w.was_read_only frame)
-          was.way.scope was.way.this was.way.seated was.rooted
-          (after_blind k c.args.next w.home w.was_read_only frame)) drove.carries
+          c.calls.missed c.calls.frame ended.new.frame c.calls.run drove_to.run ended.new.run
+          c.calls.steps drove_to.steps ended.new.steps c.calls.host drove_to.host drove_to.walk
+          c.in-Over.end ended.result so.0 was
+          (only_retraced c.calls.run drove_to.run drove_to.run.stacks.trace drove.run) so.2 drove.carries
           (drove.rooted (first_held was.way.seat).read_only was.rooted)
-          (ended.ensures.finishes c.drive.new.host) ended.ensures.carries drove.before c.requires.ready;
+          (ended.ensures.finishes drove_to.host) ended.ensures.carries drove.before c.requires.ready;
+    }
+
+-- ---- natives that a walk calls
+
+pub asks::native_in_walk-returns-in-Err : goal.asks::native_in_walk-returns-in-Err
+asks::native_in_walk-returns-in-Err g t c =
+    let m = setup g.H.Host.law c.args.context.program.now c.args.context.engine.now in
+    let s = c.args.run.now in
+    let gave = c.give_up in
+    let left : gave.new.run ≡ untraced s =
+    given_up_run c.args.native.lent s c.take_trace.new.run gave.new.run c.requires.apart gave.ensures.run
+    c.in-Err.ensures.refused in
+    record {
+      walked = rw gave.ensures.outcome
+          (native_gave_up m c.args.named c.args.missed.now c.args.native s gave.new.run
+          c.args.steps.now c.args.host.now gave.new.host left gave.ensures.host);
+      over = only_retraced s gave.new.run [] left;
+      lent = rw gave.ensures.outcome (same_flag (apart_of c.args.native.lent));
+      before = refl;
+    }
+
+pub asks::native_in_walk-returns : goal.asks::native_in_walk-returns
+asks::native_in_walk-returns g t c =
+    let m = setup g.H.Host.law c.args.context.program.now c.args.context.engine.now in
+    let s = c.args.run.now in
+    let ended = c.end_of_native-outcome in
+    let raised = c.raised_in_walk-outcome in
+    let own = option_map vec_items c.in-Ok.before in
+    let n = c.args.steps.now in
+    let native = c.args.native in
+    let apart = c.requires.apart in
+    record {
+      walked = rw c.misses_named.ensures
+          (native_walked m c.args.named c.args.missed.now native s ended.new.run raised.new.run n
+          ended.new.steps raised.new.steps c.args.host.now ended.new.host own ended.result.0 raised.result
+          ended.result.1 apart (rw c.is_kept.ensures at c.in-Ok.ensures.taken) (rw c.in-Ok.ensures.empty at ended.ensures.ends)
+          ended.ensures.left raised.ensures);
+      over = walked_native_over native.lent s ended.new.run raised.new.run ended.new.steps raised.new.steps
+          own ended.result.0 raised.result apart (rw c.in-Ok.ensures.empty at ended.ensures.over)
+          raised.ensures;
+      lent = ended.ensures.left;
+      before = (later_so own ended.new.run ended.new.steps ended.result.0 raised.result raised.new.run
+          raised.new.steps raised.ensures).1 ∙ ended.ensures.before;
+    }
+
+pub asks::finish_native-returns-in-Over : goal.asks::finish_native-returns-in-Over
+asks::finish_native-returns-in-Over g t c = record {
+  finishes = rw c.in-Over.is (refl, refl, refl, refl, refl);
+  over = only_retraced c.args.run.now c.args.run.now c.args.run.now.stacks.trace refl;
+  lent = rw c.in-Over.is (same_flag c.in-Over.outcome.1);
+  before = refl;
+}
+
+pub asks::finish_native-returns-in-Asks : goal.asks::finish_native-returns-in-Asks
+asks::finish_native-returns-in-Asks g t c =
+    let m = setup g.H.Host.law c.args.context.program.now c.args.context.engine.now in
+    let s = c.args.run.now in
+    let native = c.in-Asks.native in
+    let ended = c.end_of_native-outcome in
+    let raised = c.raised_in_walk in
+    let apart = rw c.in-Asks.is at c.requires.apart in
+    record {
+      finishes = rw c.in-Asks.is (native_finished m native s ended.new.run raised.new.run
+          c.args.steps.now ended.new.steps raised.new.steps c.args.host.now ended.new.host ended.result.0
+          raised.result ended.result.1 ended.ensures.ends raised.ensures);
+      over = raised_over native.lent s ended.new.run raised.new.run ended.new.steps raised.new.steps None
+          ended.result.0 raised.result apart ended.ensures.over raised.ensures;
+      lent = rw c.in-Asks.is ended.ensures.left;
+      before = (later_so None ended.new.run ended.new.steps ended.result.0 raised.result raised.new.run
+          raised.new.steps raised.ensures).1 ∙ ended.ensures.before;
     }
 
 -- ---- calls with a receiver
@@ -516,6 +662,18 @@ method_runs::find_on-returns-in-First g t c =
           (rw (there.3, there.4, one_less there.2) at called_on.ensures.called));
     })
 
+pub method_runs::find_on-find_pointed-requires : goal.method_runs::find_on-find_pointed-requires
+method_runs::find_on-find_pointed-requires g t c κs within =
+    let p = c.args.context.program.now in
+    let f = c.args.frame.now in
+    let s = c.args.run.now in
+    let found = c.find_callee in
+    let there = target_found g.H.Host.law p c.args.context.engine.now f s c.args.steps.now
+    c.args.host.now c.args.destination c.args.count c.args.next
+    (called p s.cells s.stacks.operands f.address c.args.count) refl c.in-Ok.callee c.in-Target.is
+    found.new.run found.new.steps (rw c.from-total.ensures at c.in-Ok.ensures) in
+    let unchanged : found.new.run ≡ s = there.1 in search rules
+
 pub method_runs::find_on-call_on-requires : goal.method_runs::find_on-call_on-requires
 method_runs::find_on-call_on-requires g t c =
     let p = c.args.context.program.now in
@@ -558,9 +716,8 @@ method_runs::call_on-returns-in-Function g t c =
 
 pub method_runs::call_on-returns-in-Native : goal.method_runs::call_on-returns-in-Native
 method_runs::call_on-returns-in-Native g t c =
-    let m = setup g.H.Host.law c.args.context.program.now c.args.context.engine.now in
     let taken = c.take_call in
-    let called = c.call_native_on-outcome in
+    let called = c.native_on-outcome in
     let ended = c.end_on-in-Native in
     record {
       called = native_done g.H.Host.law c.args.context.program.now c.args.context.engine.now
@@ -570,7 +727,7 @@ method_runs::call_on-returns-in-Native g t c =
           ended.new.frame ended.new.run ended.new.steps ended.result c.in-Ok.needed c.in-Native.request
           (two_there c.args.count (length c.args.run.now.stacks.operands) c.requires.some
           c.requires.ready.operands) (rw c.from-total.ensures at c.in-Ok.ensures) c.in-Native.is
-          (called.ensures.called m refl) called.ensures.run called.ensures.lent called.ensures.before
+          called.ensures.called called.ensures.over called.ensures.lent called.ensures.before
           ended.ensures.implements ended.ensures.carries;
     }
 
@@ -583,17 +740,15 @@ finding::find_named-returns-in-None g t c =
     let none : function_found p c.args.name c.args.count ≡ None = search rules in
     let named : c.name-name.result.now ≡ name_of p c.args.name =
     c.name-name.ensures ∙ ap (name_of p) c.from-in-None.ensures in
+    let did = c.call_native_by_name in
     rw c.of.ensures (record {
-      finds = finds_of g.H.Host.law p engine f c.native_by_name_on_copy.new.frame s
-          c.native_by_name_on_copy.new.self c.args.steps.now c.native_by_name_on_copy.new.steps
-          (op.Call c.args.name c.args.count) c.args.next c.args.host.now c.native_by_name_on_copy.new.host
-          c.native_by_name_on_copy.result
-          (implements_after g.H.Host.law p engine f c.native_by_name_on_copy.new.frame s
-          c.native_by_name_on_copy.new.self c.args.steps.now c.native_by_name_on_copy.new.steps s.stacks
-          s.stacks.operands c.args.host.now c.native_by_name_on_copy.new.host refl
-          c.native_by_name_on_copy.ensures.implements
-          (λ stop u place. rw (none, named, c.from-count.ensures) refl) (λ b i. i)
-          (rw c.from-count.ensures refl) (rw c.from-count.ensures (omega arith)));
+      finds = finds_of g.H.Host.law p engine f did.new.frame s did.new.run c.args.steps.now
+          did.new.steps (op.Call c.args.name c.args.count) c.args.next c.args.host.now did.new.host
+          did.result
+          (named_done g.H.Host.law p engine f did.new.frame s did.new.run c.args.steps.now
+          did.new.steps c.args.name c.args.count c.args.next c.args.host.now did.new.host did.result
+          c.name-name.result.now c.from-count.result none named c.from-count.ensures
+          did.ensures.implements);
     })
 
 pub finding::find_named-returns-in-Some : goal.finding::find_named-returns-in-Some
@@ -622,10 +777,10 @@ finding::find_pointed-returns-in-Lent g t c =
       finds = finds_of g.H.Host.law p engine f f s c.data_race.new.self c.args.steps.now
           c.data_race.new.steps (op.CallFnPtr n) c.args.next c.args.host.now c.args.host.now
           c.data_race.result
-          (raises_here g.H.Host.law p engine f s c.data_race.new.self c.args.steps.now
+          (as_bound (raises_here g.H.Host.law p engine f s c.data_race.new.self c.args.steps.now
           c.data_race.new.steps c.args.host.now
           (Plain (DataRace (race_text [])) (position_of p f.address)) c.data_race.result
-          c.data_race.ensures c.requires.ready.inside (λ stop u place. rw none refl));
+          c.data_race.ensures c.requires.ready.inside (λ stop u place. rw none refl)));
     })
 
 pub finding::find_pointed-returns-in-Other : goal.finding::find_pointed-returns-in-Other
@@ -645,12 +800,33 @@ finding::find_pointed-returns-in-Other g t c =
       finds = finds_of g.H.Host.law p engine f f s c.not_a_pointer.new.self c.args.steps.now
           c.not_a_pointer.new.steps (op.CallFnPtr n) c.args.next c.args.host.now c.args.host.now
           c.not_a_pointer.result
-          (raises_here g.H.Host.law p engine f s c.not_a_pointer.new.self c.args.steps.now
+          (as_bound (raises_here g.H.Host.law p engine f s c.not_a_pointer.new.self c.args.steps.now
           c.not_a_pointer.new.steps c.args.host.now x c.not_a_pointer.result
           (c.not_a_pointer.ensures v stands.1) c.requires.ready.inside
           (λ stop u place. call_refused (stopped (setup g.H.Host.law p engine) stop) n c.args.next
           (frame_in f s place) (world (abstraction s c.args.steps.now c.args.host.now) u) v read
-          stands.2));
+          stands.2)));
+    })
+
+pub finding::find_pointed-returns-in_err-name-in-Pointer :
+    goal.finding::find_pointed-returns-in_err-name-in-Pointer
+finding::find_pointed-returns-in_err-name-in-Pointer g t c =
+    let out : is_out c.from_residual.result ≡ true = search rules in
+    record {
+      finds = pointed_out g.H.Host.law c.args.context.program.now c.args.context.engine.now
+          c.args.frame.now c.args.run.now c.args.steps.now c.args.host.now c.args.count c.args.next
+          c.from_residual.result out c.requires.ready.inside;
+    }
+
+pub finding::find_pointed-returns-in_err-spread-in-Pointer :
+    goal.finding::find_pointed-returns-in_err-spread-in-Pointer
+finding::find_pointed-returns-in_err-spread-in-Pointer g t c =
+    let out : is_out c.from_residual-in_err-spread-in-Pointer.result ≡ true = search rules in
+    let stays : c.spread.new.self ≡ c.args.run.now.stacks = search rules in
+    rw stays (record {
+      finds = pointed_out g.H.Host.law c.args.context.program.now c.args.context.engine.now
+          c.args.frame.now c.args.run.now c.args.steps.now c.args.host.now c.args.count c.args.next
+          c.from_residual-in_err-spread-in-Pointer.result out c.requires.ready.inside;
     })
 
 pub finding::find_pointed-returns-in-Some : goal.finding::find_pointed-returns-in-Some
@@ -719,17 +895,334 @@ finding::find_pointed-returns g t c =
     (rw word at (sym c.in-None.is ∙ c.function_named.ensures.exact)) in
     let none : function_by_name p q.name (length q.curry + n) ≡ None =
     none_numbered p (function_by_text p q.name (length q.curry + n)) missing in
-    let did = subst (λ (k : ℕ). Implements (setup g.H.Host.law p engine) (moment f s1
+    let called = c.native_by_name in
+    let did = subst (λ (k : ℕ). ImplementsBound (setup g.H.Host.law p engine) (moment f s1
     c.args.steps.now c.args.host.now) (λ m place w. call_function m None q.name k (frame_in f s1
-    place) c.args.next w) (c.args.next ∷ []) k 1 s1.stacks.handlers c.native_by_name.result (moment
-    c.native_by_name.new.frame c.native_by_name.new.self c.native_by_name.new.steps
-    c.native_by_name.new.host)) total c.native_by_name.ensures.implements in
+    place) c.args.next w) (c.args.next ∷ []) k 1 s1.stacks.handlers called.result (moment
+    called.new.frame called.new.run called.new.steps called.new.host)) total
+    called.ensures.implements in
     rw c.of-in-None.ensures (record {
-      finds = finds_of g.H.Host.law p engine f c.native_by_name.new.frame s
-          c.native_by_name.new.self c.args.steps.now c.native_by_name.new.steps (op.CallFnPtr n)
-          c.args.next c.args.host.now c.native_by_name.new.host c.native_by_name.result
+      finds = finds_of g.H.Host.law p engine f called.new.frame s called.new.run c.args.steps.now
+          called.new.steps (op.CallFnPtr n) c.args.next c.args.host.now called.new.host called.result
           (pointed_done g.H.Host.law p engine f s s1 c.args.steps.now n c.args.next
           c.args.host.now v q values read there.2 c.into_vec.ensures enough spreads others
-          c.native_by_name.new.frame c.native_by_name.new.self c.native_by_name.new.steps
-          c.native_by_name.new.host none did);
+          called.new.frame called.new.run called.new.steps called.new.host none did);
     })
+
+-- ---- instructions that wait for a native
+
+pub asks::wait_for_native-natives-init : goal.asks::wait_for_native-natives-init
+asks::wait_for_native-natives-init g t c =
+    waits_first (setup g.H.Host.law c.args.context.program.now c.args.context.engine.now)
+    (moment c.args.frame.now c.args.run.now c.args.steps.now c.args.host.now) c.args.waiting
+    c.requires.runs c.requires.none
+
+pub asks::wait_for_native-native_over-requires-clause-leads : goal.asks::wait_for_native-native_over-requires-clause-leads
+asks::wait_for_native-native_over-requires-clause-leads g t c =
+    let waits = c.natives.invariant.waits in
+    let ended = c.end_of_native-outcome in (
+      waits.takes,
+      waits.gives,
+      waits.targets,
+      leads_over c.args.context.program.now c.natives.frame c.natives.run ended.new.run
+          c.natives.waiting.lent ended.ensures.over c.natives.waiting.rest waits.takes waits.gives
+          waits.targets waits.lends waits.leads,
+    )
+
+pub asks::wait_for_native-returns-then-is_out : goal.asks::wait_for_native-returns-then-is_out
+asks::wait_for_native-returns-then-is_out g t c =
+    let m = setup g.H.Host.law c.args.context.program.now c.args.context.engine.now in
+    let was = c.natives.invariant in
+    let b = moment c.natives.frame c.natives.run c.natives.steps c.natives.host in
+    let ended = c.end_of_native-outcome in
+    record {
+      goes = λ h takes gives targets plain leads.
+          over_out {m = m} b c.natives.waiting c.position-pos.result ended.new.run ended.new.steps
+          ended.new.host ended.result.0 ended.result.1 was.waits.lends ended.ensures.over
+          ended.ensures.ends (λ place. sym c.position-pos.ensures) ended.ensures.before
+          (was.so h takes gives targets plain leads) (sym c.is_out.ensures ∙ c.if-is_out.true);
+    }
+
+pub asks::wait_for_native-returns-in_err-progress : goal.asks::wait_for_native-returns-in_err-progress
+asks::wait_for_native-returns-in_err-progress g t c =
+    let m = setup g.H.Host.law c.args.context.program.now c.args.context.engine.now in
+    let was = c.natives.invariant in
+    let b = moment c.natives.frame c.natives.run c.natives.steps c.natives.host in
+    let ended = c.end_of_native-outcome in
+    let out : is_out c.from_residual.result ≡ true = search rules in
+    record {
+      goes = λ h takes gives targets plain leads.
+          out_back c.in_err-progress.field-0.0 c.from_residual.result out
+          (over_on {m = m} b c.natives.waiting c.position-pos.result ended.new.run ended.new.steps
+          ended.new.host ended.result.0 ended.result.1 was.waits.lends ended.ensures.over
+          ended.ensures.ends (λ place. sym c.position-pos.ensures) ended.ensures.before
+          (was.so h takes gives targets plain leads) (sym c.is_out.ensures ∙ c.if-is_out.false)
+          c.in_err-progress.ensures.implements);
+    }
+
+pub asks::wait_for_native-returns-in-Leads : goal.asks::wait_for_native-returns-in-Leads
+asks::wait_for_native-returns-in-Leads g t c =
+    let m = setup g.H.Host.law c.args.context.program.now c.args.context.engine.now in
+    let was = c.natives.invariant in
+    let b = moment c.natives.frame c.natives.run c.natives.steps c.natives.host in
+    let ended = c.end_of_native-outcome in
+    record {
+      goes = λ h takes gives targets plain leads.
+          led_to c.in-Leads.is
+          (over_on {m = m} b c.natives.waiting c.position-pos.result ended.new.run ended.new.steps
+          ended.new.host ended.result.0 ended.result.1 was.waits.lends ended.ensures.over
+          ended.ensures.ends (λ place. sym c.position-pos.ensures) ended.ensures.before
+          (was.so h takes gives targets plain leads) (sym c.is_out.ensures ∙ c.if-is_out.false)
+          c.in_ok-progress.ensures.implements);
+    }
+
+pub asks::wait_for_native-natives-preserved : goal.asks::wait_for_native-natives-preserved
+asks::wait_for_native-natives-preserved g t c =
+    let m = setup g.H.Host.law c.args.context.program.now c.args.context.engine.now in
+    let ended = c.end_of_native-outcome in
+    let went = c.native_over.new in
+    waits_next {m = m}
+    {a = moment c.args.frame.now c.args.run.now c.args.steps.now c.args.host.now}
+    {b = moment c.natives.frame c.natives.run c.natives.steps c.natives.host}
+    {c = moment went.frame went.self went.steps went.host} {first = c.args.waiting}
+    {w = c.natives.waiting} {next = c.in-Waits.next} {q = c.position-pos.result}
+    {s' = ended.new.run} {n' = ended.new.steps} {host' = ended.new.host} ended.result.0
+    ended.result.1 c.natives.invariant ended.ensures.over ended.ensures.ends
+    (λ place. sym c.position-pos.ensures) ended.ensures.before
+    (sym c.is_out.ensures ∙ c.if-is_out.false) c.in-Waits.is c.in_ok-progress.ensures.implements
+-- ---- natives that are called on a receiver
+
+pub asks::native_on-returns-in-Over : goal.asks::native_on-returns-in-Over
+asks::native_on-returns-in-Over g t c =
+    let m = setup g.H.Host.law c.args.context.program.now c.args.context.engine.now in
+    let called = c.call_native_on in
+    let did = c.in-Over.ensures.called m refl in
+    record {
+      called = did.1;
+      over = cells_over c.args.run.now called.new.run called.ensures.run;
+      lent = did.0;
+      before = called.ensures.before;
+    }
+
+pub asks::native_on-returns-in-None : goal.asks::native_on-returns-in-None
+asks::native_on-returns-in-None g t c =
+    let m = setup g.H.Host.law c.args.context.program.now c.args.context.engine.now in
+    let called = c.call_native_on in
+    let over = c.finish_native-outcome in
+    let native = c.in-Asks.native in
+    let cell = c.in-Asks.cell in
+    let did = ended_plain m c.args.request c.args.run.now called.new.run over.new.run c.args.steps.now
+    called.new.steps over.new.steps c.args.host.now called.new.host over.new.host over.result.0
+    (on.Asks native cell) native cell over.result.1 refl (c.in-Asks.ensures.called m refl)
+    called.ensures.run called.ensures.before over.ensures.finishes over.ensures.over over.ensures.lent
+    over.ensures.before c.in-None.is in
+    record { called = did.called; over = did.over; lent = did.lent; before = did.before }
+
+pub asks::native_on-returns-in-Some : goal.asks::native_on-returns-in-Some
+asks::native_on-returns-in-Some g t c =
+    let m = setup g.H.Host.law c.args.context.program.now c.args.context.engine.now in
+    let called = c.call_native_on in
+    let over = c.finish_native-outcome in
+    let native = c.in-Asks.native in
+    let cell = c.in-Asks.cell in
+    let back = c.give_back_to_cell-receiver in
+    let did = ended_cell m c.args.request c.args.run.now called.new.run over.new.run c.args.steps.now
+    called.new.steps over.new.steps c.args.host.now called.new.host over.new.host over.result.0
+    (on.Asks native cell) native cell over.result.1 refl (c.in-Asks.ensures.called m refl)
+    called.ensures.run called.ensures.before over.ensures.finishes over.ensures.over over.ensures.lent
+    over.ensures.before c.in-Some.cell back.result back.new.run c.in-Some.is back.ensures.receiver
+    back.ensures.run in
+    record { called = did.called; over = did.over; lent = did.lent; before = did.before }
+
+pub asks::native_on-finish_native-outcome-requires :
+    goal.asks::native_on-finish_native-outcome-requires
+asks::native_on-finish_native-outcome-requires g t c κs within =
+    let m = setup g.H.Host.law c.args.context.program.now c.args.context.engine.now in
+    let called = c.call_native_on in
+    let native = c.in-Asks.native in
+    let apart : IsApart native.lent = apart_so m c.args.request c.args.run.now called.new.run
+    c.args.steps.now called.new.steps c.args.host.now called.new.host native c.in-Asks.cell
+    (c.in-Asks.ensures.called m refl) in
+    let none : NoneAbove called.new.run.level called.new.run.receivers =
+    subst (λ (q : Run g.row.H.Denot). NoneAbove q.level q.receivers) (sym called.ensures.run)
+    c.requires.none in
+    let same : called.new.run.count ≡ c.args.run.now.count =
+    ap (λ (q : Run g.row.H.Denot). q.count) called.ensures.run in search rules
+
+pub asks::native_on-give_back_to_cell-receiver-requires :
+    goal.asks::native_on-give_back_to_cell-receiver-requires
+asks::native_on-give_back_to_cell-receiver-requires g t c =
+    let m = setup g.H.Host.law c.args.context.program.now c.args.context.engine.now in
+    let called = c.call_native_on in
+    left_there m c.args.request c.args.run.now called.new.run c.args.steps.now called.new.steps
+    c.args.host.now called.new.host c.in-Asks.native c.in-Asks.cell (c.in-Asks.ensures.called m refl)
+    c.finish_native-outcome.result.1 c.finish_native-outcome.ensures.lent
+
+-- ---- natives of a name that no function has
+
+pub asks::native_by_name-returns-in_err-progress : goal.asks::native_by_name-returns-in_err-progress
+asks::native_by_name-returns-in_err-progress g t c =
+    let out : is_out c.from_residual.result ≡ true = search rules in
+    record {
+      implements = it_ended c.in_err-progress.field-0.0 c.from_residual.result out
+          c.in_err-progress.ensures.implements;
+    }
+
+pub asks::native_by_name-returns-in-Leads : goal.asks::native_by_name-returns-in-Leads
+asks::native_by_name-returns-in-Leads g t c = record {
+  implements = it_led c.in-Leads.progress
+      (it_waits c.in_ok-progress.field-0 (performed.Leads c.in-Leads.progress) c.in-Leads.is
+      c.in_ok-progress.ensures.implements);
+}
+
+pub asks::native_by_name-returns-in-Waits : goal.asks::native_by_name-returns-in-Waits
+asks::native_by_name-returns-in-Waits g t c = record {
+  implements = waited c.in-Waits.waiting
+      (it_waits c.in_ok-progress.field-0 (performed.Waits c.in-Waits.waiting) c.in-Waits.is
+      c.in_ok-progress.ensures.implements) c.wait_for_native.result c.wait_for_native.ensures.goes;
+}
+
+pub asks::call_native_by_name-returns : goal.asks::call_native_by_name-returns
+asks::call_native_by_name-returns g t c =
+    let did = c.native_by_name-progress in
+    record {
+      implements = on_copy did.new.frame did.new.run did.new.steps did.new.host
+          did.ensures.implements;
+-- ---- calls that natives ask for
+
+pub asks::call_back-returns-in-Err : goal.asks::call_back-returns-in-Err
+asks::call_back-returns-in-Err g t c =
+    let s = c.args.run.now in
+    record {
+      called = back_out (setup g.H.Host.law c.args.context.program.now c.args.context.engine.now)
+          c.args.pos c.args.pointer c.args.values s c.args.steps.now c.args.host.now;
+      over = over_faulted s s s.count s.fault refl (omega arith);
+      took = inr refl;
+      before = refl;
+    }
+
+pub asks::call_back-returns-in-Function : goal.asks::call_back-returns-in-Function
+asks::call_back-returns-in-Function g t c =
+    let m = setup g.H.Host.law c.args.context.program.now c.args.context.engine.now in
+    let found = subst (λ (n : Needed). FindsBack m.program m.engine c.args.pos c.args.pointer
+    c.args.values (Ok n)) c.in-Function.is c.in-Ok.ensures in
+    let called = c.call_method-outcome in
+    record {
+      called = back_called m c.args.pos c.args.pointer c.args.values c.args.run.now called.new.run
+          c.args.steps.now called.new.steps c.args.host.now called.new.host called.result.0
+          c.in-Function.call found.0.function called.result.1 found found.0.is
+          (called.ensures.called found.0.function found.0.is);
+      over = called.ensures.over;
+      took = called.ensures.took;
+      before = called.ensures.before;
+    }
+
+pub asks::call_back-returns-in-Native : goal.asks::call_back-returns-in-Native
+asks::call_back-returns-in-Native g t c =
+    let m = setup g.H.Host.law c.args.context.program.now c.args.context.engine.now in
+    let found = subst (λ (n : Needed). FindsBack m.program m.engine c.args.pos c.args.pointer
+    c.args.values (Ok n)) c.in-Native.is c.in-Ok.ensures in
+    let called = c.native_back in
+    record {
+      called = back_native_called m c.args.pos c.args.pointer c.args.values c.args.run.now
+          called.new.run c.args.steps.now called.new.steps c.args.host.now called.new.host
+          called.result c.in-Native.request found called.ensures.called;
+      over = called.ensures.over;
+      took = called.ensures.took;
+      before = called.ensures.before;
+    }
+
+pub asks::native_back-returns-in-Some : goal.asks::native_back-returns-in-Some
+asks::native_back-returns-in-Some g t c =
+    let m = setup g.H.Host.law c.args.context.program.now c.args.context.engine.now in
+    let begun = c.begin_native_back in
+    let did = back_refused m c.args.request c.args.run.now c.args.steps.now c.args.host.now
+    c.in-Some.fault begun.new.run begun.new.steps begun.new.host c.in-Some.ensures.begins in
+    record {
+      called = did.0;
+      over = did.1;
+      took = did.2;
+      before = begun.ensures.before;
+    }
+
+pub asks::native_back-returns-in-None : goal.asks::native_back-returns-in-None
+asks::native_back-returns-in-None g t c =
+    let m = setup g.H.Host.law c.args.context.program.now c.args.context.engine.now in
+    let begun = c.begin_native_back in
+    let asked = c.perform_request-answered in
+    let over = c.finish_native-outcome in
+    let did = back_finished m c.args.request c.args.run.now c.args.steps.now c.args.host.now
+    begun.new.run begun.new.steps begun.new.host c.in-None.ensures.begins c.requires.apart
+    asked.result asked.new.steps asked.new.host asked.ensures.does over.result.0 over.result.1
+    over.new.run over.new.steps over.new.host
+    (rw asked.ensures.run at over.ensures.finishes) (rw asked.ensures.run at over.ensures.over)
+    (record over.new.run { level = over.new.run.level - 1 }) refl in
+    record {
+      called = did.0;
+      over = did.1;
+      took = did.2;
+      before = over.ensures.before ∙ (asked.ensures.before ∙ begun.ensures.before);
+    }
+
+pub asks::end_of_native-asks-init : goal.asks::end_of_native-asks-init
+asks::end_of_native-asks-init g t c =
+    asked_first (setup g.H.Host.law c.args.context.program.now c.args.context.engine.now)
+    c.args.native c.args.run.now c.args.steps.now c.args.host.now c.requires.kept c.requires.none
+
+pub asks::end_of_native-asks-preserved : goal.asks::end_of_native-asks-preserved
+asks::end_of_native-asks-preserved g t c =
+    let m = setup g.H.Host.law c.args.context.program.now c.args.context.engine.now in
+    let called = c.call_back-came in
+    let heard = c.in-Ok.ensures in
+    let went = c.resume_native in
+    asked_again m c.args.native c.args.run.now c.args.steps.now c.args.host.now c.asks.asked
+    c.asks.lent c.asks.run c.asks.steps c.asks.host c.asks.invariant called.result called.new.run
+    called.new.steps called.new.host called.ensures.called called.ensures.over (Ok c.in-Ok.told)
+    c.told.new.steps (heard.tells m) heard.carries c.in-Ok.told refl c.in-Asks.next c.in-Asks.left
+    went.new.self went.new.steps went.new.host c.in-Asks.ensures.tells
+    (went.ensures.before ∙ (c.told.ensures.before ∙ called.ensures.before))
+
+pub asks::end_of_native-asks-smaller : goal.asks::end_of_native-asks-smaller
+asks::end_of_native-asks-smaller g t c =
+    let called = c.call_back-came in
+    took_falls c.args.context.engine.now c.asks.run called.new.run called.result
+    c.resume_native.new.self.count called.ensures.took c.in-Ok.ensures.heard
+    (ap (λ (q : Run g.row.H.Denot). q.count) c.in-Asks.ensures.tells.run.others)
+
+pub asks::end_of_native-returns-in-Err : goal.asks::end_of_native-returns-in-Err
+asks::end_of_native-returns-in-Err g t c =
+    let m = setup g.H.Host.law c.args.context.program.now c.args.context.engine.now in
+    let called = c.call_back-came in
+    let heard = c.in-Err.ensures in
+    let gone = c.forget_native in
+    let did = past_native m c.args.native c.args.run.now c.args.steps.now c.args.host.now c.asks.asked
+    c.asks.lent c.asks.run c.asks.steps c.asks.host c.asks.invariant called.result called.new.run
+    called.new.steps called.new.host called.ensures.called called.ensures.over (Err c.in-Err.fault)
+    c.told.new.steps (heard.tells m) heard.carries c.in-Err.fault refl gone.new.self gone.new.host
+    gone.result gone.ensures.run gone.ensures.host gone.ensures.apart in
+    record {
+      ends = did.0;
+      over = did.1;
+      left = did.2;
+      before = c.told.ensures.before ∙ (called.ensures.before ∙ c.asks.invariant.before);
+    }
+
+pub asks::end_of_native-returns-in-Over : goal.asks::end_of_native-returns-in-Over
+asks::end_of_native-returns-in-Over g t c =
+    let m = setup g.H.Host.law c.args.context.program.now c.args.context.engine.now in
+    let called = c.call_back-came in
+    let heard = c.in-Ok.ensures in
+    let went = c.resume_native in
+    let did = native_ended m c.args.native c.args.run.now c.args.steps.now c.args.host.now
+    c.asks.asked c.asks.lent c.asks.run c.asks.steps c.asks.host c.asks.invariant called.result
+    called.new.run called.new.steps called.new.host called.ensures.called called.ensures.over
+    (Ok c.in-Ok.told) c.told.new.steps (heard.tells m) heard.carries c.in-Ok.told refl
+    c.in-Over.outcome c.in-Over.left went.new.self went.new.steps went.new.host
+    c.in-Over.ensures.tells in
+    record {
+      ends = did.0;
+      over = did.1;
+      left = did.2;
+      before = went.ensures.before ∙ (c.told.ensures.before
+          ∙ (called.ensures.before ∙ c.asks.invariant.before));
+    }

@@ -5,8 +5,11 @@ use Rattle.grain_vm.specs.Driving.{left_of}
 use Rattle.grain_vm.proofs.ChainLoops.{WalkedTo}
 use Rattle.grain_vm.specs.Calls.{entry_of}
 use Rattle.grain_vm.specs.Catching.{activation_at}
+use Rattle.grain_vm.proofs.AskEnds.{AskedSoFar}
 use Rattle.grain_vm.proofs.Measure.{left}
 use Rattle.grain_vm.proofs.Running.{RunsTo}
+use Rattle.grain_vm.proofs.WaitsOn.{WaitsSo}
+use Rattle.grain_frame.specs.Rests.{waits_left}
 use Rattle.grain_vm.proofs.+run.Given as goal
 
 -- The operations that are left, then the code that is left, and then the function. What a walk or a native
@@ -98,8 +101,8 @@ decreases-loops::run_frame g l =
 abbrev pub invariant-method_runs::walk_chain-calls : goal.invariant-method_runs::walk_chain-calls
 invariant-method_runs::walk_chain-calls g l =
     WalkedTo (setup g.H.Host.law l.context.program.now l.context.engine.now)
-    (moment l.fn.frame l.fn.run l.fn.steps l.fn.host) l.fn.index l.fn.next l.walking l.answer l.frame
-    l.run l.steps l.host
+    (moment l.fn.frame l.fn.run l.fn.steps l.fn.host) l.fn.index l.fn.next l.walking l.answer l.missed
+    l.frame l.run l.steps l.host
 
 abbrev pub decreases-method_runs::walk_chain-calls : goal.decreases-method_runs::walk_chain-calls
 decreases-method_runs::walk_chain-calls g l = left_of l.context.program.now l.walking.walk l.answer
@@ -122,3 +125,23 @@ invariant-loops::run_frame-frame g l =
 
 abbrev pub decreases-loops::run_frame-frame : goal.decreases-loops::run_frame-frame
 decreases-loops::run_frame-frame g l = left l.context.engine.now l.run.count l.address
+
+-- the natives for which an instruction waited, against where it began
+abbrev pub invariant-asks::wait_for_native-natives : goal.invariant-asks::wait_for_native-natives
+invariant-asks::wait_for_native-natives g l =
+    WaitsSo (setup g.H.Host.law l.context.program.now l.context.engine.now)
+    (moment l.fn.frame l.fn.run l.fn.steps l.fn.host) l.fn.waiting l.waiting
+    (moment l.frame l.run l.steps l.host)
+
+abbrev pub decreases-asks::wait_for_native-natives : goal.decreases-asks::wait_for_native-natives
+decreases-asks::wait_for_native-natives g l = waits_left l.waiting.rest
+
+-- what a native asks for now, after all that it asked for before
+abbrev pub invariant-asks::end_of_native-asks : goal.invariant-asks::end_of_native-asks
+invariant-asks::end_of_native-asks g l =
+    AskedSoFar (setup g.H.Host.law l.context.program.now l.context.engine.now) l.fn.native l.fn.run
+    l.fn.steps l.fn.host l.asked l.lent l.run l.steps l.host
+
+-- each call that it hears of takes an operation
+abbrev pub decreases-asks::end_of_native-asks : goal.decreases-asks::end_of_native-asks
+decreases-asks::end_of_native-asks g l = left l.context.engine.now l.run.count 16777216

@@ -1,6 +1,6 @@
 -- What was asked of the host, and what came of it.
 use Rattle.std.proofs.Common.{inl, inr, refl}
-use Rattle.grain_vm.proofs.Performing.{same_flag, heard_flag}
+use Rattle.grain_vm.proofs.Performing.{heard_apart, heard_flag, same_flag}
 use Rattle.grain_vm.proofs.driving.ask_host.Goals as goal
 
 pub returns-in-Err-clause-asked : goal.returns-in-Err-clause-asked
@@ -28,5 +28,11 @@ returns-in-Fault-clause-lent g c = same_flag c.args.receiver
 pub returns-in-Native-clause-lent : goal.returns-in-Native-clause-lent
 returns-in-Native-clause-lent g c =
     heard_flag g.H.Host.law c.args.host.now c.in-Native.key c.args.receiver c.in-Native.values
-    c.args.position c.args.steps.now c.call_lending.result.0 c.call_lending.new.steps
-    c.call_lending.new.host c.call_lending.result.1 c.call_lending.ensures.heard
+    c.args.position c.args.steps.now c.call_lending.result c.call_lending.new.steps
+    c.call_lending.new.host c.call_lending.ensures.heard
+
+pub returns-in-Native-clause-apart : goal.returns-in-Native-clause-apart
+returns-in-Native-clause-apart g c =
+    heard_apart g.H.Host.law c.args.host.now c.in-Native.key c.args.receiver c.in-Native.values
+    c.args.position c.args.steps.now c.call_lending.result c.call_lending.new.steps
+    c.call_lending.new.host c.call_lending.ensures.heard

@@ -1,6 +1,7 @@
 -- The instruction that was fetched is the one at which the frame stands.
 use Rattle.std.proofs.Common.{refl}
 use Rattle.grain_frame.specs.lemmas.Arms.{ready, stands, typed_with}
+use Rattle.grain_vm.proofs.WaitsAhead.{turned}
 use Rattle.grain_vm.proofs.stepping.step.Goals as goal
 
 pub fetch-requires : goal.fetch-requires
@@ -29,3 +30,41 @@ returns-in-Chain-default g c =
     c.height-depth.result refl c.height-depth.ensures c.requires.runs c.fetch.ensures.verified
     c.fetch.ensures.read in
     record { steps = (rw c.in-Chain-default.is-0 at at, refl) }
+
+pub returns-in-CallOp-default : goal.returns-in-CallOp-default
+returns-in-CallOp-default g c =
+    let at =
+    stands g.H.Host.law c.args.context.program.now c.args.context.engine.now c.args.frame.now
+    c.args.run.now c.fetch.result.0 c.fetch.result.0 c.fetch.result.1
+    c.height-depth.result refl c.height-depth.ensures c.requires.runs c.fetch.ensures.verified
+    c.fetch.ensures.read in
+    record {
+      steps = turned refl (rw c.in-CallOp-default.is-0 at at) c.requires.runs c.call_op.result
+          c.of.result c.of.ensures c.call_op.ensures.performs;
+    }
+
+pub returns-in-AssignLocalOp-default : goal.returns-in-AssignLocalOp-default
+returns-in-AssignLocalOp-default g c =
+    let at =
+    stands g.H.Host.law c.args.context.program.now c.args.context.engine.now c.args.frame.now
+    c.args.run.now c.fetch.result.0 c.fetch.result.0 c.fetch.result.1
+    c.height-depth.result refl c.height-depth.ensures c.requires.runs c.fetch.ensures.verified
+    c.fetch.ensures.read in
+    record {
+      steps = turned refl (rw c.in-AssignLocalOp-default.is-0 at at) c.requires.runs
+          c.assign_local_op.result c.of-in-AssignLocalOp-default.result
+          c.of-in-AssignLocalOp-default.ensures c.assign_local_op.ensures.performs;
+    }
+
+pub returns-in-AssignThisOp-default : goal.returns-in-AssignThisOp-default
+returns-in-AssignThisOp-default g c =
+    let at =
+    stands g.H.Host.law c.args.context.program.now c.args.context.engine.now c.args.frame.now
+    c.args.run.now c.fetch.result.0 c.fetch.result.0 c.fetch.result.1
+    c.height-depth.result refl c.height-depth.ensures c.requires.runs c.fetch.ensures.verified
+    c.fetch.ensures.read in
+    record {
+      steps = turned refl (rw c.in-AssignThisOp-default.is-0 at at) c.requires.runs
+          c.assign_this_op.result c.of-in-AssignThisOp-default.result
+          c.of-in-AssignThisOp-default.ensures c.assign_this_op.ensures.performs;
+    }

@@ -43,8 +43,7 @@ returns-in_err-kept g c =
           (op_assigned engine a u read.0) a held u
           (record { value = read.0; read_only = (top s.stacks.operands).read_only })
           c.args.next (frame_in f s place)
-          (world (abstraction s c.args.steps.now c.args.host.now) w) halts
-          c.requires.untraced))));
+          (world (abstraction s c.args.steps.now c.args.host.now) w) halts))));
     }
 
 pub returns-in-Err : goal.returns-in-Err
@@ -82,7 +81,6 @@ op_assign_target-requires g c =
         variable = search rules;
       };
       writable = entry_holds s i c.in-Ok.target c.in-Ok.ensures.0 c.in-Ok.ensures.1;
-      untraced = c.requires.untraced;
     }
 
 pub returns : goal.returns

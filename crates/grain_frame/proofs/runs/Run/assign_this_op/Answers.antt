@@ -43,8 +43,7 @@ returns-in_err-kept g c =
           (λ stop w place halts. store_stops
           (stopped (setup g.H.Host.law p engine) stop) (home_of t place) []
           (op_assigned engine a u read.0) a held u v c.args.next (frame_in f s place)
-          (world (abstraction s c.args.steps.now c.args.host.now) w) halts
-          c.requires.untraced)))
+          (world (abstraction s c.args.steps.now c.args.host.now) w) halts)))
           (λ stop w place bound. this_op_written (stopped (setup g.H.Host.law p engine) stop) f s
           c.args.steps.now c.args.host.now w place bound c.args.next a t held read.0 found read.1));
     }
@@ -85,7 +84,6 @@ op_assign_target-requires g c =
         variable = search rules;
       };
       writable = this_holds s c.in-Ok.target c.in-Ok.ensures.0 c.in-Ok.ensures.1;
-      untraced = c.requires.untraced;
     }
 
 pub returns : goal.returns

@@ -219,6 +219,5 @@ returns-in_err-sought g c =
           c.args.assignment.operator h (content_at s t)
           (kept_operand c.args.assignment.kept s.stacks.operands)
           c.args.assignment.next (frame_in f s place)
-          (world (abstraction s c.args.steps.now c.args.host.now) w) halts
-          c.requires.untraced)));
+          (world (abstraction s c.args.steps.now c.args.host.now) w) halts)));
     }

@@ -5,7 +5,7 @@ use Rattle.grain_means.specs.Rules.{no_memory}
 use Rattle.grain_frame.specs.Abstraction.{Raises}
 use Rattle.grain_frame.specs.lemmas.Bound.{as_bound}
 use Rattle.grain_frame.specs.lemmas.Failing.{raises_here}
-use Rattle.grain_frame.specs.lemmas.Performing.{led, led_so, waits_as}
+use Rattle.grain_frame.specs.lemmas.Performing.{led, led_so, less_led, waits_as}
 use Rattle.grain_frame.proofs.runs.Run.native_over.Goals as goal
 
 pub returns-in-Ok : goal.returns-in-Ok
@@ -13,6 +13,7 @@ returns-in-Ok g c = rw c.in-Ok.is (record {
   implements = λ takes gives targets h leads plain.
       led_so c.value_came.result c.of.result c.of.ensures
       (c.value_came.ensures.implements takes gives targets c.args.host.now leads);
+  less = less_led c.args.rest c.value_came.result c.of.result c.of.ensures;
 })
 
 pub returns-in-Assign : goal.returns-in-Assign
@@ -23,6 +24,7 @@ returns-in-Assign g c =
       implements = λ takes gives targets h leads plain. rw (leads.1, leads.2, leads.3)
           (waits_as (c.op_assign_failed.ensures.implements h plain)
           (λ stop u place bound. rw not_out refl));
+      less = c.op_assign_failed.ensures.less;
     })
 
 pub returns-in-Push : goal.returns-in-Push
@@ -45,6 +47,7 @@ returns-in-Push g c =
           (as_bound (raises_here g.H.Host.law p engine f s c.raise.new.self c.args.steps.now
           c.raise.new.steps c.args.host.now x (Ok c.raise.result) raises
           leads.0 (λ stop u place. rw not_out refl)));
+      less = tt;
     })
 
 pub returns : goal.returns
@@ -67,4 +70,5 @@ returns g c =
           (as_bound (raises_here g.H.Host.law p engine f s c.raise-in-Operate.new.self c.args.steps.now
           c.raise-in-Operate.new.steps c.args.host.now x (Ok c.raise-in-Operate.result) raises
           leads.0.inside (λ stop u place. rw not_out refl)));
+      less = tt;
     })

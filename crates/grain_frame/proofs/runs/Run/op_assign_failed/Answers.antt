@@ -28,9 +28,11 @@ returns-then-says_missing g c =
       implements = λ h plain.
           passed_over g.H.Host.law p c.args.context.engine.now c.args.frame.now c.args.self.now
           c.args.steps.now c.args.host.now c.args.assignment h (problem_of c.args.fault)
-          c.cut_trace.new.self c.operator_assigned.new.frame c.operator_assigned.new.self
-          c.operator_assigned.new.steps c.operator_assigned.new.host c.cut_trace.ensures plain
-          c.requires.can missing (c.operator_assigned.ensures.implements h plain);
+          c.cut_trace.new.self c.mark.new.self c.operator_assigned.new.frame
+          c.operator_assigned.new.self c.operator_assigned.new.steps c.operator_assigned.new.host
+          c.cut_trace.ensures c.mark.ensures plain c.requires.can missing
+          (c.operator_assigned.ensures.implements h plain);
+      less = c.operator_assigned.ensures.less;
     }
 
 pub returns-else-says_missing : goal.returns-else-says_missing
@@ -55,4 +57,5 @@ returns-else-says_missing g c =
           (raises_here g.H.Host.law p engine f s c.raise.new.self
           c.args.steps.now c.raise.new.steps c.args.host.now x (Ok c.raise.result) raises
           c.requires.can.inside (λ stop u place. rw there refl)));
+      less = tt;
     }

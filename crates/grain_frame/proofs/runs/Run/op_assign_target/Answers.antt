@@ -38,7 +38,6 @@ native_assigned-requires g c =
     rw said.1 (record {
       can = c.requires.can;
       writable = c.requires.writable;
-      untraced = c.requires.untraced;
     })
 
 pub returns-in-Done : goal.returns-in-Done
@@ -95,8 +94,7 @@ returns-in-Failed g c =
           (world (abstraction s c.args.steps.now c.args.host.now) w) is)
           (λ stop w place halts. store_stops (stopped (setup g.H.Host.law p engine) stop)
           (home_of t place) name o a h u v c.args.assignment.next (frame_in f s place)
-          (world (abstraction s c.args.steps.now c.args.host.now) w) halts
-          c.requires.untraced));
+          (world (abstraction s c.args.steps.now c.args.host.now) w) halts));
     }
 
 pub returns-in-NotBuiltIn : goal.returns-in-NotBuiltIn

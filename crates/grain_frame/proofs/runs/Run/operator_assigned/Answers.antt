@@ -1,5 +1,5 @@
 -- The host's operator on what the target holds and on the operand as it was read.
-use Rattle.std.proofs.Common.{◌≡◌, ◌∷◌, [], Err, List, None, Ok, true, refl, sym, rules}
+use Rattle.std.proofs.Common.{◌≡◌, ◌∷◌, [], Err, List, None, Ok, true, refl, sym, arith, rules}
 use Rattle.grain_value.specs.Operands.{read_write}
 use Rattle.grain_value.specs.declared.values.Held.{Held}
 use Rattle.grain_program.specs.View.{name_of}
@@ -14,7 +14,7 @@ use Rattle.grain_frame.specs.declared.runs.Progress.TheVariants as progress
 use Rattle.grain_frame.specs.declared.waiting.Rest.TheVariants as rest
 use Rattle.grain_frame.specs.lemmas.Bound.{as_bound}
 use Rattle.grain_frame.specs.lemmas.Failing.{operator_stops, wants_memory}
-use Rattle.grain_frame.specs.lemmas.Performing.{led, led_out, led_so, native_waits, waits_as}
+use Rattle.grain_frame.specs.lemmas.Performing.{led, led_out, led_so, less_led, less_out, native_waits, waits_as}
 use Rattle.grain_frame.proofs.Lending.{operator_is_native}
 use Rattle.grain_frame.proofs.Lent.{lent_then}
 use Rattle.grain_frame.proofs.Serving.{native_raised, native_wants}
@@ -65,6 +65,7 @@ returns-in_err-value g c =
           (λ stop w place bound. operator_is_native (stopped m stop) (home_of t place)
           (assigned_name p c.args.assignment.variable) op h u v next (frame_in f s place)
           (world (abstraction s c.args.steps.now c.args.host.now) w) plain);
+      less = less_out (rest.Assign c.args.assignment) c.from_residual-in_err-value.result out;
     }
 
 pub returns-in-Fault : goal.returns-in-Fault
@@ -111,6 +112,7 @@ returns-in-Fault g c =
           (λ stop w place bound. operator_is_native (stopped m stop) (home_of t place)
           (assigned_name p c.args.assignment.variable) op h u v next (frame_in f s place)
           (world (abstraction s c.args.steps.now c.args.host.now) w) plain);
+      less = tt;
     })
 
 pub returns-in-Value : goal.returns-in-Value
@@ -160,6 +162,7 @@ returns-in-Value g c =
           (λ stop w place bound. operator_is_native (stopped m stop) (home_of t place)
           (assigned_name p c.args.assignment.variable) op h u v next (frame_in f s place)
           (world (abstraction s c.args.steps.now c.args.host.now) w) plain);
+      less = less_led (rest.Assign c.args.assignment) c.assign_answer.result c.of.result c.of.ensures;
     }
 
 pub returns-in-Asks : goal.returns-in-Asks
@@ -200,6 +203,7 @@ returns-in-Asks g c =
           (λ stop w place bound. operator_is_native (stopped m stop) (home_of t place)
           (assigned_name p c.args.assignment.variable) op h u v next (frame_in f s place)
           (world (abstraction s c.args.steps.now c.args.host.now) w) plain);
+      less = omega arith;
     }
 
 pub returns-in_err-push_content : goal.returns-in_err-push_content
@@ -220,6 +224,7 @@ returns-in_err-push_content g c =
           (kept_operand c.args.assignment.kept s.stacks.operands)
           c.args.assignment.next (frame_in f s place)
           (world (abstraction s c.args.steps.now c.args.host.now) w) halts)));
+      less = less_out (rest.Assign c.args.assignment) c.from_residual.result out;
     }
 
 pub returns-in_err-push : goal.returns-in_err-push
@@ -240,6 +245,7 @@ returns-in_err-push g c =
           (kept_operand c.args.assignment.kept s.stacks.operands)
           c.args.assignment.next (frame_in f s place)
           (world (abstraction s c.args.steps.now c.args.host.now) w) halts)));
+      less = less_out (rest.Assign c.args.assignment) c.from_residual-in_err-push.result out;
     }
 
 pub returns-in_err-sought : goal.returns-in_err-sought
@@ -260,6 +266,7 @@ returns-in_err-sought g c =
           (kept_operand c.args.assignment.kept s.stacks.operands)
           c.args.assignment.next (frame_in f s place)
           (world (abstraction s c.args.steps.now c.args.host.now) w) halts)));
+      less = less_out (rest.Assign c.args.assignment) c.from_residual-in_err-sought.result out;
     }
 
 pub assign_answer-requires : goal.assign_answer-requires

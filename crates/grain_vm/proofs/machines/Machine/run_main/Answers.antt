@@ -4,6 +4,7 @@ use Rattle.grain_means.specs.Worlds.{Setup}
 use Rattle.grain_means.specs.Rules.{called}
 use Rattle.grain_means.specs.Simulation.{LocalState, Simulates}
 use Rattle.grain_means.specs.Means.{Begin, setup, first_world}
+use Rattle.grain_global.specs.Engines.{with_callbacks}
 use Rattle.grain_global.specs.StepsView.{StepsView, instructions}
 use Rattle.grain_frame.specs.Abstraction.{abstraction, is_out}
 use Rattle.grain_vm.specs.Calls.{finished_with}
@@ -14,7 +15,7 @@ use Rattle.grain_vm.proofs.machines.Machine.run_main.Goals as goal
 
 pub returns-clause-evaluates : goal.returns-clause-evaluates
 returns-clause-evaluates g c =
-    let engine = c.self.inside.engine.now in
+    let engine = with_callbacks c.args.callbacks c.self.inside.engine.now in
     let after = c.run_main-back.new.run in
     let steps = c.run_main-back.new.steps in
     let back = c.run_main-back.result in
@@ -29,7 +30,7 @@ returns-clause-evaluates g c =
     (subst (λ (q : LocalState g.row.H.Denot).
     Simulates (setup g.H.Host.law c.args.program.now engine) q (λ m place w. called m place w)
     (is_out back) (abstraction after steps c.run_main-back.new.host) (finished_with back)) first
-    c.run_main-back.ensures.goes) in
+    (rw c.with_callbacks-engine.ensures at c.run_main-back.ensures.goes)) in
     let counted : steps.before + steps.begun ≡ c.args.steps.now.before + c.args.steps.now.begun +
     steps.begun =
     ap (λ n. n + steps.begun)
@@ -46,7 +47,7 @@ returns-clause-evaluates g c =
 
 pub returns-clause-causes : goal.returns-clause-causes
 returns-clause-causes g c =
-    let engine = c.self.inside.engine.now in
+    let engine = with_callbacks c.args.callbacks c.self.inside.engine.now in
     let after = c.run_main-back.new.run in
     let steps = c.run_main-back.new.steps in
     let back = c.run_main-back.result in
@@ -61,7 +62,7 @@ returns-clause-causes g c =
     (subst (λ (q : LocalState g.row.H.Denot).
     Simulates (setup g.H.Host.law c.args.program.now engine) q (λ m place w. called m place w)
     (is_out back) (abstraction after steps c.run_main-back.new.host) (finished_with back)) first
-    c.run_main-back.ensures.goes) in
+    (rw c.with_callbacks-engine.ensures at c.run_main-back.ensures.goes)) in
     rw (← c.self.view_is, c.with_memory_fault.ensures)
     (has_cause c.counted.ensures g.H.Host.law c.args.program.now engine b after.stacks.trace
     after.scope after.cells c.run_main-back.new.host after.count after.level steps.begun
@@ -69,7 +70,7 @@ returns-clause-causes g c =
 
 pub returns-clause-leaves : goal.returns-clause-leaves
 returns-clause-leaves g c =
-    let engine = c.self.inside.engine.now in
+    let engine = with_callbacks c.args.callbacks c.self.inside.engine.now in
     let after = c.run_main-back.new.run in
     let steps = c.run_main-back.new.steps in
     let back = c.run_main-back.result in
@@ -84,7 +85,7 @@ returns-clause-leaves g c =
     (subst (λ (q : LocalState g.row.H.Denot).
     Simulates (setup g.H.Host.law c.args.program.now engine) q (λ m place w. called m place w)
     (is_out back) (abstraction after steps c.run_main-back.new.host) (finished_with back)) first
-    c.run_main-back.ensures.goes) in
+    (rw c.with_callbacks-engine.ensures at c.run_main-back.ensures.goes)) in
     rw (← c.self.view_is, c.with_memory_fault.ensures)
     (leaves c.counted.ensures g.H.Host.law c.args.program.now engine b after.stacks.trace
     after.scope after.cells c.run_main-back.new.host after.count after.level steps.begun
@@ -92,7 +93,7 @@ returns-clause-leaves g c =
 
 pub returns-clause-store : goal.returns-clause-store
 returns-clause-store g c =
-    let engine = c.self.inside.engine.now in
+    let engine = with_callbacks c.args.callbacks c.self.inside.engine.now in
     let after = c.run_main-back.new.run in
     let steps = c.run_main-back.new.steps in
     let back = c.run_main-back.result in
@@ -107,7 +108,7 @@ returns-clause-store g c =
     (subst (λ (q : LocalState g.row.H.Denot).
     Simulates (setup g.H.Host.law c.args.program.now engine) q (λ m place w. called m place w)
     (is_out back) (abstraction after steps c.run_main-back.new.host) (finished_with back)) first
-    c.run_main-back.ensures.goes) in
+    (rw c.with_callbacks-engine.ensures at c.run_main-back.ensures.goes)) in
     rw c.with_memory_fault.ensures
     (keeps_to_store c.counted.ensures g.H.Host.law c.args.program.now engine b after.stacks.trace
     after.scope after.cells c.run_main-back.new.host after.count after.level steps.begun
@@ -115,7 +116,7 @@ returns-clause-store g c =
 
 pub returns-clause-level : goal.returns-clause-level
 returns-clause-level g c =
-    let engine = c.self.inside.engine.now in
+    let engine = with_callbacks c.args.callbacks c.self.inside.engine.now in
     let after = c.run_main-back.new.run in
     let steps = c.run_main-back.new.steps in
     let back = c.run_main-back.result in
@@ -130,7 +131,7 @@ returns-clause-level g c =
     (subst (λ (q : LocalState g.row.H.Denot).
     Simulates (setup g.H.Host.law c.args.program.now engine) q (λ m place w. called m place w)
     (is_out back) (abstraction after steps c.run_main-back.new.host) (finished_with back)) first
-    c.run_main-back.ensures.goes) in
+    (rw c.with_callbacks-engine.ensures at c.run_main-back.ensures.goes)) in
     same_level c.counted.ensures g.H.Host.law c.args.program.now engine b after.stacks.trace
     after.scope after.cells c.run_main-back.new.host after.count after.level steps.begun
     steps.passed back goes
@@ -139,7 +140,8 @@ pub returns-clause-provided : goal.returns-clause-provided
 returns-clause-provided g c =
     let b : Begin g.row.H.Denot =
     begin c.args.scope.now c.args.cells.now c.args.host.now c.args.global.now in
-    let m : Setup g.row.H.Denot = setup g.H.Host.law c.args.program.now c.self.inside.engine.now in
+    let m : Setup g.row.H.Denot = setup g.H.Host.law c.args.program.now
+    (with_callbacks c.args.callbacks c.self.inside.engine.now) in
     rw (← c.self.view_is)
     (λ f w comes. c.provided.ensures m None (first_world b) w f c.run_main-back.ensures.valid refl
     comes)
@@ -148,7 +150,8 @@ pub returns-clause-catches : goal.returns-clause-catches
 returns-clause-catches g c =
     let b : Begin g.row.H.Denot =
     begin c.args.scope.now c.args.cells.now c.args.host.now c.args.global.now in
-    let m : Setup g.row.H.Denot = setup g.H.Host.law c.args.program.now c.self.inside.engine.now in
+    let m : Setup g.row.H.Denot = setup g.H.Host.law c.args.program.now
+    (with_callbacks c.args.callbacks c.self.inside.engine.now) in
     rw (← c.self.view_is)
     (λ at comes. c.catches.ensures m None (first_world b) at c.run_main-back.ensures.valid refl
     comes)

@@ -1,0 +1,19 @@
+-- How often an instruction still waits for a native.
+use Rattle.std.specs.Prelude.{◌<◌, ℕ, Result, Ok, Err}
+use Rattle.grain_value.specs.declared.memory.OutOfMemory.{OutOfMemory}
+use Rattle.grain_frame.specs.declared.waiting.Performed.{Performed}
+use Rattle.grain_frame.specs.declared.waiting.Performed.TheVariants as performed
+use Rattle.grain_frame.specs.declared.waiting.Rest.{Rest}
+use Rattle.grain_frame.specs.declared.waiting.Rest.TheVariants as rest
+
+-- once the native is over for which it waits: an op-assignment may ask the host's operator
+abbrev pub waits_left : Rest → ℕ
+waits_left (rest.Push count next) = 0
+waits_left (rest.Assign a) = 1
+waits_left (rest.Operate a) = 0
+
+-- if it waits once more, then less often than before
+abbrev pub WaitsLess : Rest → Result Performed OutOfMemory → Type 0
+WaitsLess r (Ok (performed.Leads p)) = Unit {0}
+WaitsLess r (Ok (performed.Waits w)) = waits_left w.rest < waits_left r
+WaitsLess r (Err e) = Unit {0}
