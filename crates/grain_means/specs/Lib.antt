@@ -15,6 +15,7 @@ pub mod Ends
 pub mod Length
 pub mod Simulation
 pub mod Means
+pub mod Core
 pub mod Comes
 pub mod Causes
 pub mod Blame

@@ -3,6 +3,7 @@
 ghost use Rattle.std.specs.Prelude.{◌≡◌, ◌+◌, ◌<◌, ℕ};
 ghost use Rattle.grain_means.specs.Contained.{KeepsToStore};
 ghost use Rattle.grain_means.specs.Causes.{HasCause};
+ghost use Rattle.grain_means.specs.Core.{EndsAsCore, IsCore};
 ghost use Rattle.grain_means.specs.CatchBlocks.{CatchesRightly};
 ghost use Rattle.grain_means.specs.Comes.{Provided};
 ghost use Rattle.grain_means.specs.Leavings.{Leaves};
@@ -99,6 +100,10 @@ impl<'e> Machine<'e> {
             (begin scope.old cells.old host.old global.old) result
             (finish self.new.stacks.trace scope.new cells.new host.new global.new) ran ×
             (instructions steps.new ≡ instructions steps.old + ran)) }
+        ensures core { IsCore program.now → EndsAsCore H.law program.now
+            (with_callbacks callbacks self.old.engine)
+            (begin scope.old cells.old host.old global.old) result
+            (finish self.new.stacks.trace scope.new cells.new host.new global.new) }
         ensures causes { HasCause H.law program.now (with_callbacks callbacks self.old.engine)
             (begin scope.old cells.old host.old global.old) result }
         ensures provided { Provided H.law program.now (with_callbacks callbacks self.old.engine)
@@ -153,6 +158,7 @@ impl<'e> Machine<'e> {
         *cells = cells_after;
         global.num_operations = count;
         global.level = level;
+        grain_means::one_meaning::<H>();
         grain_means::counted::<H>();
         grain_means::contained::<H>();
         grain_means::provided::<H>();

@@ -3,6 +3,7 @@
 ghost use Rattle.std.specs.Prelude.{◌≡◌, ◌+◌, ◌<◌, ℕ, [], IfOk, option_map, slice_get, true};
 ghost use Rattle.grain_means.specs.Contained.{KeepsToStore};
 ghost use Rattle.grain_means.specs.Causes.{HasCause};
+ghost use Rattle.grain_means.specs.Core.{EndsAsCore, IsCore};
 ghost use Rattle.grain_means.specs.CatchBlocks.{CatchesRightly};
 ghost use Rattle.grain_means.specs.Comes.{Provided};
 ghost use Rattle.grain_means.specs.Leavings.{Leaves};
@@ -129,6 +130,10 @@ impl<'e> Vm<'e> {
             (begin scope.old cells.old host.old self.old.global) result
             (finish self.new.trace scope.new cells.new host.new self.new.global) ran ×
             (instructions steps.new ≡ instructions steps.old + ran)) }
+        ensures headline { IsCore program.now → EndsAsCore H.law program.now
+            (with_callbacks true self.old.engine)
+            (begin scope.old cells.old host.old self.old.global) result
+            (finish self.new.trace scope.new cells.new host.new self.new.global) }
         ensures causes { HasCause H.law program.now (with_callbacks true self.old.engine)
             (begin scope.old cells.old host.old self.old.global) result }
         ensures provided { Provided H.law program.now (with_callbacks true self.old.engine)
