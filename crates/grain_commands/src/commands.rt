@@ -2,6 +2,7 @@
 
 ghost use Rattle.std.specs.Prelude.{◌≡◌, ◌≤◌, true, false, IfOk, OnErr, map, string_bytes};
 ghost use Rattle.grain_streams.specs.Reads.{ReadInTurn};
+ghost use Rattle.grain_commands.specs.Headline.{PrintsCoreEnd};
 ghost use Rattle.grain_commands.specs.Replies.{is_run, counts_of, Answers, Ended, Handed};
 ghost use Rattle.grain_commands.specs.Statuses.{Beside, Completes, IsReadThrough};
 ghost use Rattle.grain_streams.specs.Streams.{Rose, TakenWithin};
@@ -132,6 +133,12 @@ pub fn run_words<S: Source, K: Sink, L: Ledger>(
         result.number }
     // which status is due
     ensures complete { Completes (map string_bytes words.now.items)
+        (S.left source.old) (K.written sink.old) (K.written sink.new)
+        (counts_of (S.faults source.old) (S.faults source.new)
+        (K.faults sink.old) (K.faults sink.new))
+        result.number }
+    // the end of a core program's run is printed
+    ensures headline { PrintsCoreEnd (map string_bytes words.now.items)
         (S.left source.old) (K.written sink.old) (K.written sink.new)
         (counts_of (S.faults source.old) (S.faults source.new)
         (K.faults sink.old) (K.faults sink.new))

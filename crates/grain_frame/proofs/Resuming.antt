@@ -1,4 +1,4 @@
--- The host is told of a call that it asked for, and goes on or is over.
+-- The host hears of a call that it asked for, and goes on or is over.
 use Rattle.std.proofs.Common.{◌≡◌, ◌∙◌, ◌+◌, ℕ, List, [], Option, Bool, true, false, Result, Err, if◌then◌else◌, refl, sym, ap, arith}
 use Rattle.grain_value.specs.Operands.{read_write}
 use Rattle.grain_value.specs.declared.scopes.Entry.{Entry}

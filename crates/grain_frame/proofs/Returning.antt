@@ -235,7 +235,7 @@ module _ {H : Type 0} (s : Run H) (u : Environment) (place : Option Place) (scop
       ap (λ (roots : List Held). world (beside es this q n host') (record u { roots = roots }))
       (sym (puts-bound u.roots place this bound))
 
-  -- memory is out before the host is told
+  -- memory is out before the host hears of it
   pub out_world : (l : Loan) (left : Option Held) (l' : Loan) (s1 e : Run H) → IsKept s l →
       LeavesLent s l left l' s1 → left ≡ held_of_lent s l → e ≡ given_back_run l' s1 →
       Binds u.roots place (state_with l scope x s n host).this →

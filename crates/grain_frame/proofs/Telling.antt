@@ -1,4 +1,4 @@
--- The host is told what came of the call that it asked for.
+-- The host hears what came of the call that it asked for.
 use Rattle.std.proofs.Common.{◌≡◌, ◌+◌, ℕ, List, Option, Some, None, Bool, true, false, nat_eq, refl}
 use Rattle.std.proofs.lemmas.Bool.{eqb-false}
 use Rattle.grain_fault.specs.Problems.{NoMemory}
@@ -24,7 +24,7 @@ module _ {S : Type 0} (m : Setup S) (c : Callback) (o : Outcome) (w : World S) w
   abbrev pub out_there : World S
   out_there = record w { tokens = with_token c.token w.tokens }
 
-  -- memory is out before the host is told
+  -- memory is out before the host hears of it
   pub told_out : is_stop m.stop w.passed ≡ true → told m c o out_there
       ≡ End (worlds.Failed NoMemory) (record w {
         host = m.law.forget_after w.host c.token;
@@ -32,7 +32,7 @@ module _ {S : Type 0} (m : Setup S) (c : Callback) (o : Outcome) (w : World S) w
       })
   told_out halts = rw (halts, taken_back c.token w.tokens) refl
 
-  -- the host is told, answered this, and left the receiver so
+  -- the host heard of it, answered this, and left the receiver so
   pub told_so : (said : Reply) (r : Option Receiver) → is_stop m.stop w.passed ≡ false →
       is_stop m.stop (w.passed + 1) ≡ false →
       said ≡ m.law.resume_reply w.host c.token o (lent_held c.receiver) →

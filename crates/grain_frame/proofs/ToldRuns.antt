@@ -1,4 +1,4 @@
--- What a run keeps where a native is told what came of a call.
+-- What a run keeps where a native hears what came of a call.
 use Rattle.std.proofs.Common.{◌≡◌, List, Option, None, false, Result, refl}
 use Rattle.grain_value.specs.Cells.{idle}
 use Rattle.grain_value.specs.declared.values.Dynamic.{Dynamic}

@@ -142,7 +142,7 @@ impl<H: Host> Run<H> {
         }
     }
 
-    /// The machine goes on without a native that asked for a call by this token: the host is told to forget
+    /// The machine goes on without a native that asked for a call by this token: `forget` is called for
     /// it, and what the native was lent goes back. What stands nowhere in the run is given.
     pub fn forget_native(&mut self, host: &mut H, token: u64, lent: Loan) -> Option<Held>
         ensures host { host.new ≡ H.law.forget_after host.old token }

@@ -20,8 +20,8 @@ pub enum HostAnswer {
     Done(Dynamic),
     /// The call failed.
     Failed(HostFault),
-    /// The host asks for a call of a function of the script. It is then resumed by the token, or it
-    /// is told to forget the token.
+    /// The host asks for a call of a function of the script. It is then resumed by the token, or
+    /// `forget` is called with the token.
     Ask {
         /// By what the host knows what it asked for.
         token: u64,

@@ -4,7 +4,7 @@ ghost use Rattle.std.specs.Prelude.{◌≡◌, ◌<◌, ◌≤◌, ◌⊎◌, �
 ghost use Rattle.grain_means.specs.Worlds.{Act, Answer, Failed, Go, World, Setup, Place, Frame, InFrame};
 ghost use Rattle.grain_means.specs.CatchBlocks.{Catches};
 ghost use Rattle.grain_means.specs.Rules.{called, chain_over, function_called, new_root};
-ghost use Rattle.grain_means.specs.Rules.{Destination, ToSlot, ToThis, call_over, curried_in, function_by_name, held_at, is_read_only, is_stop, receiver_called, receiver_over};
+ghost use Rattle.grain_means.specs.Rules.{Destination, ToSlot, ToThis, call_over, curried_in, function_by_name, held_at, is_read_only, is_stop, marked_or, receiver_called, receiver_over};
 ghost use Rattle.grain_means.specs.Causes.{Caused};
 ghost use Rattle.grain_means.specs.Causes.Spots.{ChainWalk, ComesTo, Falls, InsteadFails, NativeFails, OwnRow, PointedFails, WalkRow};
 ghost use Rattle.grain_fault.specs.Problems.{Problem};
@@ -111,6 +111,13 @@ pub fn one_meaning<S>()
     ensures { (law : Law S) (program : View) (engine : Engine) (b : Begin S) (e f : Finish S)
         (n k : ℕ) →
         Means law program engine b e n → Means law program engine b f k → (e ≡ f) × (n ≡ k) }
+{}
+
+/// In a run in which memory is never out, each mark is passed: what stands after it is done, and the mark is
+/// counted. So a reader of the rules of such a run may leave the marks out.
+pub fn marks_pass<S>()
+    ensures { (m : Setup S) (out : World S → Act S) (w : World S) (go : World S → Act S) →
+        m.stop ≡ None → marked_or m out w go ≡ go (record w { passed = w.passed + 1 }) }
 {}
 
 /// Each end of a chain's walk leaves one root, that at which it began; a chain that assigns ends with

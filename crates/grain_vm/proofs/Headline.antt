@@ -11,7 +11,7 @@ use Rattle.grain_means.specs.Means.{Begin, Evaluates, Finish, Means}
 use Rattle.grain_means.specs.Core.{EndsAsCore}
 
 -- there is at most one meaning
-abbrev pub MeansOne : Type 0 → Type 1
+abbrev pub MeansOne : (S : Type 0) → Type 0
 MeansOne S = (law : Law S) (program : View) (engine : Engine) (b : Begin S) (e f : Finish S)
     (n k : ℕ) → Means law program engine b e n → Means law program engine b f k → (e ≡ f) × (n ≡ k)
 

@@ -5,6 +5,7 @@ mod Mains
 mod Branching
 mod Loading
 mod Evaluated
+mod Headline
 mod Pairs
 mod Calling
 mod Entering

@@ -1,39 +1,32 @@
 //! Natives that ask for calls: what they ask for is done, and the host hears what came of it, until the
 //! native is over.
 
-ghost use Rattle.std.specs.Prelude.{◌≡◌, ◌<◌, ◌≤◌, ◌-◌, ◌&&◌, ◌∷◌, [], ℕ, List, Err, None, IfOk, OnErr, OnOk, false, is_some, length, option_map, true};
+ghost use Rattle.std.specs.Prelude.{◌≡◌, ◌<◌, ◌≤◌, ◌-◌, ◌∷◌, [], ℕ, List, Err, None, false, is_some, length, true};
 ghost use Rattle.grain_value.specs.declared.values.Held.{Held};
-ghost use Rattle.grain_fault.specs.Problems.{problem_of};
 ghost use Rattle.grain_fault.specs.declared.faults.EvalAltResult.TheVariants as fault;
-ghost use Rattle.grain_means.specs.Worlds.{Failed, Setup};
 ghost use Rattle.grain_means.specs.Rules.{call_function};
-ghost use Rattle.grain_means.specs.Rules.InWorld.{trace_of};
-ghost use Rattle.grain_means.specs.Simulation.{StopPersists};
 ghost use Rattle.grain_chain.specs.Walking.{is_want};
 ghost use Rattle.grain_frame.specs.Abstraction.{ImplementsBound, frame_in, moment, setup_of};
 ghost use Rattle.grain_frame.specs.Targets.{home_of};
-ghost use Rattle.grain_frame.specs.Waiting.{IsKept, LeadsTo, apart_of, asking, given_back_run, rest_of};
+ghost use Rattle.grain_frame.specs.Waiting.{IsKept, LeadsTo, apart_of, asking, rest_of};
 ghost use Rattle.grain_frame.specs.declared.targets.Target.TheVariants as to;
-ghost use Rattle.grain_vm.specs.Asks.{CallsBack, EndsNative, FinishesNative, IsMissed, IsWaiting, NativeOver, RaisesInWalk, RaisesTraced, TellsOf, TookOne, IsHeard, told_fault, told_is_out};
-ghost use Rattle.grain_vm.specs.Backs.{BeginsBack, FindsBack, NativeCallsBack};
-ghost use Rattle.grain_vm.specs.Driving.{IsApart, IsApartIn, IsNative, SameFlag, left_by};
+ghost use Rattle.grain_vm.specs.Asks.{EndsNative, FinishesNative, IsWaiting, NativeOver};
+ghost use Rattle.grain_vm.specs.Driving.{IsApartIn, IsNative, SameFlag, left_by};
 ghost use Rattle.grain_vm.specs.Methods.{MethodOver, NoneAbove};
 ghost use Rattle.grain_vm.specs.Receivers.{NativeCalled};
-ghost use Rattle.grain_vm.specs.WalkNatives.{NativeWalked};
 
-use crate::calls::deeper;
+use crate::calls_back::{call_back, told};
 use crate::chains::is_want;
-use crate::driving::{Answered, AskingNative, misses_named, perform_request, raise_race};
-use crate::method_runs::call_method;
-use crate::methods::{Needed, Outcome, resolve_request, with_curried};
+use crate::driving::{Answered, AskingNative};
+use crate::methods::Outcome;
 use crate::natives::{OnReceiver, call_native_on, give_back_to_cell};
-use grain_chain::{Request, What};
-use grain_fault::{EvalAltResult, Fault, Position};
+use crate::walk_natives::raised_in_walk;
+use grain_chain::Request;
+use grain_fault::EvalAltResult;
 use grain_frame::{Activation, Asked, Context, Performed, Progress, Resumed, Run, Waiting};
 use grain_global::Steps;
-use grain_host::{Host, HostFault};
-use grain_value::{Array, Dynamic, FnPtr, Held, OutOfMemory, Text};
-use std::alloc::Global;
+use grain_host::Host;
+use grain_value::{Dynamic, Held, OutOfMemory, Text};
 use std::sync::ledger::Ledger;
 
 // Goes on with an instruction that waits for a native, until the instruction is done.
@@ -149,156 +142,6 @@ pub(crate) fn native_by_name<H: Host, L: Ledger>(
     }
 }
 
-// Goes on with a native that a walk calls, until it is over. If a property was missed before, and there is
-// no indexer either, the trace of that fault stands again; notes whether a property is missed now. A native
-// that is not called by its name asks for no property.
-#[cycle(run)]
-#[cold]
-#[inline(never)]
-pub(crate) fn native_in_walk<H: Host, L: Ledger>(
-    run: &mut Run<H>,
-    context: Context<'_>,
-    host: &mut H,
-    steps: &mut Steps<L>,
-    missed: &mut bool,
-    named: bool,
-    native: AskingNative,
-) -> Outcome
-    requires apart { IsApart native.lent }
-    requires none { NoneAbove run.old.level run.old.receivers }
-    ensures walked { NativeWalked (setup_of H.law context.entry) named native run.old steps.old host.old
-        missed.old result.0 result.1 run.new steps.new host.new missed.new }
-    ensures over { MethodOver run.old run.new }
-    ensures lent { SameFlag (apart_of native.lent) result.1 }
-    ensures before { steps.new.before ≡ steps.old.before }
-{
-    let before = match take_trace(run, is_kept(named, *missed)) {
-        Ok(before) => before,
-        Err(OutOfMemory) => {
-            *missed = false;
-            return give_up(run, host, native);
-        }
-    };
-    let (outcome, receiver) = end_of_native(run, context, host, steps, native);
-    let outcome = raised_in_walk(run, steps, outcome, before);
-    *missed = misses_named(named, &outcome);
-    (outcome, receiver)
-}
-
-// Whether the trace of a property that was missed is kept: a native that is called by its name keeps it.
-fn is_kept(named: bool, missed: bool) -> bool
-    ensures { result ≡ (named && missed) }
-{
-    named && missed
-}
-
-// A copy of a trace.
-fn copy_of_trace(alloc: Global, trace: &[Fault]) -> Result<Vec<Fault>, OutOfMemory>
-    ensures { IfOk result (λ copy. copy.items ≡ trace.now) }
-{
-    let mut copy = Vec::new(alloc);
-    'entries: for entry in trace {
-        copy.push(*entry)?;
-    }
-    Ok(copy)
-}
-
-// Takes the trace away, and gives it if it is to be kept.
-fn take_trace<H: Host>(run: &mut Run<H>, kept: bool) -> Result<Option<Vec<Fault>>, OutOfMemory>
-    ensures taken { IfOk result (λ before.
-        IsMissed kept run.old.stacks.trace (option_map (λ v. v.items) before)) }
-    ensures empty { OnOk result
-        (run.new ≡ record run.old { stacks = record run.old.stacks { trace = [] } }) }
-    ensures refused { OnErr result (run.new ≡ run.old) }
-{
-    let before = if kept {
-        Some(copy_of_trace(run.alloc, run.stacks.trace())?)
-    } else {
-        None
-    };
-    run.stacks.cut_trace(0);
-    Ok(before)
-}
-
-// Memory ran out before what a native asks for could begin.
-fn give_up<H: Host>(run: &mut Run<H>, host: &mut H, native: AskingNative) -> Outcome
-    ensures outcome { result ≡ (Err fault.Memory, apart_of native.lent) }
-    ensures host { host.new ≡ H.law.forget_after host.old native.asked.token }
-    ensures run { run.new ≡ given_back_run native.lent
-        (record run.old { stacks = record run.old.stacks { trace = [] } }) }
-{
-    run.stacks.cut_trace(0);
-    let receiver = run.forget_native(host, native.asked.token, native.lent);
-    (Err(EvalAltResult::Memory), receiver)
-}
-
-// Raises the fault of a native that a walk called, at a mark. If it says that there is no indexer, the trace
-// is the one before, if one was kept.
-fn raised_in_walk<H: Host, L: Ledger>(
-    run: &mut Run<H>,
-    steps: &mut Steps<L>,
-    outcome: Result<Dynamic, EvalAltResult>,
-    before: Option<Vec<Fault>>,
-) -> Result<Dynamic, EvalAltResult>
-    ensures { RaisesInWalk outcome (option_map (λ v. v.items) before) run.old steps.old result run.new
-        steps.new }
-{
-    match outcome {
-        Ok(value) => Ok(value),
-        Err(fault) => {
-            if is_want(&fault) {
-                return Err(fault);
-            }
-            raise_traced(run, steps, fault, before)
-        }
-    }
-}
-
-// The same of a fault that is no want of memory.
-fn raise_traced<H: Host, L: Ledger>(
-    run: &mut Run<H>,
-    steps: &mut Steps<L>,
-    raised: EvalAltResult,
-    before: Option<Vec<Fault>>,
-) -> Result<Dynamic, EvalAltResult>
-    ensures { RaisesTraced raised (option_map (λ v. v.items) before) run.old steps.old result run.new
-        steps.new }
-{
-    match keep_trace(run, &raised, before) {
-        Err(OutOfMemory) => Err(EvalAltResult::Memory),
-        Ok(()) => {
-            steps.mark();
-            Err(raised)
-        }
-    }
-}
-
-// Puts the trace before in the place of the present one, if one was kept and a fault says that there is no
-// indexer.
-fn keep_trace<H: Host>(
-    run: &mut Run<H>,
-    raised: &EvalAltResult,
-    before: Option<Vec<Fault>>,
-) -> Result<(), OutOfMemory>
-    ensures kept { OnOk result (run.new ≡ record run.old {
-      stacks = record run.old.stacks {
-        trace = trace_of (option_map (λ v. v.items) before) (Failed (problem_of raised.now))
-            run.old.stacks.trace;
-      };
-    }) }
-    ensures refused { OnErr result (run.new ≡ run.old) }
-{
-    match before {
-        None => Ok(()),
-        Some(before) => {
-            if !raised.is_indexing_type() {
-                return Ok(());
-            }
-            run.stacks.put_trace(before)
-        }
-    }
-}
-
 // Calls a native on a receiver, and goes on with it until it is over.
 #[cycle(run)]
 #[cold]
@@ -339,7 +182,7 @@ pub(crate) fn native_on<H: Host, L: Ledger>(
 #[cycle(run)]
 #[cold]
 #[inline(never)]
-fn finish_native<H: Host, L: Ledger>(
+pub(crate) fn finish_native<H: Host, L: Ledger>(
     run: &mut Run<H>,
     context: Context<'_>,
     host: &mut H,
@@ -368,7 +211,7 @@ fn finish_native<H: Host, L: Ledger>(
 #[cycle(run)]
 #[cold]
 #[inline(never)]
-fn end_of_native<H: Host, L: Ledger>(
+pub(crate) fn end_of_native<H: Host, L: Ledger>(
     run: &mut Run<H>,
     context: Context<'_>,
     host: &mut H,
@@ -403,173 +246,6 @@ fn end_of_native<H: Host, L: Ledger>(
                 asked = next;
                 lent = left;
             }
-        }
-    }
-}
-
-// What the host hears of a call that it asked for: the value as it is read, or the fault. A fault that the
-// host is not told of is given apart.
-fn told<H: Host, L: Ledger>(
-    run: &Run<H>,
-    steps: &mut Steps<L>,
-    pos: Position,
-    came: Result<Dynamic, EvalAltResult>,
-) -> Result<Result<Dynamic, HostFault>, EvalAltResult>
-    ensures tells { (m : Setup H) → TellsOf m pos came run.now steps.old result steps.new }
-    ensures heard { IfOk result (λ o. IsHeard came) }
-    // Want of memory is handed on.
-    ensures carries { StopPersists (is_want came) steps.old.passed (told_is_out result)
-        steps.new.passed }
-    ensures before { steps.new.before ≡ steps.old.before }
-{
-    match came {
-        Err(fault) => fault_told(fault),
-        Ok(value) => match run.read_of(value) {
-            Err(OutOfMemory) => Err(EvalAltResult::Memory),
-            Ok(Some(value)) => Ok(Ok(value)),
-            Ok(None) => fault_told(raise_race(run.alloc, steps, pos)),
-        },
-    }
-}
-
-// The host hears of a fault if a script may catch it and the host may answer it.
-fn fault_told(fault: EvalAltResult) -> Result<Result<Dynamic, HostFault>, EvalAltResult>
-    ensures { result ≡ told_fault fault }
-{
-    if !fault.is_catchable() {
-        return Err(fault);
-    }
-    match HostFault::new(fault) {
-        Ok(fault) => Ok(Err(fault)),
-        Err(fault) => Err(fault),
-    }
-}
-
-// Calls what a pointer names that a native asks for: a function of the program, or else a native.
-#[cycle(run)]
-#[cold]
-#[inline(never)]
-fn call_back<H: Host, L: Ledger>(
-    run: &mut Run<H>,
-    context: Context<'_>,
-    host: &mut H,
-    steps: &mut Steps<L>,
-    pos: Position,
-    pointer: FnPtr,
-    values: Array,
-) -> Result<Dynamic, EvalAltResult>
-    requires none { NoneAbove run.old.level run.old.receivers }
-    ensures called { CallsBack (setup_of H.law context.entry) pos pointer values run.old steps.old
-        host.old result run.new steps.new host.new }
-    ensures over { MethodOver run.old run.new }
-    ensures took { TookOne context.entry.engine.now run.old result run.new }
-    ensures before { steps.new.before ≡ steps.old.before }
-{
-    match find_back(run, context, pos, pointer, values) {
-        Err(OutOfMemory) => Err(EvalAltResult::Memory),
-        Ok(needed) => match needed {
-            Needed::Function(call) => {
-                let (outcome, _receiver) = call_method(run, context, host, steps, call);
-                outcome
-            }
-            Needed::Native(request) => native_back(run, context, host, steps, request),
-        },
-    }
-}
-
-// What a pointer names that a native asks for, on the pointer's values and then these.
-fn find_back<H: Host>(
-    run: &Run<H>,
-    context: Context<'_>,
-    pos: Position,
-    pointer: FnPtr,
-    values: Array,
-) -> Result<Needed, OutOfMemory>
-    ensures { FindsBack context.entry.program.now context.entry.engine.now pos pointer values result }
-{
-    if context.engine.callbacks() {
-        let request = Request {
-            step: 0,
-            pos,
-            what: What::Pointer(pointer),
-            receiver: None,
-            arguments: values,
-        };
-        return match resolve_request(run, context, request) {
-            Ok(needed) => Ok(needed),
-            Err(_) => Err(OutOfMemory),
-        };
-    }
-    let all = with_curried(run.alloc, pointer.curry(), &values)?;
-    Ok(Needed::Native(Request {
-        step: 0,
-        pos,
-        what: What::Native(pointer.name),
-        receiver: None,
-        arguments: all,
-    }))
-}
-
-// Calls a native that another native asks for: it costs an operation, and runs one level up.
-#[cycle(run)]
-#[cold]
-#[inline(never)]
-fn native_back<H: Host, L: Ledger>(
-    run: &mut Run<H>,
-    context: Context<'_>,
-    host: &mut H,
-    steps: &mut Steps<L>,
-    request: Request,
-) -> Result<Dynamic, EvalAltResult>
-    requires native { IsNative request.what }
-    requires apart { request.receiver ≡ None }
-    requires none { NoneAbove run.old.level run.old.receivers }
-    ensures called { NativeCallsBack (setup_of H.law context.entry) request run.old steps.old host.old
-        result run.new steps.new host.new }
-    ensures over { MethodOver run.old run.new }
-    ensures took { TookOne context.entry.engine.now run.old result run.new }
-    ensures before { steps.new.before ≡ steps.old.before }
-{
-    let pos = request.pos;
-    match begin_native_back(run, context, host, steps, pos) {
-        Some(fault) => Err(fault),
-        None => {
-            let answered = perform_request(run, host, steps, request);
-            let (outcome, _receiver) = finish_native(run, context, host, steps, answered);
-            run.level -= 1;
-            outcome
-        }
-    }
-}
-
-// Charges an operation for a native that another one asks for, and goes one level up; or gives the fault.
-fn begin_native_back<H: Host, L: Ledger>(
-    run: &mut Run<H>,
-    context: Context<'_>,
-    host: &mut H,
-    steps: &mut Steps<L>,
-    pos: Position,
-) -> Option<EvalAltResult>
-    ensures begins { BeginsBack (setup_of H.law context.entry) pos run.old steps.old host.old result
-        run.new steps.new host.new }
-    ensures before { steps.new.before ≡ steps.old.before }
-{
-    match run.charge_at(context, host, steps, pos) {
-        Err(OutOfMemory) => return Some(EvalAltResult::Memory),
-        Ok(taken) => {
-            if !taken {
-                return Some(run.take_fault());
-            }
-        }
-    }
-    match deeper(run.level, context.engine.limits.levels) {
-        None => {
-            steps.mark();
-            Some(EvalAltResult::ErrorStackOverflow(pos))
-        }
-        Some(level) => {
-            run.level = level;
-            None
         }
     }
 }

@@ -2,10 +2,12 @@
 //! chains are walked, and how main is run.
 #![tactic(auto)]
 
+mod arguments;
 mod asks;
 mod attempts;
 mod branches;
 mod calls;
+mod calls_back;
 mod catching;
 mod chain_operands;
 mod chains;
@@ -24,6 +26,7 @@ mod receivers;
 mod roots;
 mod stepping;
 mod vms;
+mod walk_natives;
 
 pub use grain_global::{Engine, GlobalRuntimeState, Steps};
 pub use machines::Machine;

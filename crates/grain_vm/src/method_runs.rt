@@ -16,7 +16,7 @@ ghost use Rattle.grain_vm.specs.Receivers.{CalledOn};
 ghost use Rattle.grain_program.specs.Indices.{InPools, IsNamed};
 ghost use Rattle.grain_program.specs.declared.code.instruction_set.Op.TheVariants as op;
 
-use crate::asks::{native_in_walk, native_on, wait_for_native};
+use crate::asks::{native_on, wait_for_native};
 use crate::chains::{Begun, begin_chain, finish_chain};
 use crate::driving::{Driven, drive, go_on};
 use crate::finding::{Found, find_pointed};
@@ -25,6 +25,7 @@ use crate::methods::{MethodCall, Needed, Outcome, enter_method, leave_method};
 use crate::receiver_ends::end_on;
 use crate::receivers::{Callee, Destination, find_callee, take_call};
 use crate::stepping::{Turn, step};
+use crate::walk_natives::native_in_walk;
 use grain_frame::{Activation, Context, Progress, Run};
 use grain_global::Steps;
 use grain_host::Host;

@@ -10,9 +10,8 @@ ghost use Rattle.grain_vm.specs.Driving.{IsNative, name_in};
 ghost use Rattle.grain_vm.specs.OnReceivers.{CallsNativeOn, CallsOnCell};
 ghost use Rattle.grain_vm.specs.Receivers.{ReadsForCell};
 
-use crate::driving::{
-    Answered, AskingNative, ask_host, name_asked, perform_request, raise_race, read_on,
-};
+use crate::arguments::read_on;
+use crate::driving::{Answered, AskingNative, ask_host, name_asked, perform_request, raise_race};
 use crate::methods::Outcome;
 use grain_chain::{Request, What};
 use grain_fault::{EvalAltResult, Position};

@@ -121,7 +121,7 @@ module _ {S : Type 0} {m : Setup S} (on : Bases m) where
         (goes_on c r (record w { passed = w.passed + 1; trace = rules.trace_kept r w.trace }) at seated
         bound)
 
-    -- what the host is told of, and what it has
+    -- what the host hears of, and what it has
     module _ (c : Callback) (seated : CallbackNames clean n c) (o : Outcome)
         (bound : OutcomeNames clean n o) (w : World S) (at : At (lending c.receiver) n w) where
       abbrev inner : Bases m

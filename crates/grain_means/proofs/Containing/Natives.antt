@@ -167,7 +167,7 @@ module _ {S : Type 0} {m : Setup S} (on : Bases m) where
   left_plain key values s None scope roots h = h
   left_plain key values s (Some q) scope roots h = h
 
-  -- the host is told that it will not hear of what it asked for
+  -- the host forgets what it asked for
   pub forgets : (n : ℕ) (token : ℕ) (w : World S) → At on n w →
       At on n (record w { host = m.law.forget_after w.host token })
   forgets n token w at = record {

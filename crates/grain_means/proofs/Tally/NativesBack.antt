@@ -31,7 +31,7 @@ use Rattle.grain_means.proofs.Tally.Functions.{Beside, EndsAs, even_taken, raise
 use Rattle.grain_means.proofs.Tally.Telling.{Aside, Back, Hosted, even_fault, even_out, even_untold, even_value, kept_out, out_so, root, turn}
 use Rattle.grain_means.proofs.Unlent.{Unlent, unlent_same}
 
--- the host is told that there is no native of a name
+-- the host hears that there is no native of a name
 told_missing : (name : List ℕ) (args : List Dynamic) (q : Position) →
     is_told (not_found name args q) ≡ true
 told_missing name args q =

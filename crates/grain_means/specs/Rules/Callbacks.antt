@@ -26,7 +26,7 @@ use Rattle.grain_means.specs.Rules.Calls.{function_by_name}
 use Rattle.grain_means.specs.Rules.Pointers.{curried_in}
 use Rattle.grain_means.specs.Rules.InWorld.{failed_so, function_under}
 
--- Whether the host is told of a fault of a call that it asked for: of one that a script may catch, unless
+-- Whether the host hears of a fault of a call that it asked for: of one that a script may catch, unless
 -- only the machine itself may raise it.
 abbrev pub is_told : Problem → Bool
 is_told x = catchable x && not (handed_back x)

@@ -527,8 +527,8 @@ method_runs::walk_chain-returns-in-Over g t c =
 
 -- ---- natives that a walk calls
 
-pub asks::native_in_walk-returns-in-Err : goal.asks::native_in_walk-returns-in-Err
-asks::native_in_walk-returns-in-Err g t c =
+pub walk_natives::native_in_walk-returns-in-Err : goal.walk_natives::native_in_walk-returns-in-Err
+walk_natives::native_in_walk-returns-in-Err g t c =
     let m = setup g.H.Host.law c.args.context.program.now c.args.context.engine.now in
     let s = c.args.run.now in
     let gave = c.give_up in
@@ -544,8 +544,8 @@ asks::native_in_walk-returns-in-Err g t c =
       before = refl;
     }
 
-pub asks::native_in_walk-returns : goal.asks::native_in_walk-returns
-asks::native_in_walk-returns g t c =
+pub walk_natives::native_in_walk-returns : goal.walk_natives::native_in_walk-returns
+walk_natives::native_in_walk-returns g t c =
     let m = setup g.H.Host.law c.args.context.program.now c.args.context.engine.now in
     let s = c.args.run.now in
     let ended = c.end_of_native-outcome in
@@ -1094,8 +1094,8 @@ asks::call_native_by_name-returns g t c =
 
 -- ---- calls that natives ask for
 
-pub asks::call_back-returns-in-Err : goal.asks::call_back-returns-in-Err
-asks::call_back-returns-in-Err g t c =
+pub calls_back::call_back-returns-in-Err : goal.calls_back::call_back-returns-in-Err
+calls_back::call_back-returns-in-Err g t c =
     let s = c.args.run.now in
     record {
       called = back_out (setup g.H.Host.law c.args.context.program.now c.args.context.engine.now)
@@ -1105,8 +1105,8 @@ asks::call_back-returns-in-Err g t c =
       before = refl;
     }
 
-pub asks::call_back-returns-in-Function : goal.asks::call_back-returns-in-Function
-asks::call_back-returns-in-Function g t c =
+pub calls_back::call_back-returns-in-Function : goal.calls_back::call_back-returns-in-Function
+calls_back::call_back-returns-in-Function g t c =
     let m = setup g.H.Host.law c.args.context.program.now c.args.context.engine.now in
     let found = subst (λ (n : Needed). FindsBack m.program m.engine c.args.pos c.args.pointer
     c.args.values (Ok n)) c.in-Function.is c.in-Ok.ensures in
@@ -1121,8 +1121,8 @@ asks::call_back-returns-in-Function g t c =
       before = called.ensures.before;
     }
 
-pub asks::call_back-returns-in-Native : goal.asks::call_back-returns-in-Native
-asks::call_back-returns-in-Native g t c =
+pub calls_back::call_back-returns-in-Native : goal.calls_back::call_back-returns-in-Native
+calls_back::call_back-returns-in-Native g t c =
     let m = setup g.H.Host.law c.args.context.program.now c.args.context.engine.now in
     let found = subst (λ (n : Needed). FindsBack m.program m.engine c.args.pos c.args.pointer
     c.args.values (Ok n)) c.in-Native.is c.in-Ok.ensures in
@@ -1136,8 +1136,8 @@ asks::call_back-returns-in-Native g t c =
       before = called.ensures.before;
     }
 
-pub asks::native_back-returns-in-Some : goal.asks::native_back-returns-in-Some
-asks::native_back-returns-in-Some g t c =
+pub calls_back::native_back-returns-in-Some : goal.calls_back::native_back-returns-in-Some
+calls_back::native_back-returns-in-Some g t c =
     let m = setup g.H.Host.law c.args.context.program.now c.args.context.engine.now in
     let begun = c.begin_native_back in
     let did = back_refused m c.args.request c.args.run.now c.args.steps.now c.args.host.now
@@ -1149,8 +1149,8 @@ asks::native_back-returns-in-Some g t c =
       before = begun.ensures.before;
     }
 
-pub asks::native_back-returns-in-None : goal.asks::native_back-returns-in-None
-asks::native_back-returns-in-None g t c =
+pub calls_back::native_back-returns-in-None : goal.calls_back::native_back-returns-in-None
+calls_back::native_back-returns-in-None g t c =
     let m = setup g.H.Host.law c.args.context.program.now c.args.context.engine.now in
     let begun = c.begin_native_back in
     let asked = c.perform_request-answered in

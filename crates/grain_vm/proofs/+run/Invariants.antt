@@ -20,11 +20,11 @@ decreases-loops::call g l = 16 * left l.context.engine.now l.run.now.count l.fra
 abbrev pub decreases-method_runs::call_method : goal.decreases-method_runs::call_method
 decreases-method_runs::call_method g l = 16 * left l.context.engine.now l.run.now.count 16777216
 
-abbrev pub decreases-asks::native_back : goal.decreases-asks::native_back
-decreases-asks::native_back g l = 16 * left l.context.engine.now l.run.now.count 16777216 + 1
+abbrev pub decreases-calls_back::native_back : goal.decreases-calls_back::native_back
+decreases-calls_back::native_back g l = 16 * left l.context.engine.now l.run.now.count 16777216 + 1
 
-abbrev pub decreases-asks::call_back : goal.decreases-asks::call_back
-decreases-asks::call_back g l = 16 * left l.context.engine.now l.run.now.count 16777216 + 2
+abbrev pub decreases-calls_back::call_back : goal.decreases-calls_back::call_back
+decreases-calls_back::call_back g l = 16 * left l.context.engine.now l.run.now.count 16777216 + 2
 
 abbrev pub decreases-asks::end_of_native : goal.decreases-asks::end_of_native
 decreases-asks::end_of_native g l = 16 * left l.context.engine.now l.run.now.count 16777216 + 3
@@ -32,8 +32,8 @@ decreases-asks::end_of_native g l = 16 * left l.context.engine.now l.run.now.cou
 abbrev pub decreases-asks::finish_native : goal.decreases-asks::finish_native
 decreases-asks::finish_native g l = 16 * left l.context.engine.now l.run.now.count 16777216 + 4
 
-abbrev pub decreases-asks::native_in_walk : goal.decreases-asks::native_in_walk
-decreases-asks::native_in_walk g l = 16 * left l.context.engine.now l.run.now.count 16777216 + 5
+abbrev pub decreases-walk_natives::native_in_walk : goal.decreases-walk_natives::native_in_walk
+decreases-walk_natives::native_in_walk g l = 16 * left l.context.engine.now l.run.now.count 16777216 + 5
 
 abbrev pub decreases-asks::native_on : goal.decreases-asks::native_on
 decreases-asks::native_on g l = 16 * left l.context.engine.now l.run.now.count 16777216 + 5

@@ -11,5 +11,9 @@ pub returns-clause-complete : goal.returns-clause-complete
 returns-clause-complete g c = c.statuses_are_due.ensures.complete _ _ _ _ _ _
     (rw c.as_slice.ensures.value at c.answer_and_write.ensures.ended)
 
+pub returns-clause-headline : goal.returns-clause-headline
+returns-clause-headline g c = c.statuses_are_due.ensures.headline _ _ _ _ _ _
+    (rw c.as_slice.ensures.value at c.answer_and_write.ensures.ended)
+
 pub returns-clause-handed : goal.returns-clause-handed
 returns-clause-handed g c = rw c.as_slice.ensures.value at c.answer_and_write.ensures.handed

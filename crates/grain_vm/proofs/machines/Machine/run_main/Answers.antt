@@ -8,8 +8,9 @@ use Rattle.grain_global.specs.Engines.{with_callbacks}
 use Rattle.grain_global.specs.StepsView.{StepsView, instructions}
 use Rattle.grain_frame.specs.Abstraction.{abstraction, is_out}
 use Rattle.grain_vm.specs.Calls.{finished_with}
-use Rattle.grain_vm.specs.Machines.{begin}
-use Rattle.grain_vm.proofs.Evaluated.{evaluated, same_level, keeps_to_store, leaves, has_cause}
+use Rattle.grain_vm.specs.Machines.{begin, with_memory_fault}
+use Rattle.grain_vm.proofs.Evaluated.{ending, evaluated, same_level, keeps_to_store, leaves, has_cause}
+use Rattle.grain_vm.proofs.Headline.{ends_as_core}
 use Rattle.grain_vm.proofs.Mains.{first_state, without_this}
 use Rattle.grain_vm.proofs.machines.Machine.run_main.Goals as goal
 
@@ -44,6 +45,34 @@ returns-clause-evaluates g c =
         counted,
       ),
     )
+
+pub returns-clause-core : goal.returns-clause-core
+returns-clause-core g c =
+    let engine = with_callbacks c.args.callbacks c.self.inside.engine.now in
+    let after = c.run_main-back.new.run in
+    let steps = c.run_main-back.new.steps in
+    let back = c.run_main-back.result in
+    let b : Begin g.row.H.Denot =
+    begin c.args.scope.now c.args.cells.now c.args.host.now c.args.global.now in
+    let trace = ap (λ (v : StacksView). v.trace) (c.replace.ensures.value ∙ c.cut_trace.ensures) in
+    let first = first_state c.replace.result.trace c.args.scope.now c.replace-2.result
+    c.args.cells.now c.replace-3.result c.new-5.result c.args.host.now c.args.global.now.num_operations
+    c.args.global.now.level (instructions c.args.steps.now) c.start.new.self trace
+    c.replace-2.ensures.value c.replace-3.ensures.value c.start.ensures c.new-5.ensures in
+    let goes = without_this refl
+    (subst (λ (q : LocalState g.row.H.Denot).
+    Simulates (setup g.H.Host.law c.args.program.now engine) q (λ m place w. called m place w)
+    (is_out back) (abstraction after steps c.run_main-back.new.host) (finished_with back)) first
+    (rw c.with_callbacks-engine.ensures at c.run_main-back.ensures.goes)) in
+    λ core. rw (← c.self.view_is, c.with_memory_fault.ensures)
+    (ends_as_core c.one_meaning.ensures g.H.Host.law c.args.program.now engine b
+    (with_memory_fault back)
+    (ending c.counted.ensures g.H.Host.law c.args.program.now engine b after.stacks.trace after.scope
+    after.cells c.run_main-back.new.host after.count after.level steps.begun steps.passed)
+    steps.begun
+    (evaluated c.counted.ensures g.H.Host.law c.args.program.now engine b after.stacks.trace
+    after.scope after.cells c.run_main-back.new.host after.count after.level steps.begun
+    steps.passed back goes))
 
 pub returns-clause-causes : goal.returns-clause-causes
 returns-clause-causes g c =

@@ -1,6 +1,6 @@
 use Rattle.std.proofs.Common.{◌∙◌, sym}
 use Rattle.grain_vm.proofs.ToldSo.{handed_on, passed_on}
-use Rattle.grain_vm.proofs.asks.fault_told.Goals as goal
+use Rattle.grain_vm.proofs.calls_back.fault_told.Goals as goal
 
 pub returns-in-Ok : goal.returns-in-Ok
 returns-in-Ok c = passed_on c.args.fault (sym c.is_catchable.ensures ∙ c.if-not-is_catchable.false)

@@ -6,7 +6,7 @@ use Rattle.grain_value.specs.declared.values.Held.{Held}
 use Rattle.grain_means.specs.Rules.{flat_all}
 use Rattle.grain_vm.specs.Driving.{DescribesAfter}
 use Rattle.grain_vm.proofs.Reading.{joined}
-use Rattle.grain_vm.proofs.driving.read_on.Given as goal
+use Rattle.grain_vm.proofs.arguments.read_on.Given as goal
 
 abbrev pub invariant-values : goal.invariant-values
 invariant-values l = (before : List Held)

@@ -1,5 +1,5 @@
 use Rattle.grain_vm.proofs.ToldSo.{carries_so, tells_so}
-use Rattle.grain_vm.proofs.asks.told.Goals as goal
+use Rattle.grain_vm.proofs.calls_back.told.Goals as goal
 
 pub returns-in-Err-clause-tells : goal.returns-in-Err-clause-tells
 returns-in-Err-clause-tells g c = λ m. tells_so m c.args.pos c.args.run.now c.args.steps.now

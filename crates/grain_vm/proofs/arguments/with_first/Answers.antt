@@ -2,7 +2,7 @@
 use Rattle.std.proofs.Common.{rules, ◌≡◌, ◌∷◌, [], ◌++◌}
 use Rattle.grain_value.specs.View.{tree}
 use Rattle.grain_vm.proofs.Reading.{copied_on}
-use Rattle.grain_vm.proofs.driving.with_first.Goals as goal
+use Rattle.grain_vm.proofs.arguments.with_first.Goals as goal
 
 pub others-preserved : goal.others-preserved
 others-preserved c =

@@ -6,7 +6,7 @@ use Rattle.grain_value.specs.Writing.{kind_of}
 use Rattle.grain_value.specs.Cells.{flat}
 use Rattle.grain_value.specs.Operands.{read_write}
 use Rattle.grain_vm.proofs.Reading.{reads_on, reads_none, given_kinds, trees_more, given_flag}
-use Rattle.grain_vm.proofs.driving.read_on.Goals as goal
+use Rattle.grain_vm.proofs.arguments.read_on.Goals as goal
 
 pub returns-in-None : goal.returns-in-None
 returns-in-None c = λ x begun.

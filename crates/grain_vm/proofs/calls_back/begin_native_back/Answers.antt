@@ -1,6 +1,6 @@
 use Rattle.std.proofs.Common.{refl}
 use Rattle.grain_vm.proofs.BackNatives.{back_deep, back_failed, back_up, back_wants}
-use Rattle.grain_vm.proofs.asks.begin_native_back.Goals as goal
+use Rattle.grain_vm.proofs.calls_back.begin_native_back.Goals as goal
 
 pub returns-in-Err-clause-begins : goal.returns-in-Err-clause-begins
 returns-in-Err-clause-begins g c =

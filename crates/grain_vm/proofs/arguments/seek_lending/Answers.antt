@@ -5,7 +5,7 @@ use Rattle.grain_fault.specs.Problems.{problem_of}
 use Rattle.grain_host.specs.Law.{native_of}
 use Rattle.grain_host.specs.Signatures.{not_found}
 use Rattle.grain_vm.proofs.Reading.{seeks_absent}
-use Rattle.grain_vm.proofs.driving.seek_lending.Goals as goal
+use Rattle.grain_vm.proofs.arguments.seek_lending.Goals as goal
 
 pub returns-in-None : goal.returns-in-None
 returns-in-None g c = λ args home describes.

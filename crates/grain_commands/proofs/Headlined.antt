@@ -1,0 +1,125 @@
+-- What is said of each status gives the headline.
+use Rattle.std.proofs.Common.{◌≡◌, ◌≤◌, ◌++◌, ◌∙◌, ℕ, suc, true, List, Option, Some, Ok, Err, IfSome, sym, ap, subst, refl, arith}
+use Rattle.grain_host.specs.declared.tables.TableHost.{TableHost}
+use Rattle.grain_program.specs.Typing.{IsProgram}
+use Rattle.grain_program.specs.declared.verifier.refusals.Refusal.{Refusal}
+use Rattle.grain_means.specs.Worlds.{Answer, Came, Failed}
+use Rattle.grain_means.specs.Means.{Finish}
+use Rattle.grain_listing.specs.Reading.{ListingView, reads}
+use Rattle.grain_listing.specs.declared.reasons.BadLine.{BadLine}
+use Rattle.grain_streams.specs.Streams.{added}
+use Rattle.grain_commands.specs.Headline.{CoreListing, CoreEnds, PrintsCoreEnd}
+use Rattle.grain_commands.specs.Replies.{Counts, is_run}
+use Rattle.grain_commands.specs.Runs.{answer_report, report, status_of}
+use Rattle.grain_commands.specs.Statuses.{RunEnds, IsRefused, Says, Beside, Gives, NoneRose, Completes}
+
+-- a listing says one thing
+same_set_up : (bytes : List ℕ) (s t : ListingView) → reads bytes ≡ Ok s → reads bytes ≡ Ok t → t ≡ s
+same_set_up bytes s t one other = cc
+
+-- an end of the listing's run is one of the core program
+core_end : (bytes : List ℕ) (listing : CoreListing bytes) (end : Finish TableHost) →
+    RunEnds bytes end → CoreEnds listing.set_up end
+core_end bytes listing end run =
+    subst (λ (s : ListingView). CoreEnds s end)
+    (same_set_up bytes listing.set_up run.set_up listing.said run.said)
+    (run.instructions, run.means)
+
+-- and the other way round
+run_end : (bytes : List ℕ) (listing : CoreListing bytes) (end : Finish TableHost) →
+    CoreEnds listing.set_up end → RunEnds bytes end
+run_end bytes listing end ends = record {
+  set_up = listing.set_up;
+  said = listing.said;
+  valid = listing.valid;
+  instructions = ends.0;
+  means = ends.1;
+}
+
+-- what is said of the bytes, where they are known
+of_bytes : (input : Option (List ℕ)) (bytes : List ℕ) (P : List ℕ → Type 0) → input ≡ Some bytes →
+    IfSome input P → P bytes
+of_bytes input bytes P told h = subst (λ (o : Option (List ℕ)). IfSome o P) told h
+
+-- the report of an end, by its answer
+report_at : (end : Finish TableHost) (a : Answer) → end.answer ≡ a →
+    end.host.printed ++ answer_report end.cells a end.trace ≡ report end
+report_at end a is =
+    ap (λ x. end.host.printed ++ answer_report end.cells x end.trace) (sym is)
+
+module _ (words : List (List ℕ)) (input before now : Option (List ℕ)) (bytes : List ℕ)
+    (command : is_run words ≡ true) (told : input ≡ Some bytes) (listing : CoreListing bytes) where
+  -- a status and a text tell an end of the core program
+  abbrev Told : ℕ → List ℕ → Type 0
+  Told status text = (end : Finish TableHost) × CoreEnds listing.set_up end ×
+      (status ≡ status_of end.answer) × (text ≡ report end)
+
+  told_at : (status : ℕ) (text : List ℕ) (a : Answer) (end : Finish TableHost) → end.answer ≡ a →
+      status ≡ status_of a → IfSome input (λ b. RunEnds b end) →
+      text ≡ end.host.printed ++ answer_report end.cells a end.trace → Told status text
+  told_at status text a end is number run written = (
+    end,
+    core_end bytes listing end (of_bytes input bytes (λ b. RunEnds b end) told run),
+    number ∙ ap status_of (sym is),
+    written ∙ report_at end a is,
+  )
+
+  no_bad_line : (bad : BadLine) → IfSome input (λ b. reads b ≡ Err bad) → ⊥
+  no_bad_line bad h =
+      let said : reads bytes ≡ Err bad = of_bytes input bytes (λ b. reads b ≡ Err bad) told h in
+      let is = listing.said in absurd cc
+
+  no_refusal : (r : Refusal) → IfSome input (λ b. IsRefused b r) → ⊥
+  no_refusal r h =
+      let refused = of_bytes input bytes (λ b. IsRefused b r) told h in
+      refused.invalid (subst (λ (s : ListingView). IsProgram s.parts)
+      (sym (same_set_up bytes listing.set_up refused.set_up listing.said refused.said)) listing.valid)
+
+  tells : (status : ℕ) (text : List ℕ) → status ≤ 4 → Says words input status text →
+      Told status text
+  tells 0 text small says =
+      let s = says.value refl in told_at 0 text (Came s.0) s.1 s.2 refl s.3 s.4
+  tells 1 text small says =
+      let s = says.fault refl in told_at 1 text (Failed s.0) s.1 s.2 refl s.3 s.4
+  tells 2 text small says = let none = (says.usage refl).0 in absurd cc
+  tells 3 text small says = let s = says.no_listing refl in absurd (no_bad_line s.0 s.1)
+  tells 4 text small says = let s = says.refused refl in absurd (no_refusal s.0 s.1)
+  tells (suc (suc (suc (suc (suc n))))) text small says = absurd (omega arith)
+
+  printed : (status : ℕ) (text : List ℕ) → Told status text → now ≡ added text before →
+      (end : Finish TableHost) × CoreEnds listing.set_up end × (status ≡ status_of end.answer) ×
+      (now ≡ added (report end) before)
+  printed status text t written =
+      (t.0, t.1, t.2, written ∙ ap (λ x. added x before) t.3)
+
+-- the due status and text of an end, by its answer
+given_at : (end : Finish TableHost) (a : Answer) (before now : Option (List ℕ)) (status : ℕ) →
+    end.answer ≡ a →
+    Gives (status_of a) (end.host.printed ++ answer_report end.cells a end.trace) before now status →
+    Gives (status_of end.answer) (report end) before now status
+given_at end a before now status is gives =
+    subst (λ (x : Answer).
+    Gives (status_of x) (end.host.printed ++ answer_report end.cells x end.trace) before now status)
+    (sym is) gives
+
+pub prints_core_end : (words : List (List ℕ)) (input before now : Option (List ℕ)) (counts : Counts)
+    (status : ℕ) → Beside words input before now counts status →
+    Completes words input before now counts status →
+    PrintsCoreEnd words input before now counts status
+prints_core_end words input before now counts status beside completes = record {
+  prints = λ command bytes told listing small.
+      let whole = beside.whole small in
+      printed words input before now bytes command told listing status whole.0
+      (tells words input before now bytes command told listing status whole.0 small whole.1) whole.2;
+  complete = λ command none bytes told listing end ends. by_answer command none bytes told end
+      (run_end bytes listing end ends) end.answer refl;
+} where
+  by_answer : is_run words ≡ true → NoneRose counts → (bytes : List ℕ) → input ≡ Some bytes →
+      (end : Finish TableHost) → RunEnds bytes end → (a : Answer) → end.answer ≡ a →
+      Gives (status_of end.answer) (report end) before now status
+  by_answer command none bytes told end run (Came v) is =
+      given_at end (Came v) before now status is
+      (completes.value command none bytes told v end is run)
+  by_answer command none bytes told end run (Failed p) is =
+      given_at end (Failed p) before now status is
+      (completes.fault command none bytes told p end is run)
