@@ -92,6 +92,20 @@ module _ (words : List (List ℕ)) (input before now : Option (List ℕ)) (bytes
   printed status text t written =
       (t.0, t.1, t.2, written ∙ ap (λ x. added x before) t.3)
 
+-- of the statuses up to 7 those that are none of the last three
+at_most_four : (status : ℕ) → status ≤ 7 → (status ≡ 5 → ⊥) → (status ≡ 6 → ⊥) → (status ≡ 7 → ⊥) →
+    status ≤ 4
+at_most_four 0 known read write memory = omega arith
+at_most_four 1 known read write memory = omega arith
+at_most_four 2 known read write memory = omega arith
+at_most_four 3 known read write memory = omega arith
+at_most_four 4 known read write memory = omega arith
+at_most_four 5 known read write memory = absurd (read refl)
+at_most_four 6 known read write memory = absurd (write refl)
+at_most_four 7 known read write memory = absurd (memory refl)
+at_most_four (suc (suc (suc (suc (suc (suc (suc (suc n)))))))) known read write memory =
+    absurd (omega arith)
+
 -- the due status and text of an end, by its answer
 given_at : (end : Finish TableHost) (a : Answer) (before now : Option (List ℕ)) (status : ℕ) →
     end.answer ≡ a →
@@ -107,7 +121,8 @@ pub prints_core_end : (words : List (List ℕ)) (input before now : Option (List
     Completes words input before now counts status →
     PrintsCoreEnd words input before now counts status
 prints_core_end words input before now counts status beside completes = record {
-  prints = λ command bytes told listing small.
+  prints = λ command bytes told listing read write memory.
+      let small = at_most_four status beside.known read write memory in
       let whole = beside.whole small in
       printed words input before now bytes command told listing status whole.0
       (tells words input before now bytes command told listing status whole.0 small whole.1) whole.2;

@@ -1,5 +1,5 @@
 -- The headline of the program: of a valid listing of a core program it prints the end of its run.
-use Rattle.std.specs.Prelude.{◌≡◌, ◌≤◌, ◌⊎◌, ℕ, true, List, Option, Some, Ok}
+use Rattle.std.specs.Prelude.{◌≡◌, ℕ, true, List, Option, Some, Ok}
 use Rattle.grain_host.specs.Tables.{table_law}
 use Rattle.grain_host.specs.declared.tables.TableHost.{TableHost}
 use Rattle.grain_program.specs.Typing.{IsProgram}
@@ -28,13 +28,14 @@ CoreEnds s end = CoreMeans table_law s.parts
 -- which bytes it has.
 pub record PrintsCoreEnd (words : List (List ℕ)) (input before now : Option (List ℕ))
     (counts : Counts) (status : ℕ) : Type 0 where
-  -- a status of at most 4, which no failed read, no failed write and no want of memory has: 0 for a
-  -- value and 1 for a fault, and what is written is the report of the run's end, and nothing else
+  -- If the status is none of 5 (a failed read), 6 (a failed write) and 7 (want of memory): what is written
+  -- is the report of the run's end and nothing else, and the status is 0 for a value and 1 for a fault.
   pub prints : is_run words ≡ true → (bytes : List ℕ) → input ≡ Some bytes →
-      (listing : CoreListing bytes) → status ≤ 4 →
+      (listing : CoreListing bytes) → (status ≡ 5 → ⊥) → (status ≡ 6 → ⊥) → (status ≡ 7 → ⊥) →
       (end : Finish TableHost) × CoreEnds listing.set_up end × (status ≡ status_of end.answer) ×
       (now ≡ added (report end) before)
-  -- if no stream fails, it is so wherever the run ends, or the status is 7 and nothing is written
+  -- If neither count of faults rose: whatever end the program means, the status is that end's and its
+  -- report is written, or the status is 7 and nothing is written.
   pub complete : is_run words ≡ true → NoneRose counts → (bytes : List ℕ) → input ≡ Some bytes →
       (listing : CoreListing bytes) (end : Finish TableHost) → CoreEnds listing.set_up end →
       Gives (status_of end.answer) (report end) before now status

@@ -57,7 +57,9 @@ pub record Law (S : Type 0) : Type 0 where
   pub resume_after : S → ℕ → Outcome → Option Held → S
   -- what is then left in a receiver, if the token is one of a native that writes
   pub resume_written : S → ℕ → Outcome → Held → Dynamic
-  -- whether the native that asks with the token may write its first argument
+  -- Whether the native that asks with the token may write its receiver. Where a host gives a number again
+  -- while it is still out, the law says what it stands for only until the inner one is taken back: that the
+  -- outer native then writes only if it may is up to the host.
   pub token_writes : S → ℕ → Bool
   -- the state once the host was told that it will not hear of a token any more
   pub forget_after : S → ℕ → S
@@ -104,10 +106,12 @@ KeepsTable law s t =
     ((name kinds : List ℕ) → law.resolves t name kinds ≡ law.resolves s name kinds)
     × ((key : ℕ) → law.writes t key ≡ law.writes s key)
 
--- each token but the named ones stands for a native that writes in both states or in none
+-- No token but the named ones begins to write: one that stands in the second state for a native that
+-- writes did so in the first. A host may forget what it keeps for a token.
 abbrev pub KeepsTokens : {S : Type 0} → Law S → (ℕ → Bool) → S → S → Type 0
 KeepsTokens law named s t =
-    (token : ℕ) → named token ≡ false → law.token_writes t token ≡ law.token_writes s token
+    (token : ℕ) → named token ≡ false → law.token_writes t token ≡ true →
+    law.token_writes s token ≡ true
 
 -- whether an answer asks with this token
 abbrev pub asks_with : Reply → ℕ → Bool

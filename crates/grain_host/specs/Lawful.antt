@@ -135,10 +135,10 @@ table_lawful = record {
   progress_keeps = λ s count. (λ name kinds. refl, λ key. refl);
   resume_keeps = λ s token outcome receiver. (λ name kinds. refl, λ key. refl);
   forget_keeps = λ s token. (λ name kinds. refl, λ key. refl);
-  call_keeps_tokens = λ s key receiver values token other. refl;
-  progress_keeps_tokens = λ s count token other. refl;
-  resume_keeps_tokens = λ s given outcome receiver token other. refl;
-  forget_keeps_tokens = λ s given token other. refl;
+  call_keeps_tokens = λ s key receiver values token other writes. writes;
+  progress_keeps_tokens = λ s count token other writes. writes;
+  resume_keeps_tokens = λ s given outcome receiver token other writes. writes;
+  forget_keeps_tokens = λ s given token other writes. writes;
   asks = λ s key receiver values.
       asks_as (key == 4) (writing key) (map_reply s (mapped s.tokens.given (arguments receiver values)))
       (reply_at (turn false s) s.registers key (arguments receiver values))

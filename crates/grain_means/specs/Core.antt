@@ -17,6 +17,7 @@ use Rattle.grain_program.specs.declared.code.instruction_set.Op.TheVariants as o
 use Rattle.grain_program.specs.declared.code.parts.Chunk.{Chunk}
 use Rattle.grain_host.specs.Law.{Law}
 use Rattle.grain_global.specs.declared.engines.Engine.{Engine}
+use Rattle.grain_global.specs.Engines.{with_callbacks}
 use Rattle.grain_means.specs.Worlds.{Came, Failed, Answer}
 use Rattle.grain_means.specs.Means.{Begin, Finish, Means}
 
@@ -37,7 +38,7 @@ abbrev pub is_core_name : List ℕ → Bool
 is_core_name name = not (has_colons name) && not (ends_in_mark name)
     && (not (bytes_eq name (codes "is_def_var")) && not (bytes_eq name (codes "is_def_fn")))
 
--- a walk that begins at no named variable
+-- a walk that begins at a root that is not sought by its name
 abbrev pub is_core_root : Root → Bool
 is_core_root (root.Local name slot) = true
 is_core_root (root.This pos) = true
@@ -98,9 +99,10 @@ IsCore p = (c : Chunk) (a width : ℕ) (o : Op) → In c (chunks_in p) → Start
 -- The end of a core program's main run: main runs on the scope, without operands, handlers and `this`,
 -- at the count and the level of the global state. The end is the answer (the value, the value of an
 -- `Exit`, or the fault), the trace, and the scope, the cells, the host's state and the global state
--- afterwards.
+-- afterwards. Natives may call functions back.
 abbrev pub CoreMeans : {S : Type 0} → Law S → View → Engine → Begin S → Finish S → Type 0
-CoreMeans law program engine b e = (instructions : ℕ) × Means law program engine b e instructions
+CoreMeans law program engine b e =
+    (instructions : ℕ) × Means law program (with_callbacks true engine) b e instructions
 
 -- the answer of a call, unless it is want of memory
 abbrev pub answers_so : Result Dynamic EvalAltResult → (Answer → Type 0) → Type 0
@@ -108,8 +110,8 @@ answers_so (Ok v) P = P (Came v)
 answers_so (Err fault.Memory) P = Unit {0}
 answers_so (Err x) P = P (Failed (problem_of x))
 
--- The call ends as the core program does, unless it answers want of memory; and as no other end is
--- meant, it ends so wherever the program does.
+-- Unless the call answers want of memory, its answer and what it leaves are an end of the core program
+-- (`ends`), and each end of the core program is that one (`complete`).
 pub record EndsAsCore {S : Type 0} (law : Law S) (program : View) (engine : Engine) (b : Begin S)
     (answer : Result Dynamic EvalAltResult) (finish : Answer → Finish S) : Type 0 where
   pub ends : answers_so answer (λ a. CoreMeans law program engine b (finish a))

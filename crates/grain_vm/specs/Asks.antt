@@ -18,7 +18,7 @@ use Rattle.grain_fault.specs.Absences.{is_dot_expr, is_indexing_type}
 use Rattle.grain_means.specs.Worlds.{Act, Answer, Callback, Came, Failed, Frame, Place, Setup, World}
 use Rattle.grain_means.specs.Rules.{called_back, called_back_over, given_up, is_told, native_over, position, told}
 use Rattle.grain_means.specs.Rules.InWorld.{failed_so, trace_of}
-use Rattle.grain_means.specs.Simulation.{Computation, LocalState, Simulates, SimulatesExactly}
+use Rattle.grain_means.specs.Simulation.{Computation, Simulates, SimulatesExactly}
 use Rattle.grain_frame.specs.Natives.{IsAt}
 use Rattle.grain_frame.specs.Receivers.{KeepsBound}
 use Rattle.grain_frame.specs.Targets.{home_of}

@@ -58,8 +58,8 @@ lent_place (Some h) (Some p) = Some (record { home = AtPlace p; held = h })
 abbrev pub Rests : Type 0 → Type 0
 Rests S = Setup S → Option Place → ℕ → Walked → World S → Act S
 
--- what is kept of a property that was missed: a native that is called by its name asks for properties too,
--- and one that a pointer names does not
+-- The trace of a property that was missed is kept only for a call by name, which may be of the indexer that
+-- is asked in its place. A native that a pointer names is never that.
 abbrev pub kept_by : Bool → Option (List Fault) → Option (List Fault)
 kept_by true missed = missed
 kept_by false missed = None

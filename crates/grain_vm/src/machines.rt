@@ -1,6 +1,6 @@
 //! The machine that runs a program's main on its stacks.
 
-ghost use Rattle.std.specs.Prelude.{◌≡◌, ◌+◌, ◌<◌, ℕ};
+ghost use Rattle.std.specs.Prelude.{◌≡◌, ◌+◌, ◌<◌, ℕ, true};
 ghost use Rattle.grain_means.specs.Contained.{KeepsToStore};
 ghost use Rattle.grain_means.specs.Causes.{HasCause};
 ghost use Rattle.grain_means.specs.Core.{EndsAsCore, IsCore};
@@ -100,8 +100,8 @@ impl<'e> Machine<'e> {
             (begin scope.old cells.old host.old global.old) result
             (finish self.new.stacks.trace scope.new cells.new host.new global.new) ran ×
             (instructions steps.new ≡ instructions steps.old + ran)) }
-        ensures core { IsCore program.now → EndsAsCore H.law program.now
-            (with_callbacks callbacks self.old.engine)
+        ensures core { callbacks ≡ true → IsCore program.now →
+            EndsAsCore H.law program.now self.old.engine
             (begin scope.old cells.old host.old global.old) result
             (finish self.new.stacks.trace scope.new cells.new host.new global.new) }
         ensures causes { HasCause H.law program.now (with_callbacks callbacks self.old.engine)

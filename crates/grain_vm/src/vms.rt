@@ -130,8 +130,7 @@ impl<'e> Vm<'e> {
             (begin scope.old cells.old host.old self.old.global) result
             (finish self.new.trace scope.new cells.new host.new self.new.global) ran ×
             (instructions steps.new ≡ instructions steps.old + ran)) }
-        ensures headline { IsCore program.now → EndsAsCore H.law program.now
-            (with_callbacks true self.old.engine)
+        ensures headline { IsCore program.now → EndsAsCore H.law program.now self.old.engine
             (begin scope.old cells.old host.old self.old.global) result
             (finish self.new.trace scope.new cells.new host.new self.new.global) }
         ensures causes { HasCause H.law program.now (with_callbacks true self.old.engine)

@@ -1,5 +1,5 @@
--- The calls that a native asks for: how they end, what the host hears of them, and why a native ends in a
--- fault that asked for calls.
+-- The calls that a native asks for: how they end, what the host hears of them, and why a native that
+-- asked for calls ends in a fault.
 use Rattle.std.specs.Prelude.{◌≡◌, ◌⊎◌, ◌<◌, ◌≤◌, ◌+◌, ℕ, List, [], Option, Some, None, true, false, length}
 use Rattle.grain_value.specs.Cells.{flat}
 use Rattle.grain_value.specs.Tree.{Tree}
@@ -13,12 +13,11 @@ use Rattle.grain_fault.specs.declared.places.Position.{Position}
 use Rattle.grain_fault.specs.Problems.{Problem, Plain, DataRace, StackOverflow, Terminated, TooManyOperations, TooManyVariables}
 use Rattle.grain_host.specs.Law.{Reply, Outcome, Value, Fault, Stop}
 use Rattle.grain_host.specs.Law as reply
-use Rattle.grain_program.specs.View.{View}
 use Rattle.grain_program.specs.declared.code.functions.Function.{Function}
-use Rattle.grain_means.specs.Worlds.{Act, Go, End, Answer, Came, Failed, Receiver, Callback, Frame, InFrame, InHost, World, Setup}
+use Rattle.grain_means.specs.Worlds.{Act, Go, End, Answer, Came, Failed, Callback, Frame, InFrame, InHost, World, Setup}
 use Rattle.grain_means.specs.Comes.{Comes}
 use Rattle.grain_means.specs.Ends.{Ends}
-use Rattle.grain_means.specs.Rules.{bound, cells_lent, flat_all, frame_at, is_stop, lent_held, position, race_text, receiver_left, receiver_rewritten, scope_with, roots_with, trees_in, with_token, without_token, is_told, no_memory, arguments_back, function_back, called_back}
+use Rattle.grain_means.specs.Rules.{bound, flat_all, frame_at, is_stop, lent_held, position, race_text, receiver_left, receiver_rewritten, scope_with, roots_with, trees_in, with_token, without_token, is_told, no_memory, arguments_back, function_back, called_back}
 use Rattle.grain_means.specs.Causes.Instructions.{IsCharged}
 use Rattle.grain_means.specs.Causes.Questions.{IsCalled, Question, asking_world, native_asked, reply_to}
 
@@ -37,9 +36,9 @@ ThreePassed m k = (is_stop m.stop k ≡ false) × (is_stop m.stop (k + 1) ≡ fa
 abbrev pub IsTaken : {S : Type 0} → Setup S → World S → Type 0
 IsTaken m w = IsCharged m w × ThreePassed m w.passed
 
--- A call in this world fails before anything of it is done, with this fault at this position: no operation
--- is left, or the host ends the run; or no level is left; or there are too many parameters. Memory is not
--- out at the marks up to there, of which the last one is that of the fault.
+-- A call in this world fails before its body or its native begins, with this fault at this position: no
+-- operation is left, or the host ends the run; or no level is left; or there are too many parameters.
+-- Memory is not out at the marks up to there, of which the last one is that of the fault.
 abbrev pub IsKeptOut : {S : Type 0} → Setup S → Position → ℕ → World S → Problem → Type 0
 IsKeptOut m q params w x =
     ((m.engine.limits.operations ≤ w.count) × (is_stop m.stop w.passed ≡ false)
@@ -138,7 +137,8 @@ module _ {S : Type 0} (m : Setup S) where
   }
 
   -- A native is called back: the program has no function of the pointer's name, or natives may not call
-  -- it. It is asked for on these arguments, and is there.
+  -- it. An operation is taken for it, a level is left, and these are its arguments as they are read. That
+  -- `native` is the one that is found is said by `IsCalledBack`.
   pub record NativeBack (c : Callback) (w : World S) : Type 0 where
     pub none : function_back m.program m.engine.callbacks c ≡ None
     pub taken : IsTaken m w
@@ -194,8 +194,7 @@ module _ {S : Type 0} (m : Setup S) where
         is_stop m.stop (u.passed + 1) ≡ false →
         AsksNext first start (next_asked c o u token p values) (next_asked_world c o u token)
 
-  -- the same where the last call may also stand inside one of the native's: a native is called back there,
-  -- and asks for calls itself
+  -- the same, or a call that a native asks for which was itself called back by such a call, at any depth
   pub data AsksOn : Callback → World S → Callback → World S → Type 0 where
     of_native : {first c : Callback} {start w : World S} → AsksNext first start c w →
         AsksOn first start c w
@@ -213,10 +212,10 @@ module _ {S : Type 0} (m : Setup S) where
       × Ends m (Go (InHost (back_asked b)) (back_start b)) (Failed x) u
       × ((no_memory x ≡ true) ⊎ (is_stop m.stop u.passed ≡ false))
 
-  -- Why a native that asked for calls ended in this fault. One of the calls failed before anything of it
-  -- was done; or the host answered the fault where it heard of a call; or the host answered it to a native
-  -- that was called back, and the host is not told of such a fault. Where the call stands inside others,
-  -- the fault goes past their natives.
+  -- Why a native that asked for calls ended in this fault. One of the calls failed before its body or
+  -- its native began; or the host answered the fault where it heard of a call; or the host answered it to
+  -- a native that was called back, and it does not hear of such a fault. Where the call stands inside
+  -- others, the fault goes past their natives.
   pub record HostFails (first : Callback) (start : World S) (x : Problem) : Type 0 where
     pub callback : Callback
     pub world : World S

@@ -17,7 +17,7 @@ use Rattle.grain_program.specs.declared.code.instruction_set.Op.{Op}
 use Rattle.grain_program.specs.declared.code.instruction_set.Op.TheVariants as op
 use Rattle.grain_means.specs.Worlds.{Act, Go, Failed, World, Setup, Handler, Frame, InFrame, Place}
 use Rattle.grain_means.specs.Places.{look}
-use Rattle.grain_means.specs.Rules.{throws_unit, bound, frame_at, lent_cell, new_root, position}
+use Rattle.grain_means.specs.Rules.{throws_unit, frame_at, lent_cell, new_root, position}
 use Rattle.grain_means.specs.Comes.{ProgramPoint, CatchPoint, Comes, ComesToCatch, Meets}
 use Rattle.grain_means.specs.Ends.{Ends}
 use Rattle.grain_means.specs.Causes.Instructions.{CallsOn, CallsUnder, Throws, receiver}

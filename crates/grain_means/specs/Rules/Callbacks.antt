@@ -1,5 +1,6 @@
--- Calls that natives ask for. A function of the program is called back, or a native, and then the host
--- hears what came of it: it answers the native's call at last, or asks again.
+-- Calls that natives ask for. A function of the program is called back, or a native. Then the host hears what
+-- came of it, and answers the native's call at last, or asks again; or it forgets the token, where it does
+-- not hear of the fault.
 use Rattle.std.specs.Prelude.{ℕ, ◌+◌, List, [], ◌∷◌, ◌++◌, Option, Some, None, Bool, not, ◌&&◌, if◌then◌else◌, nat_eq, nat_le, length, map}
 use Rattle.grain_value.specs.Cells.{flat}
 use Rattle.grain_value.specs.Operands.{read_write}
@@ -105,7 +106,8 @@ module _ {S : Type 0} (m : Setup S) where
       (record w { tokens = with_token token w.tokens })
 
   -- The host answered where it heard what came of the call, and left the receiver so. After a mark it is
-  -- heard; if memory is out there, it is not. The trace goes with the answer, before the mark.
+  -- heard; if memory is out there, it is not. What the answer leaves of the trace is settled before the
+  -- mark.
   abbrev pub answered_again : Callback → Reply → World S → Act S
   answered_again c r w =
       marked_or m (λ w1. ended_so c (Failed NoMemory) (unheard m.law r w1))
@@ -172,6 +174,6 @@ module _ {S : Type 0} (m : Setup S) where
   called_back heard c w =
       callee_called_back heard c (function_back m.program m.engine.callbacks c) w
 
-  -- what a native asked for is done, and the host hears what came of it
+  -- what a native asked for is done, and the host hears what came of it, or forgets the token
   abbrev pub calling_back : Callback → World S → Act S
   calling_back c w = called_back (called_back_over c) c w

@@ -13,7 +13,7 @@ use Rattle.grain_value.specs.declared.natives.Native.{Native}
 use Rattle.grain_value.specs.Writing.{kind_of}
 use Rattle.grain_fault.specs.Positions.{at_position_if_none}
 use Rattle.grain_fault.specs.Problems.{Problem, Plain, NonPureCall, NoMemory}
-use Rattle.grain_means.specs.Worlds.{Answer, Came, Failed, Receiver, Callback, InHost, Frame, World, Act, Go, Then, Setup}
+use Rattle.grain_means.specs.Worlds.{Answer, Came, Failed, Receiver, InHost, Frame, World, Act, Go, Then, Setup}
 use Rattle.grain_means.specs.Rules.Homes.{back_in_scope, back_in_cells, back_in_roots, lent_in_cells}
 use Rattle.grain_host.specs.Signatures.{not_found}
 use Rattle.grain_host.specs.Law.{Law, Reply, native_of}
@@ -84,7 +84,7 @@ unheard law (reply.Done v) w = w
 unheard law (reply.Failed x) w = w
 unheard law (reply.Ask token p values) w = record w { host = law.forget_after w.host token }
 
--- a native is over that asked for calls: what follows from its value, from its fault, or from want of
+-- a native that asked for calls is over: what follows from its value, from its fault, or from want of
 -- memory
 abbrev pub native_over : {S : Type 0} → (World S → Act S) → (Dynamic → World S → Act S) →
     (Problem → World S → Act S) → Answer → World S → Act S

@@ -1,5 +1,5 @@
 -- Operators and op-assignments: the built-in, and else the host.
-use Rattle.std.specs.Prelude.{ℕ, ◌+◌, List, [], ◌∷◌, Option, Some, None, Bool, if◌then◌else◌}
+use Rattle.std.specs.Prelude.{ℕ, ◌+◌, List, [], ◌∷◌, Some, None, Bool, if◌then◌else◌}
 use Rattle.grain_value.specs.declared.values.Dynamic.{Dynamic}
 use Rattle.grain_value.specs.declared.values.Held.{Held}
 use Rattle.grain_value.specs.Looking.{cell_of}
@@ -45,8 +45,9 @@ module _ {S : Type 0} (m : Setup S) where
       (λ r w1. flattened m (read_write r) name f w1 (λ q.
       assigned_at m a (record h { value = q }) name next f w1)) (raised m f)
 
-  -- The fault of the host's op-assignment. Where there is none of its name, that fault is raised, at a mark,
-  -- and is passed over: its trace is gone, and the operator is asked, on what stands there then.
+  -- The fault of the host's op-assignment. Where it says that no function of that name is found, it is
+  -- raised, at a mark, and passed over: its trace is gone, and the operator is asked, on what stands there
+  -- then. Any other fault is raised.
   abbrev pub op_assign_failed_at : Home → List ℕ → AssignOp → Held → Held → ℕ → Frame → Problem →
       World S → Act S
   op_assign_failed_at a name o h v next f x w =

@@ -64,12 +64,12 @@ returns-clause-core g c =
     Simulates (setup g.H.Host.law c.args.program.now engine) q (λ m place w. called m place w)
     (is_out back) (abstraction after steps c.run_main-back.new.host) (finished_with back)) first
     (rw c.with_callbacks-engine.ensures at c.run_main-back.ensures.goes)) in
-    λ core. rw (← c.self.view_is, c.with_memory_fault.ensures)
-    (ends_as_core c.one_meaning.ensures g.H.Host.law c.args.program.now engine b
+    λ called core. rw (← c.self.view_is, c.with_memory_fault.ensures)
+    (ends_as_core c.one_meaning.ensures g.H.Host.law c.args.program.now c.self.inside.engine.now b
     (with_memory_fault back)
     (ending c.counted.ensures g.H.Host.law c.args.program.now engine b after.stacks.trace after.scope
     after.cells c.run_main-back.new.host after.count after.level steps.begun steps.passed)
-    steps.begun
+    steps.begun c.args.callbacks called
     (evaluated c.counted.ensures g.H.Host.law c.args.program.now engine b after.stacks.trace
     after.scope after.cells c.run_main-back.new.host after.count after.level steps.begun
     steps.passed back goes))
