@@ -58,9 +58,13 @@ try_of h = record { target = h.target; variable = h.variable; height = h.operand
 abbrev pub tries : List Handler → List TryHandler
 tries hs = map try_of hs
 
--- an instruction stands where the frame does, and its operands, its handler and its entries of the
--- pools are there
+-- an instruction of a chunk stands where the frame does, and its operands, its cursor, its handler and its
+-- entries of the pools are there
 pub record Stands (program : View) (f : Frame) : Type 0 where
+  pub chunk : Chunk
+  pub number : ℕ
+  pub is : slice_get (chunks_in program) number ≡ Some chunk
+  pub start : Start program.code chunk f.address
   pub instruction : Op
   pub width : ℕ
   pub stands : op_at program.code f.address ≡ Some (instruction, width)
