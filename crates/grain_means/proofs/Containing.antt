@@ -172,6 +172,8 @@ module _ {S : Type 0} {m : Setup S} (on : Grounds m) where
               target = target;
               variable = variable;
               operands = length f.operands;
+              cursors = length f.cursors;
+              totals = length f.totals;
               scope = length w.scope;
               caught = None;
             } ∷ f.handlers;
@@ -183,6 +185,8 @@ module _ {S : Type 0} {m : Setup S} (on : Grounds m) where
             target = t;
             variable = Some k;
             operands = length f.operands;
+            cursors = length f.cursors;
+            totals = length f.totals;
             scope = length w.scope;
             caught = None;
           } ∷ f.handlers;

@@ -115,6 +115,8 @@ module _ {S : Type 0} (m : Setup S) (t : Option Place) (old : List Held) where
             target = target;
             variable = None;
             operands = length f.operands;
+            cursors = length f.cursors;
+            totals = length f.totals;
             scope = length w.scope;
             caught = None;
           } ∷ f.handlers;
@@ -126,6 +128,8 @@ module _ {S : Type 0} (m : Setup S) (t : Option Place) (old : List Held) where
             target = target;
             variable = Some k;
             operands = length f.operands;
+            cursors = length f.cursors;
+            totals = length f.totals;
             scope = length w.scope;
             caught = None;
           } ∷ f.handlers;

@@ -141,6 +141,8 @@ module _ {S : Type 0} {m : Setup S} (walk : Walk m) where
       target = target;
       variable = variable;
       operands = length f.operands;
+      cursors = length f.cursors;
+      totals = length f.totals;
       scope = length now.scope;
       caught = None;
     } ∷ f.handlers;
