@@ -1,7 +1,7 @@
 -- What each instruction takes and gives, where it leads, and what it does to the cursors and the
 -- handlers of its frame. The instruction's row says it; what `chain` takes rests also on the chain of
 -- its index, and where `switch` leads on the switch of its index.
-use Rattle.std.specs.Prelude.{ℕ, ◌+◌, List, [], ◌∷◌, slice_get, Option, Some, None, nat_lt, if◌then◌else◌}
+use Rattle.std.specs.Prelude.{ℕ, ◌+◌, Bool, true, false, List, [], ◌∷◌, slice_get, Option, Some, None, nat_lt, if◌then◌else◌}
 use Rattle.grain_program.specs.declared.code.instruction_set.Op.{Op}
 use Rattle.grain_program.specs.declared.code.effects.Effect.{Effect}
 use Rattle.grain_program.specs.declared.code.effects.Flow.{Flow}
@@ -57,6 +57,13 @@ own_takes o = (row o).takes
 -- how many operands the instruction gives once it has taken its own
 abbrev pub gives_of : Op → ℕ
 gives_of o = (row o).gives
+
+-- a cursor goes on
+abbrev pub advances : Looping → Bool
+advances looping.Keep = false
+advances looping.Begin = false
+advances looping.Leave = false
+advances looping.Advance = true
 
 -- where the machine goes after the instruction
 abbrev pub flow_of : Op → Flow

@@ -60,9 +60,15 @@ switch_target s v = case_or_other s v (case_target v s.cases)
 
 -- ---- the targets of a record
 
+abbrev pub case_targets : List Case → List ℕ
+case_targets cs = map (λ c. c.target) cs
+
+abbrev pub range_targets : List SwitchRange → List ℕ
+range_targets rs = map (λ r. r.target) rs
+
 -- the targets of its cases, of its ranges, and of all other values
 abbrev pub targets_in : Switch → List ℕ
-targets_in s = map (λ c. c.target) s.cases ++ map (λ r. r.target) s.ranges ++ s.default ∷ []
+targets_in s = case_targets s.cases ++ (range_targets s.ranges ++ s.default ∷ [])
 
 -- the targets of a record that is there
 abbrev pub targets_if : Option Switch → List ℕ

@@ -1,6 +1,7 @@
 //! The chunks to which switches lead.
 
 ghost use Rattle.std.specs.Prelude.{◌≡◌, IfOk, map};
+ghost use Rattle.grain_program.specs.Switches.{case_targets, range_targets};
 ghost use Rattle.grain_program.specs.Owners.{owner_at, owns_all, home_of};
 
 use crate::code::switches::{Case, Switch, SwitchRange};
@@ -20,7 +21,7 @@ pub fn owner_end(owners: &[Owner], address: u32) -> u32
 
 /// Whether the chunk of this end owns an instruction at the target of each case.
 fn owns_cases(owners: &[Owner], end: u32, cases: &[Case]) -> bool
-    ensures { result ≡ owns_all owners.now end (map (λ c. c.target) cases.now) }
+    ensures { result ≡ owns_all owners.now end (case_targets cases.now) }
 {
     for case in cases {
         if owner_end(owners, case.target) != end {
@@ -32,7 +33,7 @@ fn owns_cases(owners: &[Owner], end: u32, cases: &[Case]) -> bool
 
 /// Whether the chunk of this end owns an instruction at the target of each range.
 fn owns_ranges(owners: &[Owner], end: u32, ranges: &[SwitchRange]) -> bool
-    ensures { result ≡ owns_all owners.now end (map (λ r. r.target) ranges.now) }
+    ensures { result ≡ owns_all owners.now end (range_targets ranges.now) }
 {
     for range in ranges {
         if owner_end(owners, range.target) != end {

@@ -1,7 +1,7 @@
 //! The addresses to which switches lead.
 
-ghost use Rattle.std.specs.Prelude.{◌≡◌, map, IfOk, OnOk};
-ghost use Rattle.grain_program.specs.Switches.{targets_in, put_in_order, in_order};
+ghost use Rattle.std.specs.Prelude.{◌≡◌, IfOk, OnOk};
+ghost use Rattle.grain_program.specs.Switches.{case_targets, range_targets, targets_in, put_in_order, in_order};
 
 use crate::code::switches::{Case, Switch, SwitchRange};
 use grain_value::OutOfMemory;
@@ -11,7 +11,7 @@ use std::collections::BTreeSet;
 /// Adds the target of each case.
 fn add_cases(targets: &mut BTreeSet<u32>, cases: &[Case]) -> Result<(), OutOfMemory>
     ensures { OnOk result (targets.new.keys ≡
-        put_in_order targets.old.keys (map (λ c. c.target) cases.now)) }
+        put_in_order targets.old.keys (case_targets cases.now)) }
 {
     for case in cases {
         targets.insert(case.target)?;
@@ -22,7 +22,7 @@ fn add_cases(targets: &mut BTreeSet<u32>, cases: &[Case]) -> Result<(), OutOfMem
 /// Adds the target of each range.
 fn add_ranges(targets: &mut BTreeSet<u32>, ranges: &[SwitchRange]) -> Result<(), OutOfMemory>
     ensures { OnOk result (targets.new.keys ≡
-        put_in_order targets.old.keys (map (λ r. r.target) ranges.now)) }
+        put_in_order targets.old.keys (range_targets ranges.now)) }
 {
     for range in ranges {
         targets.insert(range.target)?;
