@@ -1,9 +1,10 @@
 //! Switches: tables that lead each value to an address.
 
-ghost use Rattle.std.specs.Prelude.{◌≡◌};
+ghost use Rattle.std.specs.Prelude.{◌≡◌, IfOk};
 ghost use Rattle.grain_program.specs.Switches.{is_value, same_truth, in_range, case_target, range_target, switch_target};
 
-use grain_value::{Dynamic, List, Text};
+use grain_value::{Dynamic, List, OutOfMemory, Text};
+use std::alloc::Global;
 
 /// A value that a case is for.
 #[derive(Drop)]
@@ -21,6 +22,22 @@ pub enum CaseValue {
 }
 
 impl CaseValue {
+    /// The same value.
+    pub fn copy(&self, alloc: Global) -> Result<CaseValue, OutOfMemory>
+        ensures { IfOk result (λ value. value ≡ self.now) }
+    {
+        match self {
+            CaseValue::Unit => Ok(CaseValue::Unit),
+            CaseValue::Bool(truth) => Ok(CaseValue::Bool(*truth)),
+            CaseValue::Int(integer) => Ok(CaseValue::Int(*integer)),
+            CaseValue::Char(character) => Ok(CaseValue::Char(*character)),
+            CaseValue::Text(text) => {
+                let text = Text::copy_of(alloc, text.as_str())?;
+                Ok(CaseValue::Text(text))
+            }
+        }
+    }
+
     /// Whether the value is this one.
     fn is(&self, value: &Dynamic) -> bool
         ensures { result ≡ is_value self.now value.now }
