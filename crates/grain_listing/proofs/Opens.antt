@@ -16,7 +16,7 @@ use Rattle.grain_listing.specs.Headers.{stack_of, assign_of, header_of, is_crowd
 use Rattle.grain_listing.specs.ChainWords.{chain_of, step_of}
 use Rattle.grain_listing.specs.SwitchWords.{aim_of, case_of, range_of}
 use Rattle.grain_listing.specs.Instructions.{kinds_of}
-use Rattle.grain_listing.specs.Table.{stands, is_block, follows}
+use Rattle.grain_listing.specs.Table.{stands, is_block, opened_by}
 use Rattle.grain_listing.specs.Statements.{Byte, Statement, caps_line, source_line, limit_line, flag_line, fail_line, stop_line, const_line, name_line, op_line, assign_line, chain_line, step_line, switch_line, case_line, range_line, scope_line, main_line, fn_line, end_line, code_line, label_line, section, caps, source, limits, consts, names, tokens, assigns, chains, last_steps, switches, last_cases, last_ranges, open_entry, is_chain_open, is_switch_open, functions, labels, label_address}
 use Rattle.grain_listing.specs.LineMeanings.{operands, limit_set, statement, before_colon, labelled, known}
 use Rattle.grain_listing.specs.declared.table.Follows.{Follows}
@@ -50,7 +50,7 @@ module _ (before : List Statement) where
   in_room b q x h = either b q x (Err TooMany) h tt
 
   line_opens : (l : Line) (n : ℕ) (cs : List ℕ) →
-      Opens before (follows (Some l)) (statement l n cs before)
+      Opens before (opened_by (Some l)) (statement l n cs before)
   line_opens lines.Header n cs = tt
   line_opens lines.Capabilities n cs =
       either may.Nothing (is_some (caps before)) (Err OutOfPlace)
@@ -137,8 +137,8 @@ module _ (before : List Statement) where
       (alone_opens cs (label_line (encode_utf8_all t)) refl)) tt) tt
 
 pub known_opens : (l : Option Line) (n : ℕ) (w : List ℕ) (cs : List ℕ) (before : List Statement) →
-    Opens before (follows l) (known l n w cs before)
+    Opens before (opened_by l) (known l n w cs before)
 known_opens None n w cs before = label_opens before (before_colon w) cs
 known_opens (Some l) n w cs before =
-    either before (follows (Some l)) (stands l (section before)) (statement l n cs before)
+    either before (opened_by (Some l)) (stands l (section before)) (statement l n cs before)
     (Err OutOfPlace) (line_opens before l n cs) tt

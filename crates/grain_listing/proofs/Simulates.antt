@@ -22,7 +22,7 @@ use Rattle.grain_listing.specs.SwitchWords.{aim_of, switch_to, case_of, range_of
 use Rattle.grain_program.specs.declared.code.instruction_set.Op.{Op}
 use Rattle.grain_program.specs.InstructionSet.{tag_of, fields_of}
 use Rattle.grain_listing.specs.Instructions.{kinds_of}
-use Rattle.grain_listing.specs.Table.{line_of, stands, is_block, follows}
+use Rattle.grain_listing.specs.Table.{line_of, stands, is_block, opened_by}
 use Rattle.grain_listing.specs.Statements.{Piece, Byte, Goto, Statement, blank, header, caps_line, source_line, limit_line, flag_line, fail_line, stop_line, const_line, name_line, op_line, assign_line, chain_line, step_line, switch_line, case_line, range_line, scope_line, main_line, fn_line, end_line, code_line, label_line, section, caps, source, limits, flags, host, consts, names, tokens, assigns, chains, with_step, last_steps, switches, with_case, with_range, last_cases, last_ranges, open_entry, is_chain_open, is_switch_open, functions, labels, label_address, address, open_block}
 use Rattle.grain_listing.specs.LineMeanings.{bytes, operand, code_operand, operands, in_list, limit_set, statement, before_colon, label_said, labelled, known, header_end, header_number, header_said, begun_by, in_section, says}
 use Rattle.grain_listing.specs.views.Assembling
@@ -445,9 +445,9 @@ opened_put n said b (Err e) h = refl
 put_known_said : (n : ℕ) (said : List Statement) (l : Option Line) (w : List ℕ) (cs : List ℕ) →
     put_known l w cs (assembled n said) ≡ and_then (known l n w cs said) (next n said)
 put_known_said n said l w cs =
-    ap (λ (r : Outcome). and_then r (λ u. given (record u { follows = follows l })))
+    ap (λ (r : Outcome). and_then r (λ u. given (record u { follows = opened_by l })))
     (known_put n said l w cs) ∙
-    opened_put n said (follows l) (known l n w cs said) (known_opens l n w cs said)
+    opened_put n said (opened_by l) (known l n w cs said) (known_opens l n w cs said)
 
 begun_put : (n : ℕ) (said : List Statement) (o : Option (List ℕ × List ℕ)) →
     after_header o (assembled n said) ≡ and_then (begun_by o n said) (next n said)

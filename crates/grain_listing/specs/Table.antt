@@ -121,10 +121,10 @@ takes_cases may.Cases = true
 
 -- what may follow the line: steps after a chain and a step, cases and ranges after a switch, a case and
 -- a range
-abbrev pub follows : Option Line → Follows
-follows (Some lines.Chain) = may.Steps
-follows (Some lines.Step) = may.Steps
-follows (Some lines.Switch) = may.Cases
-follows (Some lines.Case) = may.Cases
-follows (Some (lines.Range inclusive)) = may.Cases
-follows l = may.Nothing
+abbrev pub opened_by : Option Line → Follows
+opened_by (Some lines.Chain) = may.Steps
+opened_by (Some lines.Step) = may.Steps
+opened_by (Some lines.Switch) = may.Cases
+opened_by (Some lines.Case) = may.Cases
+opened_by (Some (lines.Range inclusive)) = may.Cases
+opened_by l = may.Nothing

@@ -7,7 +7,7 @@ ghost use Rattle.grain_listing.specs.views.AssemblerView.{assembler_view, result
 ghost use Rattle.grain_listing.specs.views.Assembling.{HasRoom, put_line, label_line, known_line, put_known, with_header, after_header, take_line, is_start};
 
 use crate::assembler::Assembler;
-use crate::table::{Follows, Line, Section, follows, line_of, stands};
+use crate::table::{Follows, Line, Section, line_of, opened_by, stands};
 use grain_literals::{Reason, after_name};
 use grain_value::OutOfMemory;
 use grain_words::{begins_letter, is_over, next_word, word_text};
@@ -152,7 +152,7 @@ impl Assembler {
         match self.known_line(alloc, line, word, rest)? {
             Err(reason) => Ok(Err(reason)),
             Ok(()) => {
-                self.follows = follows(line);
+                self.follows = opened_by(line);
                 Ok(Ok(()))
             }
         }

@@ -3,7 +3,7 @@
 ghost use Rattle.std.specs.Prelude.{◌≡◌, option_map, Some};
 ghost use Rattle.grain_program.specs.declared.code.instruction_set.Op.{Op};
 ghost use Rattle.grain_listing.specs.Instructions.{word_of, encoding_of, op_named};
-ghost use Rattle.grain_listing.specs.Table.{own_line, pool_line, line_of, is_pools, is_block, is_after, stands, takes_steps, takes_cases, follows};
+ghost use Rattle.grain_listing.specs.Table.{own_line, pool_line, line_of, is_pools, is_block, is_after, stands, takes_steps, takes_cases, opened_by};
 
 use crate::later::is_later;
 use grain_program::Op;
@@ -255,8 +255,8 @@ pub fn takes_cases(follows: Follows) -> bool
 }
 
 /// What may follow the line.
-pub fn follows(line: Option<Line>) -> Follows
-    ensures { result ≡ follows line }
+pub fn opened_by(line: Option<Line>) -> Follows
+    ensures { result ≡ opened_by line }
 {
     match line {
         Some(Line::Chain) | Some(Line::Step) => Follows::Steps,

@@ -30,7 +30,7 @@ use Rattle.grain_listing.specs.ChainWords.{chain_of, step_of}
 use Rattle.grain_listing.specs.SwitchWords.{aim_of, switch_to, case_of, range_of}
 use Rattle.grain_program.specs.InstructionSet.{tag_of, fields_of}
 use Rattle.grain_listing.specs.Instructions.{kinds_of}
-use Rattle.grain_listing.specs.Table.{line_of, stands, is_block, takes_steps, takes_cases, follows}
+use Rattle.grain_listing.specs.Table.{line_of, stands, is_block, takes_steps, takes_cases, opened_by}
 use Rattle.grain_listing.specs.Statements.{Statement, with_step, last_steps, with_case, with_range, last_cases, last_ranges, main_ended, functions_ended}
 use Rattle.grain_listing.specs.LineMeanings
 use Rattle.grain_listing.specs.LineMeanings.{limit_set, in_pool, in_list, before_colon, header_said}
@@ -272,7 +272,7 @@ is_start s = false
 -- a line after the header; it says what may follow
 abbrev pub put_known : Option Line → List ℕ → List ℕ → AssemblerView → Result AssemblerView Reason
 put_known l w cs v =
-    and_then (known_line l w cs v) (λ u. Ok (record u { follows = follows l }))
+    and_then (known_line l w cs v) (λ u. Ok (record u { follows = opened_by l }))
 
 abbrev pub after_header : Option (List ℕ × List ℕ) → AssemblerView → Result AssemblerView Reason
 after_header None v = Err UnknownWord
