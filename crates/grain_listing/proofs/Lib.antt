@@ -7,6 +7,7 @@ pub mod Assembled
 pub mod FoundLabels
 pub mod Opens
 pub mod LastChain
+pub mod LastSwitch
 pub mod Simulates
 pub mod Linked
 pub mod LinesRead

@@ -15,6 +15,7 @@ use crate::limits::LimitLine;
 use crate::listings::Listing;
 use crate::reasons::BadLine;
 use crate::settings::number_of;
+use crate::switch_linking::{check_aims, linked_switches};
 use crate::table::Section;
 use bitflags::Flags;
 use grain_literals::Reason;
@@ -128,10 +129,14 @@ fn caps_of(bits: Option<u8>) -> Caps
 }
 
 /// What the assembler says, whose last block is over.
-fn set_up(assembler: Assembler, assign_ops: AssignOps) -> Result<Listing, BadLine>
+fn set_up(
+    alloc: Global,
+    assembler: Assembler,
+    assign_ops: AssignOps,
+) -> Result<Result<Listing, BadLine>, OutOfMemory>
     requires { IsOrdered (assembler_view assembler) }
-    ensures setup { outcome result ≡ filled (assembler_view assembler) assign_ops }
-    ensures ready { IfOk result IsReady }
+    ensures setup { IfOk result (λ r. outcome r ≡ filled (assembler_view assembler) assign_ops) }
+    ensures ready { IfOk result (λ r. IfOk r IsReady) }
 {
     let Assembler {
         line: _,
@@ -147,7 +152,9 @@ fn set_up(assembler: Assembler, assign_ops: AssignOps) -> Result<Listing, BadLin
         tokens,
         assigns: _,
         chains,
-        in_chain: _,
+        switches,
+        aims,
+        follows: _,
         block: _,
         main,
         functions,
@@ -156,7 +163,13 @@ fn set_up(assembler: Assembler, assign_ops: AssignOps) -> Result<Listing, BadLin
         labels,
         fixups,
     } = assembler;
-    fill(&labels, fixups.as_slice(), &mut code)?;
+    if let Err(bad) = check_aims(&labels, aims.as_slice()) {
+        return Ok(Err(bad));
+    }
+    if let Err(bad) = fill(&labels, fixups.as_slice(), &mut code) {
+        return Ok(Err(bad));
+    }
+    let switches = linked_switches(alloc, &labels, switches.as_slice())?;
     let parts = Parts {
         caps: caps_of(caps),
         code: Blob::from_vec(code),
@@ -167,17 +180,18 @@ fn set_up(assembler: Assembler, assign_ops: AssignOps) -> Result<Listing, BadLin
         tokens,
         assign_ops,
         chains,
+        switches,
         positions,
         source,
     };
-    Ok(Listing {
+    Ok(Ok(Listing {
         parts,
         limits: limits_of(limits.as_slice()),
         fast_operators: is_on("operators", flags.as_slice()),
         strict_properties: is_on("strict", flags.as_slice()),
         host,
         scope,
-    })
+    }))
 }
 
 fn last_line(n: usize) -> usize
@@ -187,26 +201,31 @@ fn last_line(n: usize) -> usize
 }
 
 /// What the assembler says after the nth line, which is its last one.
-fn finish(n: usize, assembler: Assembler, assign_ops: AssignOps) -> Result<Listing, BadLine>
+fn finish(
+    alloc: Global,
+    n: usize,
+    assembler: Assembler,
+    assign_ops: AssignOps,
+) -> Result<Result<Listing, BadLine>, OutOfMemory>
     requires { IsOrdered (assembler_view assembler) }
-    ensures setup { outcome result ≡
-        finish n assembler.section (assembler_view assembler) assign_ops }
-    ensures ready { IfOk result IsReady }
+    ensures setup { IfOk result (λ r. outcome r ≡
+        finish n assembler.section (assembler_view assembler) assign_ops) }
+    ensures ready { IfOk result (λ r. IfOk r IsReady) }
 {
     match assembler.section {
-        Section::Start => Err(BadLine {
+        Section::Start => Ok(Err(BadLine {
             line: last_line(n),
             reason: Reason::MissingHeader,
-        }),
-        Section::Pools => Err(BadLine {
+        })),
+        Section::Pools => Ok(Err(BadLine {
             line: n,
             reason: Reason::MissingMain,
-        }),
-        Section::Block => Err(BadLine {
+        })),
+        Section::Block => Ok(Err(BadLine {
             line: n,
             reason: Reason::UnfinishedChunk,
-        }),
-        Section::After => set_up(assembler, assign_ops),
+        })),
+        Section::After => set_up(alloc, assembler, assign_ops),
     }
 }
 
@@ -222,6 +241,6 @@ pub fn ending(
 {
     match assign_ops_of(alloc, &assembler.tokens, assembler.assigns.as_slice())? {
         Err(bad) => Ok(Err(bad)),
-        Ok(assign_ops) => Ok(finish(n, assembler, assign_ops)),
+        Ok(assign_ops) => finish(alloc, n, assembler, assign_ops),
     }
 }

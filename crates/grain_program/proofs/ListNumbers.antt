@@ -128,36 +128,52 @@ tied_both : (a b : Ordering) → is_eq a ≡ true → is_eq b ≡ true
     → is_eq (ordering_then a b) ≡ true
 tied_both a b e f = sym (tied_then a b) ∙ ap (λ (x : Bool). x && is_eq b) e ∙ f
 
-abbrev node : ℕ → ℕ → Option ℕ → ℕ → Node
-node outer target variable height =
-    record { outer = outer; target = target; variable = variable; height = height }
+abbrev node : ℕ → ℕ → Option ℕ → ℕ → ℕ → Node
+node outer target variable height cursors = record {
+  outer = outer;
+  target = target;
+  variable = variable;
+  height = height;
+  cursors = cursors;
+}
+
+-- the order of the parts of nodes that come after the others
+abbrev last_cmp : Node → Node → Ordering
+last_cmp m n = ordering_then (nat_cmp m.height n.height) (nat_cmp m.cursors n.cursors)
 
 -- nodes at one place in the order are one
 nodes_tied : (m n : Node) → is_eq (node_cmp m n) ≡ true → m ≡ n
 nodes_tied m n e =
     let a =
     then_tied (nat_cmp m.outer n.outer) (ordering_then (nat_cmp m.target n.target)
-    (ordering_then (option_cmp nat_cmp m.variable n.variable) (nat_cmp m.height n.height))) e in
+    (ordering_then (option_cmp nat_cmp m.variable n.variable) (last_cmp m n))) e in
     let b =
     then_tied (nat_cmp m.target n.target) (ordering_then (option_cmp nat_cmp m.variable n.variable)
-    (nat_cmp m.height n.height)) a.1 in
-    let c =
-    then_tied (option_cmp nat_cmp m.variable n.variable) (nat_cmp m.height n.height) b.1 in
-    ap (λ (x : ℕ). node x m.target m.variable m.height) (numbers_tied m.outer n.outer a.0)
-    ∙ ap (λ (x : ℕ). node n.outer x m.variable m.height) (numbers_tied m.target n.target b.0)
-    ∙ ap (λ (x : Option ℕ). node n.outer n.target x m.height)
+    (last_cmp m n)) a.1 in
+    let c = then_tied (option_cmp nat_cmp m.variable n.variable) (last_cmp m n) b.1 in
+    let d = then_tied (nat_cmp m.height n.height) (nat_cmp m.cursors n.cursors) c.1 in
+    ap (λ (x : ℕ). node x m.target m.variable m.height m.cursors)
+    (numbers_tied m.outer n.outer a.0)
+    ∙ ap (λ (x : ℕ). node n.outer x m.variable m.height m.cursors)
+    (numbers_tied m.target n.target b.0)
+    ∙ ap (λ (x : Option ℕ). node n.outer n.target x m.height m.cursors)
     (variables_tied m.variable n.variable c.0)
-    ∙ ap (λ (x : ℕ). node n.outer n.target n.variable x) (numbers_tied m.height n.height c.1)
+    ∙ ap (λ (x : ℕ). node n.outer n.target n.variable x m.cursors)
+    (numbers_tied m.height n.height d.0)
+    ∙ ap (λ (x : ℕ). node n.outer n.target n.variable n.height x)
+    (numbers_tied m.cursors n.cursors d.1)
 
 node_tied : (n : Node) → is_eq (node_cmp n n) ≡ true
 node_tied n =
     tied_both (nat_cmp n.outer n.outer) (ordering_then (nat_cmp n.target n.target)
-    (ordering_then (option_cmp nat_cmp n.variable n.variable) (nat_cmp n.height n.height)))
+    (ordering_then (option_cmp nat_cmp n.variable n.variable) (last_cmp n n)))
     (number_tied n.outer)
     (tied_both (nat_cmp n.target n.target) (ordering_then (option_cmp nat_cmp n.variable n.variable)
-    (nat_cmp n.height n.height)) (number_tied n.target)
-    (tied_both (option_cmp nat_cmp n.variable n.variable) (nat_cmp n.height n.height)
-    (variable_tied n.variable) (number_tied n.height)))
+    (last_cmp n n)) (number_tied n.target)
+    (tied_both (option_cmp nat_cmp n.variable n.variable) (last_cmp n n)
+    (variable_tied n.variable)
+    (tied_both (nat_cmp n.height n.height) (nat_cmp n.cursors n.cursors) (number_tied n.height)
+    (number_tied n.cursors))))
 
 -- ---- one table
 
@@ -189,8 +205,8 @@ module _ (nodes : List Node) (numbers : BTreeMap Node ℕ) (t : IsTable nodes nu
   -- nodes of one list are one, where the lists around them have one number
   one_node : (m n : Node) → m.outer ≡ n.outer → handler_of m ≡ handler_of n → m ≡ n
   one_node m n e f =
-      ap (λ (x : ℕ). node x m.target m.variable m.height) e
-      ∙ ap (λ (h : TryHandler). node n.outer h.target h.variable h.height) f
+      ap (λ (x : ℕ). node x m.target m.variable m.height m.cursors) e
+      ∙ ap (λ (h : TryHandler). node n.outer h.target h.variable h.height h.cursors) f
 
   first_same : (g h : TryHandler) (gs hs : List TryHandler)
       → ◌≡◌ {A = List TryHandler} (g ∷ gs) (h ∷ hs) → (g ≡ h) × (gs ≡ hs)

@@ -3,6 +3,7 @@
 -- verified of it.
 pub mod Bits
 pub mod View
+pub mod Switches
 pub mod Chains
 pub mod InstructionSet
 pub mod Fields

@@ -1,5 +1,5 @@
 -- How the assembler's last state becomes what the listing says.
-use Rattle.std.specs.Prelude.{ℕ, ◌+◌, List, [], ◌∷◌, Result, Ok, Err, codes, slice_set}
+use Rattle.std.specs.Prelude.{ℕ, ◌+◌, List, [], ◌∷◌, map, Result, Ok, Err, codes, slice_set}
 use Rattle.std.specs.Int.{w32, to_le_bytes}
 use Rattle.grain_program.specs.declared.code.parts.AssignOp.{AssignOp}
 use Rattle.grain_words.specs.Labels.{Addresses, address_of}
@@ -7,6 +7,7 @@ use Rattle.grain_literals.specs.Steps.{and_then, present}
 use Rattle.grain_literals.specs.declared.reasons.Reason.TheVariants.{UnknownLabel}
 use Rattle.grain_listing.specs.Flags.{is_on}
 use Rattle.grain_listing.specs.Reading.{ListingView, bad_line, limits_of, caps_of, assign_ops_of, complete}
+use Rattle.grain_listing.specs.SwitchTargets.{all_known, linked_switch}
 use Rattle.grain_listing.specs.views.Assembling.{AssemblerView}
 use Rattle.grain_listing.specs.declared.assembler.Fixup.{Fixup}
 use Rattle.grain_listing.specs.declared.table.Section.{Section}
@@ -41,6 +42,7 @@ set_up v assign_ops code =
         tokens = v.tokens;
         assign_ops = assign_ops;
         chains = v.chains;
+        switches = map (linked_switch (λ t. address_of t v.labels)) v.switches;
         positions = v.positions;
         source = v.source;
       };
@@ -52,8 +54,9 @@ set_up v assign_ops code =
     }
 
 abbrev pub filled : AssemblerView → List AssignOp → Result ListingView BadLine
-filled v assign_ops = and_then (fill v.labels v.fixups v.code)
-    (λ code. Ok (set_up v assign_ops code))
+filled v assign_ops =
+    and_then (all_known (λ t. address_of t v.labels) v.aims) (λ _.
+    and_then (fill v.labels v.fixups v.code) (λ code. Ok (set_up v assign_ops code)))
 
 -- after the last line, the nth
 abbrev pub finish : ℕ → Section → AssemblerView → List AssignOp → Result ListingView BadLine

@@ -1,4 +1,4 @@
-//! The rules of heights, which look at the operands on all ways through the code.
+//! The rules of heights, which look at the operands and the cursors on all ways through the code.
 
 ghost use Rattle.std.specs.Prelude.{◌≡◌, ◌⊎◌, IfOk, IfErr};
 ghost use Rattle.grain_program.specs.View.{view_of};
@@ -21,7 +21,7 @@ pub fn check_heights(alloc: Global, parts: &Parts, chunks: &[Chunk]) -> Result<(
         return Err(Refusal::Memory);
     };
     for chunk in chunks {
-        if let Err(refusal) = analysis.analyse_chunk(parts, *chunk) {
+        if let Err(refusal) = analysis.analyse_chunk(alloc, parts, *chunk) {
             return Err(refusal);
         }
     }

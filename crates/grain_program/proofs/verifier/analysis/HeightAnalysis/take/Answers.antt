@@ -15,12 +15,14 @@ arrive_by-requires-clause-within c =
     let read : op_at c.args.parts.now.code c.args.address ≡ Some (c.in-Some.op, c.in-Some.width) =
     sym c.decode.ensures.exact ∙ c.in-Some.is in
     let here =
-    subst (λ (x : Effect). AllByRecursion (λ b. b < length c.args.parts.now.code) (leads x.flow next))
+    subst (λ (x : Effect). AllByRecursion (λ b. b < length c.args.parts.now.code)
+    (leads (view_of c.args.parts.now) x.flow next))
     (sym c.of-effect.ensures) (c.requires.targets (c.in-Some.op, c.in-Some.width) read) in
     let long : length c.args.parts.now.code ≡ length c.self.inside.shapes =
     sym c.requires.room ∙ places c.args.self.now
     ∙ ap (λ (f : Search). length f.shapes) (sym c.self.view_is) in
-    subst (λ n. AllByRecursion (λ b. b < n) (leads c.of-effect.result.flow next)) long here
+    subst (λ n. AllByRecursion (λ b. b < n)
+    (leads (view_of c.args.parts.now) c.of-effect.result.flow next)) long here
 
 pub unreachable-requires : goal.unreachable-requires
 unreachable-requires c = c.requires.read (sym c.decode.ensures.exact ∙ c.in_default.is)
