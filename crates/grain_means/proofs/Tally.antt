@@ -66,15 +66,17 @@ module _ {S : Type 0} {m : Setup S} (walk : Walk m) where
   open walk use {root, footing as k, frame as f, now, tokens, level, trace, keeps, sits}
 
   -- a handler that was pushed, as a typing has it
-  pushed_tries : (target : ℕ) (variable : Option ℕ) →
-      record { target = target; variable = variable; height = length f.operands }
-      ∷ tries f.handlers ≡
-      record { target = target; variable = variable; height = length f.operands - 0 + 0 }
+  abbrev with_try : ℕ → Option ℕ → ℕ → ℕ → List TryHandler
+  with_try target variable height cursors =
+      record { target = target; variable = variable; height = height; cursors = cursors }
       ∷ tries f.handlers
-  pushed_tries target variable = ap with_height (omega arith) where
-    with_height : ℕ → List TryHandler
-    with_height n =
-        record { target = target; variable = variable; height = n } ∷ tries f.handlers
+
+  pushed_tries : (target : ℕ) (variable : Option ℕ) →
+      with_try target variable (length f.operands) (length f.cursors) ≡
+      with_try target variable (length f.operands - 0 + 0) (length f.cursors - 0 + 0)
+  pushed_tries target variable =
+      ap (λ n. with_try target variable n (length f.cursors)) (omega arith)
+      ∙ ap (λ n. with_try target variable (length f.operands - 0 + 0) n) (omega arith)
 
   even_instr : (o : Op) (width : ℕ) → op_at m.program.code f.address ≡ Some (o, width) →
       Even walk (now.ran + 1) (instr m o (f.address + width) f (start walk))
@@ -338,22 +340,25 @@ module _ {S : Type 0} {m : Setup S} (walk : Walk m) where
       (sits_at walk (op.Statement depth) width at refl _ f.operands (inl refl) (λ _. omega arith))
   even_instr (op.PushHandler target) width at =
       even_handled walk (op.PushHandler target) width at target None
-      (fits_on walk (op.PushHandler target) width at (guarding walk target None (f.address + width))
+      (fits_on walk (op.PushHandler target) width at refl
+      (guarding walk target None (f.address + width))
       (of_two target (f.address + width) (f.address + width) (inr refl)) (λ _. omega arith)
+      (λ _. omega arith)
       (pushed_tries target None))
   even_instr (op.PushHandlerVar target n) width at =
       even_handled walk (op.PushHandlerVar target n) width at target (Some n)
-      (fits_on walk (op.PushHandlerVar target n) width at
+      (fits_on walk (op.PushHandlerVar target n) width at refl
       (guarding walk target (Some n) (f.address + width))
       (of_two target (f.address + width) (f.address + width) (inr refl)) (λ _. omega arith)
+      (λ _. omega arith)
       (pushed_tries target (Some n)))
   even_instr op.PopHandler width at =
       let after : Frame = unguarded walk (f.address + width) in
       even_on walk op.PopHandler width at after refl (
         sits.0,
         sits.1,
-        fits_on walk op.PopHandler width at after (inl refl) (λ _. omega arith)
-            (tries_outer f.handlers),
+        fits_on walk op.PopHandler width at refl after (inl refl) (λ _. omega arith)
+            (λ _. omega arith) (tries_outer f.handlers),
         guarded_outside m root k f.handlers sits.3,
         sits.4,
       )

@@ -14,7 +14,7 @@ use Rattle.grain_program.specs.View.{switch_of}
 use Rattle.grain_means.specs.Worlds.{Cursor, Frame, World, Act, Setup}
 use Rattle.grain_means.specs.Rules.Frames.{stepped}
 use Rattle.grain_means.specs.Rules.Faults.{position, raised}
-use Rattle.grain_means.specs.Rules.Going.{onward, jumped, pushed}
+use Rattle.grain_means.specs.Rules.Going.{onward, jumped}
 use Rattle.grain_means.specs.Rules.Reads.{flattened}
 use Rattle.grain_means.specs.Rules.Homes.{in_entry}
 use Rattle.grain_means.specs.Rules.Entries.{at_slot, written_at}
@@ -71,18 +71,18 @@ module _ {S : Type 0} (m : Setup S) where
       at_slot m f slot w (λ h. written_at m (in_entry (f.base + slot) (cell_of h.value))
       (read_write (dynamic.Int n)) [] f w go)
 
-  -- an item as it is read, as the last operand
-  abbrev pub item_given : Tree → ℕ → Frame → World S → Act S
-  item_given t next f w =
-      flattened m (read_write (value_of t)) [] f w (λ v. pushed m f next f.operands v w)
+  -- an item, as it is read, is the last operand, and the loop has these left, and this count
+  abbrev pub item_given : Tree → List Tree → ℤ → ℕ → Frame → World S → Act S
+  item_given t ts n next f w =
+      flattened m (read_write (value_of t)) [] f w (λ v.
+      onward m f (advanced ts n (stepped f next (f.operands ++ read_write v ∷ []))) w)
 
   -- An item is counted, the count is stored, and then the item is given. A count that passes 64 bits is a
   -- fault.
   abbrev pub item_counted : Tree → List Tree → ℤ → Option ℕ → ℕ → Frame → World S → Act S
   item_counted t ts n slot next f w =
       if fits64 (n +ℤ pos 1) then
-      count_stored slot (n +ℤ pos 1) (advanced ts (n +ℤ pos 1) f) w
-      (item_given t next (advanced ts (n +ℤ pos 1) f))
+      count_stored slot (n +ℤ pos 1) f w (item_given t ts (n +ℤ pos 1) next f)
       else raised m f (Plain (Arithmetic (counter_text n)) (position m f)) w
 
   -- the next of these items; if none is left, the loop is left, by a transfer
