@@ -1,5 +1,6 @@
 pub mod Choices
 pub mod Determined
+mod CoreEnding
 pub mod Kept
 pub mod Unlent
 pub mod Ground

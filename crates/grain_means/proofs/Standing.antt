@@ -41,7 +41,12 @@ tries_outer (h ∷ hs) = refl
 -- the same of the handlers around the innermost one
 pub covered_outside : (p : View) (operands : List Held) (cursors : List Cursor) (h : TryHandler)
     (hs : List TryHandler) → Covered p operands cursors (h ∷ hs) → Covered p operands cursors hs
-covered_outside p operands cursors h hs covered = record covered {
+covered_outside p operands cursors h hs covered = record {
+  chunk = covered.chunk;
+  depth = covered.depth;
+  loops = covered.loops;
+  deep = covered.deep;
+  many = covered.many;
   by = uncovered p covered.chunk covered.depth covered.loops h hs covered.by;
 }
 

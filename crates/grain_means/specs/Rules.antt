@@ -26,7 +26,7 @@ pub use Rattle.grain_means.specs.Rules.Catching.{outermost, catching, resumed, p
 pub use Rattle.grain_means.specs.Rules.Going.{onward, jumped, pushed}
 pub use Rattle.grain_means.specs.Rules.Reads.{flat_before, flat_all, flat_or_race, flattened, all_or_race, flattened_all}
 pub use Rattle.grain_means.specs.Rules.Transfers.{agrees, branched, not_a_bool, tested, jump_if, skip, unwind}
-pub use Rattle.grain_means.specs.Rules.Loops.{cursor_over, innermost_cursor, outer_cursors, with_cursor, without_cursor, advanced, counter_text, loop_begun, iter_init, iter_drop, count_stored, item_given, item_counted, loop_advanced, iter_next, switch}
+pub use Rattle.grain_means.specs.Rules.Loops.{cursor_over, innermost_cursor, outer_cursors, with_cursor, without_cursor, advanced, counter_text, loop_begun, iter_init, iter_drop, count_stored, item_given, item_counted, loop_left, loop_advanced, iter_next, switch}
 pub use Rattle.grain_means.specs.Rules.Entries.{cell_written, written_at, assigned_at, slot_past_scope, at_entry, at_slot, load_local, load_shared, shared, share, declare, assignment_to_constant, write_entry, operand_for, store_local, assign}
 pub use Rattle.grain_means.specs.Rules.Homes.{Home, InScope, InCell, AtPlace, in_entry, at_place_of, back_in_scope, back_in_cells, back_in_roots, lent_in_cells, content_at, content_now}
 pub use Rattle.grain_means.specs.Rules.Natives.{kinds_in, trees_in, first_is_read_only, Receiver, lent_held, given, given_back, cells_given_back, roots_given_back, receiver_left, cells_lent, with_token, unheard, native_over, answered, host_called_or, native_called_or, native_found_or, native_or, host_called, native_called, native_found, native}

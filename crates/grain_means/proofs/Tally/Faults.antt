@@ -1,6 +1,6 @@
 -- The walk at an instruction: the faults that it raises, the cells that it finds lent, the
 -- operations that it is charged, and how its frame goes on.
-use Rattle.std.proofs.Common.{◌≡◌, ◌≤◌, ◌<◌, ◌⊎◌, ℕ, ◌+◌, ◌-◌, List, [], Option, Some, None, false, refl, sym, subst, ap, inl, inr, length, nat_lt, nat_le}
+use Rattle.std.proofs.Common.{◌≡◌, ◌≤◌, ◌<◌, ◌⊎◌, ℕ, ◌+◌, ◌-◌, List, [], Option, Some, None, false, refl, sym, subst, ap, inl, inr, length, nat_lt, nat_le, arith}
 use Rattle.std.proofs.lemmas.Bool.{ltb-true, ltb-false, leb-true}
 use Rattle.grain_value.specs.declared.values.Dynamic.{Dynamic}
 use Rattle.grain_value.specs.declared.values.Held.{Held}
@@ -238,13 +238,7 @@ module _ {S : Type 0} {m : Setup S} (walk : Walk m) where
 
     -- the instruction leaves the handlers and the cursors
     abbrev pub KeepsBoth : Type 0
-    KeepsBoth = (handling_of o, looping_of o) ≡ (handling.Keep, looping.Keep)
-
-    keeps_handlers : KeepsBoth → handling_of o ≡ handling.Keep
-    keeps_handlers kept = ap (λ (x : Handling × Looping). x.0) kept
-
-    keeps_cursors : KeepsBoth → looping_of o ≡ looping.Keep
-    keeps_cursors kept = ap (λ (x : Handling × Looping). x.1) kept
+    KeepsBoth = (handling_of o ≡ handling.Keep) × (looping_of o ≡ looping.Keep)
 
     -- the same with the handlers and the cursors that it has
     pub sits_at : KeepsBoth → (a : ℕ) (operands : List Held) →
@@ -254,12 +248,12 @@ module _ {S : Type 0} {m : Setup S} (walk : Walk m) where
     sits_at kept a operands to many = (
       sits.0,
       sits.1,
-      fits_on (ap advances (keeps_cursors kept)) (stepped f a operands) to many
+      fits_on (ap advances kept.1) (stepped f a operands) to many
           (λ there. subst (λ (l : Looping).
           length f.cursors ≡ length f.cursors - cursors_taken l + cursors_given l)
-          (sym (keeps_cursors kept)) (omega arith))
+          (sym kept.1) (omega arith))
           (ap (λ (how : Handling). handled how left loops_left (tries f.handlers))
-          (sym (keeps_handlers kept))),
+          (sym kept.0)),
       sits.3,
       sits.4,
     )

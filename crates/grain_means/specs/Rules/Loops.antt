@@ -1,5 +1,5 @@
 -- Loops over the items of a value, and the transfer by a table of cases.
-use Rattle.std.specs.Prelude.{ℕ, ℤ, pos, negsuc, ◌+◌, ◌+ℤ◌, ◌++◌, List, [], ◌∷◌, Option, Some, None, codes, if◌then◌else◌}
+use Rattle.std.specs.Prelude.{ℕ, ℤ, pos, negsuc, ◌+◌, ◌+ℤ◌, ◌++◌, List, [], ◌∷◌, Option, Some, None, codes, nat_le, if◌then◌else◌}
 use Rattle.std.specs.Fmt.{signed_decimal}
 use Rattle.grain_value.specs.Items.{items_of}
 use Rattle.grain_value.specs.Looking.{cell_of}
@@ -13,7 +13,7 @@ use Rattle.grain_program.specs.Switches.{switch_target}
 use Rattle.grain_program.specs.View.{switch_of}
 use Rattle.grain_means.specs.Worlds.{Cursor, Frame, World, Act, Setup}
 use Rattle.grain_means.specs.Rules.Frames.{stepped}
-use Rattle.grain_means.specs.Rules.Faults.{position, raised}
+use Rattle.grain_means.specs.Rules.Faults.{charged, position, raised}
 use Rattle.grain_means.specs.Rules.Going.{onward, jumped}
 use Rattle.grain_means.specs.Rules.Reads.{flattened}
 use Rattle.grain_means.specs.Rules.Homes.{in_entry}
@@ -85,10 +85,16 @@ module _ {S : Type 0} (m : Setup S) where
       count_stored slot (n +ℤ pos 1) f w (item_given t ts (n +ℤ pos 1) next f)
       else raised m f (Plain (Arithmetic (counter_text n)) (position m f)) w
 
-  -- the next of these items; if none is left, the loop is left, by a transfer
+  -- the loop is left by a transfer, which costs its operation first
+  abbrev pub loop_left : ℕ → Frame → World S → Act S
+  loop_left target f w =
+      if nat_le target f.address
+      then charged m f w (onward m f (without_cursor (stepped f target f.operands)))
+      else onward m f (without_cursor (stepped f target f.operands)) w
+
+  -- the next of these items; if there is none, the loop is left
   abbrev pub loop_advanced : List Tree → ℤ → ℕ → Option ℕ → ℕ → Frame → World S → Act S
-  loop_advanced [] n target slot next f w =
-      jumped m f (without_cursor (stepped f target f.operands)) w
+  loop_advanced [] n target slot next f w = loop_left target f w
   loop_advanced (t ∷ ts) n target slot next f w = item_counted t ts n slot next f w
 
   -- the next item of the innermost loop
