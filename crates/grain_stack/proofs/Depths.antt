@@ -1,0 +1,308 @@
+-- What each frame has among what all frames have.
+use Rattle.std.proofs.Common.{◌≡◌, ◌∙◌, ◌<◌, ◌≤◌, ◌==◌, ℕ, zero, suc, List, [], ◌∷◌, Bool, true, false, ◌++◌, ◌+◌, ◌-◌, Option, Some, None, length, reverse, take, drop, slice_get, get_or, refl, sym, ap, subst, arith, length-append, length-drop}
+use Rattle.std.specs.Prelude.{nat_le, slice_set}
+use Rattle.std.proofs.lemmas.Bool.{eq-eqb, leb-true, leb-false}
+use Rattle.std.proofs.lemmas.List.{reverse-append, reverse-reverse, length-reverse, get_or-reverse}
+use Rattle.std.proofs.lemmas.Option.{slice_get_read, slice_get_within, slice_get-get_or, get_or_from_slice_get}
+use Rattle.std.proofs.Math.Seq.{drop-length, drop-cons, set-append_seam}
+use borrow.Author.Tests.{ne_eqb}
+use Rattle.grain_stack.specs.declared.frame_entries.FrameEntry.{FrameEntry}
+use Rattle.grain_stack.specs.Entries.{entries_at, IsOrdered, Becomes, first_of, with_first, newest_of, with_newest}
+
+module _ {T : Type 0} where
+  -- a frame further in than those of all entries has nothing
+  pub none_further_in : (d k : ℕ) (es : List (FrameEntry T)) → d < k → IsOrdered d es →
+      entries_at k es ≡ []
+  none_further_in d k [] lt o = refl
+  none_further_in d k (e ∷ es) lt o =
+      let other : (e.depth == k) ≡ false = ne_eqb e.depth k (λ q. omega (arith, q, o.0, lt)) in
+      rw other (none_further_in e.depth k es (omega (arith, o.0, lt)) o.1)
+
+  -- where the newest entry is of another frame, this one has nothing
+  pub none_left : (d : ℕ) (e : FrameEntry T) (es : List (FrameEntry T)) → IsOrdered d (e ∷ es) →
+      (e.depth == d) ≡ false → entries_at d (e ∷ es) ≡ []
+  none_left d e es o other = by_test (nat_le d e.depth) refl where
+    by_test : (b : Bool) → nat_le d e.depth ≡ b → entries_at d (e ∷ es) ≡ []
+    by_test true le =
+        let here : (e.depth == d) ≡ true =
+        eq-eqb e.depth d (omega (arith, leb-true d e.depth le, o.0)) in absurd cc
+    by_test false less =
+        none_further_in e.depth d (e ∷ es) (leb-false d e.depth less) (omega arith, o.1)
+
+  -- where the frame has something, the newest entry is the frame's
+  pub newest_here : (d : ℕ) (e : FrameEntry T) (es : List (FrameEntry T)) → IsOrdered d (e ∷ es) →
+      0 < length (entries_at d (e ∷ es)) → e.depth ≡ d
+  newest_here d e es o some = by_test (nat_le d e.depth) refl where
+    by_test : (b : Bool) → nat_le d e.depth ≡ b → e.depth ≡ d
+    by_test true le = omega (arith, leb-true d e.depth le, o.0)
+    by_test false less =
+        let none : entries_at d (e ∷ es) ≡ [] =
+        none_further_in e.depth d (e ∷ es) (leb-false d e.depth less) (omega arith, o.1) in
+        absurd (omega (arith, some, ap length none))
+
+  -- entries that are no further in than a frame are no further in than one inside it
+  pub ordered_up : (d k : ℕ) (es : List (FrameEntry T)) → d ≤ k → IsOrdered d es → IsOrdered k es
+  ordered_up d k [] le o = tt
+  ordered_up d k (e ∷ es) le o = (omega (arith, o.0, le), o.1)
+
+  -- where the frame has nothing, all is of the frames around it
+  pub ordered_down : (d : ℕ) (es : List (FrameEntry T)) → IsOrdered (suc d) es →
+      entries_at (suc d) es ≡ [] → IsOrdered d es
+  ordered_down d [] o none = tt
+  ordered_down d (e ∷ es) o none = by_test (nat_le e.depth d) refl where
+    by_test : (b : Bool) → nat_le e.depth d ≡ b → IsOrdered d (e ∷ es)
+    by_test true le = (leb-true e.depth d le, o.1)
+    by_test false more =
+        let here : e.depth ≡ suc d = omega (arith, leb-false e.depth d more, o.0) in
+        let some : e.item ∷ entries_at (suc d) es ≡ [] =
+        rw (eq-eqb e.depth (suc d) here) at none in absurd cc
+
+  -- the newest entry stands first among the frame's
+  pub first_here : (d : ℕ) (e : FrameEntry T) (es : List (FrameEntry T)) → e.depth ≡ d →
+      entries_at d (e ∷ es) ≡ e.item ∷ entries_at d es
+  first_here d e es here = rw (eq-eqb e.depth d here) refl
+
+  -- an entry of a frame is of none around it
+  beside : (k : ℕ) (e : FrameEntry T) (es : List (FrameEntry T)) → k < e.depth →
+      entries_at k (e ∷ es) ≡ entries_at k es
+  beside k e es lt =
+      let other : (e.depth == k) ≡ false = ne_eqb e.depth k (λ q. omega (arith, q, lt)) in
+      rw other refl
+
+  -- ---- the newest entry
+
+  -- a frame has something only if there is something
+  pub some_there : (d : ℕ) (es : List (FrameEntry T)) → 0 < length (entries_at d es) → 0 < length es
+  some_there d [] some = some
+  some_there d (e ∷ es) some = omega arith
+
+  -- of a frame that has something, the newest of all is the innermost
+  pub newest_first : (d : ℕ) (es : List (FrameEntry T)) → IsOrdered d es →
+      0 < length (entries_at d es) → newest_of es ≡ first_of (entries_at d es)
+  newest_first d [] o some = absurd (omega (arith, some))
+  newest_first d (e ∷ es) o some = rw (first_here d e es (newest_here d e es o some)) refl
+
+  -- what stands last stands first the other way round
+  pub last_first : (es : List (FrameEntry T)) (e : FrameEntry T) →
+      slice_get es (length es - 1) ≡ Some e →
+      (rest : List (FrameEntry T)) × (reverse es ≡ e ∷ rest)
+  last_first es e last = by_cases (reverse es) refl where
+    by_cases : (l : List (FrameEntry T)) → reverse es ≡ l →
+        (rest : List (FrameEntry T)) × (reverse es ≡ e ∷ rest)
+    by_cases [] is =
+        let within : length es - 1 < length es = slice_get_within es (length es - 1) e last in
+        absurd (omega (arith, within, length-reverse es, ap length is))
+    by_cases (g ∷ rest) is =
+        let within : length es - 1 < length es = slice_get_within es (length es - 1) e last in
+        let at : get_or (reverse es) 0 e ≡ get_or es (length es - 1 - 0) e =
+        get_or-reverse es 0 e (omega (arith, within)) in
+        let here : get_or es (length es - 1) e ≡ e =
+        get_or_from_slice_get es (length es - 1) e e last in
+        let same : g ≡ e =
+        sym (ap (λ l. get_or l 0 e) is) ∙ at ∙ ap (λ n. get_or es n e) (omega arith) ∙ here in
+        (rest, is ∙ ap (λ x. x ∷ rest) same)
+
+  -- the innermost frame's first, by the last of all
+  pub innermost_is : (d : ℕ) (es : List (FrameEntry T)) (e : FrameEntry T) →
+      slice_get es (length es - 1) ≡ Some e → e.depth ≡ d →
+      first_of (entries_at d (reverse es)) ≡ Some e.item
+  innermost_is d es e last here =
+      let at = last_first es e last in rw (at.1, first_here d e at.0 here) refl
+
+  pub innermost_of_another : (d : ℕ) (es : List (FrameEntry T)) (e : FrameEntry T) →
+      IsOrdered d (reverse es) → slice_get es (length es - 1) ≡ Some e → (e.depth == d) ≡ false →
+      first_of (entries_at d (reverse es)) ≡ None
+  innermost_of_another d es e o last other =
+      let at = last_first es e last in
+      rw (at.1, none_left d e at.0 (rw at.1 at o) other) refl
+
+  pub innermost_of_none : (d : ℕ) (es : List (FrameEntry T)) →
+      slice_get es (length es - 1) ≡ None → first_of (entries_at d (reverse es)) ≡ None
+  innermost_of_none d [] none = refl
+  innermost_of_none d (e ∷ es) none =
+      let there = slice_get-get_or (e ∷ es) (length (e ∷ es) - 1) e (omega arith) in
+      absurd (cc)
+
+  -- what stands last is written
+  set_last : (ys : List (FrameEntry T)) (e g : FrameEntry T) →
+      slice_set (ys ++ e ∷ []) (length (ys ++ e ∷ []) - 1) g ≡ ys ++ g ∷ []
+  set_last ys e g =
+      let at : length (ys ++ e ∷ []) - 1 ≡ length ys = omega (arith, length-append ys (e ∷ [])) in
+      rw at (set-append_seam ys e [] g)
+
+  set_first : (es rest : List (FrameEntry T)) (e g : FrameEntry T) → reverse es ≡ e ∷ rest →
+      reverse (slice_set es (length es - 1) g) ≡ g ∷ rest
+  set_first es rest e g is =
+      let back : reverse (e ∷ rest) ≡ reverse rest ++ e ∷ [] = reverse-append (e ∷ []) rest in
+      let whole : es ≡ reverse rest ++ e ∷ [] = sym (reverse-reverse es) ∙ ap reverse is ∙ back in
+      ap (λ (l : List (FrameEntry T)). reverse (slice_set l (length l - 1) g)) whole
+      ∙ ap reverse (set_last (reverse rest) e g)
+      ∙ reverse-append (reverse rest) (g ∷ [])
+      ∙ ap (λ (l : List (FrameEntry T)). g ∷ l) (reverse-reverse rest)
+
+  -- the last of the entries, by its place, of which there are n
+  pub last_at : (es : List (FrameEntry T)) (n : ℕ) (e : FrameEntry T) → n ≡ length es →
+      0 < length (reverse es) → e ≡ get_or es (n - 1) e → newest_of (reverse es) ≡ Some e.item
+  last_at es n e en some is =
+      let last : slice_get es (length es - 1) ≡ Some e =
+      slice_get_read es (length es) (length es - 1) e refl
+      (omega (arith, some, length-reverse es))
+      (is ∙ ap (λ (k : ℕ). get_or es (k - 1) e) en) in
+      rw ((last_first es e last).1) refl
+
+  pub last_written : (es : List (FrameEntry T)) (n : ℕ) (e : FrameEntry T) → n ≡ length es →
+      0 < length (reverse es) → e ≡ get_or es (n - 1) e → (w : T) →
+      reverse (slice_set es (n - 1) (record e { item = w })) ≡ with_newest (reverse es) w
+  last_written es n e en some is w =
+      let last : slice_get es (length es - 1) ≡ Some e =
+      slice_get_read es (length es) (length es - 1) e refl
+      (omega (arith, some, length-reverse es))
+      (is ∙ ap (λ (k : ℕ). get_or es (k - 1) e) en) in
+      let at = last_first es e last in
+      let g : FrameEntry T = record e { item = w } in
+      ap (λ (k : ℕ). reverse (slice_set es (k - 1) g)) en
+      ∙ set_first es at.0 e g at.1
+      ∙ ap (λ (l : List (FrameEntry T)). with_newest l w) (sym at.1)
+
+  -- ---- how many a frame has
+
+  -- so many of a frame's, the newest, were seen, and those that were not are in order
+  abbrev pub Seen : ℕ → List (FrameEntry T) → ℕ → Type 0
+  Seen d es n =
+      (length (entries_at d es) ≡ n + length (entries_at d (drop n es))) × IsOrdered d (drop n es)
+
+  -- the entry after those that were seen
+  next_unseen : (items : List (FrameEntry T)) (i : ℕ) (e : FrameEntry T) → i < length items →
+      e ≡ get_or items (length items - 1 - i) e →
+      drop i (reverse items) ≡ e ∷ drop (i + 1) (reverse items)
+  next_unseen items i e there is =
+      let within : i < length (reverse items) = omega (arith, there, length-reverse items) in
+      let next : i + 1 ≡ suc i = omega arith in
+      let at : get_or (reverse items) i e ≡ e = get_or-reverse items i e there ∙ sym is in
+      drop-cons (reverse items) i e within ∙ rw (at, next) refl
+
+  -- one more of the frame's is seen
+  pub one_more_seen : (d : ℕ) (items : List (FrameEntry T)) (i : ℕ) (e : FrameEntry T) →
+      i < length items → e ≡ get_or items (length items - 1 - i) e → e.depth ≡ d →
+      Seen d (reverse items) i → Seen d (reverse items) (i + 1)
+  one_more_seen d items i e there is here seen =
+      let at = next_unseen items i e there is in
+      let rest = drop (i + 1) (reverse items) in
+      let first : entries_at d (drop i (reverse items)) ≡ e.item ∷ entries_at d rest =
+      rw at (first_here d e rest here) in
+      let ordered : IsOrdered d (e ∷ rest) = rw at at seen.1 in
+      (omega (arith, seen.0, ap length first), rw here at ordered.1)
+
+  -- all of the frame's were seen, since the next is of another frame
+  pub all_seen : (d : ℕ) (items : List (FrameEntry T)) (i : ℕ) (e : FrameEntry T) →
+      i < length items → e ≡ get_or items (length items - 1 - i) e → (e.depth == d) ≡ false →
+      Seen d (reverse items) i → i ≡ length (entries_at d (reverse items))
+  all_seen d items i e there is other seen =
+      let at = next_unseen items i e there is in
+      let rest = drop (i + 1) (reverse items) in
+      let ordered : IsOrdered d (e ∷ rest) = rw at at seen.1 in
+      let none : entries_at d (drop i (reverse items)) ≡ [] =
+      rw at (none_left d e rest ordered other) in
+      omega (arith, seen.0, ap length none)
+
+  -- all of the frame's were seen, since there are no more
+  pub none_unseen : (d : ℕ) (items : List (FrameEntry T)) (i : ℕ) → i ≡ length items →
+      Seen d (reverse items) i → i ≡ length (entries_at d (reverse items))
+  none_unseen d items i all seen =
+      let n : i ≡ length (reverse items) = omega (arith, all, length-reverse items) in
+      let none : drop i (reverse items) ≡ [] = rw n (drop-length (reverse items)) in
+      omega (arith, seen.0, ap (λ (es : List (FrameEntry T)). length (entries_at d es)) none)
+
+  -- ---- what the innermost frame has becomes something else
+
+  pub unchanged : (d : ℕ) (es : List (FrameEntry T)) → IsOrdered d es →
+      Becomes d es es (entries_at d es)
+  unchanged d es o = record { own = refl; outer = λ k lt. refl; ordered = o }
+
+  composed : (d : ℕ) (a b c : List (FrameEntry T)) (xs ys : List T) → Becomes d a b xs →
+      Becomes d b c ys → Becomes d a c ys
+  composed d a b c xs ys first second = record {
+    own = second.own;
+    outer = λ k lt. second.outer k lt ∙ first.outer k lt;
+    ordered = second.ordered;
+  }
+
+  -- one entry more
+  pub pushed : (d : ℕ) (es : List (FrameEntry T)) (x : T) → IsOrdered d es →
+      Becomes d es (record { depth = d; item = x } ∷ es) (x ∷ entries_at d es)
+  pushed d es x o =
+      let e : FrameEntry T = record { depth = d; item = x } in
+      record {
+        own = first_here d e es refl;
+        outer = λ k lt. beside k e es lt;
+        ordered = (omega arith, o);
+      }
+
+  -- one entry less
+  pub popped : (d : ℕ) (e : FrameEntry T) (es : List (FrameEntry T)) → IsOrdered d (e ∷ es) →
+      0 < length (entries_at d (e ∷ es)) → Becomes d (e ∷ es) es (entries_at d es)
+  popped d e es o some =
+      let here : e.depth ≡ d = newest_here d e es o some in
+      record {
+        own = refl;
+        outer = λ k lt. sym (beside k e es (omega (arith, here, lt)));
+        ordered = ordered_up e.depth d es o.0 o.1;
+      }
+
+  pub popped_first : (d : ℕ) (e : FrameEntry T) (es : List (FrameEntry T)) → IsOrdered d (e ∷ es) →
+      0 < length (entries_at d (e ∷ es)) → entries_at d (e ∷ es) ≡ e.item ∷ entries_at d es
+  popped_first d e es o some = first_here d e es (newest_here d e es o some)
+
+  -- the newest entry is written
+  pub written : (d : ℕ) (es : List (FrameEntry T)) (w : T) → IsOrdered d es →
+      0 < length (entries_at d es) →
+      Becomes d es (with_newest es w) (with_first w (entries_at d es))
+  written d [] w o some = absurd (omega (arith, some))
+  written d (e ∷ es) w o some =
+      let here : e.depth ≡ d = newest_here d e es o some in
+      let g : FrameEntry T = record e { item = w } in
+      record {
+        own =
+            first_here d g es here
+            ∙ ap (λ (xs : List T). with_first w xs) (sym (first_here d e es here));
+        outer = λ k lt.
+            beside k g es (omega (arith, here, lt)) ∙ sym (beside k e es (omega (arith, here, lt)));
+        ordered = o;
+      }
+
+  -- ---- a frame's entries are cut
+
+  drop_next : (xs : List T) (k : ℕ) (x : T) (rest : List T) → drop k xs ≡ x ∷ rest →
+      drop (suc k) xs ≡ rest
+  drop_next [] zero x rest e = absurd cc
+  drop_next [] (suc k) x rest e = absurd cc
+  drop_next (h ∷ hs) zero x rest e = cc
+  drop_next (h ∷ hs) (suc k) x rest e = drop_next hs k x rest e
+
+  -- there is one more to cut
+  pub more_to_cut : (d k : ℕ) (a b : List (FrameEntry T)) → k < length (entries_at d a) →
+      Becomes d a b (drop k (entries_at d a)) → 0 < length (entries_at d b)
+  more_to_cut d k a b lt cut =
+      omega (arith, lt, ap length cut.own, length-drop k (entries_at d a))
+
+  -- and it is cut
+  pub one_more_cut : (d k : ℕ) (a b c : List (FrameEntry T)) (e : FrameEntry T) →
+      k < length (entries_at d a) → Becomes d a b (drop k (entries_at d a)) → b ≡ e ∷ c →
+      Becomes d a c (drop (k + 1) (entries_at d a))
+  one_more_cut d k a b c e lt cut is =
+      let now : Becomes d a (e ∷ c) (drop k (entries_at d a)) =
+      subst (λ (l : List (FrameEntry T)). Becomes d a l (drop k (entries_at d a))) is cut in
+      let some : 0 < length (entries_at d (e ∷ c)) = more_to_cut d k a (e ∷ c) lt now in
+      let first : drop k (entries_at d a) ≡ e.item ∷ entries_at d c =
+      sym now.own ∙ popped_first d e c now.ordered some in
+      let next : k + 1 ≡ suc k = omega arith in
+      let left : drop (k + 1) (entries_at d a) ≡ entries_at d c =
+      rw next (drop_next (entries_at d a) k e.item (entries_at d c) first) in
+      subst (λ (xs : List T). Becomes d a c xs) (sym left)
+      (composed d a (e ∷ c) c (drop k (entries_at d a)) (entries_at d c) now
+      (popped d e c now.ordered some))
+
+-- nothing is left of what is dropped whole
+pub all_dropped : {T : Type 0} (xs : List T) → drop (length xs - 0) xs ≡ []
+all_dropped xs =
+    let all : length xs - 0 ≡ length xs = omega arith in rw all (drop-length xs)
