@@ -1,5 +1,5 @@
 -- What the stacks become where what their frames have changes, operands apart.
-use Rattle.std.proofs.Common.{◌≡◌, ◌∙◌, ◌<◌, ◌≤◌, ℕ, suc, List, [], ◌∷◌, ◌++◌, false, length, reverse, take, drop, refl, sym, ap, subst, arith}
+use Rattle.std.proofs.Common.{◌≡◌, ◌∙◌, ◌<◌, ◌≤◌, ◌-◌, ◌==◌, ℕ, suc, List, [], ◌∷◌, ◌++◌, true, false, length, reverse, take, drop, refl, sym, ap, subst, arith}
 use Rattle.std.proofs.lemmas.List.{reverse-append, length-reverse}
 use Rattle.std.proofs.Math.Seq.{drop-length, take-length}
 use Rattle.grain_value.specs.declared.values.Held.{Held}
@@ -11,8 +11,8 @@ use Rattle.grain_stack.specs.declared.stacks.Stacks.TheInside.{Inside}
 use Rattle.grain_stack.specs.declared.totals.Total.{Total}
 use Rattle.grain_stack.specs.Entries.{entries_at, IsOrdered, Becomes}
 use Rattle.grain_stack.specs.Floors.{Belongings, belongings, AreOrdered, IsSound, frames_on, floors, stacks_view}
-use Rattle.grain_stack.specs.Views.{StacksView, counted_up, with_frame}
-use Rattle.grain_stack.proofs.Depths.{none_further_in, unchanged}
+use Rattle.grain_stack.specs.Views.{StacksView, bare, counted_up, with_frame}
+use Rattle.grain_stack.proofs.Depths.{none_further_in, unchanged, all_dropped}
 
 -- the depth of the innermost frame
 pub depth_is : (s : Inside) (n : ℕ) → n ≡ length s.outer → n ≡ length (floors s)
@@ -182,6 +182,28 @@ pub total_taken : (v w : StacksView) (t : Total) (ts : List Total) →
 total_taken v w t ts rest first =
     (λ i. record v { totals = first i })
     ∙ ap (λ (u : StacksView). record u { totals = t ∷ u.totals }) (sym rest)
+
+-- ---- a frame that loses all three
+
+pub all_gone : (v0 v1 v2 v3 : StacksView) →
+    v1 ≡ record v0 { handlers = drop (length v0.handlers - 0) v0.handlers } →
+    v2 ≡ record v1 { cursors = drop (length v1.cursors - 0) v1.cursors } →
+    v3 ≡ record v2 { totals = drop (length v2.totals - 0) v2.totals } → v3 ≡ bare v0
+all_gone v0 v1 v2 v3 e1 e2 e3 =
+    e3
+    ∙ ap (λ (v : StacksView). record v { totals = drop (length v.totals - 0) v.totals })
+    (e2 ∙ ap (λ (v : StacksView). record v { cursors = drop (length v.cursors - 0) v.cursors }) e1)
+    ∙ (λ i. record v0 {
+      handlers = all_dropped v0.handlers i;
+      cursors = all_dropped v0.cursors i;
+      totals = all_dropped v0.totals i;
+    })
+
+-- nothing is there where there are no entries
+pub nothing_there : {T : Type 0} (d : ℕ) (es : List (FrameEntry T)) → (length es == 0) ≡ true →
+    entries_at d es ≡ []
+nothing_there d [] none = refl
+nothing_there d (e ∷ es) none = absurd cc
 
 -- ---- a frame more, which has nothing yet
 

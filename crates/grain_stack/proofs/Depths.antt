@@ -164,6 +164,18 @@ module _ {T : Type 0} where
       ∙ set_first es at.0 e g at.1
       ∙ ap (λ (l : List (FrameEntry T)). with_newest l w) (sym at.1)
 
+  -- what is put last stands first the other way round, and what is taken there stood first
+  pub put_last : (items new es : List (FrameEntry T)) (e : FrameEntry T) → new ≡ items ++ e ∷ [] →
+      reverse items ≡ es → reverse new ≡ e ∷ es
+  put_last items new es e put is =
+      ap reverse put ∙ reverse-append items (e ∷ [])
+      ∙ ap (λ (l : List (FrameEntry T)). e ∷ l) is
+
+  pub taken_last : (items rest es : List (FrameEntry T)) (e : FrameEntry T) →
+      items ≡ rest ++ e ∷ [] → reverse items ≡ es → es ≡ e ∷ reverse rest
+  taken_last items rest es e taken is =
+      sym is ∙ ap reverse taken ∙ reverse-append rest (e ∷ [])
+
   -- ---- how many a frame has
 
   -- so many of a frame's, the newest, were seen, and those that were not are in order
@@ -269,6 +281,37 @@ module _ {T : Type 0} where
             beside k g es (omega (arith, here, lt)) ∙ sym (beside k e es (omega (arith, here, lt)));
         ordered = o;
       }
+
+  -- the same by what the calls say of the lists
+  pub pushed_at : (d n : ℕ) (old new : List (FrameEntry T)) (x : T) → IsOrdered d old → n ≡ d →
+      new ≡ record { depth = n; item = x } ∷ old → Becomes d old new (x ∷ entries_at d old)
+  pushed_at d n old new x o here is =
+      let e : record { depth = d; item = x } ∷ old ≡ new =
+      ap (λ (k : ℕ). record { depth = k; item = x } ∷ old) (sym here) ∙ sym is in
+      subst (λ (l : List (FrameEntry T)). Becomes d old l (x ∷ entries_at d old)) e (pushed d old x o)
+
+  pub popped_at : (d : ℕ) (old new : List (FrameEntry T)) (x : T) → IsOrdered d old →
+      0 < length (entries_at d old) → (n : ℕ) × (old ≡ record { depth = n; item = x } ∷ new) →
+      Becomes d old new (entries_at d new)
+  popped_at d old new x o some taken =
+      let e : FrameEntry T = record { depth = taken.0; item = x } in
+      subst (λ (l : List (FrameEntry T)). Becomes d l new (entries_at d new)) (sym taken.1)
+      (popped d e new (rw taken.1 at o) (rw taken.1 at some))
+
+  pub popped_is : (d : ℕ) (old new : List (FrameEntry T)) (x : T) → IsOrdered d old →
+      0 < length (entries_at d old) → (n : ℕ) × (old ≡ record { depth = n; item = x } ∷ new) →
+      entries_at d old ≡ x ∷ entries_at d new
+  popped_is d old new x o some taken =
+      let e : FrameEntry T = record { depth = taken.0; item = x } in
+      ap (λ (l : List (FrameEntry T)). entries_at d l) taken.1
+      ∙ popped_first d e new (rw taken.1 at o) (rw taken.1 at some)
+
+  pub cut_at : (d n count : ℕ) (old new : List (FrameEntry T)) → n ≡ d →
+      Becomes n old new (drop (length (entries_at n old) - count) (entries_at n old)) →
+      Becomes d old new (drop (length (entries_at d old) - count) (entries_at d old))
+  cut_at d n count old new here cut =
+      subst (λ (k : ℕ).
+      Becomes k old new (drop (length (entries_at k old) - count) (entries_at k old))) here cut
 
   -- ---- a frame's entries are cut
 

@@ -4,5 +4,6 @@ pub mod Bound
 pub mod Nesting
 pub mod Belonging
 pub mod Depths
+pub mod Items
 pub mod Spreading
 pub mod Regaining

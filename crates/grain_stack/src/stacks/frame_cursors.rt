@@ -17,7 +17,8 @@ impl Stacks {
             else self.old) }
     {
         let depth = self.outer.len();
-        self.cursors.push(depth, cursor)
+        self.cursors.push(depth, cursor)?;
+        Ok(())
     }
 
     /// Takes the frame's innermost cursor.

@@ -19,7 +19,8 @@ impl Stacks {
             else self.old) }
     {
         let depth = self.outer.len();
-        self.handlers.push(depth, handler)
+        self.handlers.push(depth, handler)?;
+        Ok(())
     }
 
     /// Takes the frame's innermost handler.

@@ -17,7 +17,8 @@ impl Stacks {
             else self.old) }
     {
         let depth = self.outer.len();
-        self.totals.push(depth, total)
+        self.totals.push(depth, total)?;
+        Ok(())
     }
 
     /// Takes the frame's innermost total.
