@@ -2,6 +2,7 @@
 use Rattle.std.proofs.Common.{◌≡◌, ◌∙◌, ◌<◌, ◌≤◌, ◌-◌, ◌==◌, ℕ, suc, List, [], ◌∷◌, ◌++◌, true, false, length, reverse, take, drop, refl, sym, ap, subst, arith}
 use Rattle.std.proofs.lemmas.List.{reverse-append, length-reverse}
 use Rattle.std.proofs.Math.Seq.{drop-length, take-length}
+use borrow.Author.Tests.{eqb-true}
 use Rattle.grain_value.specs.declared.values.Held.{Held}
 use Rattle.grain_stack.specs.declared.cursors.Cursor.{Cursor}
 use Rattle.grain_stack.specs.declared.floors.Floor.{Floor}
@@ -32,16 +33,19 @@ record SameAround (d : ℕ) (a b : Belongings) : Type 0 where
 frames_same : (d : ℕ) (xs : List Held) (a b : Belongings) (fs : List Floor) → length fs ≤ d →
     SameAround d a b → frames_on xs b fs ≡ frames_on xs a fs
 frames_same d xs a b [] le same = refl
-frames_same d xs a b (f ∷ fs) le same = λ i.
+frames_same d xs a b (f ∷ fs) le same =
+    let less : length fs < d = omega (arith, le) in
+    let further : length fs ≤ d = omega (arith, le) in
+    λ i.
     record {
       operands = drop f.bottom xs;
       room = f.room;
       noted = f.noted;
-      handlers = same.handlers (length fs) (omega (arith, le)) i;
-      cursors = same.cursors (length fs) (omega (arith, le)) i;
-      totals = same.totals (length fs) (omega (arith, le)) i;
+      handlers = same.handlers (length fs) less i;
+      cursors = same.cursors (length fs) less i;
+      totals = same.totals (length fs) less i;
     }
-    ∷ frames_same d (take f.bottom xs) a b fs (omega (arith, le)) same i
+    ∷ frames_same d (take f.bottom xs) a b fs further same i
 
 -- what the innermost frame has becomes this, and the frames around it keep what they have
 record Changes (d : ℕ) (old new : Belongings) (hs : List Handler) (cs : List Cursor)
@@ -203,7 +207,7 @@ all_gone v0 v1 v2 v3 e1 e2 e3 =
 pub nothing_there : {T : Type 0} (d : ℕ) (es : List (FrameEntry T)) → (length es == 0) ≡ true →
     entries_at d es ≡ []
 nothing_there d [] none = refl
-nothing_there d (e ∷ es) none = absurd cc
+nothing_there d (e ∷ es) none = absurd (omega (arith, eqb-true (length (e ∷ es)) 0 none))
 
 -- ---- a frame more, which has nothing yet
 

@@ -4,7 +4,7 @@ use Rattle.std.specs.Prelude.{ℤ, pos, negsuc, ◌+ℤ◌, ◌-ℤ◌, ◌≤�
 use Rattle.std.specs.Char.{encode_utf8, len_utf8}
 use Rattle.std.specs.Str.{chars, is_utf8, IsUtf8, IsCharBoundary}
 use Rattle.std.proofs.lemmas.Bool.{leb-true, leb-false}
-use Rattle.std.proofs.lemmas.Int.{ints}
+use Rattle.std.proofs.lemmas.Int.{ints, by_lt_z}
 use Rattle.std.proofs.lemmas.List.{drop_all}
 use Rattle.std.proofs.lemmas.Str.{chars-nil, chars_past_char, drop_past_char, is_utf8-from_IsUtf8, IsUtf8-from_is_utf8, IsUtf8-nil, IsUtf8-past_char, IsCharBoundary-from_drop}
 use Rattle.grain_value.specs.Tree.{Tree, integer, character}
@@ -105,8 +105,8 @@ integer_below from to inclusive lt =
 -- the end of an inclusive range, behind which there is nothing
 pub integer_last : (z : ℤ) → integers_of z z true ≡ integer z ∷ integers_of z z false
 integer_last z =
-    let one : not_below_zero ((z +ℤ pos 1) -ℤ z) ≡ suc 0 =
-    ap not_below_zero (omega (arith, ints)) in
+    let is : (z +ℤ pos 1) -ℤ z ≡ pos 1 = omega (arith, ints) in
+    let one : not_below_zero ((z +ℤ pos 1) -ℤ z) ≡ suc 0 = ap not_below_zero is in
     let none : not_below_zero (z -ℤ z) ≡ 0 = none_above (z -ℤ z) (omega (arith, ints)) in
     let nothing : integers_of z z false ≡ [] = ap (integers z) none ∙ integers_none z in
     ap (integers z) one ∙ integers_next z 0
@@ -122,4 +122,4 @@ integers_over from to true le other =
     ap (integers from) (none_above ((to +ℤ pos 1) -ℤ from) (omega (arith, ints)))
     ∙ integers_none from where
       above : (a b : ℤ) → b ≤ℤ a → ¬ (a ≡ b) → b <ℤ a
-      above a b le no = grind (arith, ints)
+      above a b le no = by_lt_z b a (λ lt. lt) (λ ge. absurd (no (omega (arith, ints))))
