@@ -69,6 +69,9 @@ module _ {T : Type 0} where
       let other : (e.depth == k) ≡ false = ne_eqb e.depth k (λ q. omega (arith, q, lt)) in
       rw other refl
 
+  pub ordered_by : (d : ℕ) (es fs : List (FrameEntry T)) → es ≡ fs → IsOrdered d fs → IsOrdered d es
+  ordered_by d es fs is o = subst (λ (l : List (FrameEntry T)). IsOrdered d l) (sym is) o
+
   -- ---- the newest entry
 
   -- a frame has something only if there is something
@@ -102,25 +105,20 @@ module _ {T : Type 0} where
         sym (ap (λ l. get_or l 0 e) is) ∙ at ∙ ap (λ n. get_or es n e) (omega arith) ∙ here in
         (rest, is ∙ ap (λ x. x ∷ rest) same)
 
-  -- the innermost frame's first, by the last of all
-  pub innermost_is : (d : ℕ) (es : List (FrameEntry T)) (e : FrameEntry T) →
-      slice_get es (length es - 1) ≡ Some e → e.depth ≡ d →
-      first_of (entries_at d (reverse es)) ≡ Some e.item
-  innermost_is d es e last here =
-      let at = last_first es e last in rw (at.1, first_here d e at.0 here) refl
+  -- the innermost frame has nothing where the last of all is of another frame, or there is none
+  pub innermost_of_another : (d : ℕ) (items es : List (FrameEntry T)) (e : FrameEntry T) →
+      reverse items ≡ es → IsOrdered d es → slice_get items (length items - 1) ≡ Some e →
+      ¬ (e.depth ≡ d) → None ≡ first_of (entries_at d es)
+  innermost_of_another d items es e is o last apart =
+      let at = last_first items e last in
+      let ordered : IsOrdered d (e ∷ at.0) = rw (sym is ∙ at.1) at o in
+      rw (sym is ∙ at.1, none_left d e at.0 ordered (ne_eqb e.depth d apart)) refl
 
-  pub innermost_of_another : (d : ℕ) (es : List (FrameEntry T)) (e : FrameEntry T) →
-      IsOrdered d (reverse es) → slice_get es (length es - 1) ≡ Some e → (e.depth == d) ≡ false →
-      first_of (entries_at d (reverse es)) ≡ None
-  innermost_of_another d es e o last other =
-      let at = last_first es e last in
-      rw (at.1, none_left d e at.0 (rw at.1 at o) other) refl
-
-  pub innermost_of_none : (d : ℕ) (es : List (FrameEntry T)) →
-      slice_get es (length es - 1) ≡ None → first_of (entries_at d (reverse es)) ≡ None
-  innermost_of_none d [] none = refl
-  innermost_of_none d (e ∷ es) none =
-      let there = slice_get-get_or (e ∷ es) (length (e ∷ es) - 1) e (omega arith) in
+  pub innermost_of_none : (d : ℕ) (items es : List (FrameEntry T)) → reverse items ≡ es →
+      slice_get items (length items - 1) ≡ None → None ≡ first_of (entries_at d es)
+  innermost_of_none d [] es is none = rw (← is) refl
+  innermost_of_none d (e ∷ items) es is none =
+      let there = slice_get-get_or (e ∷ items) (length (e ∷ items) - 1) e (omega arith) in
       absurd (cc)
 
   -- what stands last is written
@@ -140,29 +138,30 @@ module _ {T : Type 0} where
       ∙ reverse-append (reverse rest) (g ∷ [])
       ∙ ap (λ (l : List (FrameEntry T)). g ∷ l) (reverse-reverse rest)
 
-  -- the last of the entries, by its place, of which there are n
-  pub last_at : (es : List (FrameEntry T)) (n : ℕ) (e : FrameEntry T) → n ≡ length es →
-      0 < length (reverse es) → e ≡ get_or es (n - 1) e → newest_of (reverse es) ≡ Some e.item
-  last_at es n e en some is =
-      let last : slice_get es (length es - 1) ≡ Some e =
-      slice_get_read es (length es) (length es - 1) e refl
-      (omega (arith, some, length-reverse es))
-      (is ∙ ap (λ (k : ℕ). get_or es (k - 1) e) en) in
-      rw ((last_first es e last).1) refl
+  -- the last of n entries, by its place
+  last_is : (items es : List (FrameEntry T)) (n : ℕ) (e : FrameEntry T) → n ≡ length items →
+      reverse items ≡ es → 0 < length es → e ≡ get_or items (n - 1) e →
+      (rest : List (FrameEntry T)) × (reverse items ≡ e ∷ rest)
+  last_is items es n e en is some at =
+      let last : slice_get items (length items - 1) ≡ Some e =
+      slice_get_read items (length items) (length items - 1) e refl
+      (omega (arith, some, length-reverse items, ap length is))
+      (at ∙ ap (λ (k : ℕ). get_or items (k - 1) e) en) in
+      last_first items e last
 
-  pub last_written : (es : List (FrameEntry T)) (n : ℕ) (e : FrameEntry T) → n ≡ length es →
-      0 < length (reverse es) → e ≡ get_or es (n - 1) e → (w : T) →
-      reverse (slice_set es (n - 1) (record e { item = w })) ≡ with_newest (reverse es) w
-  last_written es n e en some is w =
-      let last : slice_get es (length es - 1) ≡ Some e =
-      slice_get_read es (length es) (length es - 1) e refl
-      (omega (arith, some, length-reverse es))
-      (is ∙ ap (λ (k : ℕ). get_or es (k - 1) e) en) in
-      let at = last_first es e last in
+  pub last_at : (items es : List (FrameEntry T)) (n : ℕ) (e : FrameEntry T) → n ≡ length items →
+      reverse items ≡ es → 0 < length es → e ≡ get_or items (n - 1) e → newest_of es ≡ Some e.item
+  last_at items es n e en is some at = rw (sym is ∙ (last_is items es n e en is some at).1) refl
+
+  pub last_written : (items es : List (FrameEntry T)) (n : ℕ) (e : FrameEntry T) →
+      n ≡ length items → reverse items ≡ es → 0 < length es → e ≡ get_or items (n - 1) e →
+      (w : T) → reverse (slice_set items (n - 1) (record e { item = w })) ≡ with_newest es w
+  last_written items es n e en is some at w =
+      let whole = last_is items es n e en is some at in
       let g : FrameEntry T = record e { item = w } in
-      ap (λ (k : ℕ). reverse (slice_set es (k - 1) g)) en
-      ∙ set_first es at.0 e g at.1
-      ∙ ap (λ (l : List (FrameEntry T)). with_newest l w) (sym at.1)
+      ap (λ (k : ℕ). reverse (slice_set items (k - 1) g)) en
+      ∙ set_first items whole.0 e g whole.1
+      ∙ ap (λ (l : List (FrameEntry T)). with_newest l w) (sym whole.1 ∙ is)
 
   -- what is put last stands first the other way round, and what is taken there stood first
   pub put_last : (items new es : List (FrameEntry T)) (e : FrameEntry T) → new ≡ items ++ e ∷ [] →
@@ -183,22 +182,25 @@ module _ {T : Type 0} where
   Seen d es n =
       (length (entries_at d es) ≡ n + length (entries_at d (drop n es))) × IsOrdered d (drop n es)
 
-  -- the entry after those that were seen
-  next_unseen : (items : List (FrameEntry T)) (i : ℕ) (e : FrameEntry T) → i < length items →
-      e ≡ get_or items (length items - 1 - i) e →
+  -- the entry after those that were seen, of n
+  next_unseen : (items : List (FrameEntry T)) (i n : ℕ) (e : FrameEntry T) → n ≡ length items →
+      i < n → e ≡ get_or items (n - 1 - i) e →
       drop i (reverse items) ≡ e ∷ drop (i + 1) (reverse items)
-  next_unseen items i e there is =
+  next_unseen items i n e en lt is =
+      let there : i < length items = omega (arith, en, lt) in
       let within : i < length (reverse items) = omega (arith, there, length-reverse items) in
       let next : i + 1 ≡ suc i = omega arith in
-      let at : get_or (reverse items) i e ≡ e = get_or-reverse items i e there ∙ sym is in
+      let last : e ≡ get_or items (length items - 1 - i) e =
+      is ∙ ap (λ (k : ℕ). get_or items (k - 1 - i) e) en in
+      let at : get_or (reverse items) i e ≡ e = get_or-reverse items i e there ∙ sym last in
       drop-cons (reverse items) i e within ∙ rw (at, next) refl
 
   -- one more of the frame's is seen
-  pub one_more_seen : (d : ℕ) (items : List (FrameEntry T)) (i : ℕ) (e : FrameEntry T) →
-      i < length items → e ≡ get_or items (length items - 1 - i) e → e.depth ≡ d →
+  pub one_more_seen : (d : ℕ) (items : List (FrameEntry T)) (i n : ℕ) (e : FrameEntry T) →
+      n ≡ length items → i < n → e ≡ get_or items (n - 1 - i) e → e.depth ≡ d →
       Seen d (reverse items) i → Seen d (reverse items) (i + 1)
-  one_more_seen d items i e there is here seen =
-      let at = next_unseen items i e there is in
+  one_more_seen d items i n e en lt is here seen =
+      let at = next_unseen items i n e en lt is in
       let rest = drop (i + 1) (reverse items) in
       let first : entries_at d (drop i (reverse items)) ≡ e.item ∷ entries_at d rest =
       rw at (first_here d e rest here) in
@@ -206,24 +208,28 @@ module _ {T : Type 0} where
       (omega (arith, seen.0, ap length first), rw here at ordered.1)
 
   -- all of the frame's were seen, since the next is of another frame
-  pub all_seen : (d : ℕ) (items : List (FrameEntry T)) (i : ℕ) (e : FrameEntry T) →
-      i < length items → e ≡ get_or items (length items - 1 - i) e → (e.depth == d) ≡ false →
-      Seen d (reverse items) i → i ≡ length (entries_at d (reverse items))
-  all_seen d items i e there is other seen =
-      let at = next_unseen items i e there is in
+  pub all_seen : (d : ℕ) (items es : List (FrameEntry T)) (i n : ℕ) (e : FrameEntry T) →
+      reverse items ≡ es → n ≡ length items → i < n → e ≡ get_or items (n - 1 - i) e →
+      ¬ (e.depth ≡ d) → Seen d (reverse items) i → i ≡ length (entries_at d es)
+  all_seen d items es i n e whole en lt is apart seen =
+      let at = next_unseen items i n e en lt is in
       let rest = drop (i + 1) (reverse items) in
       let ordered : IsOrdered d (e ∷ rest) = rw at at seen.1 in
       let none : entries_at d (drop i (reverse items)) ≡ [] =
-      rw at (none_left d e rest ordered other) in
-      omega (arith, seen.0, ap length none)
+      rw at (none_left d e rest ordered (ne_eqb e.depth d apart)) in
+      let count : i ≡ length (entries_at d (reverse items)) = omega (arith, seen.0, ap length none) in
+      count ∙ ap (λ (l : List (FrameEntry T)). length (entries_at d l)) whole
 
   -- all of the frame's were seen, since there are no more
-  pub none_unseen : (d : ℕ) (items : List (FrameEntry T)) (i : ℕ) → i ≡ length items →
-      Seen d (reverse items) i → i ≡ length (entries_at d (reverse items))
-  none_unseen d items i all seen =
-      let n : i ≡ length (reverse items) = omega (arith, all, length-reverse items) in
-      let none : drop i (reverse items) ≡ [] = rw n (drop-length (reverse items)) in
-      omega (arith, seen.0, ap (λ (es : List (FrameEntry T)). length (entries_at d es)) none)
+  pub none_unseen : (d : ℕ) (items es : List (FrameEntry T)) (i n : ℕ) → reverse items ≡ es →
+      n ≡ length items → i ≡ n → Seen d (reverse items) i → n ≡ length (entries_at d es)
+  none_unseen d items es i n whole en all seen =
+      let past : i ≡ length (reverse items) = omega (arith, all, en, length-reverse items) in
+      let none : drop i (reverse items) ≡ [] = rw past (drop-length (reverse items)) in
+      let left : length (entries_at d (drop i (reverse items))) ≡ 0 =
+      ap (λ (l : List (FrameEntry T)). length (entries_at d l)) none in
+      let count : n ≡ length (entries_at d (reverse items)) = omega (arith, seen.0, left, all) in
+      count ∙ ap (λ (l : List (FrameEntry T)). length (entries_at d l)) whole
 
   -- ---- what the innermost frame has becomes something else
 

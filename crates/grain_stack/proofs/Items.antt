@@ -32,11 +32,11 @@ no_characters (b ∷ bytes) none = absurd (omega (arith, none))
 -- where no character begins, what follows is no text
 pub none_begins : (text : List ℕ) (n : ℕ) → ¬ (IsCharBoundary text n) →
     characters_in (drop n text) ≡ []
-none_begins text n no = by_place (nat_le n (length text)) refl where
+none_begins text n apart = by_place (nat_le n (length text)) refl where
   by_test : (b : Bool) → is_utf8 (drop n text) ≡ b → n ≤ length text →
       characters_in (drop n text) ≡ []
   by_test true is le =
-      absurd (no (IsCharBoundary-from_drop text n le (IsUtf8-from_is_utf8 (drop n text) is)))
+      absurd (apart (IsCharBoundary-from_drop text n le (IsUtf8-from_is_utf8 (drop n text) is)))
   by_test false is le = rw is refl
 
   by_place : (b : Bool) → nat_le n (length text) ≡ b → characters_in (drop n text) ≡ []
@@ -122,4 +122,4 @@ integers_over from to true le other =
     ap (integers from) (none_above ((to +ℤ pos 1) -ℤ from) (omega (arith, ints)))
     ∙ integers_none from where
       above : (a b : ℤ) → b ≤ℤ a → ¬ (a ≡ b) → b <ℤ a
-      above a b le no = by_lt_z b a (λ lt. lt) (λ ge. absurd (no (omega (arith, ints))))
+      above a b le apart = by_lt_z b a (λ lt. lt) (λ ge. absurd (apart (omega (arith, ints))))

@@ -119,9 +119,8 @@ impl<T: Drop> FrameEntries<T> {
         ensures* writes_back { sem 𝓛 (LendsNewest T.row self.entry result) }
         ensures value { Some result.now ≡ newest_of self.old }
     {
-        match self.entries.last_mut() {
-            Some(newest) => &mut newest.item,
-            None => unreachable!(),
-        }
+        let last = self.entries.len() - 1;
+        let newest = &mut self.entries[last];
+        &mut newest.item
     }
 }
