@@ -8,7 +8,12 @@ use Rattle.std.proofs.lemmas.Int.{ints, by_lt_z}
 use Rattle.std.proofs.lemmas.List.{drop_all}
 use Rattle.std.proofs.lemmas.Str.{chars-nil, chars_past_char, drop_past_char, is_utf8-from_IsUtf8, IsUtf8-from_is_utf8, IsUtf8-nil, IsUtf8-past_char, IsCharBoundary-from_drop}
 use Rattle.grain_value.specs.Tree.{Tree, integer, character}
-use Rattle.grain_stack.specs.Cursors.{integers, not_below_zero, range_size, integers_of, characters_in, character_item}
+use Rattle.grain_stack.specs.declared.cursors.Left.{Left}
+use Rattle.grain_stack.specs.declared.cursors.Left.TheVariants as left
+use Rattle.grain_stack.specs.Cursors.{integers, not_below_zero, range_size, integers_of, characters_in, character_item, items_left}
+
+pub not_so : {P : Type 0} → (P → false ≡ true) → ¬ P
+not_so {P} never p = let e : false ≡ true = never p in cc
 
 -- ---- entries of a list
 
@@ -123,3 +128,24 @@ integers_over from to true le other =
     ∙ integers_none from where
       above : (a b : ℤ) → b ≤ℤ a → ¬ (a ≡ b) → b <ℤ a
       above a b le apart = by_lt_z b a (λ lt. lt) (λ ge. absurd (apart (omega (arith, ints))))
+
+-- ---- the same of what a cursor goes over
+
+pub next_below : (l : Left) (from to : ℤ) (inclusive : Bool) (first last next : ℤ) →
+    l ≡ left.Range from to inclusive → from <ℤ to → first ≡ from → last ≡ to →
+    next ≡ from +ℤ pos 1 → items_left l ≡ integer first ∷ integers_of next last inclusive
+next_below l from to inclusive first last next is less ef el en =
+    ap items_left is ∙ integer_below from to inclusive less
+    ∙ (λ i. integer (sym ef i) ∷ integers_of (sym en i) (sym el i) inclusive)
+
+pub next_last : (l : Left) (from to : ℤ) (inclusive : Bool) (first last : ℤ) →
+    l ≡ left.Range from to inclusive → from ≡ to → inclusive ≡ true → first ≡ from → last ≡ to →
+    items_left l ≡ integer first ∷ integers_of first last false
+next_last l from to inclusive first last is at closed ef el =
+    ap items_left is ∙ (λ i. integers_of from (sym at i) (closed i)) ∙ integer_last from
+    ∙ (λ i. integer (sym ef i) ∷ integers_of (sym ef i) ((at ∙ sym el) i) false)
+
+pub none_next : (l : Left) (from to : ℤ) (inclusive : Bool) → l ≡ left.Range from to inclusive →
+    to ≤ℤ from → (inclusive ≡ true → ¬ (from ≡ to)) → items_left l ≡ []
+none_next l from to inclusive is le apart =
+    ap items_left is ∙ integers_over from to inclusive le apart

@@ -1,5 +1,5 @@
 -- The floors stay in order, and their frames keep their room.
-use Rattle.std.proofs.Common.{◌≡◌, ◌<◌, ◌≤◌, ℕ, zero, suc, ◌+◌, take, drop, List, [], ◌∷◌, ◌++◌, Bool, true, false, length, reverse, refl, ◌∙◌, ap, arith, length-append, length-drop, append-nil}
+use Rattle.std.proofs.Common.{◌≡◌, ◌<◌, ◌≤◌, ℕ, zero, suc, ◌+◌, take, drop, List, [], ◌∷◌, ◌++◌, Bool, true, false, length, reverse, refl, sym, subst, ◌∙◌, ap, arith, length-append, length-drop, append-nil}
 use Rattle.std.specs.Vec.{vec_capacity}
 use Rattle.std.proofs.lemmas.List.{length-reverse, reverse-append}
 use Rattle.grain_value.specs.declared.values.Held.{Held}

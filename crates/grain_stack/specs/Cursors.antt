@@ -60,6 +60,13 @@ items_left (left.Bytes bytes next) = map byte_item (drop next bytes)
 items_left (left.Characters text next) = characters_in (drop next text)
 items_left (left.Range from to inclusive) = integers_of from to inclusive
 
+-- the items are the integers of a range
+abbrev pub IsRange : Left → Type 0
+IsRange (left.Values values next) = ⊥
+IsRange (left.Bytes bytes next) = ⊥
+IsRange (left.Characters text next) = ⊥
+IsRange (left.Range from to inclusive) = Unit {0}
+
 -- of the items before, the first is given and those after are left, or there was none
 abbrev pub Gives : (before : List Tree) → Option Dynamic → (after : List Tree) → Type 0
 Gives before None after = (before ≡ []) × (after ≡ [])

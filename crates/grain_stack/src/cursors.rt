@@ -2,7 +2,7 @@
 
 ghost use Rattle.std.specs.Prelude.{◌≡◌, ◌<◌, map, drop, negsuc, Some, None, IfOk, IfErr, OnErr};
 ghost use Rattle.grain_value.specs.declared.values.Dynamic.TheVariants as dynamic;
-ghost use Rattle.grain_stack.specs.Cursors.{items_left, items_of, Gives, byte_item, characters_in, integers_of};
+ghost use Rattle.grain_stack.specs.Cursors.{items_left, items_of, Gives, IsRange, byte_item, characters_in};
 
 use grain_value::{Array, Blob, Dynamic, OutOfMemory, Text};
 use std::alloc::Global;
@@ -93,12 +93,42 @@ impl Left {
             Left::Values { items, next } => next_value(alloc, items, next),
             Left::Bytes { items, next } => Ok(next_byte(items, next)),
             Left::Characters { items, next } => Ok(next_character(items, next)),
-            Left::Range {
-                from,
-                to,
-                inclusive,
-            } => Ok(next_integer(from, *to, inclusive)),
+            Left::Range { .. } => Ok(self.next_integer()),
         }
+    }
+
+    // The first integer of a range, which then begins behind it.
+    fn next_integer(&mut self) -> Option<Dynamic>
+        requires { IsRange self.old }
+        ensures { Gives (items_left self.old) result (items_left self.new) }
+    {
+        let Left::Range {
+            from,
+            to,
+            inclusive,
+        } = &*self
+        else {
+            unreachable!();
+        };
+        let (first, last, inclusive) = (*from, *to, *inclusive);
+        if first < last {
+            *self = Left::Range {
+                from: first + 1,
+                to: last,
+                inclusive,
+            };
+            return Some(Dynamic::Int(first));
+        }
+        // the end is given once, and nothing need be above it
+        if first == last && inclusive {
+            *self = Left::Range {
+                from: first,
+                to: last,
+                inclusive: false,
+            };
+            return Some(Dynamic::Int(first));
+        }
+        None
     }
 }
 
@@ -143,22 +173,4 @@ fn next_character(items: &Text, next: &mut usize) -> Option<Dynamic>
     let character = rest.chars().next()?;
     *next += character.len_utf8();
     Some(Dynamic::Char(character))
-}
-
-// The first integer of a range, which then begins behind it.
-fn next_integer(from: &mut i64, to: i64, inclusive: &mut bool) -> Option<Dynamic>
-    ensures { Gives (integers_of from.old to inclusive.old) result
-        (integers_of from.new to inclusive.new) }
-{
-    let first = *from;
-    if first < to {
-        *from = first + 1;
-        return Some(Dynamic::Int(first));
-    }
-    // the end is given once, and nothing need be above it
-    if first == to && *inclusive {
-        *inclusive = false;
-        return Some(Dynamic::Int(first));
-    }
-    None
 }
