@@ -10,7 +10,7 @@ use Rattle.grain_stack.specs.declared.frame_entries.FrameEntry.{FrameEntry}
 use Rattle.grain_stack.specs.declared.handlers.Handler.{Handler}
 use Rattle.grain_stack.specs.declared.stacks.Stacks.TheInside.{Inside}
 use Rattle.grain_stack.specs.declared.totals.Total.{Total}
-use Rattle.grain_stack.specs.Entries.{entries_at, IsOrdered, Becomes}
+use Rattle.grain_stack.specs.Entries.{entries_at, Becomes}
 use Rattle.grain_stack.specs.Floors.{Belongings, belongings, AreOrdered, IsSound, frames_on, floors, stacks_view}
 use Rattle.grain_stack.specs.Views.{StacksView, bare, counted_up, with_frame}
 use Rattle.grain_stack.proofs.Depths.{none_further_in, unchanged, all_dropped}

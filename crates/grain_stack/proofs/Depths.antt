@@ -1,5 +1,5 @@
 -- What each frame has among what all frames have.
-use Rattle.std.proofs.Common.{◌≡◌, ◌∙◌, ◌<◌, ◌≤◌, ◌==◌, ℕ, zero, suc, List, [], ◌∷◌, Bool, true, false, ◌++◌, ◌+◌, ◌-◌, Option, Some, None, length, reverse, take, drop, slice_get, get_or, refl, sym, ap, subst, arith, length-append, length-drop}
+use Rattle.std.proofs.Common.{◌≡◌, ◌∙◌, ◌<◌, ◌≤◌, ◌==◌, ℕ, zero, suc, List, [], ◌∷◌, Bool, true, false, ◌++◌, ◌+◌, ◌-◌, Some, None, length, reverse, drop, slice_get, get_or, refl, sym, ap, subst, arith, length-append, length-drop}
 use Rattle.std.specs.Prelude.{nat_le, slice_set}
 use Rattle.std.proofs.lemmas.Bool.{eq-eqb, leb-true, leb-false}
 use Rattle.std.proofs.lemmas.List.{reverse-append, reverse-reverse, length-reverse, get_or-reverse}

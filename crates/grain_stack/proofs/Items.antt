@@ -1,5 +1,5 @@
 -- The first item of those that are left, and the others.
-use Rattle.std.proofs.Common.{◌≡◌, ◌∙◌, ◌<◌, ◌≤◌, ◌+◌, ◌++◌, ℕ, zero, suc, List, [], ◌∷◌, Bool, true, false, Some, None, map, drop, length, slice_get, refl, sym, ap, arith}
+use Rattle.std.proofs.Common.{◌≡◌, ◌∙◌, ◌≤◌, ◌+◌, ◌++◌, ℕ, zero, suc, List, [], ◌∷◌, Bool, true, false, Some, map, drop, length, slice_get, refl, sym, ap, arith}
 use Rattle.std.specs.Prelude.{ℤ, pos, negsuc, ◌+ℤ◌, ◌-ℤ◌, ◌≤ℤ◌, ◌<ℤ◌, nat_le}
 use Rattle.std.specs.Char.{encode_utf8, len_utf8}
 use Rattle.std.specs.Str.{chars, is_utf8, IsUtf8, IsCharBoundary}

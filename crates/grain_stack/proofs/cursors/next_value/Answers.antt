@@ -1,4 +1,4 @@
-use Rattle.std.proofs.Common.{◌≡◌, ◌∙◌, ◌+◌, Some, slice_get, refl, sym, ap}
+use Rattle.std.proofs.Common.{◌∙◌, ◌+◌, Some, refl, sym, ap}
 use Rattle.grain_value.specs.View.{tree}
 use Rattle.grain_value.specs.declared.values.Dynamic.{Dynamic}
 use Rattle.grain_stack.proofs.Items.{first_at}

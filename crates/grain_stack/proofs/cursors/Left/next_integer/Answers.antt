@@ -1,6 +1,6 @@
 -- The range is not at its end, at its end, or behind it.
 use Rattle.grain_stack.specs.Cursors.{items_left}
-use Rattle.std.proofs.Common.{◌≡◌, [], ℤ, pos, true, false, ap, ⊎_elim, ◌+ℤ◌, ◌<ℤ◌, ◌≤ℤ◌, FitsSigned, w64, to_z, of_z, rules, arith}
+use Rattle.std.proofs.Common.{◌≡◌, [], pos, false, ap, ⊎_elim, ◌+ℤ◌, ◌<ℤ◌, ◌≤ℤ◌, FitsSigned, w64, to_z, of_z, rules, arith}
 use Rattle.std.proofs.lemmas.Int.{ints, to_z-of_z}
 use Rattle.grain_stack.proofs.Items.{next_below, next_last, none_next}
 use Rattle.grain_stack.proofs.cursors.Left.next_integer.Goals as goal

@@ -1,4 +1,4 @@
-use Rattle.std.proofs.Common.{◌≡◌, ◌<◌, ◌∙◌, [], length, take, ap}
+use Rattle.std.proofs.Common.{◌≡◌, ◌<◌, ◌∙◌, length, take, ap}
 use Rattle.grain_stack.specs.Views.{StacksView, bare, joined_frame}
 use Rattle.grain_stack.specs.Filled.{Filled}
 use Rattle.grain_stack.specs.Floors.{frames_on, floors, belongings, stacks_view}
