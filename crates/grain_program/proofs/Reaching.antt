@@ -26,6 +26,9 @@ known_again (x ∷ xs) s f k =
     ap (λ (r : Result AnalysisState Refusal). r >>= λ g. arrive_all (at_all s xs) g) one
     ∙ known_again xs s f (λ a i. k a (inr i))
 
+nothing : (b : ℕ) → None ≡ Some b → ⊥
+nothing b e = cc
+
 in_first : (xs : List ℕ) (b : ℕ) → slice_get xs 0 ≡ Some b → In b xs
 in_first [] b e = absurd cc
 in_first (x ∷ xs) b e = inl cc
@@ -158,8 +161,7 @@ module _ (p : View) where
               le,
               same,
             )) in
-            let bad : None ≡ Some lowest = sym past ∙ is in
-            absurd cc
+            absurd (nothing lowest (sym past ∙ is))
         at (inr ne) z =
             all_still reached f g spread.stays r j lowest
             (sym (get_or-set_other reached k j o None ne) ∙ is)
@@ -172,14 +174,9 @@ module _ (p : View) where
     here = ap (λ (l : List (Option ℕ)). get_or l k None) (sym e) ∙ is
 
     at : (k < n) ⊎ (n ≤ k) → HasCome p k lowest f
-    at (inl lt) =
-        let bad : None ≡ Some lowest = sym (get_or-replicate n k None None lt) ∙ here in
-        absurd cc
+    at (inl lt) = absurd (nothing lowest (sym (get_or-replicate n k None None lt) ∙ here))
     at (inr le) =
-        let past : get_or (replicate n None) k None ≡ None =
-        get_or_past (replicate n None) k None (omega (
+        absurd (nothing lowest (sym (get_or_past (replicate n None) k None (omega (
           arith,
           length-replicate {A = Option ℕ} n None,
-        )) in
-        let bad : None ≡ Some lowest = sym past ∙ here in
-        absurd cc
+        ))) ∙ here))
