@@ -21,8 +21,9 @@ use grain_value::{Dynamic, Held, List, Name, OutOfMemory, Scope};
 use std::alloc::Global;
 use std::marker::Model;
 
-/// The operands, handlers, cursors and totals of all frames, and the trace of a fault. Every call but `new`, `enter`,
-/// `enter_with_arguments`, `trace`, `cut_trace` and `entered` acts on the innermost frame.
+/// The operands, handlers, cursors and totals of all frames, and the trace of a fault. Every call but
+/// `new`, `enter`, `enter_with_arguments`, `trace`, `cut_trace`, `put_trace` and `entered` acts on the
+/// innermost frame.
 #[derive(Drop)]
 pub struct Stacks {
     slots: Slots,
