@@ -227,12 +227,12 @@ impl Stacks {
         }
     }
 
-    // Whether no frame has a handler, a cursor or a total.
+    // Whether no frame has a handler, a cursor or a total, by one test.
     #[inline(always)]
     fn has_no_entries(&self) -> bool
         ensures { OnTrue result (IsBare self.now) }
     {
-        self.handlers.is_empty() && self.cursors.is_empty() && self.totals.is_empty()
+        (self.handlers.len() | self.cursors.len() | self.totals.len()) == 0
     }
 
     // The frame's handlers, cursors and totals go, where frames have some.
