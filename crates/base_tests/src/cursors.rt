@@ -3,7 +3,6 @@
 use crate::made::value_of;
 use grain_stack::{Cursor, Stacks, Total};
 use grain_value::Dynamic;
-use std::alloc::Global;
 use std::process::Abort;
 
 fn over(rt: &impl Abort, value: Dynamic) -> Cursor {
@@ -11,24 +10,24 @@ fn over(rt: &impl Abort, value: Dynamic) -> Cursor {
 }
 
 /// The cursor gives these integers, and nothing after them.
-fn check_integers(rt: &impl Abort, alloc: Global, cursor: &mut Cursor, integers: &[i64]) {
+fn check_integers(rt: &impl Abort, cursor: &mut Cursor, integers: &[i64]) {
     for integer in integers {
-        let item = cursor.next(alloc).expect(rt, "memory");
-        assert!(rt; item.expect(rt, "an item").as_int() == Some(*integer));
+        let item = cursor.next().expect(rt, "an item");
+        assert!(rt; item.as_int() == Some(*integer));
     }
-    assert!(rt; cursor.next(alloc).expect(rt, "memory").is_none());
+    assert!(rt; cursor.next().is_none());
 }
 
 #[test]
 fn bytes_are_given_as_integers(rt: HostRuntime) {
     let mut bytes = over(&rt, value_of(&rt, rt.alloc(), "blob 0 255"));
-    check_integers(&rt, rt.alloc(), &mut bytes, &[0, 255]);
+    check_integers(&rt, &mut bytes, &[0, 255]);
 }
 
 #[test]
 fn values_of_a_list_are_given(rt: HostRuntime) {
     let mut values = over(&rt, value_of(&rt, rt.alloc(), "array 3, 4"));
-    check_integers(&rt, rt.alloc(), &mut values, &[3, 4]);
+    check_integers(&rt, &mut values, &[3, 4]);
 }
 
 /// A cursor over the integers from one to another.
@@ -46,26 +45,26 @@ fn over_range(rt: &impl Abort, from: i64, to: i64, inclusive: bool) -> Cursor {
 #[test]
 fn a_range_ends_at_the_greatest_integer(rt: HostRuntime) {
     let mut last = over_range(&rt, i64::MAX - 1, i64::MAX, true);
-    check_integers(&rt, rt.alloc(), &mut last, &[i64::MAX - 1, i64::MAX]);
+    check_integers(&rt, &mut last, &[i64::MAX - 1, i64::MAX]);
     let mut without_end = over_range(&rt, -1, 1, false);
-    check_integers(&rt, rt.alloc(), &mut without_end, &[-1, 0]);
+    check_integers(&rt, &mut without_end, &[-1, 0]);
     let mut backwards = over_range(&rt, 1, -1, true);
-    check_integers(&rt, rt.alloc(), &mut backwards, &[]);
+    check_integers(&rt, &mut backwards, &[]);
 }
 
-fn check_character(rt: &impl Abort, alloc: Global, cursor: &mut Cursor, character: char) {
-    let item = cursor.next(alloc).expect(rt, "memory");
-    assert!(rt; item.expect(rt, "a character").as_char() == Some(character));
+fn check_character(rt: &impl Abort, cursor: &mut Cursor, character: char) {
+    let item = cursor.next().expect(rt, "a character");
+    assert!(rt; item.as_char() == Some(character));
 }
 
 #[test]
 fn characters_are_given_whole(rt: HostRuntime) {
     let mut text = over(&rt, value_of(&rt, rt.alloc(), "text aé€😀"));
-    check_character(&rt, rt.alloc(), &mut text, 'a');
-    check_character(&rt, rt.alloc(), &mut text, 'é');
-    check_character(&rt, rt.alloc(), &mut text, '€');
-    check_character(&rt, rt.alloc(), &mut text, '😀');
-    assert!(rt; text.next(rt.alloc()).expect(&rt, "memory").is_none());
+    check_character(&rt, &mut text, 'a');
+    check_character(&rt, &mut text, 'é');
+    check_character(&rt, &mut text, '€');
+    check_character(&rt, &mut text, '😀');
+    assert!(rt; text.next().is_none());
 }
 
 fn check_cursors(rt: &impl Abort, stacks: &mut Stacks) {

@@ -1,7 +1,10 @@
 -- What the stacks become where what their frames have changes, operands apart.
-use Rattle.std.proofs.Common.{◌≡◌, ◌∙◌, ◌<◌, ◌≤◌, ◌-◌, ◌==◌, ℕ, suc, List, [], ◌∷◌, ◌++◌, true, false, length, reverse, take, drop, refl, sym, ap, subst, arith}
+use Rattle.std.proofs.Common.{◌≡◌, ◌∙◌, ◌<◌, ◌≤◌, ◌-◌, ◌==◌, ℕ, suc, Bool, List, [], ◌∷◌, ◌++◌, true, false, length, reverse, take, drop, refl, sym, ap, subst, arith}
 use Rattle.std.proofs.lemmas.List.{reverse-append, length-reverse}
 use Rattle.std.proofs.Math.Seq.{drop-length, take-length}
+use Rattle.std.specs.Bool.{OnTrue}
+use Rattle.std.specs.Prelude.{bit_or}
+use Rattle.std.proofs.lemmas.Nat.{le_or_l, le_or_r}
 use borrow.Author.Tests.{eqb-true}
 use Rattle.grain_value.specs.declared.values.Held.{Held}
 use Rattle.grain_stack.specs.declared.cursors.Cursor.{Cursor}
@@ -12,7 +15,7 @@ use Rattle.grain_stack.specs.declared.stacks.Stacks.TheInside.{Inside}
 use Rattle.grain_stack.specs.declared.totals.Total.{Total}
 use Rattle.grain_stack.specs.Entries.{entries_at, Becomes}
 use Rattle.grain_stack.specs.Floors.{Belongings, belongings, AreOrdered, IsSound, frames_on, floors, stacks_view}
-use Rattle.grain_stack.specs.Views.{StacksView, bare, counted_up, with_frame}
+use Rattle.grain_stack.specs.Views.{StacksView, IsBare, bare, counted_up, with_frame}
 use Rattle.grain_stack.proofs.Depths.{none_further_in, unchanged, all_dropped}
 
 -- the depth of the innermost frame
@@ -204,10 +207,31 @@ all_gone v0 v1 v2 v3 e1 e2 e3 =
     })
 
 -- nothing is there where there are no entries
-pub nothing_there : {T : Type 0} (d : ℕ) (es : List (FrameEntry T)) → (length es == 0) ≡ true →
+nothing_there : {T : Type 0} (d : ℕ) (es : List (FrameEntry T)) → length es ≤ 0 →
     entries_at d es ≡ []
 nothing_there d [] none = refl
-nothing_there d (e ∷ es) none = absurd (omega (arith, eqb-true (length (e ∷ es)) 0 none))
+nothing_there d (e ∷ es) none = absurd (omega (arith, none))
+
+-- there are no entries where their numbers have no bit
+pub bare_by_bits : (s : Inside) (v : StacksView) (h c t : ℕ) (none : Bool) →
+    h ≡ length s.handlers → c ≡ length s.cursors → t ≡ length s.totals → stacks_view s ≡ v →
+    (bit_or (bit_or h c) t == 0) ≡ none → OnTrue none (IsBare v)
+bare_by_bits s v h c t false eh ec et is none = tt
+bare_by_bits s v h c t true eh ec et is none =
+    let all : bit_or (bit_or h c) t ≡ 0 = eqb-true (bit_or (bit_or h c) t) 0 none in
+    let two : bit_or h c ≤ 0 = omega (arith, all, le_or_l (bit_or h c) t) in
+    let d = length (floors s) in
+    record {
+      handlers =
+          sym (ap (λ (u : StacksView). u.handlers) is)
+          ∙ nothing_there d s.handlers (omega (arith, eh, two, le_or_l h c));
+      cursors =
+          sym (ap (λ (u : StacksView). u.cursors) is)
+          ∙ nothing_there d s.cursors (omega (arith, ec, two, le_or_r h c));
+      totals =
+          sym (ap (λ (u : StacksView). u.totals) is)
+          ∙ nothing_there d s.totals (omega (arith, et, all, le_or_r (bit_or h c) t));
+    }
 
 -- ---- a frame more, which has nothing yet
 

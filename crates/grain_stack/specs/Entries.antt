@@ -1,5 +1,5 @@
--- What frames have, the newest first. Each entry has the number of frames around its own: the depth of
--- its frame.
+-- What frames have, the newest first. Each entry has the number of frames around its own: the depth
+-- of its frame.
 use Rattle.std.specs.Prelude.{◌≡◌, ℕ, ◌<◌, ◌≤◌, ◌==◌, if◌then◌else◌, List, [], ◌∷◌, Option, Some, None}
 use Rattle.grain_stack.specs.declared.frame_entries.FrameEntry.{FrameEntry}
 
@@ -16,8 +16,8 @@ module _ {T : Type 0} where
   IsOrdered depth [] = Unit {0}
   IsOrdered depth (e ∷ es) = (e.depth ≤ depth) × IsOrdered e.depth es
 
-  -- the innermost frame, which is at this depth, now has these items, and each frame around it has what
-  -- it had
+  -- the innermost frame, which is at this depth, now has these items, and each frame around it has
+  -- what it had
   pub record Becomes (depth : ℕ) (old new : List (FrameEntry T)) (items : List T) : Type 0 where
     pub own : entries_at depth new ≡ items
     pub outer : (d : ℕ) → d < depth → entries_at d new ≡ entries_at d old

@@ -1,6 +1,6 @@
--- How what all frames have lies in lists. The operands lie in one, in which each frame's begin where
--- those of the frame around it end. Handlers, cursors and totals have one each, of entries with the
--- depth of their frame.
+-- How what all frames have lies in lists. The operands lie in one, in which each frame's begin
+-- where those of the frame around it end. Handlers, cursors and totals have one each, of entries
+-- with the depth of their frame.
 use Rattle.std.specs.Prelude.{ℕ, ◌+◌, ◌≤◌, Bool, if◌then◌else◌, List, [], ◌∷◌, length, take, drop, reverse}
 use Rattle.std.specs.Vec.{vec_capacity}
 use Rattle.grain_value.specs.declared.values.Held.{Held}
@@ -70,8 +70,8 @@ stacks_view s = record {
 }
 
 -- The operands of the innermost frame are there and have their slots, the floors are in order, the
--- trace has room for an entry of each frame that has not noted a fault, and what frames have besides
--- operands is in the order of the frames.
+-- trace has room for an entry of each frame that has not noted a fault, and what else the frames have
+-- is in the order of the frames.
 pub record IsSound (s : Inside) : Type 0 where
   pub bottom : s.bottom ≤ length s.slots.operands
   pub room : s.bottom + s.room ≤ s.slots.slots

@@ -1,5 +1,5 @@
--- What a caller sees of the stacks: the operands, handlers, cursors and totals of each frame, the trace,
--- and how often a frame was entered.
+-- What a caller sees of the stacks: the operands, handlers, cursors and totals of each frame, the
+-- trace, and how often a frame was entered.
 use Rattle.std.specs.Prelude.{◌≡◌, ℕ, ◌+◌, ◌-◌, ◌^◌, nat_lt, if◌then◌else◌, Bool, false, List, [], ◌∷◌, ◌++◌}
 use Rattle.grain_value.specs.declared.values.Dynamic.{Dynamic}
 use Rattle.grain_value.specs.declared.values.Held.{Held}
@@ -114,8 +114,8 @@ IsLeft old new = new ≡ record old { trace = new.trace; entered = new.entered }
 abbrev pub with_value : Dynamic → StacksView → StacksView
 with_value v s = record s { operands = s.operands ++ read_write v ∷ [] }
 
--- the innermost frame, without its handlers, cursors and totals, and the one around it, which become
--- one with the operands of both
+-- the innermost frame, without its handlers, cursors and totals, and the one around it, which
+-- become one with the operands of both
 abbrev pub joined_frame : List StackFrame → StacksView → StacksView
 joined_frame [] s = s
 joined_frame (f ∷ fs) s = record s {

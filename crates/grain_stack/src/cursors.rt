@@ -1,11 +1,11 @@
 //! Cursors: what a loop still goes over.
 
-ghost use Rattle.std.specs.Prelude.{◌≡◌, ◌<◌, map, drop, negsuc, Some, None, IfOk, IfErr, OnErr};
+ghost use Rattle.std.specs.Prelude.{◌≡◌, ◌<◌, drop, negsuc, Some, None, IfOk, IfErr};
+ghost use Rattle.grain_value.specs.Items.{items_of};
 ghost use Rattle.grain_value.specs.declared.values.Dynamic.TheVariants as dynamic;
-ghost use Rattle.grain_stack.specs.Cursors.{items_left, items_of, Gives, IsRange, byte_item, characters_in};
+ghost use Rattle.grain_stack.specs.Cursors.{items_left, Gives, IsRange, bytes_in, characters_in};
 
-use grain_value::{Array, Blob, Dynamic, OutOfMemory, Text};
-use std::alloc::Global;
+use grain_value::{Array, Blob, Dynamic, Text};
 
 /// The items that a cursor has left.
 #[derive(Drop)]
@@ -30,9 +30,9 @@ pub struct Cursor {
 }
 
 impl Cursor {
-    /// A cursor that has counted nothing and has all items of a value left: the values of a list, the
-    /// characters of a text, the bytes of a byte string, or the integers of a range. It gives any
-    /// other value back.
+    /// A cursor that has counted nothing and has all items of a value left: the values of a list,
+    /// the characters of a text, the bytes of a byte string, or the integers of a range. It gives
+    /// any other value back.
     pub fn over(value: Dynamic) -> Result<Cursor, Dynamic>
         ensures items { IfOk result (λ cursor. items_of value ≡ Some (items_left cursor.left)) }
         ensures counter { IfOk result (λ cursor. cursor.counter ≡ negsuc 0) }
@@ -63,15 +63,13 @@ impl Cursor {
         Cursor { left, counter: -1 }
     }
 
-    /// The first of the items that are left, which then is no longer left, or nothing if none is. It
-    /// does not count it. After want of memory the cursor is as it was.
-    pub fn next(&mut self, alloc: Global) -> Result<Option<Dynamic>, OutOfMemory>
-        ensures given { IfOk result
-            (λ item. Gives (items_left self.old.left) item (items_left self.new.left)) }
+    /// The first of the items that are left, which then is no longer left, or nothing if none is.
+    /// It does not count it.
+    pub fn next(&mut self) -> Option<Dynamic>
+        ensures given { Gives (items_left self.old.left) result (items_left self.new.left) }
         ensures counter { self.new.counter ≡ self.old.counter }
-        ensures unchanged { OnErr result (self.new ≡ self.old) }
     {
-        self.left.next(alloc)
+        self.left.next()
     }
 }
 
@@ -85,15 +83,14 @@ impl Left {
     }
 
     // The first item, which then is no longer left.
-    fn next(&mut self, alloc: Global) -> Result<Option<Dynamic>, OutOfMemory>
-        ensures given { IfOk result (λ item. Gives (items_left self.old) item (items_left self.new)) }
-        ensures unchanged { OnErr result (self.new ≡ self.old) }
+    fn next(&mut self) -> Option<Dynamic>
+        ensures { Gives (items_left self.old) result (items_left self.new) }
     {
         match self {
-            Left::Values { items, next } => next_value(alloc, items, next),
-            Left::Bytes { items, next } => Ok(next_byte(items, next)),
-            Left::Characters { items, next } => Ok(next_character(items, next)),
-            Left::Range { .. } => Ok(self.next_integer()),
+            Left::Values { items, next } => next_value(items, next),
+            Left::Bytes { items, next } => next_byte(items, next),
+            Left::Characters { items, next } => next_character(items, next),
+            Left::Range { .. } => self.next_integer(),
         }
     }
 
@@ -132,27 +129,22 @@ impl Left {
     }
 }
 
-// A copy of the value at the index, which then is the next one's.
-fn next_value(
-    alloc: Global,
-    items: &Array,
-    next: &mut usize,
-) -> Result<Option<Dynamic>, OutOfMemory>
-    ensures given { IfOk result (λ item. Gives (drop next.old items.now) item (drop next.new items.now)) }
-    ensures unchanged { OnErr result (next.new ≡ next.old) }
+// The value at the index, which goes on by one. The list keeps unit in its place.
+fn next_value(items: &mut Array, next: &mut usize) -> Option<Dynamic>
+    ensures { Gives (drop next.old items.old) result (drop next.new items.new) }
 {
     if *next >= items.len() {
-        return Ok(None);
+        return None;
     }
-    let value = items.at(*next).copy(alloc)?;
+    let value = items.take(*next);
     *next += 1;
-    Ok(Some(value))
+    Some(value)
 }
 
-// The byte at the index, which then is the next one's.
+// The byte at the index, which goes on by one.
 fn next_byte(items: &Blob, next: &mut usize) -> Option<Dynamic>
-    ensures { Gives (map byte_item (drop next.old items.now)) result
-        (map byte_item (drop next.new items.now)) }
+    ensures { Gives (bytes_in (drop next.old items.now)) result
+        (bytes_in (drop next.new items.now)) }
 {
     if *next >= items.len() {
         return None;
@@ -162,7 +154,7 @@ fn next_byte(items: &Blob, next: &mut usize) -> Option<Dynamic>
     Some(Dynamic::Int(i64::from(byte)))
 }
 
-// The character that begins at the byte, which then is the next one's first.
+// The character that begins at the byte, which goes on to the first of the next character.
 fn next_character(items: &Text, next: &mut usize) -> Option<Dynamic>
     ensures { Gives (characters_in (drop next.old items.now)) result
         (characters_in (drop next.new items.now)) }

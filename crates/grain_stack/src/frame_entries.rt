@@ -1,6 +1,6 @@
 //! Entries that frames have, those of all frames in one list.
 
-ghost use Rattle.std.specs.Prelude.{◌≡◌, ◌==◌, ◌<◌, ◌≤◌, ◌-◌, ◌∷◌, [], ℕ, Some, length, drop, is_ok, if◌then◌else◌};
+ghost use Rattle.std.specs.Prelude.{◌≡◌, ◌<◌, ◌≤◌, ◌-◌, ◌∷◌, [], ℕ, Some, length, drop, is_ok, if◌then◌else◌};
 ghost use Rattle.std.specs.Option.{option_copied};
 ghost use Rattle.std.specs.Borrow.{sem};
 ghost use Rattle.grain_stack.specs.Entries.{entries_at, newest_of, first_of, IsOrdered, Becomes};
@@ -42,12 +42,12 @@ impl<T: Drop> FrameEntries<T> {
         }
     }
 
-    /// Whether no frame has an entry.
+    /// How many entries all frames have.
     #[inline(always)]
-    pub fn is_empty(&self) -> bool
-        ensures { result ≡ (length self.now == 0) }
+    pub fn len(&self) -> usize
+        ensures { result ≡ length self.now }
     {
-        self.entries.is_empty()
+        self.entries.len()
     }
 
     /// One entry more, of the frame at a depth. After want of memory the entries are as they were.

@@ -1,5 +1,5 @@
-//! The stacks that all frames of a machine share: their operands, handlers, cursors and totals, and the
-//! trace of a fault.
+//! The stacks that all frames of a machine share: their operands, handlers, cursors and totals, and
+//! the trace of a fault.
 #![tactic(auto)]
 
 mod cursors;

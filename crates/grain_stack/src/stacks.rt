@@ -21,8 +21,9 @@ use grain_value::{Dynamic, Held, List, Name, OutOfMemory, Scope};
 use std::alloc::Global;
 use std::marker::Model;
 
-/// The operands, handlers, cursors and totals of all frames, and the trace of a fault. Every call but `new`, `enter`,
-/// `enter_with_arguments`, `trace`, `cut_trace` and `entered` acts on the innermost frame.
+/// The operands, handlers, cursors and totals of all frames, and the trace of a fault. Every call but
+/// `new`, `enter`, `enter_with_arguments`, `trace`, `cut_trace`, `put_trace` and `entered` acts on the
+/// innermost frame.
 #[derive(Drop)]
 pub struct Stacks {
     slots: Slots,
@@ -226,12 +227,12 @@ impl Stacks {
         }
     }
 
-    // Whether no frame has a handler, a cursor or a total.
+    // Whether no frame has a handler, a cursor or a total, by one test.
     #[inline(always)]
     fn has_no_entries(&self) -> bool
         ensures { OnTrue result (IsBare self.now) }
     {
-        self.handlers.is_empty() && self.cursors.is_empty() && self.totals.is_empty()
+        (self.handlers.len() | self.cursors.len() | self.totals.len()) == 0
     }
 
     // The frame's handlers, cursors and totals go, where frames have some.

@@ -10,7 +10,8 @@ use crate::cursors::Cursor;
 use grain_value::OutOfMemory;
 
 impl Stacks {
-    /// One cursor more, the innermost of the frame. After want of memory the stacks are as they were.
+    /// One cursor more, the innermost of the frame. After want of memory the stacks are as they
+    /// were.
     pub fn push_cursor(&mut self, cursor: Cursor) -> Result<(), OutOfMemory>
         ensures { self.new ≡ (if is_ok result
             then record self.old { cursors = cursor ∷ self.old.cursors }

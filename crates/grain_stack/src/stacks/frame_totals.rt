@@ -10,7 +10,8 @@ use crate::totals::Total;
 use grain_value::OutOfMemory;
 
 impl Stacks {
-    /// One total more, the innermost of the frame. After want of memory the stacks are as they were.
+    /// One total more, the innermost of the frame. After want of memory the stacks are as they
+    /// were.
     pub fn push_total(&mut self, total: Total) -> Result<(), OutOfMemory>
         ensures { self.new ≡ (if is_ok result
             then record self.old { totals = total ∷ self.old.totals }
