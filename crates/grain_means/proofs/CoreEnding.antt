@@ -62,7 +62,7 @@ module _ {S : Type 0} (m : Setup S) (core : IsCore m.program) (root : Act S)
 -- So a whole program: its instructions are as many as any run of it counts, and all that its run comes to
 -- is of the core.
 module _ {S : Type 0} (law : Law S) (program : View) (engine : Engine) (b : Begin S) (e : Finish S) where
-  machine : Setup S
+  abbrev machine : Setup S
   machine = setup law program (with_callbacks true engine)
 
   pub core_to_whole : CoreMeans law program engine b e →
@@ -80,6 +80,6 @@ module _ {S : Type 0} (law : Law S) (program : View) (engine : Engine) (b : Begi
     n,
     end.0,
     ends_in_core machine core (main machine (first_world b))
-    (λ f w comes. called_stands machine valid None (first_world b) w f refl comes)
-    (λ t w comes. comes) end.1.0,
+        (λ f w comes. called_stands machine valid None (first_world b) w f refl comes)
+        (λ t w comes. comes) end.1.0,
   )

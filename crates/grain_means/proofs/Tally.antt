@@ -155,9 +155,9 @@ module _ {S : Type 0} {m : Setup S} (walk : Walk m) where
     λ valid.
         let s = seen m.program valid f (op.Switch index) width at (sits.2 valid) in
         fits_on walk (op.Switch index) width at refl
-            (stepped f (switch_target (switch_of m.program index) v) f.operands)
-            (switch_lands m.program index v s.provides.pools.0)
-            (λ enough. omega (arith, enough)) (λ _. omega arith) refl valid,
+        (stepped f (switch_target (switch_of m.program index) v) f.operands)
+        (switch_lands m.program index v s.provides.pools.0)
+        (λ enough. omega (arith, enough)) (λ _. omega arith) refl valid,
     sits.3,
     sits.4,
   )
