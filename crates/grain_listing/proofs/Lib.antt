@@ -8,6 +8,7 @@ pub mod FoundLabels
 pub mod Opens
 pub mod LastChain
 pub mod LastSwitch
+pub mod OneMore
 pub mod Simulates
 pub mod Linked
 pub mod LinesRead

@@ -76,7 +76,7 @@ known_there f g xs spread a i =
     let r = reached_with xs a i in
     (r.0.shape, ap (shape_at g.shapes) r.2 ∙ spread.there r.0 r.1)
 
-addresses_each : (bs : List ℕ) (t : Shape) → addresses (map (λ b. arrival b t) bs) ≡ bs
+pub addresses_each : (bs : List ℕ) (t : Shape) → addresses (map (λ b. arrival b t) bs) ≡ bs
 addresses_each [] t = refl
 addresses_each (b ∷ bs) t = ap (λ (l : List ℕ). b ∷ l) (addresses_each bs t)
 

@@ -6,52 +6,70 @@ use Rattle.grain_program.specs.declared.verifier.owners.Owner.{Owner}
 use Rattle.grain_program.specs.declared.code.switches.Switch.{Switch}
 use Rattle.grain_program.specs.Switches.{case_targets, range_targets, targets_in, targets_if}
 use Rattle.grain_program.specs.Owners.{owner_at, owns_all, home_of}
-use Rattle.grain_program.proofs.SameHandlers.{both_true}
 
--- what comes last is owned too
-back_owned : (owners : List Owner) (end : ℕ) (xs ys : List ℕ)
-    → owns_all owners end (xs ++ ys) ≡ true → owns_all owners end ys ≡ true
-back_owned owners end [] ys e = e
-back_owned owners end (x ∷ xs) ys e =
-    back_owned owners end xs ys
-    (both_true ((owner_at owners x).end == end) (owns_all owners end (xs ++ ys)) e).1
+and_assoc : (a b c : Bool) → (a && (b && c)) ≡ ((a && b) && c)
+and_assoc true b c = refl
+and_assoc false b c = refl
+
+-- addresses are owned where both parts of them are
+both_parts : (owners : List Owner) (end : ℕ) (xs ys : List ℕ)
+    → owns_all owners end (xs ++ ys) ≡ (owns_all owners end xs && owns_all owners end ys)
+both_parts owners end [] ys = refl
+both_parts owners end (x ∷ xs) ys =
+    ap (λ (b : Bool). ((owner_at owners x).end == end) && b) (both_parts owners end xs ys)
+    ∙ and_assoc ((owner_at owners x).end == end) (owns_all owners end xs)
+    (owns_all owners end ys)
 
 module _ (owners : List Owner) (end : ℕ) (some : 0 < end) where
-  abbrev by_default : Switch → ℕ
-  by_default s = (owner_at owners s.default).end
-
-  default_owned : (s : Switch) → owns_all owners end (targets_in s) ≡ true
-      → (by_default s == end) ≡ true
-  default_owned s e =
-      let ranges : List ℕ = range_targets s.ranges in
-      let last : List ℕ = s.default ∷ [] in
-      (both_true (by_default s == end) true (back_owned owners end ranges last (back_owned owners
-      end (case_targets s.cases) (ranges ++ last) e))).0
+  -- the targets of a switch, part by part
+  parts_owned : (s : Switch) → owns_all owners end (targets_in s)
+      ≡ (owns_all owners end (case_targets s.cases)
+      && (owns_all owners end (range_targets s.ranges)
+      && (((owner_at owners s.default).end == end) && true)))
+  parts_owned s =
+      both_parts owners end (case_targets s.cases) (range_targets s.ranges ++ s.default ∷ [])
+      ∙ ap (λ (b : Bool). owns_all owners end (case_targets s.cases) && b)
+      (both_parts owners end (range_targets s.ranges) (s.default ∷ []))
 
   home_tells : (s : Switch) → (home_of owners s == end) ≡ owns_all owners end (targets_in s)
-  home_tells s = at (owns_all owners (by_default s) (targets_in s)) refl where
-    other : (q r : Bool) → (by_default s == end) ≡ q → owns_all owners end (targets_in s) ≡ r
-        → owns_all owners (by_default s) (targets_in s) ≡ true → q ≡ r
-    other true r h k e =
-        sym (subst (λ (n : ℕ). owns_all owners n (targets_in s) ≡ true)
-        (eqb-true (by_default s) end h) e) ∙ k
-    other false true h k e = sym h ∙ default_owned s k
-    other false false h k e = refl
+  home_tells s = at (d == end) refl ∙ sym (parts_owned s) where
+    d : ℕ
+    d = (owner_at owners s.default).end
 
-    none : (r : Bool) → owns_all owners end (targets_in s) ≡ r
-        → owns_all owners (by_default s) (targets_in s) ≡ false → false ≡ r
-    none true k e =
-        let same : by_default s ≡ end = eqb-true (by_default s) end (default_owned s k) in
-        sym e ∙ ap (λ (n : ℕ). owns_all owners n (targets_in s)) same ∙ k
-    none false k e = refl
+    cases_at : ℕ → Bool
+    cases_at n = owns_all owners n (case_targets s.cases)
 
-    at : (b : Bool) → owns_all owners (by_default s) (targets_in s) ≡ b
-        → (cond b (by_default s) 0 == end) ≡ owns_all owners end (targets_in s)
+    ranges_at : ℕ → Bool
+    ranges_at n = owns_all owners n (range_targets s.ranges)
+
+    no_home : (0 == end) ≡ false
+    no_home = ne_eqb 0 end (λ z. omega (arith, some, z))
+
+    mine : (x y : Bool) → (d == end) ≡ true
+        → (cond (x && y) d 0 == end) ≡ (x && (y && (true && true)))
+    mine true true e = e
+    mine true false e = no_home
+    mine false y e = no_home
+
+    other : (x y : Bool) → (d == end) ≡ false → (cond (x && y) d 0 == end) ≡ false
+    other true true e = e
+    other true false e = no_home
+    other false y e = no_home
+
+    never : (x y : Bool) → false ≡ (x && (y && (false && true)))
+    never true true = refl
+    never true false = refl
+    never false y = refl
+
+    at : (q : Bool) → (d == end) ≡ q → (home_of owners s == end)
+        ≡ (cases_at end && (ranges_at end && ((d == end) && true)))
     at true e =
-        other (by_default s == end) (owns_all owners end (targets_in s)) refl refl e
+        mine (cases_at d) (ranges_at d) e
+        ∙ ap (λ (n : ℕ). cases_at n && (ranges_at n && (true && true))) (eqb-true d end e)
+        ∙ ap (λ (b : Bool). cases_at end && (ranges_at end && (b && true))) (sym e)
     at false e =
-        ne_eqb 0 end (λ (z : 0 ≡ end). omega arith)
-        ∙ none (owns_all owners end (targets_in s)) refl e
+        other (cases_at d) (ranges_at d) e ∙ never (cases_at end) (ranges_at end)
+        ∙ ap (λ (b : Bool). cases_at end && (ranges_at end && (b && true))) (sym e)
 
   -- what is told by the home of a switch, if there is one
   abbrev by_home : Option ℕ → Bool

@@ -81,6 +81,16 @@ state_still : (shapes : List (Option NumberedShape)) (waiting : List ℕ)
 state_still shapes waiting ls more g h =
     ap (state waiting) (known_still ls more g shapes h)
 
+-- a fact of the state, with a longer table
+pub still_so : (P : AnalysisState → Type 0) (f : Search) (shapes : List (Option NumberedShape))
+    (waiting : List ℕ) (ls more : List (List TryHandler))
+    → ◌≡◌ {A = Search} (record { shapes = shapes; waiting = waiting; lists = ls }) f
+    → Grows ls more → AreNumbered ls shapes → P (state_of f)
+    → P (state_of (record { shapes = shapes; waiting = waiting; lists = more }))
+still_so P f shapes waiting ls more same g h fact =
+    subst P (sym (state_still shapes waiting ls more g h))
+    (subst (λ (x : Search). P (state_of x)) (sym same) fact)
+
 -- ---- what is known at an address
 
 known_at : (f : Search) (a : ℕ)

@@ -29,5 +29,6 @@ pub mod Owners
 pub mod Waiting
 pub mod HandlerLists
 pub mod Numbered
+pub mod Reached
 -- lemmas, which no contract names
 pub mod laws

@@ -20,7 +20,7 @@ use Rattle.grain_program.specs.Effects.{flow_of}
 use Rattle.grain_program.specs.Indices.{in_pools, is_named}
 use Rattle.grain_program.specs.Capabilities.{permits}
 use Rattle.grain_program.specs.Starts.{Start}
-use Rattle.grain_program.specs.Switches.{targets_in, targets_if}
+use Rattle.grain_program.specs.Switches.{case_targets, range_targets, targets_if}
 
 -- what stands where no instruction begins
 abbrev pub no_owner : Owner
@@ -65,7 +65,8 @@ owns_all owners end (a ∷ rest) = ((owner_at owners a).end == end) && owns_all 
 -- such chunk
 abbrev pub home_of : List Owner → Switch → ℕ
 home_of owners s =
-    if owns_all owners (owner_at owners s.default).end (targets_in s)
+    if owns_all owners (owner_at owners s.default).end (case_targets s.cases)
+    && owns_all owners (owner_at owners s.default).end (range_targets s.ranges)
     then (owner_at owners s.default).end else 0
 
 -- an operand that is an address names an instruction that the chunk of this end owns, and so does each

@@ -9,6 +9,7 @@ pub mod homes;
 pub mod layout;
 pub mod owners;
 pub mod pool_records;
+pub mod reached;
 pub mod refusals;
 pub mod rules;
 pub mod shapes;

@@ -165,6 +165,8 @@ fn catch_by<H: Host, L: Ledger>(
         target,
         variable,
         operands,
+        cursors,
+        totals,
         scope,
         ..
     } = handler;
@@ -188,6 +190,8 @@ fn catch_by<H: Host, L: Ledger>(
         target,
         variable,
         operands,
+        cursors,
+        totals,
         scope,
         caught,
     })?;

@@ -62,7 +62,7 @@ pub struct Case {
 
 /// The integers from one to another, and the address where they lead. The last belongs to them if
 /// the range is inclusive.
-#[derive(Clone, Copy, Debug, PartialEq, Eq)]
+#[derive(Drop)]
 pub struct SwitchRange {
     pub from: i64,
     pub to: i64,
@@ -72,8 +72,8 @@ pub struct SwitchRange {
 
 impl SwitchRange {
     /// Whether the integer is one of the range.
-    fn holds(self, number: i64) -> bool
-        ensures { result ≡ in_range self number }
+    fn holds(&self, number: i64) -> bool
+        ensures { result ≡ in_range self.now number }
     {
         self.from <= number && (number < self.to || self.inclusive && number == self.to)
     }

@@ -7,14 +7,16 @@ ghost use Rattle.grain_program.specs.Effects.{leads, switch_leads};
 ghost use Rattle.grain_program.specs.Shapes.{arrival, arrivals};
 ghost use Rattle.grain_program.specs.Typing.{nothing_seen, with_lowest, arrive, arrive_all, take_at, analyse_chunk, Gives, Ready, IsAnalysable};
 ghost use Rattle.grain_program.specs.Numbered.{shape_of, state_of};
+ghost use Rattle.grain_program.specs.Reached.{AreReached};
 
 use crate::code::bytes::decode;
 use crate::code::effects::{Effect, Flow};
 use crate::code::parts::{Chunk, Parts};
 use crate::verifier::handlers::HandlerLists;
+use crate::verifier::reached::Reached;
 use crate::verifier::refusals::Refusal;
 use crate::verifier::shapes::{NumberedShape, Shapes};
-use crate::verifier::targets::ordered_targets;
+use crate::verifier::targets::{lowest_of, ordered_targets};
 use crate::verifier::waiting::Waiting;
 use grain_value::OutOfMemory;
 use std::alloc::Global;
@@ -98,9 +100,11 @@ impl HeightAnalysis {
         &mut self,
         alloc: Global,
         parts: &Parts,
+        reached: &mut Reached,
         shape: NumberedShape,
         index: u16,
     ) -> Result<(), Refusal>
+        requires reached { AreReached (view_of parts.now) reached.old (state_of self.old) }
         requires within { AllByRecursion (λ b. b < length self.old.shapes)
             (switch_leads (view_of parts.now) index) }
         requires small { shape.height < 2 ^ 16 }
@@ -109,14 +113,22 @@ impl HeightAnalysis {
         ensures exact { Gives (state_of self.new) result (arrive_all (map (λ a. arrival a
             (shape_of self.old.lists shape)) (switch_leads (view_of parts.now) index))
             (state_of self.old)) }
+        ensures reached { IfOk result (λ _.
+            AreReached (view_of parts.now) reached.new (state_of self.new)) }
     {
         let Some(switch) = parts.switches.get(index as usize) else {
             return Ok(());
         };
-        match ordered_targets(alloc, switch) {
-            Ok(targets) => self.arrive_at(shape, targets),
-            Err(_) => Err(Refusal::Memory),
+        if let Some(lowest) = reached.lowest(index) {
+            return self.arrive(shape, lowest as usize);
         }
+        let Ok(targets) = ordered_targets(alloc, switch) else {
+            return Err(Refusal::Memory);
+        };
+        let lowest = lowest_of(&targets);
+        self.arrive_at(shape, targets)?;
+        reached.note(index, lowest);
+        Ok(())
     }
 
     /// The shape, which an instruction of this effect leaves, comes wherever it leads, to the lower
@@ -125,10 +137,12 @@ impl HeightAnalysis {
         &mut self,
         alloc: Global,
         parts: &Parts,
+        reached: &mut Reached,
         shape: NumberedShape,
         effect: Effect,
         next: usize,
     ) -> Result<(), Refusal>
+        requires reached { AreReached (view_of parts.now) reached.old (state_of self.old) }
         requires within { AllByRecursion (λ b. b < length self.old.shapes)
             (leads (view_of parts.now) effect.flow next) }
         requires small { shape.height < 2 ^ 16 }
@@ -136,6 +150,8 @@ impl HeightAnalysis {
         ensures length_same { length self.new.shapes ≡ length self.old.shapes }
         ensures exact { Gives (state_of self.new) result (arrive_all (arrivals (view_of parts.now)
             effect next (shape_of self.old.lists shape)) (state_of self.old)) }
+        ensures reached { IfOk result (λ _.
+            AreReached (view_of parts.now) reached.new (state_of self.new)) }
     {
         let other = shape.at_target(effect);
         match effect.flow {
@@ -151,7 +167,7 @@ impl HeightAnalysis {
                     self.arrive(other, target)
                 }
             }
-            Flow::Switch(index) => self.arrive_at_targets(alloc, parts, other, index),
+            Flow::Switch(index) => self.arrive_at_targets(alloc, parts, reached, other, index),
             Flow::End => Ok(()),
         }
     }
@@ -169,11 +185,15 @@ impl HeightAnalysis {
         &mut self,
         alloc: Global,
         parts: &Parts,
+        reached: &mut Reached,
         max: u16,
         address: usize,
     ) -> Result<(), Refusal>
-        requires { Ready (view_of parts.now) (state_of self.old).shapes address }
-        ensures { Gives (state_of self.new) result (take_at (view_of parts.now) max address (state_of
+        requires ready { Ready (view_of parts.now) (state_of self.old).shapes address }
+        requires reached { AreReached (view_of parts.now) reached.old (state_of self.old) }
+        ensures reached { IfOk result (λ _.
+            AreReached (view_of parts.now) reached.new (state_of self.new)) }
+        ensures exact { Gives (state_of self.new) result (take_at (view_of parts.now) max address (state_of
             self.old)) }
     {
         let Some((op, width)) = decode(&parts.code, address) else {
@@ -184,7 +204,7 @@ impl HeightAnalysis {
         };
         let effect = Effect::of(parts, op);
         match self.handlers.shape_after(shape, max, address, effect) {
-            Ok(after) => self.arrive_by(alloc, parts, after, effect, address + width),
+            Ok(after) => { self.arrive_by(alloc, parts, reached, after, effect, address + width) }
             Err(refusal) => Err(refusal),
         }
     }
@@ -195,9 +215,13 @@ impl HeightAnalysis {
         &mut self,
         alloc: Global,
         parts: &Parts,
+        reached: &mut Reached,
         chunk: Chunk,
     ) -> Result<(), Refusal>
-        requires { IsAnalysable (view_of parts.now) chunk (state_of self.old) }
+        requires analysable { IsAnalysable (view_of parts.now) chunk (state_of self.old) }
+        requires reached { AreReached (view_of parts.now) reached.old (state_of self.old) }
+        ensures reached { IfOk result (λ _.
+            AreReached (view_of parts.now) reached.new (state_of self.new)) }
         ensures exact { Gives (state_of self.new) result (analyse_chunk (view_of parts.now) chunk
             (state_of self.old)) }
         ensures rest { IfOk result (λ _. (self.new.waiting ≡ []) × (length self.new.shapes ≡ length
@@ -210,7 +234,7 @@ impl HeightAnalysis {
         };
         self.arrive(bare, chunk.entry as usize)?;
         while let Some(address) = self.lowest() {
-            self.take(alloc, parts, chunk.max_stack, address)?;
+            self.take(alloc, parts, reached, chunk.max_stack, address)?;
         }
         Ok(())
     }

@@ -230,7 +230,10 @@ impl HandlerLists {
     {
         // This opens the type's invariant for the proof: two lists are equal where their numbers are.
         let _ = &self.nodes;
-        if known.height != other.height || known.cursors != other.cursors {
+        if known.height != other.height {
+            return Some(Refusal::HeightDisagrees(address));
+        }
+        if known.cursors != other.cursors {
             return Some(Refusal::HeightDisagrees(address));
         }
         if known.list == other.list {

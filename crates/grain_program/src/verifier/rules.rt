@@ -74,7 +74,8 @@ fn owns_targets(parts: &Parts, owners: &[Owner], homes: &[u32], end: usize, inde
     requires some { 0 < end }
     ensures { result ≡ owns_all owners.now end (targets_if (slice_get parts.now.switches index)) }
 {
-    let _ = (parts, owners);
+    let _ = parts;
+    let _ = owners;
     match homes.get(index as usize) {
         Some(home) => *home as usize == end,
         None => true,

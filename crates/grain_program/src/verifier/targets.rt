@@ -1,6 +1,6 @@
 //! The addresses to which switches lead.
 
-ghost use Rattle.std.specs.Prelude.{◌≡◌, IfOk, OnOk};
+ghost use Rattle.std.specs.Prelude.{◌≡◌, IfOk, IfSome, OnOk, Some, slice_get};
 ghost use Rattle.grain_program.specs.Switches.{case_targets, range_targets, targets_in, put_in_order, in_order};
 
 use crate::code::switches::{Case, Switch, SwitchRange};
@@ -28,6 +28,16 @@ fn add_ranges(targets: &mut BTreeSet<u32>, ranges: &[SwitchRange]) -> Result<(),
         targets.insert(range.target)?;
     }
     Ok(())
+}
+
+/// The lowest of the targets, if there is one.
+pub fn lowest_of(targets: &BTreeSet<u32>) -> Option<u32>
+    ensures { IfSome result (λ lowest. slice_get targets.now.keys 0 ≡ Some lowest) }
+{
+    match targets.first() {
+        Some(lowest) => Some(*lowest),
+        None => None,
+    }
 }
 
 /// The targets of the switch, in ascending order.

@@ -1,0 +1,151 @@
+-- The first item of those that are left, and the others.
+use Rattle.std.proofs.Common.{◌≡◌, ◌∙◌, ◌≤◌, ◌+◌, ◌++◌, ℕ, zero, suc, List, [], ◌∷◌, Bool, true, false, Some, map, drop, length, slice_get, refl, sym, ap, arith}
+use Rattle.std.specs.Prelude.{ℤ, pos, negsuc, ◌+ℤ◌, ◌-ℤ◌, ◌≤ℤ◌, ◌<ℤ◌, nat_le}
+use Rattle.std.specs.Char.{encode_utf8, len_utf8}
+use Rattle.std.specs.Str.{chars, is_utf8, IsUtf8, IsCharBoundary}
+use Rattle.std.proofs.lemmas.Bool.{leb-true, leb-false}
+use Rattle.std.proofs.lemmas.Int.{ints, by_lt_z}
+use Rattle.std.proofs.lemmas.List.{drop_all}
+use Rattle.std.proofs.lemmas.Str.{chars-nil, chars_past_char, drop_past_char, is_utf8-from_IsUtf8, IsUtf8-from_is_utf8, IsUtf8-nil, IsUtf8-past_char, IsCharBoundary-from_drop}
+use Rattle.grain_value.specs.Tree.{Tree, integer, character}
+use Rattle.grain_stack.specs.declared.cursors.Left.{Left}
+use Rattle.grain_stack.specs.declared.cursors.Left.TheVariants as left
+use Rattle.grain_stack.specs.Cursors.{integers, not_below_zero, range_size, integers_of, characters_in, character_item, items_left}
+
+pub not_so : {P : Type 0} → (P → false ≡ true) → ¬ P
+not_so {P} never p = let e : false ≡ true = never p in cc
+
+-- ---- entries of a list
+
+module _ {A : Type 0} where
+  pub first_at : (xs : List A) (n m : ℕ) (x : A) → slice_get xs n ≡ Some x → m ≡ n + 1 →
+      drop n xs ≡ x ∷ drop m xs
+  first_at [] n m x is em = absurd cc
+  first_at (y ∷ xs) zero zero x is em = absurd (omega (arith, em))
+  first_at (y ∷ xs) zero (suc zero) x is em = cc
+  first_at (y ∷ xs) zero (suc (suc m)) x is em = absurd (omega (arith, em))
+  first_at (y ∷ xs) (suc n) zero x is em = absurd (omega (arith, em))
+  first_at (y ∷ xs) (suc n) (suc m) x is em = first_at xs n m x is (omega (arith, em))
+
+-- ---- the characters of a text
+
+pub no_characters : (bytes : List ℕ) → length bytes ≤ 0 → characters_in bytes ≡ []
+no_characters [] none =
+    rw (is_utf8-from_IsUtf8 [] IsUtf8-nil, chars-nil) refl
+no_characters (b ∷ bytes) none = absurd (omega (arith, none))
+
+-- where no character begins, what follows is no text
+pub none_begins : (text : List ℕ) (n : ℕ) → ¬ (IsCharBoundary text n) →
+    characters_in (drop n text) ≡ []
+none_begins text n apart = by_place (nat_le n (length text)) refl where
+  by_test : (b : Bool) → is_utf8 (drop n text) ≡ b → n ≤ length text →
+      characters_in (drop n text) ≡ []
+  by_test true is le =
+      absurd (apart (IsCharBoundary-from_drop text n le (IsUtf8-from_is_utf8 (drop n text) is)))
+  by_test false is le = rw is refl
+
+  by_place : (b : Bool) → nat_le n (length text) ≡ b → characters_in (drop n text) ≡ []
+  by_place true le = by_test (is_utf8 (drop n text)) refl (leb-true n (length text) le)
+  by_place false more =
+      let past : drop n text ≡ [] =
+      drop_all n text (omega (arith, leb-false n (length text) more)) in
+      rw past (no_characters [] (omega arith))
+
+-- the character that begins at a byte, and those behind it
+pub character_at : (text rest : List ℕ) (n m c : ℕ) → IsUtf8 (drop n text) →
+    drop n text ≡ encode_utf8 c ++ rest → m ≡ n + len_utf8 c →
+    characters_in (drop n text) ≡ character c ∷ characters_in (drop m text)
+character_at text rest n m c utf8 is em =
+    let later : IsUtf8 rest = IsUtf8-past_char (drop n text) rest c utf8 is in
+    let left : drop m text ≡ rest = rw em (drop_past_char text rest n c is) in
+    rw (
+      is_utf8-from_IsUtf8 (drop n text) utf8,
+      left,
+      is_utf8-from_IsUtf8 rest later,
+      chars_past_char (drop n text) rest c utf8 is,
+    ) refl
+
+-- all characters of a text
+pub all_characters : (text : List ℕ) → IsUtf8 text →
+    characters_in (drop 0 text) ≡ map character_item (chars text)
+all_characters text utf8 = rw (is_utf8-from_IsUtf8 text utf8) refl
+
+-- ---- the integers of a range
+
+integers_none : (z : ℤ) → integers z 0 ≡ []
+unfolding integers
+integers_none z = refl
+
+integers_next : (z : ℤ) (n : ℕ) → integers z (suc n) ≡ integer z ∷ integers (z +ℤ pos 1) n
+unfolding integers
+integers_next z n = refl
+
+one_above : (z y : ℤ) → z ≡ y +ℤ pos 1 → pos 0 ≤ℤ y →
+    not_below_zero z ≡ suc (not_below_zero y)
+one_above z (pos n) is le =
+    let more : not_below_zero z ≡ n + 1 = ap not_below_zero is in omega (arith, more)
+one_above z (negsuc n) is le = absurd (omega (arith, ints))
+
+none_above : (z : ℤ) → z ≤ℤ pos 0 → not_below_zero z ≡ 0
+none_above (pos n) le = omega (arith, ints)
+none_above (negsuc n) le = refl
+
+one_more : (from to : ℤ) → from <ℤ to →
+    not_below_zero (to -ℤ from) ≡ suc (not_below_zero (to -ℤ (from +ℤ pos 1)))
+one_more from to lt =
+    one_above (to -ℤ from) (to -ℤ (from +ℤ pos 1)) (omega (arith, ints)) (omega (arith, ints))
+
+range_more : (from to : ℤ) (inclusive : Bool) → from <ℤ to →
+    range_size from to inclusive ≡ suc (range_size (from +ℤ pos 1) to inclusive)
+range_more from to false lt = one_more from to lt
+range_more from to true lt = one_more from (to +ℤ pos 1) (omega (arith, ints))
+
+-- an integer below the end, and those behind it
+pub integer_below : (from to : ℤ) (inclusive : Bool) → from <ℤ to →
+    integers_of from to inclusive ≡ integer from ∷ integers_of (from +ℤ pos 1) to inclusive
+integer_below from to inclusive lt =
+    ap (integers from) (range_more from to inclusive lt)
+    ∙ integers_next from (range_size (from +ℤ pos 1) to inclusive)
+
+-- the end of an inclusive range, behind which there is nothing
+pub integer_last : (z : ℤ) → integers_of z z true ≡ integer z ∷ integers_of z z false
+integer_last z =
+    let is : (z +ℤ pos 1) -ℤ z ≡ pos 1 = omega (arith, ints) in
+    let one : not_below_zero ((z +ℤ pos 1) -ℤ z) ≡ suc 0 = ap not_below_zero is in
+    let none : not_below_zero (z -ℤ z) ≡ 0 = none_above (z -ℤ z) (omega (arith, ints)) in
+    let nothing : integers_of z z false ≡ [] = ap (integers z) none ∙ integers_none z in
+    ap (integers z) one ∙ integers_next z 0
+    ∙ ap (λ (ts : List Tree). integer z ∷ ts) (integers_none (z +ℤ pos 1) ∙ sym nothing)
+
+-- a range that is at its end
+pub integers_over : (from to : ℤ) (inclusive : Bool) → to ≤ℤ from →
+    (inclusive ≡ true → ¬ (from ≡ to)) → integers_of from to inclusive ≡ []
+integers_over from to false le other =
+    ap (integers from) (none_above (to -ℤ from) (omega (arith, ints))) ∙ integers_none from
+integers_over from to true le other =
+    let less : to <ℤ from = above from to le (other refl) in
+    ap (integers from) (none_above ((to +ℤ pos 1) -ℤ from) (omega (arith, ints)))
+    ∙ integers_none from where
+      above : (a b : ℤ) → b ≤ℤ a → ¬ (a ≡ b) → b <ℤ a
+      above a b le apart = by_lt_z b a (λ lt. lt) (λ ge. absurd (apart (omega (arith, ints))))
+
+-- ---- the same of what a cursor goes over
+
+pub next_below : (l : Left) (from to : ℤ) (inclusive : Bool) (first last next : ℤ) →
+    l ≡ left.Range from to inclusive → from <ℤ to → first ≡ from → last ≡ to →
+    next ≡ from +ℤ pos 1 → items_left l ≡ integer first ∷ integers_of next last inclusive
+next_below l from to inclusive first last next is less ef el en =
+    ap items_left is ∙ integer_below from to inclusive less
+    ∙ (λ i. integer (sym ef i) ∷ integers_of (sym en i) (sym el i) inclusive)
+
+pub next_last : (l : Left) (from to : ℤ) (inclusive : Bool) (first last : ℤ) →
+    l ≡ left.Range from to inclusive → from ≡ to → inclusive ≡ true → first ≡ from → last ≡ to →
+    items_left l ≡ integer first ∷ integers_of first last false
+next_last l from to inclusive first last is at closed ef el =
+    ap items_left is ∙ (λ i. integers_of from (sym at i) (closed i)) ∙ integer_last from
+    ∙ (λ i. integer (sym ef i) ∷ integers_of (sym ef i) ((at ∙ sym el) i) false)
+
+pub none_next : (l : Left) (from to : ℤ) (inclusive : Bool) → l ≡ left.Range from to inclusive →
+    to ≤ℤ from → (inclusive ≡ true → ¬ (from ≡ to)) → items_left l ≡ []
+none_next l from to inclusive is le apart =
+    ap items_left is ∙ integers_over from to inclusive le apart

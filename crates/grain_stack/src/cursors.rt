@@ -1,0 +1,176 @@
+//! Cursors: what a loop still goes over.
+
+ghost use Rattle.std.specs.Prelude.{◌≡◌, ◌<◌, map, drop, negsuc, Some, None, IfOk, IfErr, OnErr};
+ghost use Rattle.grain_value.specs.declared.values.Dynamic.TheVariants as dynamic;
+ghost use Rattle.grain_stack.specs.Cursors.{items_left, items_of, Gives, IsRange, byte_item, characters_in};
+
+use grain_value::{Array, Blob, Dynamic, OutOfMemory, Text};
+use std::alloc::Global;
+
+/// The items that a cursor has left.
+#[derive(Drop)]
+pub enum Left {
+    /// The values of a list, from an index on.
+    Values { items: Array, next: usize },
+    /// The bytes of a byte string, from an index on.
+    Bytes { items: Blob, next: usize },
+    /// The characters of a text, from a byte on.
+    Characters { items: Text, next: usize },
+    /// The integers from one to another. The last belongs to them if the range is inclusive.
+    Range { from: i64, to: i64, inclusive: bool },
+}
+
+/// Where a loop stands.
+#[derive(Drop)]
+pub struct Cursor {
+    /// The items that are left.
+    pub left: Left,
+    /// The number of the last item that was counted, from 0 on, or -1 if none was.
+    pub counter: i64,
+}
+
+impl Cursor {
+    /// A cursor that has counted nothing and has all items of a value left: the values of a list, the
+    /// characters of a text, the bytes of a byte string, or the integers of a range. It gives any
+    /// other value back.
+    pub fn over(value: Dynamic) -> Result<Cursor, Dynamic>
+        ensures items { IfOk result (λ cursor. items_of value ≡ Some (items_left cursor.left)) }
+        ensures counter { IfOk result (λ cursor. cursor.counter ≡ negsuc 0) }
+        ensures none { IfErr result (λ other. items_of value ≡ None) }
+        ensures other { IfErr result (λ other. other ≡ value) }
+    {
+        match value {
+            Dynamic::Array(items) => Ok(Cursor::begun(Left::Values { items, next: 0 })),
+            Dynamic::Text(items) => Ok(Cursor::begun(Left::characters(items))),
+            Dynamic::Blob(items) => Ok(Cursor::begun(Left::Bytes { items, next: 0 })),
+            Dynamic::Range {
+                from,
+                to,
+                inclusive,
+            } => Ok(Cursor::begun(Left::Range {
+                from,
+                to,
+                inclusive,
+            })),
+            other => Err(other),
+        }
+    }
+
+    // A cursor that has counted nothing.
+    fn begun(left: Left) -> Cursor
+        ensures { result ≡ record { left = left; counter = negsuc 0 } }
+    {
+        Cursor { left, counter: -1 }
+    }
+
+    /// The first of the items that are left, which then is no longer left, or nothing if none is. It
+    /// does not count it. After want of memory the cursor is as it was.
+    pub fn next(&mut self, alloc: Global) -> Result<Option<Dynamic>, OutOfMemory>
+        ensures given { IfOk result
+            (λ item. Gives (items_left self.old.left) item (items_left self.new.left)) }
+        ensures counter { self.new.counter ≡ self.old.counter }
+        ensures unchanged { OnErr result (self.new ≡ self.old) }
+    {
+        self.left.next(alloc)
+    }
+}
+
+impl Left {
+    // All characters of a text.
+    fn characters(items: Text) -> Left
+        ensures { items_of (dynamic.Text items) ≡ Some (items_left result) }
+    {
+        let _text = items.as_str();
+        Left::Characters { items, next: 0 }
+    }
+
+    // The first item, which then is no longer left.
+    fn next(&mut self, alloc: Global) -> Result<Option<Dynamic>, OutOfMemory>
+        ensures given { IfOk result (λ item. Gives (items_left self.old) item (items_left self.new)) }
+        ensures unchanged { OnErr result (self.new ≡ self.old) }
+    {
+        match self {
+            Left::Values { items, next } => next_value(alloc, items, next),
+            Left::Bytes { items, next } => Ok(next_byte(items, next)),
+            Left::Characters { items, next } => Ok(next_character(items, next)),
+            Left::Range { .. } => Ok(self.next_integer()),
+        }
+    }
+
+    // The first integer of a range, which then begins behind it.
+    fn next_integer(&mut self) -> Option<Dynamic>
+        requires { IsRange self.old }
+        ensures { Gives (items_left self.old) result (items_left self.new) }
+    {
+        let Left::Range {
+            from,
+            to,
+            inclusive,
+        } = &*self
+        else {
+            unreachable!();
+        };
+        let (first, last, inclusive) = (*from, *to, *inclusive);
+        if first < last {
+            *self = Left::Range {
+                from: first + 1,
+                to: last,
+                inclusive,
+            };
+            return Some(Dynamic::Int(first));
+        }
+        // the end is given once, and nothing need be above it
+        if first == last && inclusive {
+            *self = Left::Range {
+                from: first,
+                to: last,
+                inclusive: false,
+            };
+            return Some(Dynamic::Int(first));
+        }
+        None
+    }
+}
+
+// A copy of the value at the index, which then is the next one's.
+fn next_value(
+    alloc: Global,
+    items: &Array,
+    next: &mut usize,
+) -> Result<Option<Dynamic>, OutOfMemory>
+    ensures given { IfOk result (λ item. Gives (drop next.old items.now) item (drop next.new items.now)) }
+    ensures unchanged { OnErr result (next.new ≡ next.old) }
+{
+    if *next >= items.len() {
+        return Ok(None);
+    }
+    let value = items.at(*next).copy(alloc)?;
+    *next += 1;
+    Ok(Some(value))
+}
+
+// The byte at the index, which then is the next one's.
+fn next_byte(items: &Blob, next: &mut usize) -> Option<Dynamic>
+    ensures { Gives (map byte_item (drop next.old items.now)) result
+        (map byte_item (drop next.new items.now)) }
+{
+    if *next >= items.len() {
+        return None;
+    }
+    let byte = items.as_slice()[*next];
+    *next += 1;
+    Some(Dynamic::Int(i64::from(byte)))
+}
+
+// The character that begins at the byte, which then is the next one's first.
+fn next_character(items: &Text, next: &mut usize) -> Option<Dynamic>
+    ensures { Gives (characters_in (drop next.old items.now)) result
+        (characters_in (drop next.new items.now)) }
+{
+    let Some((_, rest)) = items.as_str().split_at_checked(*next) else {
+        return None;
+    };
+    let character = rest.chars().next()?;
+    *next += character.len_utf8();
+    Some(Dynamic::Char(character))
+}
