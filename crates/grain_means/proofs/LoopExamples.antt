@@ -1,6 +1,8 @@
 -- Loops and switches that compute: what is gone over, what an instruction gives and writes, and where it
 -- leads.
 use Rattle.std.specs.Prelude.{◌≡◌, ℕ, ℤ, pos, negsuc, true, false, List, [], ◌∷◌, Option, Some, None, refl, codes}
+use Rattle.std.specs.Fmt.{digits}
+use Rattle.std.specs.Str.{chars}
 use Rattle.grain_value.specs.Cells.{idle, lent}
 use Rattle.grain_value.specs.Items.{items_of}
 use Rattle.grain_value.specs.Operands.{read_write}
@@ -15,7 +17,6 @@ use Rattle.grain_fault.specs.Problems.{Plain, Arithmetic, DataRace, For}
 use Rattle.grain_global.specs.declared.engines.Engine.{Engine}
 use Rattle.grain_host.specs.Law.{Law}
 use Rattle.grain_program.specs.View.{View}
-use Rattle.grain_program.specs.declared.code.switches.Case.{Case}
 use Rattle.grain_program.specs.declared.code.switches.CaseValue.TheVariants as case
 use Rattle.grain_program.specs.declared.code.switches.Switch.{Switch}
 use Rattle.grain_means.specs.Rules.{iter_drop, iter_init, iter_next, switch}
@@ -51,6 +52,7 @@ bytes = refl
 -- two letters, of which the second takes two bytes
 pub characters : items_of (dynamic.Text (97 ∷ 195 ∷ 164 ∷ []))
     ≡ Some (character 97 ∷ character 228 ∷ [])
+unfolding chars
 characters = refl
 
 -- 2, a number from 1 to 3, and a text lead elsewhere than all other values
@@ -194,6 +196,7 @@ module _ {S : Type 0} (law : Law S) (engine : Engine) (program : View) (host : S
 
   pub uncounted_fault : ends_so uncounted ≡ Some (Failed (Plain (Arithmetic
       (codes "for-loop counter overflow: 9223372036854775807")) nowhere))
+  unfolding digits
   uncounted_fault = refl
 
   pub uncounted_scope : (world_in uncounted).scope ≡ new_entry (codes "i") (int 1) ∷ []
