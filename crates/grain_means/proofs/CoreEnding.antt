@@ -5,7 +5,6 @@ use Rattle.grain_program.specs.Layout.{chunks_in}
 use Rattle.grain_program.specs.Typing.{In, IsProgram}
 use Rattle.grain_program.specs.View.{View}
 use Rattle.grain_program.specs.declared.code.instruction_set.Op.{Op}
-use Rattle.grain_program.specs.declared.code.parts.Chunk.{Chunk}
 use Rattle.grain_host.specs.Law.{Law}
 use Rattle.grain_global.specs.declared.engines.Engine.{Engine}
 use Rattle.grain_global.specs.Engines.{with_callbacks}
@@ -14,7 +13,7 @@ use Rattle.grain_means.specs.Core.{CoreEnds, CoreMeans, core_ended, core_went, c
 use Rattle.grain_means.specs.Ends.{Ends, ended, went, joined}
 use Rattle.grain_means.specs.Length.{run_length}
 use Rattle.grain_means.specs.Means.{Begin, Finish, Means, first_world, last_world, setup}
-use Rattle.grain_means.specs.Rules.{main, next, or_return}
+use Rattle.grain_means.specs.Rules.{main, or_return}
 use Rattle.grain_means.specs.Worlds.{Act, Answer, Frame, InCatch, InFrame, InHost, Setup, Todo, World}
 use Rattle.grain_means.proofs.Called.{called_counts, called_stands}
 
