@@ -49,7 +49,6 @@ use Rattle.grain_value.specs.Cells.{flat, content}
 use Rattle.grain_program.specs.Lookups.{function_of, function_by_text}
 use Rattle.grain_means.specs.Worlds.{End, Came, Setup, Frame, InFrame}
 use Rattle.grain_means.specs.Rules.{stepped, Nowhere, ToSlot, ToThis, trees_in, native, function_found, held_at, or_return, operated, charged, instr, start_instruction, next, position, flat_all, spread, name_at, curried, pointer_called, function_by_name}
-use Rattle.grain_means.specs.Comes.{tries}
 use Rattle.grain_means.specs.Places.{look}
 use Rattle.grain_means.specs.lemmas.Branches.{of_two}
 use Rattle.grain_means.proofs.Lengths.{length_under, length_pushed, length_rotated, spread_length, spread_under}
