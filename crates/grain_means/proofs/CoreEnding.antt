@@ -5,7 +5,6 @@ use Rattle.grain_program.specs.Layout.{chunks_in}
 use Rattle.grain_program.specs.Typing.{In, IsProgram}
 use Rattle.grain_program.specs.View.{View}
 use Rattle.grain_program.specs.declared.code.instruction_set.Op.{Op}
-use Rattle.grain_program.specs.declared.code.parts.Chunk.{Chunk}
 use Rattle.grain_host.specs.Law.{Law}
 use Rattle.grain_global.specs.declared.engines.Engine.{Engine}
 use Rattle.grain_global.specs.Engines.{with_callbacks}
@@ -14,7 +13,7 @@ use Rattle.grain_means.specs.Core.{CoreEnds, CoreMeans, core_ended, core_went, c
 use Rattle.grain_means.specs.Ends.{Ends, ended, went, joined}
 use Rattle.grain_means.specs.Length.{run_length}
 use Rattle.grain_means.specs.Means.{Begin, Finish, Means, first_world, last_world, setup}
-use Rattle.grain_means.specs.Rules.{main, next, or_return}
+use Rattle.grain_means.specs.Rules.{main, or_return}
 use Rattle.grain_means.specs.Worlds.{Act, Answer, Frame, InCatch, InFrame, InHost, Setup, Todo, World}
 use Rattle.grain_means.proofs.Called.{called_counts, called_stands}
 
@@ -62,7 +61,7 @@ module _ {S : Type 0} (m : Setup S) (core : IsCore m.program) (root : Act S)
 -- So a whole program: its instructions are as many as any run of it counts, and all that its run comes to
 -- is of the core.
 module _ {S : Type 0} (law : Law S) (program : View) (engine : Engine) (b : Begin S) (e : Finish S) where
-  machine : Setup S
+  abbrev machine : Setup S
   machine = setup law program (with_callbacks true engine)
 
   pub core_to_whole : CoreMeans law program engine b e →
@@ -80,6 +79,6 @@ module _ {S : Type 0} (law : Law S) (program : View) (engine : Engine) (b : Begi
     n,
     end.0,
     ends_in_core machine core (main machine (first_world b))
-    (λ f w comes. called_stands machine valid None (first_world b) w f refl comes)
-    (λ t w comes. comes) end.1.0,
+        (λ f w comes. called_stands machine valid None (first_world b) w f refl comes)
+        (λ t w comes. comes) end.1.0,
   )

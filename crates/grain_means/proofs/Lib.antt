@@ -27,6 +27,7 @@ pub mod Walking
 pub mod Reading
 pub mod Examples
 pub mod ChainExamples
+pub mod LoopExamples
 pub mod Explaining
 pub mod Rows
 pub mod Touching

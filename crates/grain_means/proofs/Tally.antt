@@ -19,6 +19,7 @@ pub mod Operators
 pub mod This
 pub mod Transfers
 pub mod Loops
+pub mod Looping
 pub mod Calls
 pub mod Bodies
 pub mod Calling
@@ -30,149 +31,42 @@ pub mod Chains
 pub mod Methods
 pub mod Returns
 pub mod Receivers
-use Rattle.std.proofs.Common.{◌≡◌, ◌≤◌, ◌∙◌, ℕ, suc, ◌+◌, ◌-◌, List, [], ◌∷◌, ◌++◌, Option, Some, None, true, false, refl, sym, subst, ap, inl, inr, arith, length}
-use Rattle.std.specs.Prelude.{ℤ, is_some}
+use Rattle.std.proofs.Common.{◌≡◌, ℕ, ◌+◌, List, [], ◌∷◌, ◌++◌, Option, Some, None, true, false, refl, inl, inr, arith, length}
+use Rattle.std.specs.Prelude.{is_some}
 use Rattle.grain_value.specs.declared.values.Dynamic.{Dynamic}
 use Rattle.grain_value.specs.declared.values.Dynamic.TheVariants as dynamic
 use Rattle.grain_value.specs.declared.values.Held.{Held}
-use Rattle.grain_value.specs.Tree.{Tree}
 use Rattle.grain_value.specs.Looking.{is_unit, cell_of}
 use Rattle.grain_value.specs.Operands.{top, below, under, arguments, read_write}
 use Rattle.grain_fault.specs.Problems.{Plain}
 use Rattle.grain_fault.specs.Problems as problem
 use Rattle.grain_program.specs.declared.code.instruction_set.Op.{Op}
 use Rattle.grain_program.specs.declared.code.instruction_set.Op.TheVariants as op
-use Rattle.grain_program.specs.Shapes.{TryHandler}
 use Rattle.grain_program.specs.Decoding.{op_at}
 use Rattle.grain_program.specs.Chains.{chain_takes}
-use Rattle.grain_program.specs.Switches.{switch_target}
-use Rattle.grain_program.specs.Typing.{IsProgram}
-use Rattle.grain_program.specs.TypedAt.{IsTypedAt}
-use Rattle.grain_program.specs.View.{chain_of, name_of, const_of, assign_op_of, switch_of}
-use Rattle.grain_program.specs.laws.SwitchTargets.{switch_lands}
-use Rattle.grain_program.specs.laws.TypedAt.{goes_with_item, goes_with_item_indexed, goes_without_cursor, goes_without_cursor_indexed}
+use Rattle.grain_program.specs.View.{chain_of, name_of, const_of, assign_op_of}
 use Rattle.grain_value.specs.Cells.{flat, content}
 use Rattle.grain_program.specs.Lookups.{function_of, function_by_text}
-use Rattle.grain_means.specs.Worlds.{Cursor, End, Came, Setup, Frame, InFrame}
-use Rattle.grain_means.specs.Rules.{advanced, outer_cursors, stepped, with_cursor, without_cursor, Nowhere, ToSlot, ToThis, trees_in, native, function_found, held_at, or_return, operated, charged, instr, start_instruction, next, position, flat_all, spread, name_at, curried, pointer_called, function_by_name}
-use Rattle.grain_means.specs.Comes.{tries}
-use Rattle.grain_means.specs.Causes.{GivesLent, HasNext, IsOver}
+use Rattle.grain_means.specs.Worlds.{End, Came, Setup, Frame, InFrame}
+use Rattle.grain_means.specs.Rules.{stepped, Nowhere, ToSlot, ToThis, trees_in, native, function_found, held_at, or_return, operated, charged, instr, start_instruction, next, position, flat_all, spread, name_at, curried, pointer_called, function_by_name}
 use Rattle.grain_means.specs.Places.{look}
 use Rattle.grain_means.specs.lemmas.Branches.{of_two}
 use Rattle.grain_means.proofs.Lengths.{length_under, length_pushed, length_rotated, spread_length, spread_under}
-use Rattle.grain_means.proofs.Standing.{Fitting, tries_outer, fits_found, seen}
-use Rattle.grain_means.proofs.Footing.{Sits, guarded_outside}
+use Rattle.grain_means.proofs.Standing.{tries_outer, fits_found}
+use Rattle.grain_means.proofs.Footing.{guarded_outside}
 use Rattle.grain_means.proofs.Tally.Frames.{Walk, Even, start, steady, even_marked, guarding, unguarded, even_onward, one_less, one_more}
 use Rattle.grain_means.proofs.Tally.Faults.{why, why_chain, why_left, even_raised_in, even_flat, even_flat_all, fits_on, sits_at, even_on, even_charged_on, even_jumped}
 use Rattle.grain_means.proofs.Tally.Entries.{even_at, even_declared, even_stored_in, even_assigned, even_shared}
 use Rattle.grain_means.proofs.Tally.Operators.{even_pushed, even_assigned_op}
 use Rattle.grain_means.proofs.Tally.This.{even_assigned_op_this, even_assigned_this, even_at_this}
-use Rattle.grain_means.proofs.Tally.Loops.{even_loop_begun, even_loop_next, even_switched}
-use Rattle.grain_means.proofs.Tally.Transfers.{even_jump_if, even_skipped, even_unwound, even_handled}
+use Rattle.grain_means.proofs.Tally.Looping.{even_iter_drop, even_iter_init, even_iter_next, even_iter_next_indexed, even_switch}
+use Rattle.grain_means.proofs.Tally.Transfers.{even_jump_if, even_skipped, even_unwound, even_handled, pushed_tries}
 use Rattle.grain_means.proofs.Tally.Calls.{even_called, even_pointer}
 use Rattle.grain_means.proofs.Tally.Chains.{even_chain}
 use Rattle.grain_means.proofs.Tally.Receivers.{even_method}
 
 module _ {S : Type 0} {m : Setup S} (walk : Walk m) where
   open walk use {root, footing as k, frame as f, now, tokens, level, trace, keeps, sits}
-
-  -- a handler that was pushed, as a typing has it
-  abbrev with_try : ℕ → Option ℕ → ℕ → ℕ → List TryHandler
-  with_try target variable height cursors =
-      record { target = target; variable = variable; height = height; cursors = cursors }
-      ∷ tries f.handlers
-
-  pushed_tries : (target : ℕ) (variable : Option ℕ) →
-      with_try target variable (length f.operands) (length f.cursors) ≡
-      with_try target variable (length f.operands - 0 + 0) (length f.cursors - 0 + 0)
-  pushed_tries target variable =
-      ap (λ n. with_try target variable n (length f.cursors)) (omega arith)
-      ∙ ap (λ n. with_try target variable (length f.operands - 0 + 0) n) (omega arith)
-
-  one_cursor_less : 1 ≤ length f.cursors → length (outer_cursors f.cursors) ≡ length f.cursors - 1 + 0
-  one_cursor_less there = by_cursors f.cursors where
-    by_cursors : (cs : List Cursor) → length (outer_cursors cs) ≡ length cs - 1 + 0
-    by_cursors [] = refl
-    by_cursors (c ∷ cs) = omega arith
-
-  -- there is a cursor where not none of its items is left
-  cursor_there : (IsOver f → ⊥) → (cs : List Cursor) → f.cursors ≡ cs →
-      suc (length (outer_cursors cs)) ≡ length cs
-  cursor_there some [] is = absurd (some (rw is refl))
-  cursor_there some (c ∷ cs) is = refl
-
-  -- a loop is left, or has given an item
-  sits_out : (o : Op) (width : ℕ) → op_at m.program.code f.address ≡ Some (o, width) →
-      (target : ℕ) → ((valid : IsProgram m.program) (fit : Fitting m.program f) →
-      IsTypedAt m.program fit.0 target (length f.operands) (length f.cursors - 1) (tries f.handlers)) →
-      Sits m root k (without_cursor (stepped f target f.operands))
-  sits_out o width at target typed = (
-    sits.0,
-    sits.1,
-    λ valid.
-        let fit = sits.2 valid in (
-          fit.0,
-          subst (λ (n : ℕ). IsTypedAt m.program fit.0 target (length f.operands) n (tries f.handlers))
-              (fewer f.cursors) (typed valid fit),
-        ),
-    sits.3,
-    sits.4,
-  ) where
-    fewer : (cs : List Cursor) → length cs - 1 ≡ length (outer_cursors cs)
-    fewer [] = refl
-    fewer (c ∷ cs) = omega arith
-
-  sits_in : (o : Op) (width : ℕ) → op_at m.program.code f.address ≡ Some (o, width) →
-      (ts : List Tree) (n : ℤ) (v : Dynamic) → (IsOver f → ⊥) →
-      ((valid : IsProgram m.program) (fit : Fitting m.program f) →
-      IsTypedAt m.program fit.0 (f.address + width) (length f.operands + 1) (length f.cursors)
-      (tries f.handlers)) →
-      Sits m root k
-      (advanced ts n (stepped f (f.address + width) (f.operands ++ read_write v ∷ [])))
-  sits_in o width at ts n v some typed = (
-    sits.0,
-    sits.1,
-    λ valid.
-        let fit = sits.2 valid in (
-          fit.0,
-          subst (λ (i : ℕ). IsTypedAt m.program fit.0 (f.address + width)
-              (length (f.operands ++ read_write v ∷ [])) i (tries f.handlers))
-              (sym (cursor_there some f.cursors refl))
-              (subst (λ (i : ℕ). IsTypedAt m.program fit.0 (f.address + width) i (length f.cursors)
-              (tries f.handlers)) (sym (length_pushed f.operands v)) (typed valid fit)),
-        ),
-    sits.3,
-    sits.4,
-  )
-
-  -- a switch was followed
-  sits_switched : (index width : ℕ) → op_at m.program.code f.address ≡ Some (op.Switch index, width) →
-      (v : Dynamic) →
-      Sits m root k (stepped f (switch_target (switch_of m.program index) v) f.operands)
-  sits_switched index width at v = (
-    sits.0,
-    sits.1,
-    λ valid.
-        let s = seen m.program valid f (op.Switch index) width at (sits.2 valid) in
-        fits_on walk (op.Switch index) width at refl
-            (stepped f (switch_target (switch_of m.program index) v) f.operands)
-            (switch_lands m.program index v s.provides.pools.0)
-            (λ enough. omega (arith, enough)) (λ _. omega arith) refl valid,
-    sits.3,
-    sits.4,
-  )
-
-  same_slot : (slot s : ℕ) → Some slot ≡ Some s → s ≡ slot
-  same_slot slot s is = cc
-
-  held_in : {h : Held} (slot s : ℕ) → Some slot ≡ Some s → held_at now.scope (f.base + s) ≡ Some h →
-      held_at now.scope (f.base + slot) ≡ Some h
-  held_in {h} slot s is held =
-      subst (λ (i : ℕ). held_at now.scope (f.base + i) ≡ Some h) (same_slot slot s is) held
-
-  -- what is given is an item
-  gives_item : GivesLent f now → (t : Tree) × HasNext t f
-  gives_item lent = (lent.0, lent.1)
 
   even_instr : (o : Op) (width : ℕ) → op_at m.program.code f.address ≡ Some (o, width) →
       Even walk (now.ran + 1) (instr m o (f.address + width) f (start walk))
@@ -346,51 +240,12 @@ module _ {S : Type 0} {m : Setup S} (walk : Walk m) where
       (of_two target (f.address + width) (f.address + width) (inr refl))
       (λ enough. omega (arith, enough)))
       (is_unit (top f.operands).value) (λ is le. (le, is))
-  even_instr (op.Switch index) width at =
-      even_switched walk (op.Switch index) width at index (λ lent. (refl, lent))
-      (λ v read le. (v, read, le))
-      (λ v. sits_switched index width at v)
-  even_instr op.IterInit width at =
-      even_loop_begun walk op.IterInit width at (λ lent. (refl, lent))
-      (λ v read none. (v, read, none))
-      (λ ts. (
-        sits.0,
-        sits.1,
-        fits_on walk op.IterInit width at refl
-            (with_cursor ts (stepped f (f.address + width) (below f.operands))) (inl refl)
-            (λ _. one_less walk) (λ _. omega arith) refl,
-        sits.3,
-        sits.4,
-      ))
-  even_instr op.IterDrop width at =
-      let after = without_cursor (stepped f (f.address + width) f.operands) in
-      even_on walk op.IterDrop width at after refl (
-        sits.0,
-        sits.1,
-        fits_on walk op.IterDrop width at refl after (inl refl) (λ _. omega arith)
-            (λ there. one_cursor_less there) refl,
-        sits.3,
-        sits.4,
-      )
-  even_instr (op.IterNext target) width at =
-      even_loop_next walk (op.IterNext target) width at target None (λ le over. (le, over))
-      (λ t has s is. absurd cc) (λ t has s h is. absurd cc) (λ there lent. (refl, lent))
-      (λ n past. (n, past, refl))
-      (sits_out (op.IterNext target) width at target
-      (λ valid fit. goes_without_cursor (seen m.program valid f (op.IterNext target) width at fit)))
-      (λ ts n v some. sits_in (op.IterNext target) width at ts n v some
-      (λ valid fit. goes_with_item (seen m.program valid f (op.IterNext target) width at fit)))
+  even_instr (op.Switch index) width at = even_switch walk index width at
+  even_instr op.IterInit width at = even_iter_init walk width at
+  even_instr op.IterDrop width at = even_iter_drop walk width at
+  even_instr (op.IterNext target) width at = even_iter_next walk target width at
   even_instr (op.IterNextIndexed target slot) width at =
-      even_loop_next walk (op.IterNextIndexed target slot) width at target (Some slot)
-      (λ le over. (le, over)) (λ t has s is. (ap (λ n. f.base + n) (same_slot slot s is), (t, has)))
-      (λ t has s h is held lent. (refl, (h, held_in slot s is held, (t, has), inl lent)))
-      (λ there lent.
-      let e = there slot refl in (refl, (e.0, e.1, gives_item lent, inr lent)))
-      (λ n past. (n, past, refl))
-      (sits_out (op.IterNextIndexed target slot) width at target (λ valid fit.
-      goes_without_cursor_indexed (seen m.program valid f (op.IterNextIndexed target slot) width at fit)))
-      (λ ts n v some. sits_in (op.IterNextIndexed target slot) width at ts n v some (λ valid fit.
-      goes_with_item_indexed (seen m.program valid f (op.IterNextIndexed target slot) width at fit)))
+      even_iter_next_indexed walk target slot width at
   even_instr (op.Call n count) width at =
       even_called walk (op.Call n count) width at (name_of m.program n) count f.operands
       (omega arith) (omega (arith, length_under count f.operands))
@@ -485,14 +340,14 @@ module _ {S : Type 0} {m : Setup S} (walk : Walk m) where
       (guarding walk target None (f.address + width))
       (of_two target (f.address + width) (f.address + width) (inr refl)) (λ _. omega arith)
       (λ _. omega arith)
-      (pushed_tries target None))
+      (pushed_tries walk target None))
   even_instr (op.PushHandlerVar target n) width at =
       even_handled walk (op.PushHandlerVar target n) width at target (Some n)
       (fits_on walk (op.PushHandlerVar target n) width at refl
       (guarding walk target (Some n) (f.address + width))
       (of_two target (f.address + width) (f.address + width) (inr refl)) (λ _. omega arith)
       (λ _. omega arith)
-      (pushed_tries target (Some n)))
+      (pushed_tries walk target (Some n)))
   even_instr op.PopHandler width at =
       let after : Frame = unguarded walk (f.address + width) in
       even_on walk op.PopHandler width at after refl (

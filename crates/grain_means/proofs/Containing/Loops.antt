@@ -3,12 +3,11 @@ use Rattle.std.proofs.Common.{◌≡◌, ◌≤◌, ◌+◌, ℕ, zero, suc, Lis
 use Rattle.std.specs.List.{AllByRecursion}
 use Rattle.std.specs.Prelude.{ℤ, pos, ◌+ℤ◌}
 use Rattle.std.specs.Str.{chars}
-use Rattle.grain_value.specs.Cells.{cell_bound, is_clean}
 use Rattle.grain_value.specs.Items.{integers_from, items_of, range_length}
 use Rattle.grain_value.specs.Looking.{cell_of}
 use Rattle.grain_value.specs.Operands.{below, read_write, top}
-use Rattle.grain_value.specs.Tree.{Tree, Trees, array, character, integer, no_trees, more_trees, pack}
-use Rattle.grain_value.specs.View.{tree, value_of}
+use Rattle.grain_value.specs.Tree.{Tree, array, character, integer, pack}
+use Rattle.grain_value.specs.View.{value_of}
 use Rattle.grain_value.specs.laws.Same.{tree-value_of}
 use Rattle.grain_value.specs.declared.values.Dynamic.{Dynamic}
 use Rattle.grain_value.specs.declared.values.Dynamic.TheVariants as dynamic

@@ -1,5 +1,5 @@
 -- The walk through loops and switches.
-use Rattle.std.proofs.Common.{◌≡◌, ◌≤◌, ℕ, ◌+◌, ◌-◌, List, [], ◌∷◌, ◌++◌, Option, Some, None, Bool, true, false, inl, inr, refl, subst, length, nat_le}
+use Rattle.std.proofs.Common.{◌≡◌, ◌≤◌, ℕ, ◌+◌, List, [], ◌∷◌, ◌++◌, Option, Some, None, inl, inr, refl, subst, nat_le}
 use Rattle.std.specs.Prelude.{ℤ, pos, ◌+ℤ◌, slice_get, slice_set}
 use Rattle.std.proofs.lemmas.Bool.{leb-true}
 use Rattle.grain_value.specs.declared.values.Dynamic.{Dynamic}
@@ -21,8 +21,8 @@ use Rattle.grain_program.specs.Switches.{switch_target}
 use Rattle.grain_program.specs.View.{switch_of}
 use Rattle.grain_program.specs.declared.code.instruction_set.Op.{Op}
 use Rattle.grain_means.specs.Places.{put}
-use Rattle.grain_means.specs.Rules.{Home, InScope, InCell, AtPlace, advanced, cell_written, charged, count_stored, counter_text, data_race, held_at, in_entry, innermost_cursor, item_counted, item_given, iter_init, iter_next, loop_advanced, loop_begun, loop_left, onward, position, stepped, switch, with_cursor, without_cursor, written_at}
-use Rattle.grain_means.specs.Worlds.{Act, Frame, Setup, World}
+use Rattle.grain_means.specs.Rules.{Home, InScope, InCell, AtPlace, advanced, cell_written, charged, count_stored, counter_text, data_race, held_at, in_entry, innermost_cursor, item_given, iter_init, iter_next, loop_advanced, loop_begun, loop_left, onward, position, stepped, switch, with_cursor, without_cursor, written_at}
+use Rattle.grain_means.specs.Worlds.{Act, Setup, World}
 use Rattle.grain_means.specs.Causes.{Charges, CountsPast, CountsTooFar, GivesLent, GoesOverNone, HasNext, IsLent, IsOver, ReadsLent, UsesEntry}
 use Rattle.grain_means.proofs.Footing.{Sits, by_test}
 use Rattle.grain_means.proofs.Ground.{stays_idle, stays_set}
