@@ -1,5 +1,5 @@
 -- What is said of each status gives the headline.
-use Rattle.std.proofs.Common.{◌≡◌, ◌≤◌, ◌++◌, ◌∙◌, ℕ, suc, true, List, Option, Some, Ok, Err, IfSome, sym, ap, subst, refl, arith}
+use Rattle.std.proofs.Common.{◌≡◌, ◌≤◌, ◌++◌, ◌∙◌, ℕ, zero, suc, true, List, Option, Some, Ok, Err, IfSome, sym, ap, subst, refl, arith}
 use Rattle.grain_host.specs.declared.tables.TableHost.{TableHost}
 use Rattle.grain_program.specs.Typing.{IsProgram}
 use Rattle.grain_program.specs.declared.verifier.refusals.Refusal.{Refusal}
@@ -77,13 +77,13 @@ module _ (words : List (List ℕ)) (input before now : Option (List ℕ)) (bytes
 
   tells : (status : ℕ) (text : List ℕ) → status ≤ 4 → Says words input status text →
       Told status text
-  tells 0 text small says =
+  tells zero text small says =
       let s = says.value refl in told_at 0 text (Came s.0) s.1 s.2 refl s.3 s.4
-  tells 1 text small says =
+  tells (suc zero) text small says =
       let s = says.fault refl in told_at 1 text (Failed s.0) s.1 s.2 refl s.3 s.4
-  tells 2 text small says = let none = (says.usage refl).0 in absurd cc
-  tells 3 text small says = let s = says.no_listing refl in absurd (no_bad_line s.0 s.1)
-  tells 4 text small says = let s = says.refused refl in absurd (no_refusal s.0 s.1)
+  tells (suc (suc zero)) text small says = let none = (says.usage refl).0 in absurd cc
+  tells (suc (suc (suc zero))) text small says = let s = says.no_listing refl in absurd (no_bad_line s.0 s.1)
+  tells (suc (suc (suc (suc zero)))) text small says = let s = says.refused refl in absurd (no_refusal s.0 s.1)
   tells (suc (suc (suc (suc (suc n))))) text small says = absurd (omega arith)
 
   printed : (status : ℕ) (text : List ℕ) → Told status text → now ≡ added text before →
@@ -95,14 +95,14 @@ module _ (words : List (List ℕ)) (input before now : Option (List ℕ)) (bytes
 -- of the statuses up to 7 those that are none of the last three
 at_most_four : (status : ℕ) → status ≤ 7 → (status ≡ 5 → ⊥) → (status ≡ 6 → ⊥) → (status ≡ 7 → ⊥) →
     status ≤ 4
-at_most_four 0 known read write memory = omega arith
-at_most_four 1 known read write memory = omega arith
-at_most_four 2 known read write memory = omega arith
-at_most_four 3 known read write memory = omega arith
-at_most_four 4 known read write memory = omega arith
-at_most_four 5 known read write memory = absurd (read refl)
-at_most_four 6 known read write memory = absurd (write refl)
-at_most_four 7 known read write memory = absurd (memory refl)
+at_most_four zero known read write memory = omega arith
+at_most_four (suc zero) known read write memory = omega arith
+at_most_four (suc (suc zero)) known read write memory = omega arith
+at_most_four (suc (suc (suc zero))) known read write memory = omega arith
+at_most_four (suc (suc (suc (suc zero)))) known read write memory = omega arith
+at_most_four (suc (suc (suc (suc (suc zero))))) known read write memory = absurd (read refl)
+at_most_four (suc (suc (suc (suc (suc (suc zero)))))) known read write memory = absurd (write refl)
+at_most_four (suc (suc (suc (suc (suc (suc (suc zero))))))) known read write memory = absurd (memory refl)
 at_most_four (suc (suc (suc (suc (suc (suc (suc (suc n)))))))) known read write memory =
     absurd (omega arith)
 
