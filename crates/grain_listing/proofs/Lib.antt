@@ -10,6 +10,7 @@ pub mod LastChain
 pub mod LastSwitch
 pub mod OneMore
 pub mod Simulates
+pub mod AimsLinked
 pub mod Linked
 pub mod LinesRead
 pub mod AllowedLimits

@@ -1,6 +1,6 @@
 -- What lines say, and what the lines up to some line say together. The lines up to there are a
 -- list with the last line first, so that what stands before a line is the rest of the list.
-use Rattle.std.specs.Prelude.{ℕ, ◌+◌, Bool, true, false, List, [], ◌∷◌, ◌++◌, Option, Some, None, Result, Ok, bytes_eq, if◌then◌else◌}
+use Rattle.std.specs.Prelude.{ℕ, ◌+◌, Bool, List, [], ◌∷◌, ◌++◌, Option, Some, None, Result, Ok, bytes_eq, if◌then◌else◌}
 use Rattle.std.specs.Int.{w32, to_le_bytes}
 use Rattle.grain_value.specs.Tree.{Tree}
 use Rattle.grain_value.specs.View.{tree}

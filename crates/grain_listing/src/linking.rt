@@ -5,7 +5,7 @@ ghost use Rattle.grain_listing.specs.Reading.{assign_op_of, assign_ops_of, token
 ghost use Rattle.grain_listing.specs.views.Limits.{AreAllowed, limits_view};
 ghost use Rattle.grain_listing.specs.ListingViews.{outcome, IsReady};
 ghost use Rattle.grain_listing.specs.views.AssemblerView.{assembler_view};
-ghost use Rattle.grain_listing.specs.views.Linking.{ending, finish, filled, fill, write_at, left};
+ghost use Rattle.grain_listing.specs.views.Linking.{ending, finish, linked, filled, fill, write_at, left};
 ghost use Rattle.grain_listing.specs.views.Ordered.{IsOrdered};
 
 use crate::assembler::{Assembler, Fixup};
@@ -19,7 +19,7 @@ use crate::switch_linking::{check_aims, linked_switches};
 use crate::table::Section;
 use bitflags::Flags;
 use grain_literals::Reason;
-use grain_program::{AssignOp, AssignOps, Caps, Parts, Tokens};
+use grain_program::{AssignOp, AssignOps, Caps, Parts, Switches, Tokens};
 use grain_value::{Blob, Limits, OutOfMemory, Token};
 use grain_words::Labels;
 use std::alloc::Global;
@@ -128,15 +128,15 @@ fn caps_of(bits: Option<u8>) -> Caps
     }
 }
 
-/// What the assembler says, whose last block is over.
+/// What the assembler says, whose last block is over, with these op-assignments and switches.
 fn set_up(
-    alloc: Global,
     assembler: Assembler,
     assign_ops: AssignOps,
-) -> Result<Result<Listing, BadLine>, OutOfMemory>
+    switches: Switches,
+) -> Result<Listing, BadLine>
     requires { IsOrdered (assembler_view assembler) }
-    ensures setup { IfOk result (λ r. outcome r ≡ filled (assembler_view assembler) assign_ops) }
-    ensures ready { IfOk result (λ r. IfOk r IsReady) }
+    ensures setup { outcome result ≡ filled (assembler_view assembler) assign_ops switches }
+    ensures ready { IfOk result IsReady }
 {
     let Assembler {
         line: _,
@@ -152,8 +152,8 @@ fn set_up(
         tokens,
         assigns: _,
         chains,
-        switches,
-        aims,
+        switches: _,
+        aims: _,
         follows: _,
         block: _,
         main,
@@ -163,13 +163,7 @@ fn set_up(
         labels,
         fixups,
     } = assembler;
-    if let Err(bad) = check_aims(&labels, aims.as_slice()) {
-        return Ok(Err(bad));
-    }
-    if let Err(bad) = fill(&labels, fixups.as_slice(), &mut code) {
-        return Ok(Err(bad));
-    }
-    let switches = linked_switches(alloc, &labels, switches.as_slice())?;
+    fill(&labels, fixups.as_slice(), &mut code)?;
     let parts = Parts {
         caps: caps_of(caps),
         code: Blob::from_vec(code),
@@ -184,14 +178,31 @@ fn set_up(
         positions,
         source,
     };
-    Ok(Ok(Listing {
+    Ok(Listing {
         parts,
         limits: limits_of(limits.as_slice()),
         fast_operators: is_on("operators", flags.as_slice()),
         strict_properties: is_on("strict", flags.as_slice()),
         host,
         scope,
-    }))
+    })
+}
+
+/// What the assembler says, whose last block is over.
+fn link(
+    alloc: Global,
+    assembler: Assembler,
+    assign_ops: AssignOps,
+) -> Result<Result<Listing, BadLine>, OutOfMemory>
+    requires { IsOrdered (assembler_view assembler) }
+    ensures setup { IfOk result (λ r. outcome r ≡ linked (assembler_view assembler) assign_ops) }
+    ensures ready { IfOk result (λ r. IfOk r IsReady) }
+{
+    if let Err(bad) = check_aims(&assembler.labels, assembler.aims.as_slice()) {
+        return Ok(Err(bad));
+    }
+    let switches = linked_switches(alloc, &assembler.labels, assembler.switches.as_slice())?;
+    Ok(set_up(assembler, assign_ops, switches))
 }
 
 fn last_line(n: usize) -> usize
@@ -225,7 +236,7 @@ fn finish(
             line: n,
             reason: Reason::UnfinishedChunk,
         })),
-        Section::After => set_up(alloc, assembler, assign_ops),
+        Section::After => link(alloc, assembler, assign_ops),
     }
 }
 

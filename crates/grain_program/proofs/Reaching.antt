@@ -1,5 +1,5 @@
 -- What arrivals do to the switches to whose targets one shape has come.
-use Rattle.std.proofs.Common.{◌≡◌, ℕ, zero, suc, ◌<◌, ◌≤◌, ◌⊎◌, Bool, List, [], ◌∷◌, length, replicate, get_or, Option, Some, None, Result, Ok, Err, refl, sym, ap, subst, ◌∙◌, inl, inr, arith}
+use Rattle.std.proofs.Common.{◌≡◌, ℕ, ◌<◌, ◌≤◌, ◌⊎◌, List, [], ◌∷◌, length, replicate, get_or, Option, Some, None, Result, Ok, Err, refl, sym, ap, subst, ◌∙◌, inl, inr, arith}
 use Rattle.std.specs.Prelude.{slice_get, IfOk, IfSome}
 use Rattle.std.specs.List.{AllByRecursion}
 use Rattle.std.proofs.Math.ListN.{set}
@@ -8,7 +8,7 @@ use Rattle.std.proofs.lemmas.List.{get_or-set_same, get_or-set_other, get_or_pas
 use Rattle.grain_program.specs.declared.verifier.refusals.Refusal.{Refusal}
 use Rattle.grain_program.specs.View.{View}
 use Rattle.grain_program.specs.Effects.{switch_leads}
-use Rattle.grain_program.specs.Shapes.{Shape, Arrival, arrival, shape_at, clash}
+use Rattle.grain_program.specs.Shapes.{Shape, arrival, shape_at}
 use Rattle.grain_program.specs.Typing.{In, AnalysisState, ◌>>=◌, unless, noted, with_lowest, meets, arrive, arrive_all, Gives}
 use Rattle.grain_program.specs.Reached.{HasCome, AreReached}
 use Rattle.grain_program.proofs.ShapeSteps.{clash_self}
@@ -76,12 +76,6 @@ module _ (p : View) where
   one_kept reached s f g b {n} long lt (Ok x) e r =
       one_keeps reached s f g b (subst (λ (m : ℕ). b < m) long lt) e r
   one_kept reached s f g b {n} long lt (Err q) e r = tt
-
-  pub arrivals_keep : (reached : List (Option ℕ)) (xs : List Arrival) (f g : AnalysisState)
-      → ((b : ℕ) → In b (addresses xs) → b < length f.shapes) → arrive_all xs f ≡ Ok g
-      → AreReached p reached f → AreReached p reached g
-  arrivals_keep reached xs f g within e r =
-      all_still reached f g (arrive_all_spread xs f g within e).stays r
 
   -- a shape that comes where one has come to all targets comes to all of them, or to none
   module _ (k lowest : ℕ) (s : Shape) (f g : AnalysisState) (h : HasCome p k lowest f) where

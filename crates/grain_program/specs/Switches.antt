@@ -1,5 +1,5 @@
 -- Switches: which target of a record a value takes, and what its targets are.
-use Rattle.std.specs.Prelude.{ℕ, ℤ, int_lt, int_le, ◌&&◌, ◌||◌, not, Bool, true, false, List, [], ◌∷◌, ◌++◌, map, slice_get, slice_index_or, Option, Some, None, bytes_eq, ◌==◌, if◌then◌else◌}
+use Rattle.std.specs.Prelude.{ℕ, ℤ, int_lt, int_le, ◌&&◌, ◌||◌, not, Bool, true, false, List, [], ◌∷◌, ◌++◌, map, Option, Some, None, bytes_eq, ◌==◌, if◌then◌else◌}
 use Rattle.std.specs.Ordering.{nat_cmp, int_eq}
 use Rattle.std.specs.BTreeSet.{insert_key}
 use Rattle.grain_value.specs.declared.values.Dynamic.{Dynamic}

@@ -1,7 +1,7 @@
 -- A frame that is typed at an instruction stays typed, and what is verified holds of each
 -- instruction.
-use Rattle.std.specs.Prelude.{ℕ, suc, ◌≡◌, ◌<◌, ◌≤◌, ◌+◌, ◌-◌, ◌⊎◌, ◌||◌, nat_lt, Bool, true, false, cond, List, [], ◌∷◌, length, map, slice_get, Option, Some, None, refl}
-use Rattle.std.proofs.Common.{sym, ap, subst, ◌∙◌, inl, inr, arith}
+use Rattle.std.specs.Prelude.{ℕ, suc, ◌≡◌, ◌≤◌, ◌+◌, ◌-◌, ◌⊎◌, ◌||◌, nat_lt, Bool, true, false, cond, List, [], ◌∷◌, length, slice_get, Option, Some, None, refl}
+use Rattle.std.proofs.Common.{sym, subst, ◌∙◌, inl, inr, arith}
 use Rattle.std.proofs.lemmas.Bool.{ltb-false}
 use Rattle.std.specs.List.{AllByRecursion}
 use Rattle.grain_program.specs.declared.code.instruction_set.Op.{Op}
@@ -22,7 +22,7 @@ use Rattle.grain_program.specs.laws.Layout.{function_chunk}
 use Rattle.grain_program.specs.Starts.{Start}
 use Rattle.grain_program.specs.laws.Starts.{start_first, start_next}
 use Rattle.grain_program.specs.Rules.{Lands, StaysIn}
-use Rattle.grain_program.specs.Shapes.{Shape, TryHandler, shape, height_after, cursors_after, after, at_target, Arrival, arrival, reached, handled, is_under}
+use Rattle.grain_program.specs.Shapes.{Shape, TryHandler, shape, height_after, cursors_after, after, at_target, arrival, reached, handled, is_under}
 use Rattle.grain_program.specs.Typing.{Agrees}
 use Rattle.grain_program.specs.TypedAt.{HasName, Covers}
 pub use Rattle.grain_program.specs.Typing.{In, IsProgram}
