@@ -11,16 +11,16 @@ use Rattle.grain_frame.specs.declared.runs.Run.{Run}
 pub one_tried : {H : Type 0} (target : ℕ) (variable : Option ℕ) (s : Run H) →
     tries_in (armed target variable s ∷ s.stacks.handlers)
     ≡ handled (handling.Push target variable) (length s.stacks.operands - 0 + 0)
-    (tries_in s.stacks.handlers)
+    (length s.stacks.cursors) (tries_in s.stacks.handlers)
 one_tried target variable s =
-    ap (λ (n : ℕ). handled (handling.Push target variable) n (tries_in s.stacks.handlers))
-    (omega arith)
+    ap (λ (n : ℕ). handled (handling.Push target variable) n (length s.stacks.cursors)
+    (tries_in s.stacks.handlers)) (omega arith)
 
 -- the innermost goes
-pub outer_tried : (height : ℕ) (hs : List Handler) → tries_in (around hs)
-    ≡ handled handling.Pop height (tries_in hs)
-outer_tried height [] = refl
-outer_tried height (h ∷ hs) = refl
+pub outer_tried : (height cursors : ℕ) (hs : List Handler) → tries_in (around hs)
+    ≡ handled handling.Pop height cursors (tries_in hs)
+outer_tried height cursors [] = refl
+outer_tried height cursors (h ∷ hs) = refl
 
 pub outer_above : (base : ℕ) (hs : List Handler) → Above base hs → Above base (around hs)
 outer_above base [] a = tt

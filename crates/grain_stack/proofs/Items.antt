@@ -10,7 +10,8 @@ use Rattle.std.proofs.lemmas.Str.{chars-nil, chars_past_char, drop_past_char, is
 use Rattle.grain_value.specs.Tree.{Tree, integer, character}
 use Rattle.grain_stack.specs.declared.cursors.Left.{Left}
 use Rattle.grain_stack.specs.declared.cursors.Left.TheVariants as left
-use Rattle.grain_stack.specs.Cursors.{integers, not_below_zero, range_size, integers_of, characters_in, character_item, items_left}
+use Rattle.grain_value.specs.Items.{integers_from, at_least_zero, range_length, integers_in, character_item}
+use Rattle.grain_stack.specs.Cursors.{characters_in, items_left}
 
 pub not_so : {P : Type 0} → (P → false ≡ true) → ¬ P
 not_so {P} never p = let e : false ≡ true = never p in cc
@@ -72,59 +73,59 @@ all_characters text utf8 = rw (is_utf8-from_IsUtf8 text utf8) refl
 
 -- ---- the integers of a range
 
-integers_none : (z : ℤ) → integers z 0 ≡ []
-unfolding integers
+integers_none : (z : ℤ) → integers_from z 0 ≡ []
+unfolding integers_from
 integers_none z = refl
 
-integers_next : (z : ℤ) (n : ℕ) → integers z (suc n) ≡ integer z ∷ integers (z +ℤ pos 1) n
-unfolding integers
+integers_next : (z : ℤ) (n : ℕ) → integers_from z (suc n) ≡ integer z ∷ integers_from (z +ℤ pos 1) n
+unfolding integers_from
 integers_next z n = refl
 
 one_above : (z y : ℤ) → z ≡ y +ℤ pos 1 → pos 0 ≤ℤ y →
-    not_below_zero z ≡ suc (not_below_zero y)
+    at_least_zero z ≡ suc (at_least_zero y)
 one_above z (pos n) is le =
-    let more : not_below_zero z ≡ n + 1 = ap not_below_zero is in omega (arith, more)
+    let more : at_least_zero z ≡ n + 1 = ap at_least_zero is in omega (arith, more)
 one_above z (negsuc n) is le = absurd (omega (arith, ints))
 
-none_above : (z : ℤ) → z ≤ℤ pos 0 → not_below_zero z ≡ 0
+none_above : (z : ℤ) → z ≤ℤ pos 0 → at_least_zero z ≡ 0
 none_above (pos n) le = omega (arith, ints)
 none_above (negsuc n) le = refl
 
 one_more : (from to : ℤ) → from <ℤ to →
-    not_below_zero (to -ℤ from) ≡ suc (not_below_zero (to -ℤ (from +ℤ pos 1)))
+    at_least_zero (to -ℤ from) ≡ suc (at_least_zero (to -ℤ (from +ℤ pos 1)))
 one_more from to lt =
     one_above (to -ℤ from) (to -ℤ (from +ℤ pos 1)) (omega (arith, ints)) (omega (arith, ints))
 
 range_more : (from to : ℤ) (inclusive : Bool) → from <ℤ to →
-    range_size from to inclusive ≡ suc (range_size (from +ℤ pos 1) to inclusive)
+    range_length from to inclusive ≡ suc (range_length (from +ℤ pos 1) to inclusive)
 range_more from to false lt = one_more from to lt
 range_more from to true lt = one_more from (to +ℤ pos 1) (omega (arith, ints))
 
 -- an integer below the end, and those behind it
 pub integer_below : (from to : ℤ) (inclusive : Bool) → from <ℤ to →
-    integers_of from to inclusive ≡ integer from ∷ integers_of (from +ℤ pos 1) to inclusive
+    integers_in from to inclusive ≡ integer from ∷ integers_in (from +ℤ pos 1) to inclusive
 integer_below from to inclusive lt =
-    ap (integers from) (range_more from to inclusive lt)
-    ∙ integers_next from (range_size (from +ℤ pos 1) to inclusive)
+    ap (integers_from from) (range_more from to inclusive lt)
+    ∙ integers_next from (range_length (from +ℤ pos 1) to inclusive)
 
 -- the end of an inclusive range, behind which there is nothing
-pub integer_last : (z : ℤ) → integers_of z z true ≡ integer z ∷ integers_of z z false
+pub integer_last : (z : ℤ) → integers_in z z true ≡ integer z ∷ integers_in z z false
 integer_last z =
     let is : (z +ℤ pos 1) -ℤ z ≡ pos 1 = omega (arith, ints) in
-    let one : not_below_zero ((z +ℤ pos 1) -ℤ z) ≡ suc 0 = ap not_below_zero is in
-    let none : not_below_zero (z -ℤ z) ≡ 0 = none_above (z -ℤ z) (omega (arith, ints)) in
-    let nothing : integers_of z z false ≡ [] = ap (integers z) none ∙ integers_none z in
-    ap (integers z) one ∙ integers_next z 0
+    let one : at_least_zero ((z +ℤ pos 1) -ℤ z) ≡ suc 0 = ap at_least_zero is in
+    let none : at_least_zero (z -ℤ z) ≡ 0 = none_above (z -ℤ z) (omega (arith, ints)) in
+    let nothing : integers_in z z false ≡ [] = ap (integers_from z) none ∙ integers_none z in
+    ap (integers_from z) one ∙ integers_next z 0
     ∙ ap (λ (ts : List Tree). integer z ∷ ts) (integers_none (z +ℤ pos 1) ∙ sym nothing)
 
 -- a range that is at its end
 pub integers_over : (from to : ℤ) (inclusive : Bool) → to ≤ℤ from →
-    (inclusive ≡ true → ¬ (from ≡ to)) → integers_of from to inclusive ≡ []
+    (inclusive ≡ true → ¬ (from ≡ to)) → integers_in from to inclusive ≡ []
 integers_over from to false le other =
-    ap (integers from) (none_above (to -ℤ from) (omega (arith, ints))) ∙ integers_none from
+    ap (integers_from from) (none_above (to -ℤ from) (omega (arith, ints))) ∙ integers_none from
 integers_over from to true le other =
     let less : to <ℤ from = above from to le (other refl) in
-    ap (integers from) (none_above ((to +ℤ pos 1) -ℤ from) (omega (arith, ints)))
+    ap (integers_from from) (none_above ((to +ℤ pos 1) -ℤ from) (omega (arith, ints)))
     ∙ integers_none from where
       above : (a b : ℤ) → b ≤ℤ a → ¬ (a ≡ b) → b <ℤ a
       above a b le apart = by_lt_z b a (λ lt. lt) (λ ge. absurd (apart (omega (arith, ints))))
@@ -133,17 +134,17 @@ integers_over from to true le other =
 
 pub next_below : (l : Left) (from to : ℤ) (inclusive : Bool) (first last next : ℤ) →
     l ≡ left.Range from to inclusive → from <ℤ to → first ≡ from → last ≡ to →
-    next ≡ from +ℤ pos 1 → items_left l ≡ integer first ∷ integers_of next last inclusive
+    next ≡ from +ℤ pos 1 → items_left l ≡ integer first ∷ integers_in next last inclusive
 next_below l from to inclusive first last next is less ef el en =
     ap items_left is ∙ integer_below from to inclusive less
-    ∙ (λ i. integer (sym ef i) ∷ integers_of (sym en i) (sym el i) inclusive)
+    ∙ (λ i. integer (sym ef i) ∷ integers_in (sym en i) (sym el i) inclusive)
 
 pub next_last : (l : Left) (from to : ℤ) (inclusive : Bool) (first last : ℤ) →
     l ≡ left.Range from to inclusive → from ≡ to → inclusive ≡ true → first ≡ from → last ≡ to →
-    items_left l ≡ integer first ∷ integers_of first last false
+    items_left l ≡ integer first ∷ integers_in first last false
 next_last l from to inclusive first last is at closed ef el =
-    ap items_left is ∙ (λ i. integers_of from (sym at i) (closed i)) ∙ integer_last from
-    ∙ (λ i. integer (sym ef i) ∷ integers_of (sym ef i) ((at ∙ sym el) i) false)
+    ap items_left is ∙ (λ i. integers_in from (sym at i) (closed i)) ∙ integer_last from
+    ∙ (λ i. integer (sym ef i) ∷ integers_in (sym ef i) ((at ∙ sym el) i) false)
 
 pub none_next : (l : Left) (from to : ℤ) (inclusive : Bool) → l ≡ left.Range from to inclusive →
     to ≤ℤ from → (inclusive ≡ true → ¬ (from ≡ to)) → items_left l ≡ []

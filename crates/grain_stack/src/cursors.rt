@@ -2,7 +2,8 @@
 
 ghost use Rattle.std.specs.Prelude.{◌≡◌, ◌<◌, map, drop, negsuc, Some, None, IfOk, IfErr, OnErr};
 ghost use Rattle.grain_value.specs.declared.values.Dynamic.TheVariants as dynamic;
-ghost use Rattle.grain_stack.specs.Cursors.{items_left, items_of, Gives, IsRange, byte_item, characters_in};
+ghost use Rattle.grain_value.specs.Items.{items_of, byte_item};
+ghost use Rattle.grain_stack.specs.Cursors.{items_left, Gives, IsRange, characters_in};
 
 use grain_value::{Array, Blob, Dynamic, OutOfMemory, Text};
 use std::alloc::Global;

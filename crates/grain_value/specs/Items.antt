@@ -5,8 +5,15 @@ use Rattle.grain_value.specs.Tree.{Tree, integer, character}
 use Rattle.grain_value.specs.declared.values.Dynamic.{Dynamic}
 use Rattle.grain_value.specs.declared.values.Dynamic.TheVariants as dynamic
 
+-- a byte and a character as items
+abbrev pub byte_item : ℕ → Tree
+byte_item b = integer (pos b)
+
+abbrev pub character_item : ℕ → Tree
+character_item c = character c
+
 -- the n integers from this one on
-abbrev pub integers_from : ℤ → ℕ → List Tree
+unfoldable pub integers_from : ℤ → ℕ → List Tree
 integers_from from zero = []
 integers_from from (suc n) = integer from ∷ integers_from (from +ℤ pos 1) n
 
@@ -31,9 +38,9 @@ items_of dynamic.Unit = None
 items_of (dynamic.Bool b) = None
 items_of (dynamic.Int n) = None
 items_of (dynamic.Char c) = None
-items_of (dynamic.Text s) = Some (map character (chars s))
+items_of (dynamic.Text s) = Some (map character_item (chars s))
 items_of (dynamic.Array ts) = Some ts
-items_of (dynamic.Blob s) = Some (map (λ b. integer (pos b)) s)
+items_of (dynamic.Blob s) = Some (map byte_item s)
 items_of (dynamic.Map es) = None
 items_of (dynamic.Pointer p) = None
 items_of (dynamic.Range from to inclusive) = Some (integers_in from to inclusive)
