@@ -1,5 +1,10 @@
 -- What the code did that changes the cursors of a frame.
-use Rattle.std.specs.Prelude.{◌≡◌, ◌≤◌, ◌-◌, ℕ, List, Result, Ok, Err, length}
+use Rattle.std.specs.Prelude.{◌≡◌, ◌≤◌, ◌-◌, ℕ, ℤ, Bool, false, List, [], ◌∷◌, Option, Some, None, Result, Ok, Err, is_none, length, slice_get}
+use Rattle.grain_value.specs.Cells.{content}
+use Rattle.grain_value.specs.Tree.{Tree}
+use Rattle.grain_value.specs.View.{tree}
+use Rattle.grain_value.specs.declared.stores.Cell.{Cell}
+use Rattle.grain_value.specs.declared.values.Dynamic.{Dynamic}
 use Rattle.grain_value.specs.declared.memory.OutOfMemory.{OutOfMemory}
 use Rattle.grain_program.specs.declared.code.instruction_set.Op.{Op}
 use Rattle.grain_program.specs.Effects.{takes_of, effect_of}
@@ -7,6 +12,8 @@ use Rattle.grain_program.specs.Shapes.{after, Arrival, arrival, arrivals}
 use Rattle.grain_program.specs.Typing.{In}
 use Rattle.grain_program.specs.View.{View}
 use Rattle.grain_global.specs.declared.engines.Engine.{Engine}
+use Rattle.grain_stack.specs.Cursors.{items_left, first_cell}
+use Rattle.grain_stack.specs.declared.cursors.Cursor.{Cursor}
 use Rattle.grain_means.specs.Worlds.{Setup}
 use Rattle.grain_means.specs.Rules.{instr}
 use Rattle.grain_means.specs.Simulation.{Computation, SimulatesExactly}
@@ -57,3 +64,37 @@ abbrev pub PerformsLoop : {H : Type 0} → Setup H → Moment H → Op → ℕ �
 PerformsLoop m a o next result b =
     ImplementsLoop m a (λ m place w. instr m o next (frame_in a.frame a.run place) w)
     (arrivals_of m.program o next a.run) (takes_of m.program o) result b
+
+-- the items that the innermost cursor has left
+abbrev pub first_items : List Cursor → List Tree
+first_items [] = []
+first_items (c ∷ cs) = items_left c.left
+
+-- the cursors around the innermost one
+abbrev pub outer_of : List Cursor → List Cursor
+outer_of [] = []
+outer_of (c ∷ cs) = cs
+
+-- the first item is a cell that is there no more, or is lent
+abbrev pub is_lent : List Cell → Option ℕ → Bool
+is_lent cells None = false
+is_lent cells (Some n) = is_none (content (slice_get cells n))
+
+abbrev pub next_is_lent : {H : Type 0} → Run H → Bool
+next_is_lent s = is_lent s.cells (first_cell (first_items s.stacks.cursors))
+
+-- the innermost cursor has given this item, and has this count
+abbrev pub Gave : List Cursor → List Cursor → Dynamic → ℤ → Type 0
+Gave old [] item count = ⊥
+Gave old (c ∷ cs) item count = (first_items old ≡ tree item ∷ items_left c.left)
+    × (c.counter ≡ count) × (cs ≡ outer_of old)
+
+-- nothing else has changed
+abbrev pub TakesItem : {H : Type 0} → Run H → Run H → Dynamic → ℤ → Type 0
+TakesItem s s' item count = Gave s.stacks.cursors s'.stacks.cursors item count
+    × (s' ≡ record s { stacks = record s.stacks { cursors = s'.stacks.cursors } })
+
+-- the count was written: only entries and cells may differ, and the fault that lies in the run
+abbrev pub CountResult : {H : Type 0} → Run H → Run H → Type 0
+CountResult s s' = (s' ≡ record s { scope = s'.scope; cells = s'.cells; fault = s'.fault })
+    × (length s'.scope ≡ length s.scope)
