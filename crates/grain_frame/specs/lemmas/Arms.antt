@@ -13,9 +13,9 @@ use Rattle.grain_program.specs.declared.code.instruction_set.Op.{Op}
 use Rattle.grain_program.specs.declared.code.effects.Handling.{Handling}
 use Rattle.grain_program.specs.declared.code.effects.Handling.TheVariants as handling
 use Rattle.grain_program.specs.declared.code.effects.Looping.TheVariants as looping
-use Rattle.grain_program.specs.Effects.{takes_of, gives_of, leads_of, looping_of, handling_of, advances, cursors_taken, cursors_given}
+use Rattle.grain_program.specs.Effects.{takes_of, gives_of, leads_of, looping_of, handling_of, cursors_taken}
 use Rattle.grain_program.specs.Shapes.{TryHandler, handled}
-use Rattle.grain_program.specs.laws.TypedAt.{IsTypedAt, Verified, goes_on}
+use Rattle.grain_program.specs.laws.TypedAt.{IsTypedAt, Verified}
 use Rattle.grain_program.specs.Decoding.{op_at}
 use Rattle.grain_program.specs.View.{View}
 use Rattle.grain_stack.specs.declared.cursors.Cursor.{Cursor}
@@ -35,6 +35,8 @@ use Rattle.grain_frame.specs.declared.activations.Activation.{Activation}
 use Rattle.grain_frame.specs.declared.runs.Progress.{Progress}
 use Rattle.grain_frame.specs.declared.runs.Progress.TheVariants as progress
 use Rattle.grain_frame.specs.declared.runs.Run.{Run}
+use Rattle.grain_frame.specs.lemmas.Standing.{goes_with_cursors}
+pub use Rattle.grain_frame.specs.lemmas.Standing.{verified}
 
 -- a frame that runs is typed with its handlers
 pub typed_with : {H : Type 0} (p : View) (f : Activation) (s : Run H) (depth : ℕ) →
@@ -68,19 +70,6 @@ performs {now = now} f o at width here e h =
 pub taken_back : (f g : Activation) → g.chunk ≡ f.chunk → g.base ≡ f.base →
     g ≡ record f { address = g.address; floor = g.floor; slot = g.slot }
 taken_back f g chunk base = rw (← chunk, ← base) refl
-
--- where an instruction leads that keeps the cursors, the typing knows the frame
-pub goes_with_cursors : {p : View} {c : Chunk} {at depth cursors : ℕ} {hs : List TryHandler}
-    {o : Op} {width : ℕ} → looping_of o ≡ looping.Keep →
-    Verified p c at depth cursors hs o width → (b : ℕ) → In b (leads_of p o (at + width)) →
-    IsTypedAt p c b (depth - takes_of p o + gives_of o) cursors
-    (handled (handling_of o) (depth - takes_of p o + gives_of o) cursors hs)
-goes_with_cursors {p} {c} {at} {depth} {cursors} {hs} {o} {width} holds seen b leads =
-    let left : ℕ = depth - takes_of p o + gives_of o in
-    subst (λ (n : ℕ). IsTypedAt p c b left n (handled (handling_of o) left n hs)) same
-    (goes_on seen (ap advances holds) b leads) where
-      same : cursors - cursors_taken (looping_of o) + cursors_given (looping_of o) ≡ cursors
-      same = rw holds (omega arith)
 
 -- an instruction at which a frame stands, by what was verified of it
 module _ {H : Type 0} (law : Law H) (p : View) (engine : Engine) (f : Activation) (s : Run H)
@@ -224,15 +213,6 @@ module _ {H : Type 0} (law : Law H) (p : View) (engine : Engine) (f : Activation
     stepped host host' does =
         done law p engine f s o width runs here holds keeps (there read) n f' s' n' host host'
         (same does.same) does.kept does.lands does.before
-
--- what was verified of an instruction at which the frame stands
-pub verified : {H : Type 0} {p : View} {f : Activation} {s : Run H} {said o : Op} {next : ℕ}
-    (is : said ≡ o) (at : StandsAt p f s said next) →
-    Verified p f.chunk f.address (length s.stacks.operands) (length s.stacks.cursors)
-    (tries_in s.stacks.handlers) o at.width
-verified {p = p} {f} {s} is at =
-    subst (λ (q : Op). Verified p f.chunk f.address (length s.stacks.operands)
-    (length s.stacks.cursors) (tries_in s.stacks.handlers) q at.width) is at.seen
 
 -- an instruction at which the frame stood was done, and the frame goes on with other handlers
 pub arm_with : {H : Type 0} {law : Law H} {p : View} {engine : Engine} {f f' : Activation}
