@@ -1,6 +1,6 @@
 //! Loops over the items of a value, and transfers by a table of cases.
 
-ghost use Rattle.std.specs.Prelude.{◌≡◌, ◌<◌, ◌≤◌, ◌+◌, ◌-◌, ◌++◌, ◌∷◌, [], ℕ, ℤ, pos, negsuc, ◌+ℤ◌, List, length, Option, Some, None, Ok, IfOk, OnErr, is_ok, is_some, true, false, if◌then◌else◌};
+ghost use Rattle.std.specs.Prelude.{◌≡◌, ◌<◌, ◌≤◌, ◌+◌, ◌-◌, ◌++◌, ◌∷◌, [], ℕ, ℤ, pos, negsuc, ◌+ℤ◌, List, length, Option, Some, None, Ok, IfOk, OnErr, is_ok, is_some, is_none, true, false, if◌then◌else◌};
 ghost use Rattle.grain_value.specs.Cells.{content, flat};
 ghost use Rattle.grain_value.specs.Items.{items_of};
 ghost use Rattle.grain_value.specs.Operands.{read_write};
@@ -181,6 +181,7 @@ impl<H: Host> Run<H> {
     ) -> Result<Progress, OutOfMemory>
         requires begins { CanBegin frame.old self.old 0 1 next }
         requires there { 0 < length self.old.stacks.cursors }
+        requires more { is_none (first_of (first_items self.old.stacks.cursors)) ≡ false }
         ensures implements { (target : ℕ) (t : Tree) (ts : List Tree) →
             first_items self.old.stacks.cursors ≡ t ∷ ts → (host : H) →
             ImplementsLoop (setup_of H.law context.entry)
@@ -252,6 +253,7 @@ impl<H: Host> Run<H> {
     ) -> Result<Progress, OutOfMemory>
         requires begins { CanBegin frame.old self.old 0 1 next }
         requires there { 0 < length self.old.stacks.cursors }
+        requires more { is_none (first_of (first_items self.old.stacks.cursors)) ≡ false }
         ensures implements { (target : ℕ) (t : Tree) (ts : List Tree) →
             first_items self.old.stacks.cursors ≡ t ∷ ts → (host : H) →
             ImplementsLoop (setup_of H.law context.entry)
@@ -288,7 +290,7 @@ impl<H: Host> Run<H> {
     // Takes the next item of the innermost loop, which has this count from then on.
     fn take_item(&mut self, count: i64) -> Result<Dynamic, OutOfMemory>
         requires there { 0 < length self.old.stacks.cursors }
-        requires more { is_some (first_of (first_items self.old.stacks.cursors)) ≡ true }
+        requires more { is_none (first_of (first_items self.old.stacks.cursors)) ≡ false }
         ensures taken { IfOk result (λ item. TakesItem self.old self.new item count) }
         ensures unchanged { OnErr result (self.new ≡ self.old) }
     {

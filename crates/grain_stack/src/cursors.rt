@@ -2,7 +2,7 @@
 
 ghost use Rattle.std.specs.Prelude.{◌≡◌, ◌<◌, map, drop, negsuc, Some, None, is_none, IfOk, IfErr, OnErr};
 ghost use Rattle.grain_value.specs.declared.values.Dynamic.TheVariants as dynamic;
-ghost use Rattle.grain_value.specs.Items.{items_of, byte_item};
+ghost use Rattle.grain_value.specs.Items.{items_of, byte_item, integers_in};
 ghost use Rattle.grain_stack.specs.Cursors.{items_left, first_cell, Gives, IsRange, characters_in};
 ghost use Rattle.grain_stack.specs.Entries.{first_of};
 
@@ -115,7 +115,7 @@ impl Left {
                 from,
                 to,
                 inclusive,
-            } => from > to || (from == to && !*inclusive),
+            } => is_past(*from, *to, *inclusive),
         }
     }
 
@@ -175,6 +175,19 @@ fn cell_at(items: &Array, index: usize) -> Option<usize>
         return None;
     }
     items.at(index).as_cell()
+}
+
+// Whether a range has no integers.
+fn is_past(from: i64, to: i64, inclusive: bool) -> bool
+    ensures { result ≡ is_none (first_of (integers_in from to inclusive)) }
+{
+    if from < to {
+        return false;
+    }
+    if from == to {
+        return !inclusive;
+    }
+    true
 }
 
 // Whether no character begins at the byte.

@@ -6,6 +6,7 @@ use Rattle.grain_means.specs.Simulation.{stopped, world}
 use Rattle.grain_frame.specs.Abstraction.{abstraction, frame_in, this_of}
 use Rattle.grain_frame.specs.Handling.{armed, around}
 use Rattle.grain_frame.specs.lemmas.Arms.{arm, arm_with, verified}
+use Rattle.grain_frame.specs.lemmas.Looping.{arm_loop}
 use Rattle.grain_frame.specs.lemmas.Bound.{arm_bound, as_bound, bound_as, held_is}
 use Rattle.grain_frame.proofs.Handled.{one_tried, outer_tried, outer_above, some_tried}
 use Rattle.grain_frame.proofs.runs.Run.perform.Goals as goal
@@ -325,3 +326,45 @@ returns-in-PopHandler g c =
           (c.pop_handler.ensures.implements c.args.context.program.now c.args.context.engine.now
           c.args.host.now);
     }
+
+pub returns-in-Switch : goal.returns-in-Switch
+returns-in-Switch g c = record {
+  stepped = arm c.in-Switch.is refl refl c.requires.stands c.requires.runs
+      c.switch_on.ensures.performs;
+}
+
+pub returns-in-IterInit : goal.returns-in-IterInit
+returns-in-IterInit g c = record {
+  stepped = arm_loop c.in-IterInit.is c.requires.stands c.requires.runs
+      (c.iter_init.ensures.performs c.args.host.now);
+}
+
+pub iter_drop-requires-clause-there : goal.iter_drop-requires-clause-there
+iter_drop-requires-clause-there g c = (verified c.in-IterDrop.is c.requires.stands).cursor
+
+pub returns-in-IterDrop : goal.returns-in-IterDrop
+returns-in-IterDrop g c = record {
+  stepped = arm_loop c.in-IterDrop.is c.requires.stands c.requires.runs
+      (c.iter_drop.ensures.performs c.args.context.program.now c.args.context.engine.now
+      c.args.host.now);
+}
+
+pub iter_next-requires-clause-there : goal.iter_next-requires-clause-there
+iter_next-requires-clause-there g c = (verified c.in-IterNext.is c.requires.stands).cursor
+
+pub returns-in-IterNext : goal.returns-in-IterNext
+returns-in-IterNext g c = record {
+  stepped = arm_loop c.in-IterNext.is c.requires.stands c.requires.runs
+      c.iter_next.ensures.implements;
+}
+
+pub iter_next-requires-clause-there-in-IterNextIndexed :
+    goal.iter_next-requires-clause-there-in-IterNextIndexed
+iter_next-requires-clause-there-in-IterNextIndexed g c =
+    (verified c.in-IterNextIndexed.is c.requires.stands).cursor
+
+pub returns-in-IterNextIndexed : goal.returns-in-IterNextIndexed
+returns-in-IterNextIndexed g c = record {
+  stepped = arm_loop c.in-IterNextIndexed.is c.requires.stands c.requires.runs
+      c.iter_next-in-IterNextIndexed.ensures.implements;
+}
