@@ -186,3 +186,8 @@ module _ {H : Type 0} (law : Law H) (p : View) (engine : Engine) (f : Activation
           (world (abstraction s n host) u)
       stops None items none stop u place halts = absurd cc
       stops (Some ts) items some stop u place halts = rw (read, items, halts) refl
+
+-- there are none
+pub no_items : (o : Option (List Tree)) → is_some o ≡ false → o ≡ None
+no_items None e = refl
+no_items (Some ts) e = absurd cc
