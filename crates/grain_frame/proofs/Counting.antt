@@ -32,7 +32,7 @@ use Rattle.grain_means.specs.Means.{setup}
 use Rattle.grain_means.specs.Simulation.{Computation, Environment, SimulatesExactly, stopped, world}
 use Rattle.grain_means.specs.lemmas.Stretches.{exactly, then_exactly}
 use Rattle.grain_frame.specs.Abstraction.{CanBegin, KeepsFrame, Raises, abstraction, cursors_in, frame_in, is_out, marked_once, moment, moved, shape_in, tries_in}
-use Rattle.grain_frame.specs.Looping.{ArrivesAt, Gave, ImplementsLoop, TakesItem, arrivals_of, first_items, is_lent, outer_of}
+use Rattle.grain_frame.specs.Looping.{ArrivesAt, Gave, ImplementsLoop, TakesItem, arrivals_of, first_items, is_lent, next_is_lent, outer_of}
 use Rattle.grain_frame.specs.declared.activations.Activation.{Activation}
 use Rattle.grain_frame.specs.declared.runs.Progress.{Progress}
 use Rattle.grain_frame.specs.declared.runs.Progress.TheVariants as progress
@@ -57,6 +57,32 @@ readable cells before after item is free =
           is_some (flat cells item) ≡ true
       by_cell None is free = rw is refl
       by_cell (Some k) is free = rw is (some (content (slice_get cells k)) free)
+
+-- the item that was taken can be read
+pub readable_taken : {H : Type 0} (s s1 : Run H) (item : Dynamic) (count : ℤ) →
+    TakesItem s s1 item count → next_is_lent s ≡ false → is_some (flat s1.cells item) ≡ true
+readable_taken {H} s s1 item count takes free = at s1.stacks.cursors takes.0 where
+  at : (cs : List Cursor) → Gave s.stacks.cursors cs item count →
+      is_some (flat s1.cells item) ≡ true
+  at [] gave = absurd gave
+  at (c ∷ cs) gave = ap (λ (x : Run H). is_some (flat x.cells item)) takes.1
+      ∙ readable s.cells (first_items s.stacks.cursors) (items_left c.left) item gave.0 free
+
+-- an item that is a cell which is lent cannot
+pub lent_item : (cells : List Cell) (cs : List Cursor) (t : Tree) (ts : List Tree) →
+    first_items cs ≡ t ∷ ts → is_lent cells (first_cell (first_items cs)) ≡ true →
+    flat cells (value_of t) ≡ None
+lent_item cells cs t ts first lent =
+    by_cell (cell_of (value_of t)) refl
+    (subst (λ (o : Option ℕ). is_lent cells o ≡ true) (ap first_cell first) lent) where
+      gone : (o : Option Dynamic) → is_none o ≡ true → o ≡ None
+      gone None e = refl
+      gone (Some d) e = absurd cc
+
+      by_cell : (o : Option ℕ) → cell_of (value_of t) ≡ o → is_lent cells o ≡ true →
+          flat cells (value_of t) ≡ None
+      by_cell None is lent = absurd cc
+      by_cell (Some k) is lent = rw is (gone (content (slice_get cells k)) lent)
 
 -- the cursors around the innermost one, as the meaning has them
 outer_in : (cs : List Cursor) → outer_cursors (cursors_in cs) ≡ cursors_in (outer_of cs)

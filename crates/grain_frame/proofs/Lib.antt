@@ -22,3 +22,4 @@ mod Looping
 mod Counting
 mod Storing
 mod Leaving
+mod Advancing

@@ -1,6 +1,6 @@
 //! Loops over the items of a value, and transfers by a table of cases.
 
-ghost use Rattle.std.specs.Prelude.{◌≡◌, ◌<◌, ◌≤◌, ◌+◌, ◌-◌, ◌++◌, ◌∷◌, [], ℕ, ℤ, pos, negsuc, ◌+ℤ◌, List, length, Option, Some, None, Ok, IfOk, OnErr, is_ok, is_some, is_none, true, false, if◌then◌else◌};
+ghost use Rattle.std.specs.Prelude.{◌≡◌, ◌<◌, ◌≤◌, ◌+◌, ◌-◌, ◌++◌, ◌∷◌, [], ℕ, ℤ, pos, negsuc, ◌+ℤ◌, List, length, Option, Some, None, Ok, IfOk, OnErr, MatchOption, is_ok, is_some, is_none, true, false, if◌then◌else◌};
 ghost use Rattle.grain_value.specs.Cells.{content, flat};
 ghost use Rattle.grain_value.specs.Items.{items_of};
 ghost use Rattle.grain_value.specs.Operands.{read_write};
@@ -110,7 +110,7 @@ impl<H: Host> Run<H> {
             return self.leave_loop(context, host, steps, frame, target as usize);
         }
         let counter = cursor.counter;
-        match counter.checked_add(1) {
+        match next_count(counter) {
             Some(count) => self.next_counted(context, steps, frame, slot, count, next),
             None => self.counter_overflow(context, steps, frame.address, counter),
         }
@@ -350,6 +350,14 @@ fn has_items(value: &Dynamic) -> bool
         value,
         Dynamic::Text(_) | Dynamic::Array(_) | Dynamic::Blob(_) | Dynamic::Range { .. }
     )
+}
+
+// The count after this one, if it fits 64 bits.
+fn next_count(counter: i64) -> Option<i64>
+    ensures { MatchOption result (fits64 (counter +ℤ pos 1) ≡ false)
+        (λ count. (count ≡ counter +ℤ pos 1) × (fits64 (counter +ℤ pos 1) ≡ true)) }
+{
+    counter.checked_add(1)
 }
 
 // The text of the fault that the count of a loop passes 64 bits.
