@@ -1,5 +1,5 @@
 -- The first item of those that are left, and the others.
-use Rattle.std.proofs.Common.{◌≡◌, ◌∙◌, ◌≤◌, ◌+◌, ◌++◌, ℕ, zero, suc, List, [], ◌∷◌, Bool, true, false, not, Some, None, map, drop, length, slice_get, refl, sym, ap, arith}
+use Rattle.std.proofs.Common.{◌≡◌, ◌∙◌, ◌<◌, ◌≤◌, ◌+◌, ◌++◌, ℕ, zero, suc, List, [], ◌∷◌, Bool, true, false, not, Some, None, map, drop, length, slice_get, refl, sym, ap, arith}
 use Rattle.std.specs.Prelude.{ℤ, pos, negsuc, ◌+ℤ◌, ◌-ℤ◌, ◌≤ℤ◌, ◌<ℤ◌, nat_le, is_none}
 use Rattle.std.specs.Char.{encode_utf8, len_utf8}
 use Rattle.std.specs.Str.{chars, is_utf8, IsUtf8, IsCharBoundary}
@@ -159,12 +159,17 @@ none_next l from to inclusive is le apart =
 -- ---- whether there is a first
 
 module _ {A : Type 0} where
+  some_left : (xs : List A) (n : ℕ) → n < length xs → false ≡ is_none (first_of (drop n xs))
+  some_left [] n within = absurd (omega (arith, within))
+  some_left (x ∷ xs) zero within = refl
+  some_left (x ∷ xs) (suc n) within = some_left xs n (omega (arith, within))
+
   -- the rest of a list has a first item where it is not over
   pub rest_over : (xs : List A) (n : ℕ) → nat_le (length xs) n ≡ is_none (first_of (drop n xs))
-  rest_over [] zero = refl
-  rest_over [] (suc n) = refl
-  rest_over (x ∷ xs) zero = refl
-  rest_over (x ∷ xs) (suc n) = rest_over xs n
+  rest_over xs n = at (nat_le (length xs) n) refl where
+    at : (b : Bool) → nat_le (length xs) n ≡ b → nat_le (length xs) n ≡ is_none (first_of (drop n xs))
+    at true le = rw (le, drop_all n xs (leb-true (length xs) n le)) refl
+    at false more = more ∙ some_left xs n (omega (arith, leb-false (length xs) n more))
 
   pub map_over : {B : Type 0} (f : A → B) (xs : List A) →
       is_none (first_of xs) ≡ is_none (first_of (map f xs))
