@@ -164,10 +164,10 @@ module _ {H : Type 0} (law : Law H) (p : View) (engine : Engine) (f : Activation
       both = sym first ∙ gave.0
 
       is_item : t ≡ tree item
-      is_item = cc
+      is_item = let same : t ∷ ts ≡ tree item ∷ items_left c.left = both in cc
 
       others : ts ≡ items_left c.left
-      others = cc
+      others = let same : t ∷ ts ≡ tree item ∷ items_left c.left = both in cc
 
       reads : flat s.cells (value_of t) ≡ Some value
       reads = ap (λ (x : Tree). flat s.cells (value_of x)) is_item

@@ -1,7 +1,8 @@
-use Rattle.std.proofs.Common.{rules, ◌≡◌, ◌∙◌, ◌∷◌, List, true, false, sym, ap}
-use Rattle.grain_stack.specs.declared.cursors.Cursor.{Cursor}
-use Rattle.grain_frame.specs.Abstraction.{is_out}
-use Rattle.grain_frame.specs.Looping.{first_items}
+use Rattle.std.proofs.Common.{rules, ◌≡◌, ◌∙◌, true, false, ap}
+use Rattle.grain_program.specs.declared.code.instruction_set.Op.TheVariants as op
+use Rattle.grain_means.specs.Rules.{item_given}
+use Rattle.grain_frame.specs.Abstraction.{frame_in, is_out}
+use Rattle.grain_frame.specs.Looping.{arrivals_of, first_items}
 use Rattle.grain_frame.specs.declared.runs.Run.{Run}
 use Rattle.grain_frame.proofs.Advancing.{stored_failed, stored_not, stored_then}
 use Rattle.grain_frame.proofs.runs.Run.next_counted.Goals as goal
@@ -13,7 +14,11 @@ returns-in_err-store_count g c =
       implements = λ target t ts first host. stored_not g.H.Host.law c.args.context.program.now
           c.args.context.engine.now c.args.frame.now c.args.self.now c.store_count.new.self
           c.args.steps.now c.store_count.new.steps c.args.slot c.args.count
-          c.store_count.ensures.run c.store_count.ensures.before c.requires.begins.inside host _ _
+          c.store_count.ensures.run c.store_count.ensures.before c.requires.begins.inside host
+          (λ m place w. item_given m t ts c.args.count c.args.next
+          (frame_in c.args.frame.now c.args.self.now place) w)
+          (arrivals_of c.args.context.program.now (op.IterNext target) c.args.next
+          c.args.self.now)
           c.in_err-store_count.field-0.0 c.from_residual.result out
           c.in_err-store_count.ensures.same;
     }
@@ -25,7 +30,11 @@ returns-then-not-branch g c =
       implements = λ target t ts first host. stored_failed g.H.Host.law
           c.args.context.program.now c.args.context.engine.now c.args.frame.now c.args.self.now
           c.store_count.new.self c.args.steps.now c.store_count.new.steps c.args.slot c.args.count
-          c.store_count.ensures.run c.store_count.ensures.before c.requires.begins.inside host _ _
+          c.store_count.ensures.run c.store_count.ensures.before c.requires.begins.inside host
+          (λ m place w. item_given m t ts c.args.count c.args.next
+          (frame_in c.args.frame.now c.args.self.now place) w)
+          (arrivals_of c.args.context.program.now (op.IterNext target) c.args.next
+          c.args.self.now)
           c.in_ok-store_count.field-0 no c.in_ok-store_count.ensures.same;
     }
 
