@@ -70,6 +70,10 @@ module _ {H : Type 0} (m : Setup H) (f : Activation) (s : Run H) (c : Cursor) (d
       (Plain (Arithmetic (counter_text c.counter)) (position_of m.program f.address)) w
   count_overflows t ts items wide = on_items (t ∷ ts) items ∙ rw wide refl
 
+-- where a count was stored, the stacks are as they were
+pub stacks_kept : {H : Type 0} (s s' : Run H) → CountResult s s' → s'.stacks ≡ s.stacks
+stacks_kept {H} s s' run = ap (λ (x : Run H). x.stacks) run.0
+
 -- the count was stored, and what follows
 module _ {H : Type 0} (law : Law H) (p : View) (engine : Engine) (f : Activation) (s s' : Run H)
     (n n' : StepsView) (slot : Option ℕ) (count : ℤ) where

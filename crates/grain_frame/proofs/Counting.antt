@@ -103,7 +103,7 @@ module _ {H : Type 0} (law : Law H) (p : View) (engine : Engine) (f : Activation
     (n : StepsView) (host : H) where
   -- where the next item comes, and where it comes that there is none
   pub comes_with_item : (target next height many : ℕ) → height ≡ length s.stacks.operands + 1 →
-      many + 1 ≡ length s.stacks.cursors → In (arrival next (shape height (many + 1)
+      many ≡ length s.stacks.cursors → In (arrival next (shape height many
       (tries_in s.stacks.handlers))) (arrivals_of p (op.IterNext target) next s)
   comes_with_item target next height many high less =
       let t = after (effect_of p (op.IterNext target)) (shape_in s) in
@@ -114,7 +114,7 @@ module _ {H : Type 0} (law : Law H) (p : View) (engine : Engine) (f : Activation
   pub comes_without : (target next : ℕ) → 0 < length s.stacks.cursors → (x : Arrival) →
       In x (arrival target (shape (length s.stacks.operands) (length s.stacks.cursors - 1)
       (tries_in s.stacks.handlers)) ∷ []) → In x (arrivals_of p (op.IterNext target) next s)
-  comes_without target next there x (inr no) = absurd no
+  comes_without target next there x (inr nothing) = absurd nothing
   comes_without target next there x (inl e) =
       let t = after (effect_of p (op.IterNext target)) (shape_in s) in
       subst (λ (a : Arrival). In a (arrivals_of p (op.IterNext target) next s))
@@ -142,9 +142,11 @@ module _ {H : Type 0} (law : Law H) (p : View) (engine : Engine) (f : Activation
         equal = λ stop clear halts u place.
             rw (reads, clear n.passed (omega arith) (omega arith))
             (ap (λ (ds : List worlds.Cursor). Go (InFrame (record (frame_in (moved f next)
-            (record s { stacks = record s.stacks {
-              operands = s.stacks.operands ++ read_write value ∷ [];
-            } }) place) { cursors = ds }))
+            (record s {
+              stacks = record s.stacks {
+                operands = s.stacks.operands ++ read_write value ∷ [];
+              };
+            }) place) { cursors = ds }))
             (record (world (abstraction s n host) u) { passed = n.passed + 1 })) (sym cursors_are));
       };
       kept = loop_kept law p engine f s n host next (record s.stacks {
@@ -152,7 +154,7 @@ module _ {H : Type 0} (law : Law H) (p : View) (engine : Engine) (f : Activation
         cursors = c ∷ cs;
       }) (s.stacks.operands ++ read_write value ∷ []) (c ∷ cs) refl ready.inside;
       lands = (
-        comes_with_item target next _ (length cs)
+        comes_with_item target next _ (length (c ∷ cs))
             (omega (arith, length-append s.stacks.operands (read_write value ∷ [])))
             (omega (arith, fewer)),
         refl,

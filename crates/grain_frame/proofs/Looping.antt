@@ -55,76 +55,76 @@ module _ {H : Type 0} (law : Law H) (p : View) (engine : Engine) (f : Activation
 
   -- the innermost cursor goes
   module _ (v : StacksView) (c : Cursor) (is : s.stacks ≡ record v { cursors = c ∷ v.cursors })
-      where
-    pub leaves : (to : ℕ) → SimulatesExactly (setup law p engine) (abstraction s n host)
-        (λ m place w. onward m (frame_in f s place)
-        (without_cursor (stepped (frame_in f s place) to s.stacks.operands)) w) false
-        (abstraction (record s { stacks = v }) (marked_once n) host)
-        (continuation (Ok progress.Continues) s.fault
-        (frame_in (moved f to) (record s { stacks = v })))
-    leaves to = subst (λ (q : StacksView). SimulatesExactly (setup law p engine)
-        (abstraction (record s { stacks = q }) n host)
-        (λ m place w. onward m (frame_in f (record s { stacks = q }) place)
-        (without_cursor (stepped (frame_in f (record s { stacks = q }) place) to q.operands)) w)
-        false (abstraction (record s { stacks = v }) (marked_once n) host)
-        (continuation (Ok progress.Continues) s.fault
-        (frame_in (moved f to) (record s { stacks = v })))) (sym is) (record {
-          this = refl;
-          order = omega arith;
-          equal = λ stop clear halts u place. rw (clear n.passed (omega arith) (omega arith)) refl;
-        })
+    where
+      pub leaves : (to : ℕ) → SimulatesExactly (setup law p engine) (abstraction s n host)
+          (λ m place w. onward m (frame_in f s place)
+          (without_cursor (stepped (frame_in f s place) to s.stacks.operands)) w) false
+          (abstraction (record s { stacks = v }) (marked_once n) host)
+          (continuation (Ok progress.Continues) s.fault
+          (frame_in (moved f to) (record s { stacks = v })))
+      leaves to = subst (λ (q : StacksView). SimulatesExactly (setup law p engine)
+          (abstraction (record s { stacks = q }) n host)
+          (λ m place w. onward m (frame_in f (record s { stacks = q }) place)
+          (without_cursor (stepped (frame_in f (record s { stacks = q }) place) to q.operands)) w)
+          false (abstraction (record s { stacks = v }) (marked_once n) host)
+          (continuation (Ok progress.Continues) s.fault
+          (frame_in (moved f to) (record s { stacks = v })))) (sym is) (record {
+            this = refl;
+            order = omega arith;
+            equal = λ stop clear halts u place. rw (clear n.passed (omega arith) (omega arith)) refl;
+          })
 
-    pub fewer : length v.cursors ≡ length s.stacks.cursors - 1
-    fewer = omega (arith, ap (λ (q : StacksView). length q.cursors) is)
+      pub fewer : length v.cursors ≡ length s.stacks.cursors - 1
+      fewer = omega (arith, ap (λ (q : StacksView). length q.cursors) is)
 
-    pub same_operands : length v.operands ≡ length s.stacks.operands
-    same_operands = sym (ap (λ (q : StacksView). length q.operands) is)
+      pub same_operands : length v.operands ≡ length s.stacks.operands
+      same_operands = sym (ap (λ (q : StacksView). length q.operands) is)
 
-    pub same_handlers : v.handlers ≡ s.stacks.handlers
-    same_handlers = sym (ap (λ (q : StacksView). q.handlers) is)
+      pub same_handlers : v.handlers ≡ s.stacks.handlers
+      same_handlers = sym (ap (λ (q : StacksView). q.handlers) is)
 
-    pub left_kept : (to : ℕ) → f.base ≤ length s.scope →
-        KeepsFrame f s (moved f to) (record s { stacks = v })
-    left_kept to inside =
-        loop_kept to v v.operands v.cursors
-        (ap (λ (q : StacksView). record q { operands = v.operands; cursors = v.cursors }) (sym is))
-        inside
+      pub left_kept : (to : ℕ) → f.base ≤ length s.scope →
+          KeepsFrame f s (moved f to) (record s { stacks = v })
+      left_kept to inside =
+          loop_kept to v v.operands v.cursors
+          (ap (λ (q : StacksView). record q { operands = v.operands; cursors = v.cursors }) (sym is))
+          inside
 
-    -- the loop is left by the instruction that says so
-    pub drops : (next : ℕ) → CanBegin f s 0 0 next →
-        PerformsLoop (setup law p engine) (moment f s n host) op.IterDrop next
-        (Ok progress.Continues)
-        (moment (moved f next) (record s { stacks = v }) (marked_once n) host)
-    drops next ready = record {
-      same = leaves next;
-      kept = left_kept next ready.inside;
-      lands = (
-        inl (same_arrival next (omega (arith, same_operands)) (omega (arith, fewer))
-            (ap tries_in same_handlers)),
-        same_handlers,
-        inr (omega arith, ready.ahead),
-      );
-      before = refl;
-    }
+      -- the loop is left by the instruction that says so
+      pub drops : (next : ℕ) → CanBegin f s 0 0 next →
+          PerformsLoop (setup law p engine) (moment f s n host) op.IterDrop next
+          (Ok progress.Continues)
+          (moment (moved f next) (record s { stacks = v }) (marked_once n) host)
+      drops next ready = record {
+        same = leaves next;
+        kept = left_kept next ready.inside;
+        lands = (
+          inl (same_arrival next (omega (arith, same_operands)) (omega (arith, fewer))
+              (ap tries_in same_handlers)),
+          same_handlers,
+          inr (omega arith, ready.ahead),
+        );
+        before = refl;
+      }
 
-    -- the loop is left for an address that lies ahead
-    pub leaves_ahead : (to : ℕ) → f.base ≤ length s.scope → f.address < to →
-        ImplementsLoop (setup law p engine) (moment f s n host)
-        (λ m place w. onward m (frame_in f s place)
-        (without_cursor (stepped (frame_in f s place) to s.stacks.operands)) w)
-        (arrival to (shape (length s.stacks.operands) (length s.stacks.cursors - 1)
-        (tries_in s.stacks.handlers)) ∷ []) 0 (Ok progress.Continues)
-        (moment (moved f to) (record s { stacks = v }) (marked_once n) host)
-    leaves_ahead to inside ahead = record {
-      same = leaves to;
-      kept = left_kept to inside;
-      lands = (
-        inl (same_arrival to same_operands fewer (ap tries_in same_handlers)),
-        same_handlers,
-        inr (omega arith, ahead),
-      );
-      before = refl;
-    }
+      -- the loop is left for an address that lies ahead
+      pub leaves_ahead : (to : ℕ) → f.base ≤ length s.scope → f.address < to →
+          ImplementsLoop (setup law p engine) (moment f s n host)
+          (λ m place w. onward m (frame_in f s place)
+          (without_cursor (stepped (frame_in f s place) to s.stacks.operands)) w)
+          (arrival to (shape (length s.stacks.operands) (length s.stacks.cursors - 1)
+          (tries_in s.stacks.handlers)) ∷ []) 0 (Ok progress.Continues)
+          (moment (moved f to) (record s { stacks = v }) (marked_once n) host)
+      leaves_ahead to inside ahead = record {
+        same = leaves to;
+        kept = left_kept to inside;
+        lands = (
+          inl (same_arrival to same_operands fewer (ap tries_in same_handlers)),
+          same_handlers,
+          inr (omega arith, ahead),
+        );
+        before = refl;
+      }
 
   -- a loop begins over the items of the last operand
   module _ (v : Dynamic) (next : ℕ) (read : flat s.cells (top s.stacks.operands).value ≡ Some v)

@@ -199,6 +199,7 @@ impl<H: Host> Run<H> {
 
     // The count of a loop goes to the entry of a slot, or to the cell that the entry is, if there is a
     // slot. It says whether the frame goes on; if not, a fault is raised.
+    #[tactic(auto, using(grain_means::specs::lemmas::Scopes::length_set_held))]
     fn store_count<L: Ledger>(
         &mut self,
         context: Context<'_>,
@@ -228,17 +229,21 @@ impl<H: Host> Run<H> {
         };
         let counted = Held::read_write(Dynamic::Int(count));
         match held.value.as_cell() {
-            None => self.scope.set(index, counted),
+            None => {
+                self.scope.set(index, counted);
+                steps.mark();
+                Ok(true)
+            }
             Some(cell) => {
                 if self.cells.find(cell).is_none() {
                     self.data_race(context, steps, frame.address, "")?;
                     return Ok(false);
                 }
                 self.cells.set(cell, counted);
+                steps.mark();
+                Ok(true)
             }
         }
-        steps.mark();
-        Ok(true)
     }
 
     // The next item of the innermost loop, as it is read, is the last operand, and the loop has this

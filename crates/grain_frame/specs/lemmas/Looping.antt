@@ -126,4 +126,5 @@ pub raises_in_loop : {H : Type 0} (law : Law H) (p : View) (engine : Engine) (f 
     (moment f s' n' host)
 raises_in_loop law p engine f s s' n n' host x {rule} {goes} {takes} r h inside alike =
     stops_loop [] 0 s.stacks.handlers (never_continues s s' n n' x r h)
-    (raises_here law p engine f s s' n n' host x {rule} {[]} {takes} {0} r h inside alike)
+    (raises_here law p engine f s s' n n' host x {rule = rule} {ts = []} {takes = takes}
+    {gives = 0} r h inside alike)

@@ -9,7 +9,6 @@ use Rattle.grain_program.specs.View.{position_of}
 use Rattle.grain_means.specs.Rules.{race_text}
 use Rattle.grain_frame.specs.Abstraction.{is_out}
 use Rattle.grain_frame.specs.lemmas.Looping.{raises_in_loop}
-use Rattle.grain_frame.proofs.Flattening.{one_value}
 use Rattle.grain_frame.proofs.Looping.{begins, begins_not, no_items}
 use Rattle.grain_frame.proofs.runs.Run.iter_init.Goals as goal
 

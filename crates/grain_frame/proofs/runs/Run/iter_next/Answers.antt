@@ -1,5 +1,5 @@
-use Rattle.std.proofs.Common.{rules, ◌≡◌, ◌∙◌, ◌∷◌, [], List, Some, None, true, false, is_none, refl, sym, ap}
-use Rattle.grain_value.specs.Tree.{Tree}
+use Rattle.std.proofs.Common.{rules, ◌≡◌, ◌∙◌, Some, None, true, false, is_none, FitsSigned, w64}
+use Rattle.std.proofs.lemmas.Int.{to_z-of_z}
 use Rattle.grain_fault.specs.Problems.{Plain, Arithmetic}
 use Rattle.grain_program.specs.View.{position_of}
 use Rattle.grain_stack.specs.Cursors.{items_left}
@@ -49,7 +49,8 @@ returns-in-Some-next_count g c =
     let first = first_is s.stacks.cursors cursor some in
     let more : is_none (first_of (items_left cursor.left)) ≡ false = search rules in
     let left = there_is (items_left cursor.left) more in
-    let counted = c.in-Some-next_count.ensures in
+    let fits : FitsSigned w64 cursor.counter = search rules in
+    let counted = rw (to_z-of_z w64 cursor.counter fits) at c.in-Some-next_count.ensures in
     record {
       implements = loop_as (λ stop u place. item_counts
           (stopped (setup g.H.Host.law p engine) stop) f s cursor first.0 first.1 c.args.target
@@ -70,13 +71,16 @@ returns-in-None g c =
     let first = first_is s.stacks.cursors cursor some in
     let more : is_none (first_of (items_left cursor.left)) ≡ false = search rules in
     let left = there_is (items_left cursor.left) more in
+    let fits : FitsSigned w64 cursor.counter = search rules in
     record {
       implements = raises_in_loop g.H.Host.law p engine f s c.counter_overflow.new.self
           c.args.steps.now c.counter_overflow.new.steps c.args.host.now
           (Plain (Arithmetic (counter_text cursor.counter)) (position_of p f.address))
-          c.counter_overflow.result c.counter_overflow.ensures c.requires.ready.inside
+          c.counter_overflow.result
+          (rw (to_z-of_z w64 cursor.counter fits) at c.counter_overflow.ensures)
+          c.requires.ready.inside
           (λ stop u place. count_overflows (stopped (setup g.H.Host.law p engine) stop) f s cursor
           first.0 first.1 c.args.target c.args.next c.args.slot place
           (world (abstraction s c.args.steps.now c.args.host.now) u) left.0 left.1 left.2
-          c.in-None.ensures);
+          (rw (to_z-of_z w64 cursor.counter fits) at c.in-None.ensures));
     }

@@ -11,7 +11,7 @@ returns-then-target-frame g c =
     record {
       implements = rw c.mark.ensures (left_ahead g.H.Host.law c.args.context.program.now
           c.args.context.engine.now f s c.args.steps.now c.args.host.now c.args.target
-          c.pop_cursor.new.self c.pop_cursor.result c.pop_cursor.ensures c.requires.inside ahead);
+          c.pop_cursor-cursor.new.self c.pop_cursor-cursor.result c.pop_cursor-cursor.ensures c.requires.inside ahead);
     }
 
 pub returns-in_err-charge : goal.returns-in_err-charge
@@ -52,6 +52,6 @@ returns g c =
       implements = left_behind g.H.Host.law c.args.context.program.now c.args.context.engine.now f
           s c.args.steps.now c.args.host.now c.args.target behind c.charge.new.self
           c.charge.new.steps c.charge.new.host c.charge.ensures.before c.requires.inside
-          c.pop_cursor-2.new.self c.pop_cursor-2.result c.in_ok-charge.field-0 taken
-          c.pop_cursor-2.ensures c.in_ok-charge.ensures.same c.in_ok-charge.ensures.run;
+          c.pop_cursor-cursor-2.new.self c.pop_cursor-cursor-2.result c.in_ok-charge.field-0 taken
+          c.pop_cursor-cursor-2.ensures c.in_ok-charge.ensures.same c.in_ok-charge.ensures.run;
     }

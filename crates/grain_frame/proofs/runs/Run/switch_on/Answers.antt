@@ -36,7 +36,7 @@ returns g c =
     let read : flat s.cells (top s.stacks.operands).value ≡ Some v = search rules in
     let to : c.target_of-target.result ≡ switch_target (switch_of p c.args.index) v =
     c.target_of-target.ensures
-    ∙ ap (λ (x : Switch). switch_target x v) (c.switch.ensures ∙ ap (switch_of p) c.from.ensures) in
+    ∙ ap (λ (x : Switch). switch_target x v) (c.switch-switch.ensures ∙ ap (switch_of p) c.from.ensures) in
     let among : (b : ℕ) → In b (c.target_of-target.result ∷ []) → In b (switch_leads p c.args.index) =
     λ b i. ⊎_elim (λ e. subst (λ (x : ℕ). In x (switch_leads p c.args.index)) (sym (e ∙ to))
     (switch_lands p c.args.index v c.requires.pools.0)) (λ no. absurd no) i in
