@@ -56,12 +56,12 @@ module _ {H : Type 0} (m : Setup H) (f : Activation) (s : Run H) (c : Cursor) (d
       ≡ loop_left m target (frame_in f s place) w
   over_leaves none = on_items [] none
 
-  pub item_counts : (t : Tree) (ts : List Tree) → items_left c.left ≡ t ∷ ts →
-      fits64 (c.counter +ℤ pos 1) ≡ true →
+  pub item_counts : (t : Tree) (ts : List Tree) (count : ℤ) → items_left c.left ≡ t ∷ ts →
+      count ≡ c.counter +ℤ pos 1 → fits64 (c.counter +ℤ pos 1) ≡ true →
       iter_next m target slot next (frame_in f s place) w
-      ≡ count_stored m slot (c.counter +ℤ pos 1) (frame_in f s place) w
-      (item_given m t ts (c.counter +ℤ pos 1) next (frame_in f s place))
-  item_counts t ts items fits = on_items (t ∷ ts) items ∙ rw fits refl
+      ≡ count_stored m slot count (frame_in f s place) w
+      (item_given m t ts count next (frame_in f s place))
+  item_counts t ts count items is fits = on_items (t ∷ ts) items ∙ rw (fits, is) refl
 
   pub count_overflows : (t : Tree) (ts : List Tree) → items_left c.left ≡ t ∷ ts →
       fits64 (c.counter +ℤ pos 1) ≡ false →

@@ -102,13 +102,13 @@ nothing_left (t ∷ us) e = absurd cc
 module _ {H : Type 0} (law : Law H) (p : View) (engine : Engine) (f : Activation) (s : Run H)
     (n : StepsView) (host : H) where
   -- where the next item comes, and where it comes that there is none
-  pub comes_with_item : (target next height many : ℕ) → height ≡ length s.stacks.operands + 1 →
+  pub comes_with_item : (target next height many : ℕ) → 0 < length s.stacks.cursors → height ≡ length s.stacks.operands + 1 →
       many ≡ length s.stacks.cursors → In (arrival next (shape height many
       (tries_in s.stacks.handlers))) (arrivals_of p (op.IterNext target) next s)
-  comes_with_item target next height many high less =
+  comes_with_item target next height many there high less =
       let t = after (effect_of p (op.IterNext target)) (shape_in s) in
       subst (λ (a : Arrival). In a (arrivals_of p (op.IterNext target) next s))
-      (same_arrival next (omega (arith, high)) (omega (arith, less)) refl)
+      (same_arrival next (omega (arith, high)) (omega (arith, less, there)) refl)
       (past_branch p target next t (at_target (effect_of p (op.IterNext target)) t))
 
   pub comes_without : (target next : ℕ) → 0 < length s.stacks.cursors → (x : Arrival) →
@@ -154,7 +154,7 @@ module _ {H : Type 0} (law : Law H) (p : View) (engine : Engine) (f : Activation
         cursors = c ∷ cs;
       }) (s.stacks.operands ++ read_write value ∷ []) (c ∷ cs) refl ready.inside;
       lands = (
-        comes_with_item target next _ (length (c ∷ cs))
+        comes_with_item target next _ (length (c ∷ cs)) there
             (omega (arith, length-append s.stacks.operands (read_write value ∷ [])))
             (omega (arith, fewer)),
         refl,

@@ -36,18 +36,7 @@ use Rattle.grain_frame.specs.declared.runs.Progress.{Progress}
 use Rattle.grain_frame.specs.declared.runs.Progress.TheVariants as progress
 use Rattle.grain_frame.specs.declared.runs.Run.{Run}
 use Rattle.grain_frame.specs.lemmas.Standing.{goes_with_cursors}
-pub use Rattle.grain_frame.specs.lemmas.Standing.{verified}
-
--- a frame that runs is typed with its handlers
-pub typed_with : {H : Type 0} (p : View) (f : Activation) (s : Run H) (depth : ℕ) →
-    depth ≡ length s.stacks.operands → Runs p f s →
-    (hs : List TryHandler)
-    × IsTypedAt p f.chunk f.address depth (length s.stacks.cursors) hs
-typed_with p f s depth deep runs = (
-  tries_in s.stacks.handlers,
-  subst (λ (k : ℕ). IsTypedAt p f.chunk f.address k (length s.stacks.cursors)
-      (tries_in s.stacks.handlers)) (sym deep) runs.typed,
-)
+pub use Rattle.grain_frame.specs.lemmas.Standing.{typed_with, verified}
 
 -- the instruction that stands there
 pub performs : {H : Type 0} {m : Setup H} {now : LocalState H} (f : Option Place → Frame) (o : Op)

@@ -1,5 +1,5 @@
 -- What was verified of the instruction at which a frame stands.
-use Rattle.std.proofs.Common.{◌≡◌, ◌+◌, ◌-◌, ℕ, List, false, length, subst, ap, arith}
+use Rattle.std.proofs.Common.{◌≡◌, ◌+◌, ◌-◌, ℕ, List, false, length, sym, subst, ap, arith}
 use Rattle.grain_program.specs.declared.code.instruction_set.Op.{Op}
 use Rattle.grain_program.specs.declared.code.parts.Chunk.{Chunk}
 use Rattle.grain_program.specs.declared.code.effects.Looping.TheVariants as looping
@@ -8,7 +8,7 @@ use Rattle.grain_program.specs.Shapes.{TryHandler, handled}
 use Rattle.grain_program.specs.Typing.{In}
 use Rattle.grain_program.specs.View.{View}
 use Rattle.grain_program.specs.laws.TypedAt.{IsTypedAt, Verified, goes_on}
-use Rattle.grain_frame.specs.Abstraction.{StandsAt, tries_in}
+use Rattle.grain_frame.specs.Abstraction.{Runs, StandsAt, tries_in}
 use Rattle.grain_frame.specs.declared.activations.Activation.{Activation}
 use Rattle.grain_frame.specs.declared.runs.Run.{Run}
 
@@ -33,3 +33,14 @@ pub verified : {H : Type 0} {p : View} {f : Activation} {s : Run H} {said o : Op
 verified {p = p} {f} {s} is at =
     subst (λ (q : Op). Verified p f.chunk f.address (length s.stacks.operands)
     (length s.stacks.cursors) (tries_in s.stacks.handlers) q at.width) is at.seen
+
+-- a frame that runs is typed with its handlers
+pub typed_with : {H : Type 0} (p : View) (f : Activation) (s : Run H) (depth : ℕ) →
+    depth ≡ length s.stacks.operands → Runs p f s →
+    (hs : List TryHandler)
+    × IsTypedAt p f.chunk f.address depth (length s.stacks.cursors) hs
+typed_with p f s depth deep runs = (
+  tries_in s.stacks.handlers,
+  subst (λ (k : ℕ). IsTypedAt p f.chunk f.address k (length s.stacks.cursors)
+      (tries_in s.stacks.handlers)) (sym deep) runs.typed,
+)

@@ -66,5 +66,6 @@ returns g c =
           c.args.context.program.now c.args.context.engine.now c.args.frame.now c.args.self.now
           c.args.steps.now host t ts c.args.count c.args.next target c.take_item.new.self
           c.in_ok-item.item c.in_ok-value.value c.push.new.self first taken
-          c.in_ok-value.ensures c.requires.there c.push.ensures c.requires.begins);
+          c.in_ok-value.ensures c.requires.there
+          (rw c.read_write.ensures at c.push.ensures) c.requires.begins);
     }

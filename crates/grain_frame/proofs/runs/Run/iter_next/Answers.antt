@@ -56,8 +56,9 @@ returns-in-Some-next_count g c =
       implements = loop_as (λ stop u place. item_counts
           (stopped (setup g.H.Host.law p engine) stop) f s cursor first.0 first.1 c.args.target
           c.args.next c.args.slot place (world (abstraction s c.args.steps.now c.args.host.now) u)
-          left.0 left.1 left.2 counted.1) (λ x i. i)
-          (rw (to_z-of_z w64 c.in-Some-next_count.count count_fits, counted.0) at (c.next_counted.ensures.implements c.args.target left.0 left.1
+          left.0 left.1 c.in-Some-next_count.count left.2 counted.0 counted.1) (λ x i. i)
+          (rw (to_z-of_z w64 c.in-Some-next_count.count count_fits) at
+          (c.next_counted.ensures.implements c.args.target left.0 left.1
           (same_items s.stacks.cursors cursor first.0 first.1 ∙ left.2) c.args.host.now));
     }
 
