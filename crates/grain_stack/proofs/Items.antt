@@ -1,17 +1,22 @@
 -- The first item of those that are left, and the others.
-use Rattle.std.proofs.Common.{◌≡◌, ◌∙◌, ◌≤◌, ◌+◌, ◌++◌, ℕ, zero, suc, List, [], ◌∷◌, Bool, true, false, Some, map, drop, length, slice_get, refl, sym, ap, arith}
-use Rattle.std.specs.Prelude.{ℤ, pos, negsuc, ◌+ℤ◌, ◌-ℤ◌, ◌≤ℤ◌, ◌<ℤ◌, nat_le, slice_set}
+use Rattle.std.proofs.Common.{◌≡◌, ◌∙◌, ◌<◌, ◌≤◌, ◌+◌, ◌++◌, ℕ, zero, suc, List, [], ◌∷◌, Bool, true, false, not, Some, None, map, drop, length, slice_get, refl, sym, ap, arith}
+use Rattle.std.specs.Prelude.{ℤ, pos, negsuc, ◌+ℤ◌, ◌-ℤ◌, ◌≤ℤ◌, ◌<ℤ◌, nat_le, is_none, slice_set}
 use Rattle.std.specs.Char.{encode_utf8, len_utf8}
 use Rattle.std.specs.Str.{chars, is_utf8, IsUtf8, IsCharBoundary}
 use Rattle.std.proofs.lemmas.Bool.{leb-true, leb-false}
 use Rattle.std.proofs.lemmas.Int.{ints, by_lt_z}
 use Rattle.std.proofs.lemmas.List.{drop_all}
 use Rattle.std.proofs.lemmas.Str.{chars-nil, chars_past_char, drop_past_char, is_utf8-from_IsUtf8, IsUtf8-from_is_utf8, IsUtf8-nil, IsUtf8-past_char, IsCharBoundary-from_drop}
+use Rattle.grain_value.specs.Looking.{cell_of}
 use Rattle.grain_value.specs.Tree.{Tree, integer, character}
+use Rattle.grain_value.specs.View.{tree, value_of}
+use Rattle.grain_value.specs.laws.Same.{value_of-tree}
+use Rattle.grain_value.specs.declared.values.Dynamic.{Dynamic}
 use Rattle.grain_stack.specs.declared.cursors.Left.{Left}
 use Rattle.grain_stack.specs.declared.cursors.Left.TheVariants as left
 use Rattle.grain_value.specs.Items.{integers_from, at_least_zero, range_length, integers_in}
-use Rattle.grain_stack.specs.Cursors.{characters_in, items_left}
+use Rattle.grain_stack.specs.Cursors.{characters_in, first_cell, items_left}
+use Rattle.grain_stack.specs.Entries.{first_of}
 
 pub not_so : {P : Type 0} → (P → false ≡ true) → ¬ P
 not_so {P} never p = let e : false ≡ true = never p in cc
@@ -81,6 +86,12 @@ all_characters text utf8 = rw (is_utf8-from_IsUtf8 text utf8) refl
 
 -- ---- the integers of a range
 
+integers_none : (z : ℤ) → integers_from z 0 ≡ []
+integers_none z = refl
+
+integers_next : (z : ℤ) (n : ℕ) → integers_from z (suc n) ≡ integer z ∷ integers_from (z +ℤ pos 1) n
+integers_next z n = refl
+
 one_above : (z y : ℤ) → z ≡ y +ℤ pos 1 → pos 0 ≤ℤ y →
     at_least_zero z ≡ suc (at_least_zero y)
 one_above z (pos n) is le =
@@ -147,3 +158,71 @@ pub none_next : (l : Left) (from to : ℤ) (inclusive : Bool) → l ≡ left.Ran
     to ≤ℤ from → (inclusive ≡ true → ¬ (from ≡ to)) → items_left l ≡ []
 none_next l from to inclusive is le apart =
     ap items_left is ∙ integers_over from to inclusive le apart
+
+-- ---- whether there is a first
+
+module _ {A : Type 0} where
+  some_left : (xs : List A) (n : ℕ) → n < length xs → false ≡ is_none (first_of (drop n xs))
+  some_left [] n within = absurd (omega (arith, within))
+  some_left (x ∷ xs) zero within = refl
+  some_left (x ∷ xs) (suc n) within = some_left xs n (omega (arith, within))
+
+  -- the rest of a list has a first item where it is not over
+  pub rest_over : (xs : List A) (n : ℕ) → nat_le (length xs) n ≡ is_none (first_of (drop n xs))
+  rest_over xs n = at (nat_le (length xs) n) refl where
+    at : (b : Bool) → nat_le (length xs) n ≡ b → nat_le (length xs) n ≡ is_none (first_of (drop n xs))
+    at true le = rw (le, drop_all n xs (leb-true (length xs) n le)) refl
+    at false more = more ∙ some_left xs n (omega (arith, leb-false (length xs) n more))
+
+  pub map_over : {B : Type 0} (f : A → B) (xs : List A) →
+      is_none (first_of xs) ≡ is_none (first_of (map f xs))
+  map_over f [] = refl
+  map_over f (x ∷ xs) = refl
+
+-- the integers of a range that has some, of one that is at its end, and of one that is past it
+pub below_some : (from to : ℤ) (inclusive : Bool) → from <ℤ to →
+    false ≡ is_none (first_of (integers_in from to inclusive))
+below_some from to inclusive lt = rw (integer_below from to inclusive lt) refl
+
+pub last_some : (from to : ℤ) (inclusive : Bool) → from ≡ to →
+    not inclusive ≡ is_none (first_of (integers_in from to inclusive))
+last_some from to true at = rw (← at, integer_last from) refl
+last_some from to false at = rw (integers_over from to false (omega (arith, ints)) (λ closed. absurd cc)) refl
+
+pub past_none : (from to : ℤ) (inclusive : Bool) → to <ℤ from →
+    true ≡ is_none (first_of (integers_in from to inclusive))
+past_none from to inclusive lt =
+    rw (integers_over from to inclusive (omega (arith, ints)) (λ closed at. absurd (omega (arith, ints)))) refl
+
+-- a value has the cell that its tree is
+pub tree_cell : (d : Dynamic) → cell_of (value_of (tree d)) ≡ cell_of d
+tree_cell d = ap cell_of (value_of-tree d)
+
+-- a value of a list is its first item from there on
+pub cell_first : (values : List Tree) (n : ℕ) (d : Dynamic) → slice_get values n ≡ Some (tree d) →
+    cell_of d ≡ first_cell (drop n values)
+cell_first values n d is = rw (first_at values n (n + 1) (tree d) is refl) (sym (tree_cell d))
+
+-- an item that is no value of a list is no cell
+pub plain_first : (l : Left) → ((values : List Tree) (n : ℕ) → ¬ (l ≡ left.Values values n)) →
+    None ≡ first_cell (items_left l)
+unfolding integers_from
+plain_first (left.Values values n) other = absurd (other values n refl)
+plain_first (left.Bytes bytes n) other = bytes_first (drop n bytes) where
+  bytes_first : (bs : List ℕ) → None ≡ first_cell (map byte_item bs)
+  bytes_first [] = refl
+  bytes_first (b ∷ bs) = refl
+plain_first (left.Characters text n) other = text_first (is_utf8 (drop n text)) refl where
+  characters_first : (cs : List ℕ) → None ≡ first_cell (map character_item cs)
+  characters_first [] = refl
+  characters_first (c ∷ cs) = refl
+
+  text_first : (b : Bool) → is_utf8 (drop n text) ≡ b →
+      None ≡ first_cell (characters_in (drop n text))
+  text_first true is = rw is (characters_first (chars (drop n text)))
+  text_first false is = rw is refl
+plain_first (left.Range from to inclusive) other =
+    integers_first from (range_length from to inclusive) where
+      integers_first : (z : ℤ) (n : ℕ) → None ≡ first_cell (integers_from z n)
+      integers_first z zero = refl
+      integers_first z (suc n) = refl

@@ -3,7 +3,8 @@ use Rattle.std.specs.Prelude.{◌≡◌, ℕ, pos, if◌then◌else◌, List, []
 use Rattle.std.specs.Str.{chars, is_utf8}
 use Rattle.grain_value.specs.Items.{integers_in}
 use Rattle.grain_value.specs.Tree.{Tree, integer, character}
-use Rattle.grain_value.specs.View.{tree}
+use Rattle.grain_value.specs.Looking.{cell_of}
+use Rattle.grain_value.specs.View.{tree, value_of}
 use Rattle.grain_value.specs.declared.values.Dynamic.{Dynamic}
 use Rattle.grain_stack.specs.declared.cursors.Left.{Left}
 use Rattle.grain_stack.specs.declared.cursors.Left.TheVariants as left
@@ -22,6 +23,11 @@ items_left (left.Values values next) = drop next values
 items_left (left.Bytes bytes next) = bytes_in (drop next bytes)
 items_left (left.Characters text next) = characters_in (drop next text)
 items_left (left.Range from to inclusive) = integers_in from to inclusive
+
+-- the cell that the first item is, if it is one
+abbrev pub first_cell : List Tree → Option ℕ
+first_cell [] = None
+first_cell (t ∷ ts) = cell_of (value_of t)
 
 -- the items are the integers of a range
 abbrev pub IsRange : Left → Type 0

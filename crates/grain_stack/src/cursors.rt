@@ -1,9 +1,10 @@
 //! Cursors: what a loop still goes over.
 
-ghost use Rattle.std.specs.Prelude.{◌≡◌, ◌<◌, drop, negsuc, Some, None, IfOk, IfErr};
-ghost use Rattle.grain_value.specs.Items.{items_of};
+ghost use Rattle.std.specs.Prelude.{◌≡◌, ◌<◌, drop, negsuc, Some, None, is_none, IfOk, IfErr};
+ghost use Rattle.grain_value.specs.Items.{items_of, integers_in};
 ghost use Rattle.grain_value.specs.declared.values.Dynamic.TheVariants as dynamic;
-ghost use Rattle.grain_stack.specs.Cursors.{items_left, Gives, IsRange, bytes_in, characters_in};
+ghost use Rattle.grain_stack.specs.Cursors.{items_left, first_cell, Gives, IsRange, bytes_in, characters_in};
+ghost use Rattle.grain_stack.specs.Entries.{first_of};
 
 use grain_value::{Array, Blob, Dynamic, Text};
 
@@ -63,6 +64,23 @@ impl Cursor {
         Cursor { left, counter: -1 }
     }
 
+    /// Whether no item is left.
+    pub fn is_over(&self) -> bool
+        ensures { result ≡ is_none (first_of (items_left self.now.left)) }
+    {
+        self.left.is_over()
+    }
+
+    /// The number of the cell that the first of the items that are left is, if it is one.
+    pub fn first_cell(&self) -> Option<usize>
+        ensures { result ≡ first_cell (items_left self.now.left) }
+    {
+        match &self.left {
+            Left::Values { items, next } => cell_at(items, *next),
+            _ => None,
+        }
+    }
+
     /// The first of the items that are left, which then is no longer left, or nothing if none is.
     /// It does not count it.
     pub fn next(&mut self) -> Option<Dynamic>
@@ -80,6 +98,22 @@ impl Left {
     {
         let _text = items.as_str();
         Left::Characters { items, next: 0 }
+    }
+
+    // Whether there is no item.
+    fn is_over(&self) -> bool
+        ensures { result ≡ is_none (first_of (items_left self.now)) }
+    {
+        match self {
+            Left::Values { items, next } => *next >= items.len(),
+            Left::Bytes { items, next } => *next >= items.len(),
+            Left::Characters { items, next } => begins_none(items, *next),
+            Left::Range {
+                from,
+                to,
+                inclusive,
+            } => is_past(*from, *to, *inclusive),
+        }
     }
 
     // The first item, which then is no longer left.
@@ -126,6 +160,42 @@ impl Left {
             return Some(Dynamic::Int(first));
         }
         None
+    }
+}
+
+// The number of the cell that the value at the index is, if it is one.
+fn cell_at(items: &Array, index: usize) -> Option<usize>
+    ensures { result ≡ first_cell (drop index items.now) }
+{
+    if index >= items.len() {
+        return None;
+    }
+    items.at(index).as_cell()
+}
+
+// Whether a range has no integers.
+fn is_past(from: i64, to: i64, inclusive: bool) -> bool
+    ensures { result ≡ is_none (first_of (integers_in from to inclusive)) }
+{
+    if from < to {
+        return false;
+    }
+    if from == to {
+        return !inclusive;
+    }
+    true
+}
+
+// Whether no character begins at the byte.
+fn begins_none(items: &Text, at: usize) -> bool
+    ensures { result ≡ is_none (first_of (characters_in (drop at items.now))) }
+{
+    let Some((_, rest)) = items.as_str().split_at_checked(at) else {
+        return true;
+    };
+    match rest.chars().next() {
+        Some(_) => false,
+        None => true,
     }
 }
 

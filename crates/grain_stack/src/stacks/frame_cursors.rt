@@ -2,6 +2,7 @@
 
 ghost use Rattle.std.specs.Borrow.{sem};
 ghost use Rattle.std.specs.Prelude.{◌≡◌, ◌<◌, ◌≤◌, ◌-◌, drop, Some, ◌∷◌, length, is_ok, if◌then◌else◌};
+ghost use Rattle.std.specs.Option.{option_copied};
 ghost use Rattle.grain_stack.specs.Entries.{first_of};
 ghost use Rattle.grain_stack.specs.Lending.{LendsCursor};
 
@@ -39,6 +40,14 @@ impl Stacks {
     {
         let depth = self.outer.len();
         self.cursors.count(depth)
+    }
+
+    /// The frame's innermost cursor, if it has one.
+    pub fn innermost_cursor(&self) -> Option<&Cursor>
+        ensures { option_copied result ≡ first_of self.now.cursors }
+    {
+        let depth = self.outer.len();
+        self.cursors.innermost(depth)
     }
 
     /// The frame's innermost cursor, to be changed.
