@@ -209,11 +209,11 @@ pub plain_first : (l : Left) → ((values : List Tree) (n : ℕ) → ¬ (l ≡ l
 unfolding integers_from
 plain_first (left.Values values n) other = absurd (other values n refl)
 plain_first (left.Bytes bytes n) other = bytes_first (drop n bytes) where
-  bytes_first : (bs : List ℕ) → None ≡ first_cell (map byte_item bs)
+  bytes_first : (bs : List ℕ) → None ≡ first_cell (map (λ b. integer (pos b)) bs)
   bytes_first [] = refl
   bytes_first (b ∷ bs) = refl
 plain_first (left.Characters text n) other = text_first (is_utf8 (drop n text)) refl where
-  characters_first : (cs : List ℕ) → None ≡ first_cell (map character_item cs)
+  characters_first : (cs : List ℕ) → None ≡ first_cell (map character cs)
   characters_first [] = refl
   characters_first (c ∷ cs) = refl
 

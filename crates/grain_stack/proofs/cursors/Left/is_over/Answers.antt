@@ -1,6 +1,5 @@
 use Rattle.std.proofs.Common.{◌∙◌, List, is_none, map, drop, sym, ap}
 use Rattle.std.specs.Prelude.{nat_le}
-use Rattle.grain_value.specs.Items.{byte_item}
 use Rattle.grain_stack.specs.Cursors.{items_left}
 use Rattle.grain_stack.specs.Entries.{first_of}
 use Rattle.grain_stack.specs.declared.cursors.Left.{Left}
@@ -15,5 +14,5 @@ returns-in-Values c =
 pub returns-in-Bytes : goal.returns-in-Bytes
 returns-in-Bytes c =
     rw c.len-in-Bytes.ensures.value (rest_over c.in-Bytes.items c.in-Bytes.next)
-    ∙ map_over byte_item (drop c.in-Bytes.next c.in-Bytes.items)
+    ∙ map_over (λ b. integer (pos b)) (drop c.in-Bytes.next c.in-Bytes.items)
     ∙ ap (λ (l : Left). is_none (first_of (items_left l))) (sym c.in-Bytes.is)
