@@ -23,15 +23,12 @@ later_variables =
 abbrev pub later_calls : List (List ℕ)
 later_calls =
     codes "call_local_ref" ∷ codes "call_named_ref" ∷ codes "call_this_ref" ∷
-    codes "make_fn_ptr" ∷ codes "call_fn_ptr_capture" ∷
+    codes "call_fn_ptr_capture" ∷
     codes "call_fn_ptr_on_named" ∷ []
 
 -- the other instructions
 abbrev pub later_others : List (List ℕ)
 later_others =
-    codes "make_array" ∷ codes "make_map" ∷ codes "check_array_size" ∷ codes "check_map_size" ∷
-    codes "interpolate_start" ∷
-    codes "interpolate_append" ∷ codes "interpolate_end" ∷
     codes "export_local" ∷ codes "export_named" ∷
     codes "import" ∷ codes "custom_syntax" ∷ codes "eval_ast" ∷ codes "eval_ast_keep" ∷ []
 

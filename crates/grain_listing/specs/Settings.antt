@@ -19,8 +19,8 @@ limit_table =
     (codes "variables", limit 10000 0 true) ∷
     (codes "modules", limit 1000 0 false) ∷
     (codes "text", limit 0 0 true) ∷
-    (codes "array", limit 0 0 false) ∷
-    (codes "map", limit 0 0 false) ∷ []
+    (codes "array", limit 0 0 true) ∷
+    (codes "map", limit 0 0 true) ∷ []
 
 -- the entry of that name, and what it has
 abbrev pub entry_named : {A : Type 0} → List ℕ → List (List ℕ × A) → Option (List ℕ × A)

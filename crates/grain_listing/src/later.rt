@@ -21,24 +21,16 @@ const VARIABLES: [&str; 6] = [
 ];
 
 /// Instructions that call and make what is called.
-const CALLS: [&str; 6] = [
+const CALLS: [&str; 5] = [
     "call_local_ref",
     "call_named_ref",
     "call_this_ref",
-    "make_fn_ptr",
     "call_fn_ptr_capture",
     "call_fn_ptr_on_named",
 ];
 
 /// The other instructions.
-const OTHERS: [&str; 13] = [
-    "make_array",
-    "make_map",
-    "check_array_size",
-    "check_map_size",
-    "interpolate_start",
-    "interpolate_append",
-    "interpolate_end",
+const OTHERS: [&str; 6] = [
     "export_local",
     "export_named",
     "import",

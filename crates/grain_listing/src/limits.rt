@@ -63,7 +63,7 @@ pub const LIMITS: [(&str, Limit); 7] = [
         Limit {
             default: 0,
             least: 0,
-            is_built: false,
+            is_built: true,
         },
     ),
     (
@@ -71,7 +71,7 @@ pub const LIMITS: [(&str, Limit); 7] = [
         Limit {
             default: 0,
             least: 0,
-            is_built: false,
+            is_built: true,
         },
     ),
 ];

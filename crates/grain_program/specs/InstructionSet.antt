@@ -126,6 +126,8 @@ row (op.CallOp n k o) =
     plain (codes "call_op") 0x23 fields k 1 falls_through
 row (op.MakeClosure n) =
     entry (codes "make_closure") 0x27 (field.Name n ∷ []) 0 1 falls_through function_calls
+row op.MakeFnPtr =
+    entry (codes "make_fn_ptr") 0x28 [] 1 1 falls_through function_calls
 row (op.Curry k) =
     entry (codes "curry") 0x29 (field.Count k ∷ []) (k + 1) 1 falls_through function_calls
 row (op.CallFnPtr k) =
@@ -139,6 +141,17 @@ row (op.CallFnPtrOnLocal k s) =
 row (op.CallFnPtrOnThis k) =
     let word = codes "call_fn_ptr_on_this" in
     entry word 0x2f (field.Count k ∷ []) (k + 1) 1 falls_through function_calls
+row (op.MakeArray k) =
+    plain (codes "make_array") 0x30 (field.Number k ∷ []) k 1 falls_through
+row (op.MakeMap k) =
+    plain (codes "make_map") 0x31 (field.Number k ∷ []) (k + k + 1) 1 falls_through
+row (op.CheckArraySize i) =
+    plain (codes "check_array_size") 0x32 (field.Number i ∷ []) 1 1 falls_through
+row (op.CheckMapSize i) =
+    plain (codes "check_map_size") 0x33 (field.Number i ∷ []) 1 1 falls_through
+row op.InterpolateStart = plain (codes "interpolate_start") 0x34 [] 0 1 falls_through
+row op.InterpolateAppend = plain (codes "interpolate_append") 0x35 [] 2 1 falls_through
+row op.InterpolateEnd = plain (codes "interpolate_end") 0x36 [] 1 1 falls_through
 row (op.Chain k) = plain (codes "chain") 0x37 (field.Chain k ∷ []) 0 1 falls_through
 row (op.UnwindTo d) = plain (codes "unwind_to") 0x38 (field.Number d ∷ []) 0 0 falls_through
 row op.Tick = plain (codes "tick") 0x39 [] 0 0 falls_through
@@ -203,11 +216,19 @@ instructions =
     (λ n. op.Call (first n) (second n)) ∷
     (λ n. op.CallOp (first n) (second n) (third n)) ∷
     (λ n. op.MakeClosure (first n)) ∷
+    (λ n. op.MakeFnPtr) ∷
     (λ n. op.Curry (first n)) ∷
     (λ n. op.CallFnPtr (first n)) ∷
     (λ n. op.CallFnPtrMethod (first n)) ∷
     (λ n. op.CallFnPtrOnLocal (first n) (second n)) ∷
     (λ n. op.CallFnPtrOnThis (first n)) ∷
+    (λ n. op.MakeArray (first n)) ∷
+    (λ n. op.MakeMap (first n)) ∷
+    (λ n. op.CheckArraySize (first n)) ∷
+    (λ n. op.CheckMapSize (first n)) ∷
+    (λ n. op.InterpolateStart) ∷
+    (λ n. op.InterpolateAppend) ∷
+    (λ n. op.InterpolateEnd) ∷
     (λ n. op.Chain (first n)) ∷
     (λ n. op.UnwindTo (first n)) ∷
     (λ n. op.Tick) ∷

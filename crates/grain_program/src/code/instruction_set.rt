@@ -79,6 +79,8 @@ pub enum Op {
     CallOp(u16, u8, u16),
     /// `make_closure N`: a pointer to the functions of that name.
     MakeClosure(u16),
+    /// `make_fn_ptr`: a pointer to the functions of the name that the last operand is.
+    MakeFnPtr,
     /// `curry n`: the n last operands go to the values of the pointer below them.
     Curry(u8),
     /// `call_fn_ptr n`: the function of the pointer below the n last operands, on its values and
@@ -94,6 +96,22 @@ pub enum Op {
     /// `call_fn_ptr_on_this n`: as `call_fn_ptr_method n`. But afterwards the receiver goes to
     /// `this`.
     CallFnPtrOnThis(u8),
+    /// `make_array d`: an array of the d last operands.
+    MakeArray(u16),
+    /// `make_map d`: the map under the d last pairs of a key and a value, and these pairs.
+    MakeMap(u16),
+    /// `check_array_size d`: the last operand is the element of that number of a literal, whose total
+    /// it goes to.
+    CheckArraySize(u16),
+    /// `check_map_size d`: the last operand is the value of that number of a literal, whose total it
+    /// goes to.
+    CheckMapSize(u16),
+    /// `interpolate_start`: a text without characters.
+    InterpolateStart,
+    /// `interpolate_append`: the last operand is written behind the text below it.
+    InterpolateAppend,
+    /// `interpolate_end`: the text that the last operand is.
+    InterpolateEnd,
     /// `chain K`: walks along the chain, and does there what its end says.
     Chain(u16),
     /// `unwind_to d`: cuts the scope to d entries above the base.
@@ -263,6 +281,10 @@ pub(crate) fn tagged(tag: u8, rest: &[u8], op: &mut Op) -> usize
             *op = Op::MakeClosure(two_there(rest));
             3
         }
+        0x28 => {
+            *op = Op::MakeFnPtr;
+            1
+        }
         0x29 => {
             *op = Op::Curry(one_there(rest));
             2
@@ -283,6 +305,34 @@ pub(crate) fn tagged(tag: u8, rest: &[u8], op: &mut Op) -> usize
         0x2f => {
             *op = Op::CallFnPtrOnThis(one_there(rest));
             2
+        }
+        0x30 => {
+            *op = Op::MakeArray(two_there(rest));
+            3
+        }
+        0x31 => {
+            *op = Op::MakeMap(two_there(rest));
+            3
+        }
+        0x32 => {
+            *op = Op::CheckArraySize(two_there(rest));
+            3
+        }
+        0x33 => {
+            *op = Op::CheckMapSize(two_there(rest));
+            3
+        }
+        0x34 => {
+            *op = Op::InterpolateStart;
+            1
+        }
+        0x35 => {
+            *op = Op::InterpolateAppend;
+            1
+        }
+        0x36 => {
+            *op = Op::InterpolateEnd;
+            1
         }
         0x37 => {
             *op = Op::Chain(two_there(rest));
@@ -383,11 +433,19 @@ impl Op {
             Op::Call(_, _) => "call",
             Op::CallOp(_, _, _) => "call_op",
             Op::MakeClosure(_) => "make_closure",
+            Op::MakeFnPtr => "make_fn_ptr",
             Op::Curry(_) => "curry",
             Op::CallFnPtr(_) => "call_fn_ptr",
             Op::CallFnPtrMethod(_) => "call_fn_ptr_method",
             Op::CallFnPtrOnLocal(_, _) => "call_fn_ptr_on_local",
             Op::CallFnPtrOnThis(_) => "call_fn_ptr_on_this",
+            Op::MakeArray(_) => "make_array",
+            Op::MakeMap(_) => "make_map",
+            Op::CheckArraySize(_) => "check_array_size",
+            Op::CheckMapSize(_) => "check_map_size",
+            Op::InterpolateStart => "interpolate_start",
+            Op::InterpolateAppend => "interpolate_append",
+            Op::InterpolateEnd => "interpolate_end",
             Op::Chain(_) => "chain",
             Op::UnwindTo(_) => "unwind_to",
             Op::Tick => "tick",
@@ -521,6 +579,10 @@ impl Op {
                 let closure = plain(0x27, fields, 0, 1, Flow::Next);
                 needing(Caps::FUNCTION, closure)
             }
+            Op::MakeFnPtr => {
+                let pointer = plain(0x28, Fields::none(), 1, 1, Flow::Next);
+                needing(Caps::FUNCTION, pointer)
+            }
             Op::Curry(count) => {
                 let fields = Fields::one(Field::Count(count));
                 let curry = plain(0x29, fields, u32::from(count) + 1, 1, Flow::Next);
@@ -550,6 +612,26 @@ impl Op {
                 let pointer = plain(0x2f, fields, taken, 1, Flow::Next);
                 needing(Caps::FUNCTION, pointer)
             }
+            Op::MakeArray(count) => {
+                let fields = Fields::one(Field::Number(count));
+                plain(0x30, fields, u32::from(count), 1, Flow::Next)
+            }
+            Op::MakeMap(count) => {
+                let fields = Fields::one(Field::Number(count));
+                let pairs = u32::from(count);
+                plain(0x31, fields, pairs + pairs + 1, 1, Flow::Next)
+            }
+            Op::CheckArraySize(index) => {
+                let fields = Fields::one(Field::Number(index));
+                plain(0x32, fields, 1, 1, Flow::Next)
+            }
+            Op::CheckMapSize(index) => {
+                let fields = Fields::one(Field::Number(index));
+                plain(0x33, fields, 1, 1, Flow::Next)
+            }
+            Op::InterpolateStart => plain(0x34, Fields::none(), 0, 1, Flow::Next),
+            Op::InterpolateAppend => plain(0x35, Fields::none(), 2, 1, Flow::Next),
+            Op::InterpolateEnd => plain(0x36, Fields::none(), 1, 1, Flow::Next),
             Op::Chain(chain) => {
                 let fields = Fields::one(Field::Chain(chain));
                 plain(0x37, fields, 0, 1, Flow::Next)
