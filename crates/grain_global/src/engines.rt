@@ -1,10 +1,12 @@
 //! What stays the same in a run: limits and flags.
 
 ghost use Rattle.std.specs.Prelude.{◌≡◌, ◌<◌, true, false, IfOk};
-ghost use Rattle.grain_global.specs.Engines.{with_callbacks};
+ghost use Rattle.grain_value.specs.Sizes.{counted, data_sizes, too_large};
+ghost use Rattle.grain_global.specs.Engines.{with_callbacks, IsWithin};
 
 use crate::states::GlobalRuntimeState;
-use grain_value::{Limits, OutOfMemory};
+use grain_fault::{EvalAltResult, Position, RhaiResultOf};
+use grain_value::{Dynamic, Limits, OutOfMemory, Store, Text, calc_data_sizes};
 use std::alloc::Global;
 
 /// The limits and flags of a run.
@@ -56,6 +58,30 @@ impl Engine {
         ensures { result ≡ self.now.callbacks }
     {
         self.callbacks
+    }
+
+    /// Whether a value keeps to the limits of sizes: `ErrorDataTooLarge` without a position if the
+    /// bytes of texts, the elements of arrays or the values of maps in it, which are looked at in this
+    /// order, are over their limit. A cell is measured by what it holds.
+    pub fn ensure_data_size_within_limits(
+        &self,
+        alloc: Global,
+        value: &Dynamic,
+        cells: &Store,
+    ) -> RhaiResultOf<()>
+        ensures { IsWithin
+            (too_large self.now.limits (counted (data_sizes cells.now value.now))) result }
+    {
+        if !self.limits.limit_sizes() {
+            return Ok(());
+        }
+        let Some(what) = self.limits.too_large(calc_data_sizes(value, cells)) else {
+            return Ok(());
+        };
+        match Text::copy_of(alloc, what) {
+            Ok(what) => Err(EvalAltResult::ErrorDataTooLarge(what, Position::NONE)),
+            Err(OutOfMemory) => Err(EvalAltResult::Memory),
+        }
     }
 
     /// A state in which nothing was run.

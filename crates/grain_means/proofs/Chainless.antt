@@ -28,11 +28,13 @@ module _ {S : Type 0} (m : Setup S) (k : ℕ) (f : Frame) (w : World S) where
 
   asks_last : (x : Problem) (q : Question S) → AsksLast m x q at → ⊥
   asks_last x q (inl a) = asks_once q a
-  asks_last x q (inr b) = b.5.to
+  asks_last x q (inr (inl b)) = b.5.to
+  asks_last x q (inr (inr c)) = c.0.1
 
   asks_native : (q : Question S) → AsksNative m q at → ⊥
   asks_native q (inl a) = asks_once q a
-  asks_native q (inr b) = b.5.to
+  asks_native q (inr (inl b)) = b.5.to
+  asks_native q (inr (inr c)) = c.1
 
   races : (name : List ℕ) → ReadsLent m.program name (op.Chain k) f w ⊎ AnswersLent m name at → ⊥
   races name (inl a) = a
@@ -40,7 +42,8 @@ module _ {S : Type 0} (m : Setup S) (k : ℕ) (f : Frame) (w : World S) where
 
   mistypes : (r a : List ℕ) → Mistypes r a (op.Chain k) f w → ⊥
   mistypes r a (inl h) = h.5
-  mistypes r a (inr h) = h.6
+  mistypes r a (inr (inl h)) = h.6
+  mistypes r a (inr (inr h)) = h.5
 
   calls : (g : Function) (args : List Held) → CallsFunction m.program g args (op.Chain k) f w → ⊥
   calls g args (inl a) = a
@@ -50,9 +53,21 @@ module _ {S : Type 0} (m : Setup S) (k : ℕ) (f : Frame) (w : World S) where
   overflows s (inl operates) = operates.2
   overflows s (inr counts) = counts
 
+  not_found : (s : List ℕ) → Raises m (FunctionNotFound s) at → ⊥
+  not_found s (inl finds) = asks_last (Plain (FunctionNotFound s) (position m f)) finds.0 finds.2
+  not_found s (inr names) = names.4
+
+  too_large : (t : List ℕ) → Raises m (DataTooLarge t) at → ⊥
+  too_large t (inl operates) = operates.2
+  too_large t (inr (inl grows)) = grows.4.0
+  too_large t (inr (inr appends)) = appends.1.3
+
+  no_buffer : (t : List ℕ) → Raises m (Malformed (kind.BufferNotText t)) at → ⊥
+  no_buffer t (b, none, is, inl ends) = ends
+  no_buffer t (b, none, is, inr appends) = appends.1
+
   no_kind : (x : FaultKind) → Raises m x at → ⊥
-  no_kind (FunctionNotFound s) row =
-      asks_last (Plain (FunctionNotFound s) (position m f)) row.0 row.2
+  no_kind (FunctionNotFound s) row = not_found s row
   no_kind (IndexingType s) row =
       asks_last (Plain (IndexingType s) (position m f)) row.0 row.2
   no_kind (DotExpr s) row = asks_last (Plain (DotExpr s) (position m f)) row.0 row.2
@@ -67,9 +82,11 @@ module _ {S : Type 0} (m : Setup S) (k : ℕ) (f : Frame) (w : World S) where
   no_kind TooManyVariables row = row
   no_kind StackOverflow row = calls row.2.0 row.2.1 row.2.2
   no_kind UnboundThis row = row.1
-  no_kind (DataTooLarge t) row = row.2
+  no_kind (DataTooLarge t) row = too_large t row
   no_kind (Malformed (kind.SlotPastScope i n)) row = row.2
   no_kind (Malformed (kind.UnwindPastScope t n)) row = row.2
+  no_kind (Malformed (kind.BufferNotText t)) row = no_buffer t row
+  no_kind (Malformed (kind.MissingTotal i)) row = row.1.0
   no_kind x row = row
 
 -- the fault has this position, which is the instruction's, and if it left a function, the instruction that

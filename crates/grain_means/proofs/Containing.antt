@@ -15,6 +15,8 @@ pub mod Operators
 pub mod ThisSteps
 pub mod Transfers
 pub mod Loops
+pub mod Literals
+pub mod Interpolation
 pub mod Calls
 pub mod Catching
 pub mod Tasks
@@ -30,6 +32,7 @@ use Rattle.std.specs.List.{AllByRecursion}
 use Rattle.std.specs.Prelude.{is_some}
 use Rattle.grain_value.specs.Looking.{cell_of, is_unit}
 use Rattle.grain_value.specs.Operands.{arguments, below, rotated, top, under}
+use Rattle.grain_value.specs.Sizes.{one_element, one_value}
 use Rattle.grain_value.specs.declared.values.Dynamic.{Dynamic}
 use Rattle.grain_value.specs.declared.values.Dynamic.TheVariants as dynamic
 use Rattle.grain_value.specs.declared.values.Held.{Held}
@@ -59,6 +62,8 @@ use Rattle.grain_means.proofs.Containing.Entries.{stores, declares, assigns, loa
 use Rattle.grain_means.proofs.Containing.Operators.{op_assigns, pushes_outcome}
 use Rattle.grain_means.proofs.Containing.Transfers.{jumping, tests_top, skips, unwinds}
 use Rattle.grain_means.proofs.Containing.Loops.{advances, begins_loop, leaves_loop, switches}
+use Rattle.grain_means.proofs.Containing.Literals.{checks_size, makes_array, makes_map, makes_pointer}
+use Rattle.grain_means.proofs.Containing.Interpolation.{appends_segment, ends_buffer}
 use Rattle.grain_means.proofs.Containing.Chains.{chains}
 use Rattle.grain_means.proofs.Containing.ThisSteps.{assigns_this, loads_this, loads_this_shared, op_assigns_this, requires_this}
 use Rattle.grain_means.proofs.Containing.Calls.{calls_function, curries, calls_pointer}
@@ -154,6 +159,16 @@ module _ {S : Type 0} {m : Setup S} (on : Grounds m) where
         gives next f.operands
         (dynamic.Pointer (record { name = name_of m.program k; curry = [] })) w at names.0
         (omega arith, λ s. refl)
+    does op.MakeFnPtr next w at = makes_pointer on n low f names next w at
+    does (op.MakeArray k) next w at = makes_array on n low f names k next w at
+    does (op.MakeMap k) next w at = makes_map on n low f names k next w at
+    does (op.CheckArraySize index) next w at =
+        checks_size on n low f names one_element index next w at
+    does (op.CheckMapSize index) next w at = checks_size on n low f names one_value index next w at
+    does op.InterpolateStart next w at =
+        gives next f.operands (dynamic.Text []) w at names.0 (omega arith, λ s. refl)
+    does op.InterpolateAppend next w at = appends_segment on n low f names next w at
+    does op.InterpolateEnd next w at = ends_buffer on n low f names next w at
     does (op.Curry k) next w at = curries on n low f names k next w at
     does (op.CallFnPtr k) next w at = calls_pointer on n low f names k next w at
     does (op.CallFnPtrMethod k) next w at = calls_method on n low f names Nowhere k next w at

@@ -118,7 +118,7 @@ module _ (clean : Bool) (n : ℕ) where
         (second_true (not (is_cell t)) (is_clean t && is_clean (array ts)) (h.1 s)),
   )
 
-  more_items : (t : Tree) (ts : Trees) → ItemNames t → TreeNames (array ts) →
+  pub more_items : (t : Tree) (ts : Trees) → ItemNames t → TreeNames (array ts) →
       TreeNames (array (more_trees t ts))
   more_items t ts one h = (
     max-le {a = cell_bound t} {b = items_bound ts} one.0.0 h.0,
@@ -272,7 +272,7 @@ module _ (clean : Bool) (n : ℕ) where
         (later c inner.0, put_item p v c new.1 inner.1)
     by_child (Err x) is later = h
 
-  item_of : (h : Held) → Stands clean n h → ItemNames (tree h.value)
+  pub item_of : (h : Held) → Stands clean n h → ItemNames (tree h.value)
   item_of h p = (p.0, λ s. not_cell h.value (p.1 s))
 
   -- a step inside a value and further

@@ -1,5 +1,5 @@
 -- The kinds of faults that say that a native is not found.
-use Rattle.std.proofs.Common.{ℕ, List, Bool, true, false, if◌then◌else◌, eqb, bytes_eq}
+use Rattle.std.proofs.Common.{ℕ, List, Bool, true, false, if◌then◌else◌, eqb, bytes_eq, inl}
 use Rattle.std.specs.Prelude.{codes}
 use Rattle.std.specs.List.{starts_with}
 use Rattle.grain_value.specs.declared.values.Dynamic.{Dynamic}
@@ -30,5 +30,5 @@ pub row_of_missing : {S : Type 0} (m : Setup S) (at : ProgramPoint S) (name : Li
     (args : List Dynamic) → FindsNone m (missing_kind name args) at →
     Raises m (missing_kind name args) at
 row_of_missing m at name args =
-    of_each (λ k. FindsNone m k at → Raises m k at) name args (λ s why. why) (λ s why. why)
+    of_each (λ k. FindsNone m k at → Raises m k at) name args (λ s why. inl why) (λ s why. why)
     (λ s why. why)

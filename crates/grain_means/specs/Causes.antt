@@ -1,20 +1,24 @@
 -- Why a run ends in a fault: it came to a frame at an instruction that raises the fault on what the
 -- frame and the world then have.
 pub mod Pointers
+pub mod Literals
 pub mod Instructions
 pub mod Questions
 pub mod Callbacks
+pub mod Interpolation
 pub mod Natives
 pub mod Answers
 pub mod Positions
 pub mod Spots
 pub mod Chains
-pub use Rattle.grain_means.specs.Causes.Instructions.{truth_read, truth_on_top, Points, PointsNowhere, PointsFirst, HasReceiver, IsMethodCall, receiver, args_beside, function_beside, CallsPointed, CallsUnder, MissesPointed, AsksEither, PointedReadsLent, FirstReadsLent, MethodReadsLent, CallsOn, CallsFunction, Calls, Charges, IsCharged, HasTooMany, ReadsTop, Overfills, IsOver, HasNext, CountsPast, SwitchesBack, GivesLent, GoesOverNone, CountsTooFar, UsesEntry, Unwinds, Tests, AsksPointer, Throws, Holds, AssignsConstant, Misses, Operates, HasNoBuiltIn, Mistypes, IsLent, AssignsLent, HoldsThis, AsksThis, AssignsLentThis, StoresLent, ReadsLent}
+pub use Rattle.grain_means.specs.Causes.Instructions.{truth_read, truth_on_top, Points, PointsNowhere, PointsFirst, HasReceiver, IsMethodCall, receiver, args_beside, function_beside, CallsPointed, CallsUnder, MissesPointed, AsksEither, PointedReadsLent, FirstReadsLent, MethodReadsLent, CallsOn, CallsFunction, Calls, Charges, IsCharged, HasTooMany, ReadsTop, Overfills, IsOver, HasNext, CountsPast, SwitchesBack, GivesLent, GoesOverNone, CountsTooFar, UsesEntry, Unwinds, Tests, AsksPointer, AsksName, NamesNone, Throws, Holds, AssignsConstant, Misses, Operates, HasNoBuiltIn, Mistypes, IsLent, AssignsLent, HoldsThis, AsksThis, AssignsLentThis, StoresLent, ReadsLent}
 pub use Rattle.grain_means.specs.Causes.Callbacks.{parameters, ThreePassed, IsTaken, IsKeptOut, IsEntered, first_asked, BackEnds, HearsOf, reply_again, answered_again_world, next_asked, next_asked_world, native_begins, NativeBack, question_back, IsCalledBack, native_asked_world, BackAsks, back_asked, back_start, AsksNext, at_first, again, AsksOn, of_native, inside, GoesPast, HostFails, RunsBack, body_back, LeavesBack, AsksFirst, asked_by, asked_in}
 pub use Rattle.grain_means.specs.Causes.Natives.{AssignsTo, AssignsByHost, Question, all_args, native_asked, reply_to, IsCalled, EndsWith, asks_first, AsksAgain, AsksSecond, AsksToAssign, AsksOnCopies, LendsReceiver, lent_last, AsksOnReceiver, AsksOnce, AsksNative, AsksLast, FindsNone, FindsNative, WritesConstant, HostAnswers}
 pub use Rattle.grain_means.specs.Causes.Spots.{untraced, ChainWalk, CallAsks, call_asked, call_start, IsReason, IsLeft, CallEnds, InvocationEnds, Invokes, WalksTo, AtStep, Falls, WalkRow}
 pub use Rattle.grain_means.specs.Causes.Chains.{ChainReads, ChainRow, LeavesNative, RaisedByChain, FromHostOrChain, ChainAsks, AsksFor, by_question, by_chain}
 pub use Rattle.grain_means.specs.Causes.Positions.{CallsWith, ReceiverCalls, this_for, roots_for, ChainCalls, ChainCallFails, body_begins, out_of_body, Enters, LeftCall, BodyFails, LeftByChain, HasPosition, AnsweredSo, IsNoChain, TellsHere, ThrowsUnitAt, ThrowsUnit, HaveCaughtUnit, FirstIsArmed, ThrownAnew, Tells}
+pub use Rattle.grain_means.specs.Causes.Literals.{HasTemplate, HasPairs, LacksTemplate, LacksKey, MakesOfLent, ChecksSize, Measures, LacksTotal, GrowsTooLarge}
+pub use Rattle.grain_means.specs.Causes.Interpolation.{ShowsSegment, asks_for_text, AsksToShow, Gives, EndsBy, IsPassedOver, Renders, as_text, as_plain, as_given, as_type, AppendsTo, EndsBuffer, LacksBuffer, AppendsTooMuch}
 use Rattle.std.specs.Prelude.{◌≡◌, ◌⊎◌, ◌<◌, ◌≤◌, ◌+◌, ℕ, List, [], Some, None, true, false, length, Result, Ok, Err}
 use Rattle.grain_value.specs.declared.values.Dynamic.{Dynamic}
 use Rattle.grain_value.specs.declared.values.Held.{Held}
@@ -89,6 +93,7 @@ Races m s at = (name : List ℕ) × (s ≡ race_text name) ×
 -- where an instruction raises a fault of this kind; but for a chain it raises no other kind than these
 abbrev pub Raises : {S : Type 0} → Setup S → FaultKind → ProgramPoint S → Type 0
 Raises m (FunctionNotFound s) at = FindsNone m (FunctionNotFound s) at
+    ⊎ NamesNone s at.instruction at.frame at.world
 Raises m (IndexingType s) at = FindsNone m (IndexingType s) at
 Raises m (DotExpr s) at = FindsNone m (DotExpr s) at
 Raises m (NonPureCall s) at = WritesConstant m s at
@@ -110,12 +115,18 @@ Raises m UnboundThis at =
     (at.frame.this ≡ None) × AsksThis at.instruction at.frame at.world
 Raises m StackOverflow at = IsCharged m at.world ×
     (m.engine.limits.levels ≤ at.world.level) × Calls m.program at.instruction at.frame at.world
-Raises m (DataTooLarge t) at = (name : List ℕ) × (args : List Held) ×
-    Operates m (TooLarge t) name args at.instruction at.frame at.world
+Raises m (DataTooLarge t) at = ((name : List ℕ) × (args : List Held) ×
+    Operates m (TooLarge t) name args at.instruction at.frame at.world)
+    ⊎ (GrowsTooLarge m t at.instruction at.frame at.world ⊎ AppendsTooMuch m t at)
 Raises m (Malformed (kind.SlotPastScope i n)) at =
     (n ≡ length at.world.scope) × (n ≤ i) × UsesEntry i at.instruction at.frame at.world
 Raises m (Malformed (kind.UnwindPastScope t n)) at =
     (n ≡ length at.world.scope) × (n < t) × Unwinds t at.instruction at.frame
+Raises m (Malformed (kind.TemplateNotMap s)) at =
+    LacksTemplate s at.instruction at.frame at.world
+Raises m (Malformed (kind.KeyNotText s)) at = LacksKey s at.instruction at.frame at.world
+Raises m (Malformed (kind.BufferNotText s)) at = LacksBuffer m s at
+Raises m (Malformed (kind.MissingTotal i)) at = LacksTotal m i at.instruction at.frame
 Raises m k at = ⊥
 
 -- where an instruction raises this fault, or a fault leaves the call that the instruction is

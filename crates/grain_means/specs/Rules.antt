@@ -14,6 +14,8 @@ pub mod Natives
 pub mod Operators
 pub mod Calls
 pub mod Pointers
+pub mod Literals
+pub mod Interpolation
 pub mod This
 pub mod InWorld
 pub mod Callbacks
@@ -32,7 +34,9 @@ pub use Rattle.grain_means.specs.Rules.Homes.{Home, InScope, InCell, AtPlace, in
 pub use Rattle.grain_means.specs.Rules.Natives.{kinds_in, trees_in, first_is_read_only, Receiver, lent_held, given, given_back, cells_given_back, roots_given_back, receiver_left, cells_lent, with_token, unheard, native_over, answered, host_called_or, native_called_or, native_found_or, native_or, host_called, native_called, native_found, native}
 pub use Rattle.grain_means.specs.Rules.Operators.{if_fast, operated, op_assigned, operator_at, op_assign_failed_at, native_assigned_at, outcome_at, entry_of_slot, operator_assigned, op_assign_failed, native_assigned, store_outcome, assign_op, push_outcome}
 pub use Rattle.grain_means.specs.Rules.Calls.{bound, function_numbered, function_found, function_by_name, body_failed, body_entered, body_called, propagate, resume_caller, function_entered, enter_function, call_function}
-pub use Rattle.grain_means.specs.Rules.Pointers.{curried_in, spread, operand_under, not_a_pointer, curried, curry, pointer_called, call_pointer}
+pub use Rattle.grain_means.specs.Rules.Pointers.{curried_in, spread, operand_under, not_a_pointer, pointer_named, make_fn_ptr, curried, curry, pointer_called, call_pointer}
+pub use Rattle.grain_means.specs.Rules.Literals.{innermost_total, outer_totals, empty_total, sizes_so_far, grown, totals_opened, totals_ended, with_totals, Pairs, PairsAre, KeyIs, PairsLent, value_read, key_read, pair_read, pairs_of, literal_made, make_array, map_made, template_read, make_map, limited, measured, counted_in, check_size, check_array_size, check_map_size}
+pub use Rattle.grain_means.specs.Rules.Interpolation.{to_string, text_or_type, shown, not_a_buffer, put_behind, appended, type_appended, showing_failed, answer_appended, showing, segment_read, interpolate_start, interpolate_append, buffer_ended, interpolate_end}
 pub use Rattle.grain_means.specs.Rules.This.{at_place, at_this, load_this, load_this_shared, require_this, unless_read_only, assign_this, assign_this_op}
 pub use Rattle.grain_means.specs.Rules.InWorld.{world_place, placed, at_step, lent_at, failed_so, missed_by, trace_of, pointed_native, needed, performed, body_over, function_under, copy_dropped, function_on, function_called, pointed_called, numbered_called, invoked, walks}
 pub use Rattle.grain_means.specs.Rules.Callbacks.{is_told, without_token, receiver_rewritten, scope_with, cells_with, roots_with, trace_kept, arguments_back, function_back, ended_so, given_up, went_on, answered_again, told, value_told, called_back_over, native_back_over, native_back, native_called_back, callee_called_back, called_back, calling_back}
@@ -108,11 +112,19 @@ module _ {S : Type 0} (m : Setup S) where
   instr (op.MakeClosure n) next f w =
       pushed m f next f.operands
       (dynamic.Pointer (record { name = name_of m.program n; curry = [] })) w
+  instr op.MakeFnPtr next f w = make_fn_ptr m next f w
   instr (op.Curry n) next f w = curry m n next f w
   instr (op.CallFnPtr n) next f w = call_pointer m n next f w
   instr (op.CallFnPtrMethod n) next f w = method_call m Nowhere n next f w
   instr (op.CallFnPtrOnLocal n slot) next f w = method_call m (ToSlot slot) n next f w
   instr (op.CallFnPtrOnThis n) next f w = method_call m ToThis n next f w
+  instr (op.MakeArray n) next f w = make_array m n next f w
+  instr (op.MakeMap n) next f w = make_map m n next f w
+  instr (op.CheckArraySize index) next f w = check_array_size m index next f w
+  instr (op.CheckMapSize index) next f w = check_map_size m index next f w
+  instr op.InterpolateStart next f w = interpolate_start m next f w
+  instr op.InterpolateAppend next f w = interpolate_append m next f w
+  instr op.InterpolateEnd next f w = interpolate_end m next f w
   instr (op.UnwindTo depth) next f w = unwind m (f.base + depth) next f w
   instr op.Tick next f w = charged m f w (onward m f (stepped f next f.operands))
   instr op.Checkpoint next f w = onward m f (record f { address = next; floor = length w.scope }) w

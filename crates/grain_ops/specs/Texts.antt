@@ -1,15 +1,12 @@
 -- Texts that are joined and compared.
-use Rattle.std.specs.Prelude.{ℕ, Bool, List, length, ◌+◌, ◌++◌, nat_lt, ◌&&◌, codes, if◌then◌else◌}
+pub use Rattle.grain_value.specs.Sizes.{is_over}
+use Rattle.std.specs.Prelude.{ℕ, List, length, ◌+◌, ◌++◌, codes, if◌then◌else◌}
 use Rattle.std.specs.Ordering.{is_eq, is_ne, is_lt, is_le, is_gt, is_ge}
 use Rattle.std.specs.declared.cmp.Ordering.{Ordering}
 use Rattle.grain_value.specs.declared.values.Dynamic.TheVariants as dynamic
 use Rattle.grain_value.specs.declared.tokens.Token.{Token}
 use Rattle.grain_value.specs.declared.tokens.Token.TheVariants as token
 use Rattle.grain_ops.specs.Outcomes.{Outcome, NotBuiltIn, Gave, TooLarge}
-
--- whether n is over a limit; a limit of 0 is none
-abbrev pub is_over : (limit n : ℕ) → Bool
-is_over limit n = nat_lt 0 limit && nat_lt limit n
 
 -- two texts, one after the other, under a limit of bytes
 abbrev pub joined : (limit : ℕ) (first second : List ℕ) → Outcome

@@ -1,5 +1,6 @@
 -- What a value is, if it is of one kind.
 use Rattle.std.specs.Prelude.{ℕ, ℤ, Bool, true, false, List, Option, Some, None}
+use Rattle.grain_value.specs.Maps.{Entries}
 use Rattle.grain_value.specs.declared.values.Dynamic.{Dynamic}
 use Rattle.grain_value.specs.declared.values.FnPtr.{FnPtr}
 use Rattle.grain_value.specs.declared.values.Dynamic.TheVariants as dynamic
@@ -78,6 +79,21 @@ text_of (dynamic.Pointer p) = None
 text_of (dynamic.Range from to inclusive) = None
 text_of (dynamic.Foreign kind number) = None
 text_of (dynamic.Cell number) = None
+
+-- the pairs of the map, if it is one
+abbrev pub map_of : Dynamic → Option Entries
+map_of dynamic.Unit = None
+map_of (dynamic.Bool b) = None
+map_of (dynamic.Int n) = None
+map_of (dynamic.Char c) = None
+map_of (dynamic.Text t) = None
+map_of (dynamic.Array ts) = None
+map_of (dynamic.Blob s) = None
+map_of (dynamic.Map es) = Some es
+map_of (dynamic.Pointer p) = None
+map_of (dynamic.Range from to inclusive) = None
+map_of (dynamic.Foreign kind number) = None
+map_of (dynamic.Cell number) = None
 
 -- whether the value owns no memory
 abbrev pub owns_no_memory : Dynamic → Bool

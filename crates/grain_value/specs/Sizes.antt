@@ -1,9 +1,10 @@
 -- How much a value holds: the elements of arrays, the values of maps, and the bytes of texts.
-use Rattle.std.specs.Prelude.{ℕ, ◌+◌, ◌-◌, ◌^◌, List, Option, Some, None, length, min}
+use Rattle.std.specs.Prelude.{ℕ, ◌+◌, ◌-◌, ◌^◌, Bool, ◌&&◌, ◌||◌, List, Option, Some, None, length, min, nat_lt, codes, if◌then◌else◌}
 use Rattle.grain_value.specs.Tree.{Tree, Trees, Fields, unit, boolean, integer, character, text, array, blob, dict, pointer, range, foreign, cell, no_trees, more_trees, no_fields, more_fields, pack, pack_fields}
 use Rattle.grain_value.specs.Maps.{Entries}
 use Rattle.grain_value.specs.declared.values.Dynamic.{Dynamic}
 use Rattle.grain_value.specs.declared.values.Dynamic.TheVariants as dynamic
+use Rattle.grain_value.specs.declared.values.Limits.{Limits}
 use Rattle.grain_value.specs.declared.stores.Cell.{Cell}
 use Rattle.grain_value.specs.Cells.{flat}
 
@@ -84,3 +85,18 @@ stopped n = min n (2 ^ 64 - 1)
 
 abbrev pub counted : Sizes → Sizes
 counted p = (stopped p.0, stopped p.1, stopped p.2)
+
+-- whether a number is over a limit; a limit of 0 is none
+abbrev pub is_over : (limit n : ℕ) → Bool
+is_over limit n = nat_lt 0 limit && nat_lt limit n
+
+-- whether any size of values is limited
+abbrev pub limits_sizes : Limits → Bool
+limits_sizes l = nat_lt 0 l.text || (nat_lt 0 l.array || nat_lt 0 l.map)
+
+-- what is over its limit: the texts, or else the arrays, or else the maps
+abbrev pub too_large : Limits → Sizes → Option (List ℕ)
+too_large l s =
+    if is_over l.text s.2 then Some (codes "Length of string") else
+    if is_over l.array s.0 then Some (codes "Size of array/BLOB") else
+    if is_over l.map s.1 then Some (codes "Size of object map") else None

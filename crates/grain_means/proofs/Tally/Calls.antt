@@ -261,5 +261,5 @@ module _ {S : Type 0} {m : Setup S} (walk : Walk m) where
               (even_raised walk o width stands (now.ran + 1) _ (start walk) (steady walk)
               (why walk o width stands (Plain (problem.MismatchDataType (codes "Fn")
               (type_name_of v)) (position m f))
-              refl (inr (n, v, read, refl, refl, e, asks))))
+              refl (inr (inl (n, v, read, refl, refl, e, asks)))))
           found v read (Some p) e = some p v (v, read, e)

@@ -186,8 +186,10 @@ module _ {S : Type 0} {m : Setup S} (walk : Walk m) where
     last_of = of_asks asks where
       of_asks : AsksNative m question (point walk o) → AsksLast m NoMemory question (point walk o)
       of_asks (inl once) = inl once
-      of_asks (inr (a, i, h, u, v, by, inl first)) = inr (a, i, h, u, v, by, inl (first, refl))
-      of_asks (inr (a, i, h, u, v, by, inr second)) = inr (a, i, h, u, v, by, inr second)
+      of_asks (inr (inl (a, i, h, u, v, by, inl first))) =
+          inr (inl (a, i, h, u, v, by, inl (first, refl)))
+      of_asks (inr (inl (a, i, h, u, v, by, inr second))) = inr (inl (a, i, h, u, v, by, inr second))
+      of_asks (inr (inr shows)) = inr (inr (shows, refl))
 
     -- What follows where memory is out, from a value, and from a fault.
     module _ (operands : List Held) (out : World S → Act S) (go : Dynamic → World S → Act S)

@@ -73,11 +73,11 @@ module _ {S : Type 0} {m : Setup S} (walk : Walk m) where
         )))
     even_pushed name args operands u (TooLarge t) says asks =
         even_raised walk o width stands (now.ran + 1) _ (start walk) (steady walk)
-        (why walk o width stands (Plain (problem.DataTooLarge t) (position m f)) refl (
+        (why walk o width stands (Plain (problem.DataTooLarge t) (position m f)) refl (inl (
           name,
           args,
           says,
-        ))
+        )))
 
     -- an op-assignment that no built-in does, which writes where h is held
     module _ (a : AssignOp) (home : Home) (name : List ℕ) (h : Held) (u : Dynamic) (v : Held)
@@ -119,7 +119,7 @@ module _ {S : Type 0} {m : Setup S} (walk : Walk m) where
         asked_so = (a, home, h, u, v, by_host, asks_again)
 
         asks : AsksNative m question (point walk o)
-        asks = inr (a, home, h, u, v, by_host, inr asks_again)
+        asks = inr (inl (a, home, h, u, v, by_host, inr asks_again))
 
         -- the operator gave a value, which is written
         given : (n : Native) → native_asked m question ≡ Some n → IsCalled question n →
@@ -152,7 +152,7 @@ module _ {S : Type 0} {m : Setup S} (walk : Walk m) where
         even_operator =
             even_marked walk r left s again
             (even_native walk o width stands w r s refl (name_of m.program a.op_name) None copies asks
-            (λ y. inr (a, home, h, u, v, by_host, inr asks_again))
+            (λ y. inr (inl (a, home, h, u, v, by_host, inr asks_again)))
             (λ z w1. flattened m (read_write z) name f w1 (λ y.
             assigned_at m home (record h { value = y }) name (f.address + width) f w1))
             (λ n e called z l w1 how after empty. given n e called z l w1 how after.0 empty
@@ -175,7 +175,7 @@ module _ {S : Type 0} {m : Setup S} (walk : Walk m) where
           Some (record { home = home; held = record h { value = u } }) in
           let args : List Held = v ∷ [] in
           let q : AsksNative m first_question (point walk o) =
-          inr (a, home, h, u, v, by_host, inl refl) in
+          inr (inl (a, home, h, u, v, by_host, inl refl)) in
           even_found walk o width stands (start walk) (now.ran + 1) (steady walk) trace word r args q
           f.operands
           (λ z w1. onward m f (stepped f (f.address + width) (below f.operands)) w1)
@@ -187,7 +187,7 @@ module _ {S : Type 0} {m : Setup S} (walk : Walk m) where
           (λ missing. even_operator (start walk) (now.ran + 1) (steady walk) (u, by_host.content) x
           (inl (e, refl, refl)) missing)
           (λ other. none_raised walk o width stands (start walk) (now.ran + 1) (steady walk) trace word r
-          args q f.operands (all_there walk o) (inr (
+          args q f.operands (all_there walk o) (inr (inl (
             a,
             home,
             h,
@@ -195,7 +195,7 @@ module _ {S : Type 0} {m : Setup S} (walk : Walk m) where
             v,
             by_host,
             inl (refl, other),
-          )) e)) (refused_raised walk o width stands (start walk) (now.ran + 1) (steady walk) trace
+          ))) e)) (refused_raised walk o width stands (start walk) (now.ran + 1) (steady walk) trace
           word r args q f.operands (all_there walk o))
           (λ n e called x l w1 how reason after.
           by_test (Even walk l) (says x) _ _
@@ -203,7 +203,7 @@ module _ {S : Type 0} {m : Setup S} (walk : Walk m) where
           (flat_stays now.cells w1.cells h.value u by_host.content after.2) x
           (ends_so n e called x w1 how) missing)
           (λ other. even_raised walk o width stands l x w1 after.0
-          (reason (inr (a, home, h, u, v, by_host, inl (refl, other))))))
+          (reason (inr (inl (a, home, h, u, v, by_host, inl (refl, other)))))))
           (native_asked m first_question) refl
 
     -- what an op-assignment gives is written where h is held
@@ -229,11 +229,11 @@ module _ {S : Type 0} {m : Setup S} (walk : Walk m) where
         )))
     even_stored a op_name name args h u v home is on lent answers (TooLarge t) says by_host =
         even_raised walk o width stands (now.ran + 1) _ (start walk) (steady walk)
-        (why walk o width stands (Plain (problem.DataTooLarge t) (position m f)) refl (
+        (why walk o width stands (Plain (problem.DataTooLarge t) (position m f)) refl (inl (
           op_name,
           args,
           says,
-        ))
+        )))
 
     pub even_assigned_op : (n : ℕ) (a : AssignOp) (slot : ℕ) →
         Sits m root k (stepped f (f.address + width) (below f.operands)) →

@@ -304,7 +304,7 @@ module _ {S : Type 0} {m : Setup S} (walk : Walk m) where
         let x = Plain (MismatchDataType (codes "Fn") (type_name_of v)) (position m f) in
         even_raised walk o width stands (now.ran + 1) x (start walk) (steady walk)
         (why walk o width stands x refl
-        (inr (n, v, read, refl, refl, none, method_asks m.program o k f now n is asks)))
+        (inr (inl (n, v, read, refl, refl, none, method_asks m.program o k f now n is asks))))
 
     -- the target is none
     even_first : (n : ℕ) → IsMethodCall n o → Leaves n →

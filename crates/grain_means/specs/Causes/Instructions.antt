@@ -5,9 +5,10 @@ use Rattle.std.specs.Prelude.{◌≡◌, ◌⊎◌, ◌<◌, ◌≤◌, ◌+◌,
 use Rattle.grain_value.specs.declared.values.Dynamic.{Dynamic}
 use Rattle.grain_value.specs.declared.values.Held.{Held}
 use Rattle.grain_value.specs.Cells.{flat}
-use Rattle.grain_value.specs.Looking.{truth_of, is_unit, cell_of, pointer_of}
+use Rattle.grain_value.specs.Looking.{truth_of, is_unit, cell_of, pointer_of, text_of}
 use Rattle.grain_value.specs.Items.{items_of}
 use Rattle.grain_value.specs.Operands.{top, arguments, read_write}
+use Rattle.grain_value.specs.Pointers.{is_pointer_name}
 use Rattle.grain_value.specs.Tree.{Tree}
 use Rattle.grain_value.specs.View.{value_of}
 use Rattle.grain_value.specs.Writing.{type_name_of}
@@ -21,6 +22,7 @@ use Rattle.grain_ops.specs.Outcomes.{Outcome, NotBuiltIn}
 use Rattle.grain_means.specs.Worlds.{World, Setup, Frame, Place}
 use Rattle.grain_means.specs.Places.{look}
 use Rattle.grain_host.specs.Law.{GoOn}
+use Rattle.grain_means.specs.Causes.Literals.{MakesOfLent}
 use Rattle.grain_means.specs.Rules.{name_at, counter_text, flat_all, innermost_cursor, operand_under, is_read_only, held_at, function_found, operated, op_assigned}
 
 -- the truth value that is read, if it is one
@@ -167,6 +169,16 @@ AsksPointer n (op.CallFnPtrOnLocal k slot) f w = AsksEither n k f w
 AsksPointer n (op.CallFnPtrOnThis k) f w = AsksEither n k f w
 AsksPointer n o f w = ⊥
 
+-- it asks for the name of a function
+abbrev pub AsksName : Op → Type 0
+AsksName op.MakeFnPtr = Unit {0}
+AsksName o = ⊥
+
+-- it asks for the name of a function, and reads this text, which can be none
+abbrev pub NamesNone : {S : Type 0} → List ℕ → Op → Frame → World S → Type 0
+NamesNone s o f w = (v : Dynamic) × (flat w.cells (top f.operands).value ≡ Some v)
+    × (text_of v ≡ Some s) × (is_pointer_name s ≡ false) × AsksName o
+
 -- it throws the last operand
 abbrev pub Throws : Op → Type 0
 Throws op.Throw = Unit {0}
@@ -232,8 +244,10 @@ abbrev pub Mistypes : {S : Type 0} → List ℕ → List ℕ → Op → Frame �
 Mistypes r a o f w =
     ((v : Dynamic) × (flat w.cells (top f.operands).value ≡ Some v) × (r ≡ codes "bool") ×
     (a ≡ type_name_of v) × (truth_of v ≡ None) × Tests o)
-    ⊎ ((n : ℕ) × (v : Dynamic) × (flat w.cells (operand_under n f.operands).value ≡ Some v) ×
+    ⊎ (((n : ℕ) × (v : Dynamic) × (flat w.cells (operand_under n f.operands).value ≡ Some v) ×
     (r ≡ codes "Fn") × (a ≡ type_name_of v) × (pointer_of v ≡ None) × AsksPointer n o f w)
+    ⊎ ((v : Dynamic) × (flat w.cells (top f.operands).value ≡ Some v) × (r ≡ codes "string") ×
+    (a ≡ type_name_of v) × (text_of v ≡ None) × AsksName o))
 
 -- of an assignment to an entry that is there: the value that it assigns is a lent cell, or the entry,
 -- which can be written, is one
@@ -298,6 +312,15 @@ ReadsLent program name (op.Call n k) f w = (name ≡ []) × (function_found prog
     (flat_all w.cells (arguments k f.operands) ≡ None)
 ReadsLent program name (op.CallOp n k t) f w =
     (name ≡ []) × (flat_all w.cells (arguments k f.operands) ≡ None)
+ReadsLent program name op.MakeFnPtr f w = (name ≡ []) × IsLent w (top f.operands)
+ReadsLent program name (op.MakeArray n) f w =
+    (name ≡ []) × (flat_all w.cells (arguments n f.operands) ≡ None)
+ReadsLent program name (op.MakeMap n) f w = (name ≡ []) × MakesOfLent n f w
+ReadsLent program name (op.CheckArraySize i) f w = (name ≡ []) × IsLent w (top f.operands)
+ReadsLent program name (op.CheckMapSize i) f w = (name ≡ []) × IsLent w (top f.operands)
+ReadsLent program name op.InterpolateAppend f w =
+    (name ≡ []) × (IsLent w (top f.operands) ⊎ IsLent w (operand_under 1 f.operands))
+ReadsLent program name op.InterpolateEnd f w = (name ≡ []) × IsLent w (top f.operands)
 ReadsLent program name (op.Curry n) f w = (name ≡ []) × IsLent w (operand_under n f.operands)
 ReadsLent program name (op.CallFnPtr n) f w = (name ≡ []) × PointedReadsLent program n f w
 ReadsLent program name (op.CallFnPtrMethod n) f w = (name ≡ []) × MethodReadsLent program n f w

@@ -8,6 +8,7 @@ use Rattle.grain_value.specs.Cells.{flat, lent}
 use Rattle.grain_value.specs.declared.values.FnPtr.{FnPtr}
 use Rattle.grain_value.specs.Looking.{cell_of}
 use Rattle.grain_value.specs.Operands.{top, values_in}
+use Rattle.grain_fault.specs.Classes.{catchable}
 use Rattle.grain_fault.specs.Positions.{at_position_if_none}
 use Rattle.grain_fault.specs.Problems.{FaultKind, Problem, Plain}
 use Rattle.grain_program.specs.declared.code.instruction_set.Op.{Op}
@@ -26,6 +27,7 @@ use Rattle.grain_means.specs.Ends.{Ends}
 use Rattle.grain_means.specs.Causes.Questions.{answered_world, begun}
 use Rattle.grain_means.specs.Causes.Callbacks.{AsksFirst, HostFails, asked_by, asked_in}
 use Rattle.grain_means.specs.Causes.Instructions.{Holds, Misses, HasNoBuiltIn}
+use Rattle.grain_means.specs.Causes.Interpolation.{AsksToShow}
 use Rattle.grain_means.specs.Causes.Pointers.{IsMethodCall, PointsFirst, receiver, args_beside, function_beside}
 
 -- an op-assignment writes here, where this is held and can be written: in the entry of a slot, or in
@@ -156,19 +158,21 @@ pub record AsksOnReceiver {S : Type 0} (m : Setup S) (q : Question S) (at : Prog
 abbrev pub AsksOnce : {S : Type 0} → Setup S → Question S → ProgramPoint S → Type 0
 AsksOnce m q at = AsksOnCopies m q at ⊎ AsksOnReceiver m q at
 
--- it asks the host for a native: on copies of its operands, or on a receiver, or for an op-assignment
+-- it asks the host for a native: on copies of its operands, or on a receiver, or for an op-assignment, or
+-- for the text of a segment
 abbrev pub AsksNative : {S : Type 0} → Setup S → Question S → ProgramPoint S → Type 0
-AsksNative m q at = AsksOnce m q at ⊎ AsksToAssign m q at
+AsksNative m q at = AsksOnce m q at ⊎ (AsksToAssign m q at ⊎ AsksToShow m q at)
 
--- It asks this question, and asks no other after this fault: the first of an op-assignment is the
--- last unless the fault says that no function of its name is found.
+-- It asks this question, and asks no other after this fault, which it raises: the first of an
+-- op-assignment is the last unless the fault says that no function of its name is found; and where the
+-- text of a segment is asked for, a fault that a script may catch is passed over.
 abbrev pub AsksLast : {S : Type 0} → Setup S → Problem → Question S → ProgramPoint S → Type 0
 AsksLast {S = S} m x q at = AsksOnce m q at ⊎
-    ((a : AssignOp) × (i : Home) × (h : Held) × (u : Dynamic) × (v : Held) ×
+    (((a : AssignOp) × (i : Home) × (h : Held) × (u : Dynamic) × (v : Held) ×
     AssignsByHost m a i h u v at.instruction at.frame at.world ×
     (((q ≡ asks_first m a i h u v at.world)
     × (says_missing (name_of m.program a.op_assign_name) x ≡ false))
-    ⊎ AsksAgain m a i h u v q at))
+    ⊎ AsksAgain m a i h u v q at)) ⊎ (AsksToShow m q at × (catchable x ≡ false)))
 
 -- it asks for a native that is not there, a fault of this kind says so, and after that fault it asks
 -- for no other

@@ -1,14 +1,16 @@
--- Pointers to functions: values are put before their arguments, and they are called.
-use Rattle.std.specs.Prelude.{ℕ, ◌+◌, List, [], ◌++◌, Option, Some, None, length, map, codes}
+-- Pointers to functions: one is made of a name, values are put before their arguments, and they are
+-- called.
+use Rattle.std.specs.Prelude.{ℕ, ◌+◌, List, [], ◌++◌, Option, Some, None, length, map, codes, if◌then◌else◌}
 use Rattle.grain_value.specs.declared.values.Dynamic.{Dynamic}
 use Rattle.grain_value.specs.declared.values.Dynamic.TheVariants as dynamic
 use Rattle.grain_value.specs.declared.values.Held.{Held}
-use Rattle.grain_value.specs.Looking.{pointer_of}
+use Rattle.grain_value.specs.Looking.{pointer_of, text_of}
 use Rattle.grain_value.specs.declared.values.FnPtr.{FnPtr}
-use Rattle.grain_value.specs.Operands.{top, under, arguments, read_write}
+use Rattle.grain_value.specs.Operands.{top, below, under, arguments, read_write}
+use Rattle.grain_value.specs.Pointers.{is_pointer_name}
 use Rattle.grain_value.specs.View.{value_of}
 use Rattle.grain_value.specs.Writing.{type_name_of}
-use Rattle.grain_fault.specs.Problems.{Plain, MismatchDataType}
+use Rattle.grain_fault.specs.Problems.{Plain, FunctionNotFound, MismatchDataType}
 use Rattle.grain_means.specs.Worlds.{Frame, World, Act, Setup}
 use Rattle.grain_means.specs.Rules.Faults.{position, raised}
 use Rattle.grain_means.specs.Rules.Going.{pushed}
@@ -34,6 +36,21 @@ module _ {S : Type 0} (m : Setup S) where
   abbrev pub not_a_pointer : Dynamic → Frame → World S → Act S
   not_a_pointer v f w =
       raised m f (Plain (MismatchDataType (codes "Fn") (type_name_of v)) (position m f)) w
+
+  -- a pointer of this name, which can be a function's
+  abbrev pub pointer_named : Option (List ℕ) → Dynamic → ℕ → Frame → World S → Act S
+  pointer_named None v next f w =
+      raised m f (Plain (MismatchDataType (codes "string") (type_name_of v)) (position m f)) w
+  pointer_named (Some s) v next f w =
+      if is_pointer_name s
+      then pushed m f next (below f.operands)
+      (dynamic.Pointer (record { name = s; curry = [] })) w
+      else raised m f (Plain (FunctionNotFound s) (position m f)) w
+
+  -- a pointer to the functions of the name that the last operand is
+  abbrev pub make_fn_ptr : ℕ → Frame → World S → Act S
+  make_fn_ptr next f w =
+      flattened m (top f.operands) [] f w (λ v. pointer_named (text_of v) v next f w)
 
   -- the last n operands go after the values of a pointer
   abbrev pub curried : Option FnPtr → Dynamic → ℕ → ℕ → Frame → World S → Act S

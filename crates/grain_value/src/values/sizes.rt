@@ -1,10 +1,10 @@
 //! How much a value holds.
 
-ghost use Rattle.std.specs.Prelude.{◌≡◌};
+ghost use Rattle.std.specs.Prelude.{◌≡◌, option_map};
 ghost use Rattle.grain_value.specs.View.{tree};
-ghost use Rattle.grain_value.specs.Sizes.{array_sizes, map_sizes, inner_sizes, data_sizes, counted, plus};
+ghost use Rattle.grain_value.specs.Sizes.{array_sizes, map_sizes, inner_sizes, data_sizes, counted, plus, is_over, limits_sizes, too_large};
 
-use super::{Array, Dynamic, Map};
+use super::{Array, Dynamic, Limits, Map};
 use crate::stores::Store;
 
 /// Elements of arrays, values of maps and bytes of texts. Each stops at `usize::MAX`.
@@ -77,4 +77,37 @@ fn added(a: Sizes, b: Sizes) -> Sizes
         a.1.saturating_add(b.1),
         a.2.saturating_add(b.2),
     )
+}
+
+impl Limits {
+    /// Whether any size of values is limited.
+    pub fn limit_sizes(&self) -> bool
+        ensures { result ≡ limits_sizes self.now }
+    {
+        self.text > 0 || self.array > 0 || self.map > 0
+    }
+
+    /// What of these sizes is over its limit, if anything is: of elements of arrays, values of maps and
+    /// bytes of texts. The texts are looked at first, and then the arrays.
+    pub fn too_large(&self, sizes: (usize, usize, usize)) -> Option<&'static str>
+        ensures { option_map (λ what. what.now) result ≡ too_large self.now sizes }
+    {
+        let (arrays, maps, text) = sizes;
+        if is_over(self.text, text) {
+            Some("Length of string")
+        } else if is_over(self.array, arrays) {
+            Some("Size of array/BLOB")
+        } else if is_over(self.map, maps) {
+            Some("Size of object map")
+        } else {
+            None
+        }
+    }
+}
+
+// Whether a size is over a limit. A limit of 0 is none.
+fn is_over(limit: usize, size: usize) -> bool
+    ensures { result ≡ is_over limit size }
+{
+    limit > 0 && size > limit
 }
