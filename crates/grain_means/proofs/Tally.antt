@@ -20,6 +20,8 @@ pub mod This
 pub mod Transfers
 pub mod Loops
 pub mod Looping
+pub mod Literals
+pub mod Interpolation
 pub mod Calls
 pub mod Bodies
 pub mod Calling
@@ -60,6 +62,8 @@ use Rattle.grain_means.proofs.Tally.Entries.{even_at, even_declared, even_stored
 use Rattle.grain_means.proofs.Tally.Operators.{even_pushed, even_assigned_op}
 use Rattle.grain_means.proofs.Tally.This.{even_assigned_op_this, even_assigned_this, even_at_this}
 use Rattle.grain_means.proofs.Tally.Looping.{even_iter_drop, even_iter_init, even_iter_next, even_iter_next_indexed, even_switch}
+use Rattle.grain_means.proofs.Tally.Literals.{even_check_array_size, even_check_map_size, even_make_array, even_make_fn_ptr, even_make_map}
+use Rattle.grain_means.proofs.Tally.Interpolation.{even_interpolate_append, even_interpolate_end, even_interpolate_start}
 use Rattle.grain_means.proofs.Tally.Transfers.{even_jump_if, even_skipped, even_unwound, even_handled, pushed_tries}
 use Rattle.grain_means.proofs.Tally.Calls.{even_called, even_pointer}
 use Rattle.grain_means.proofs.Tally.Chains.{even_chain}
@@ -271,6 +275,14 @@ module _ {S : Type 0} {m : Setup S} (walk : Walk m) where
       let p = dynamic.Pointer (record { name = name_of m.program n; curry = [] }) in
       even_on walk (op.MakeClosure n) width at _ refl
       (sits_at walk (op.MakeClosure n) width at (refl, refl) _ _ (inl refl) (λ _. one_more walk p))
+  even_instr op.MakeFnPtr width at = even_make_fn_ptr walk width at
+  even_instr (op.MakeArray n) width at = even_make_array walk n width at
+  even_instr (op.MakeMap n) width at = even_make_map walk n width at
+  even_instr (op.CheckArraySize index) width at = even_check_array_size walk index width at
+  even_instr (op.CheckMapSize index) width at = even_check_map_size walk index width at
+  even_instr op.InterpolateStart width at = even_interpolate_start walk width at
+  even_instr op.InterpolateAppend width at = even_interpolate_append walk width at
+  even_instr op.InterpolateEnd width at = even_interpolate_end walk width at
   even_instr (op.Curry n) width at =
       even_pointer walk (op.Curry n) width at n refl (λ lent. (refl, lent))
       (λ p v. curried m p v n (f.address + width) f (start walk)) (λ v. refl)

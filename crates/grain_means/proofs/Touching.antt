@@ -7,6 +7,7 @@ pub mod Callbacks
 pub mod Frames
 pub mod Instructions
 pub mod Loops
+pub mod Literals
 pub mod Calls
 pub mod Walks
 pub mod Chains
@@ -20,6 +21,7 @@ use Rattle.std.proofs.Common.{◌≡◌, ◌+◌, ℕ, Bool, List, [], ◌∷◌
 use Rattle.std.specs.Prelude.{is_some, slice_get}
 use Rattle.grain_value.specs.Looking.{cell_of, is_unit}
 use Rattle.grain_value.specs.Operands.{arguments, below, rotated, top, under}
+use Rattle.grain_value.specs.Sizes.{one_element, one_value}
 use Rattle.grain_value.specs.declared.values.Dynamic.TheVariants as dynamic
 use Rattle.grain_value.specs.declared.values.Dynamic.{Dynamic}
 use Rattle.grain_value.specs.declared.values.Held.{Held}
@@ -41,6 +43,7 @@ use Rattle.grain_means.proofs.Touching.Callbacks.{calls_back}
 use Rattle.grain_means.proofs.Touching.Frames.{At, Stays, charged, jumps, marks, onward, pushes, raises, reads, reads_all}
 use Rattle.grain_means.proofs.Touching.Instructions.{assigns, assigns_this, declares, loads, loads_shared, loads_this, loads_this_shared, op_assigns, op_assigns_this, pushes_outcome, requires_this, shares, skips, stores, tests_top, unwinds}
 use Rattle.grain_means.proofs.Touching.Loops.{advances, begins_loop, leaves_loop, switches}
+use Rattle.grain_means.proofs.Touching.Literals.{appends_segment, checks_size, ends_buffer, makes_array, makes_map, makes_pointer}
 use Rattle.grain_means.proofs.Touching.Calls.{calls_function, calls_pointer, catches, curries}
 use Rattle.grain_means.proofs.Touching.Receivers.{calls_method}
 use Rattle.grain_means.proofs.Touching.Chains.{chains}
@@ -104,6 +107,14 @@ module _ {S : Type 0} (m : Setup S) (t : Option Place) (old : List Held) where
     does (op.MakeClosure k) next w at =
         pushes m t old f is next f.operands
         (dynamic.Pointer (record { name = name_of m.program k; curry = [] })) w at
+    does op.MakeFnPtr next w at = makes_pointer m t old f is next w at
+    does (op.MakeArray k) next w at = makes_array m t old f is k next w at
+    does (op.MakeMap k) next w at = makes_map m t old f is k next w at
+    does (op.CheckArraySize index) next w at = checks_size m t old f is one_element index next w at
+    does (op.CheckMapSize index) next w at = checks_size m t old f is one_value index next w at
+    does op.InterpolateStart next w at = pushes m t old f is next f.operands (dynamic.Text []) w at
+    does op.InterpolateAppend next w at = appends_segment m t old f is next w at
+    does op.InterpolateEnd next w at = ends_buffer m t old f is next w at
     does (op.Curry k) next w at = curries m t old f is k next w at
     does (op.CallFnPtr k) next w at = calls_pointer m t old f is k next w at
     does (op.CallFnPtrMethod k) next w at = calls_method m t old f is Nowhere k next w at
