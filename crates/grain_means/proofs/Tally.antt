@@ -51,7 +51,6 @@ use Rattle.grain_value.specs.Cells.{flat, content}
 use Rattle.grain_program.specs.Lookups.{function_of, function_by_text}
 use Rattle.grain_means.specs.Worlds.{End, Came, Setup, Frame, InFrame}
 use Rattle.grain_means.specs.Rules.{stepped, Nowhere, ToSlot, ToThis, trees_in, native, function_found, held_at, or_return, operated, charged, instr, start_instruction, next, position, flat_all, spread, name_at, curried, pointer_called, function_by_name}
-use Rattle.grain_means.specs.Places.{look}
 use Rattle.grain_means.specs.lemmas.Branches.{of_two}
 use Rattle.grain_means.proofs.Lengths.{length_under, length_pushed, length_rotated, spread_length, spread_under}
 use Rattle.grain_means.proofs.Standing.{tries_outer, fits_found}
@@ -60,7 +59,7 @@ use Rattle.grain_means.proofs.Tally.Frames.{Walk, Even, start, steady, even_mark
 use Rattle.grain_means.proofs.Tally.Faults.{why, why_chain, why_left, even_raised_in, even_flat, even_flat_all, fits_on, sits_at, even_on, even_charged_on, even_jumped}
 use Rattle.grain_means.proofs.Tally.Entries.{even_at, even_declared, even_stored_in, even_assigned, even_shared}
 use Rattle.grain_means.proofs.Tally.Operators.{even_pushed, even_assigned_op}
-use Rattle.grain_means.proofs.Tally.This.{even_assigned_op_this, even_assigned_this, even_at_this}
+use Rattle.grain_means.proofs.Tally.This.{even_assigned_op_this, even_assigned_this, even_load_this, even_load_this_shared, even_require_this}
 use Rattle.grain_means.proofs.Tally.Looping.{even_iter_drop, even_iter_init, even_iter_next, even_iter_next_indexed, even_switch}
 use Rattle.grain_means.proofs.Tally.Literals.{even_check_array_size, even_check_map_size, even_make_array, even_make_fn_ptr, even_make_map}
 use Rattle.grain_means.proofs.Tally.Interpolation.{even_interpolate_append, even_interpolate_end, even_interpolate_start}
@@ -146,23 +145,9 @@ module _ {S : Type 0} {m : Setup S} (walk : Walk m) where
         flag = refl;
         none = none;
       }))
-  even_instr op.LoadThis width at =
-      even_at_this walk op.LoadThis width at tt _
-      (λ p is. even_flat walk op.LoadThis width at (look now.roots p) []
-      (λ none. (refl, (look now.roots p, (p, is, refl), none))) _
-      (λ v _. even_on walk op.LoadThis width at _ refl
-      (sits_at walk op.LoadThis width at (refl, refl) _ _ (inl refl) (λ _. one_more walk v)))
-      (flat now.cells (look now.roots p).value) refl) f.this refl
-  even_instr op.LoadThisShared width at =
-      even_at_this walk op.LoadThisShared width at tt _
-      (λ p is. even_on walk op.LoadThisShared width at _ refl
-      (sits_at walk op.LoadThisShared width at (refl, refl) _ _ (inl refl)
-      (λ _. one_more walk (look now.roots p).value))) f.this refl
-  even_instr op.RequireThis width at =
-      even_at_this walk op.RequireThis width at tt _
-      (λ p is. even_on walk op.RequireThis width at _ refl
-      (sits_at walk op.RequireThis width at (refl, refl) _ f.operands (inl refl) (λ _. omega arith))) f.this
-      refl
+  even_instr op.LoadThis width at = even_load_this walk width at
+  even_instr op.LoadThisShared width at = even_load_this_shared walk width at
+  even_instr op.RequireThis width at = even_require_this walk width at
   even_instr op.AssignThis width at =
       even_assigned_this walk op.AssignThis width at
       (sits_at walk op.AssignThis width at (refl, refl) _ _ (inl refl) (λ _. one_less walk))

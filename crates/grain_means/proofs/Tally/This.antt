@@ -1,5 +1,5 @@
 -- The walk over the rules through instructions on the `this` of a frame.
-use Rattle.std.proofs.Common.{◌≡◌, ◌+◌, ℕ, [], ◌∷◌, Option, Some, None, true, false, refl, inl, inr}
+use Rattle.std.proofs.Common.{◌≡◌, ◌+◌, ℕ, [], ◌∷◌, Option, Some, None, true, false, refl, inl, inr, arith}
 use Rattle.grain_value.specs.Cells.{flat}
 use Rattle.grain_value.specs.Looking.{cell_of}
 use Rattle.grain_value.specs.Operands.{below, top}
@@ -10,16 +10,17 @@ use Rattle.grain_ops.specs.Outcomes.{NotBuiltIn}
 use Rattle.grain_program.specs.Decoding.{op_at}
 use Rattle.grain_program.specs.View.{name_of}
 use Rattle.grain_program.specs.declared.code.instruction_set.Op.{Op}
+use Rattle.grain_program.specs.declared.code.instruction_set.Op.TheVariants as op
 use Rattle.grain_program.specs.declared.code.parts.AssignOp.{AssignOp}
 use Rattle.grain_means.specs.Places.{look}
-use Rattle.grain_means.specs.Rules.{Home, assign_this, assign_this_op, assigned_at, at_place, at_place_of, is_read_only, op_assigned, outcome_at, position, stepped, unless_read_only}
+use Rattle.grain_means.specs.Rules.{Home, assign_this, assign_this_op, assigned_at, at_place, at_place_of, instr, is_read_only, op_assigned, outcome_at, position, stepped, unless_read_only}
 use Rattle.grain_means.specs.Worlds.{Act, Place, Setup}
 use Rattle.grain_means.specs.Causes.{AsksThis, AssignsByHost, AssignsConstant, AssignsLentThis, HoldsThis, Operates, ReadsLent, ReadsTop}
 use Rattle.grain_means.proofs.Footing.{Sits, by_test}
 use Rattle.grain_means.proofs.Readable.{home_at_place}
 use Rattle.grain_means.proofs.Tally.Entries.{even_home}
-use Rattle.grain_means.proofs.Tally.Faults.{even_flat, even_raised, why}
-use Rattle.grain_means.proofs.Tally.Frames.{Even, Walk, point, start, steady}
+use Rattle.grain_means.proofs.Tally.Faults.{even_flat, even_on, even_raised, sits_at, why}
+use Rattle.grain_means.proofs.Tally.Frames.{Even, Walk, one_more, point, start, steady}
 use Rattle.grain_means.proofs.Tally.Operators.{AnswersLentTo, even_stored}
 
 module _ {S : Type 0} {m : Setup S} (walk : Walk m) where
@@ -96,3 +97,32 @@ module _ {S : Type 0} {m : Setup S} (walk : Walk m) where
           (says h u v (p, is, refl) no content read) (by_host p u v is no content read))
           (flat now.cells h.value) refl))
           f.this refl) (flat now.cells (top f.operands).value) refl
+
+  -- `this` is read, or has to be there
+  pub even_load_this : (width : ℕ) → op_at m.program.code f.address ≡ Some (op.LoadThis, width) →
+      Even walk (now.ran + 1) (instr m op.LoadThis (f.address + width) f (start walk))
+  even_load_this width at =
+      even_at_this op.LoadThis width at tt _
+      (λ p is. even_flat walk op.LoadThis width at (look now.roots p) []
+      (λ none. (refl, (look now.roots p, (p, is, refl), none))) _
+      (λ v _. even_on walk op.LoadThis width at _ refl
+      (sits_at walk op.LoadThis width at (refl, refl) _ _ (inl refl) (λ _. one_more walk v)))
+      (flat now.cells (look now.roots p).value) refl) f.this refl
+
+  pub even_load_this_shared : (width : ℕ) →
+      op_at m.program.code f.address ≡ Some (op.LoadThisShared, width) →
+      Even walk (now.ran + 1) (instr m op.LoadThisShared (f.address + width) f (start walk))
+  even_load_this_shared width at =
+      even_at_this op.LoadThisShared width at tt _
+      (λ p is. even_on walk op.LoadThisShared width at _ refl
+      (sits_at walk op.LoadThisShared width at (refl, refl) _ _ (inl refl)
+      (λ _. one_more walk (look now.roots p).value))) f.this refl
+
+  pub even_require_this : (width : ℕ) →
+      op_at m.program.code f.address ≡ Some (op.RequireThis, width) →
+      Even walk (now.ran + 1) (instr m op.RequireThis (f.address + width) f (start walk))
+  even_require_this width at =
+      even_at_this op.RequireThis width at tt _
+      (λ p is. even_on walk op.RequireThis width at _ refl
+      (sits_at walk op.RequireThis width at (refl, refl) _ f.operands (inl refl) (λ _. omega arith)))
+      f.this refl
