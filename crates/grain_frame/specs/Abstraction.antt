@@ -375,6 +375,7 @@ abbrev pub AsksNothing : Op → Type 0
 AsksNothing o = ((slot name k : ℕ) → o ≡ op.AssignLocalOp slot name k → ⊥)
     × ((k : ℕ) → o ≡ op.AssignThisOp k → ⊥)
     × ((name count token : ℕ) → o ≡ op.CallOp name count token → ⊥)
+    × (o ≡ op.InterpolateAppend → ⊥)
 
 -- the frame at another address
 abbrev pub moved : Activation → ℕ → Activation

@@ -12,6 +12,7 @@ pub mod Rests
 pub mod This
 pub mod Refusals
 pub mod Pointers
+pub mod Literals
 pub mod lemmas
 pub use Rattle.grain_global.specs.StepsView
 pub use Rattle.grain_means.specs.Means

@@ -11,6 +11,7 @@ abbrev pub waits_left : Rest → ℕ
 waits_left (rest.Push count next) = 0
 waits_left (rest.Assign a) = 1
 waits_left (rest.Operate a) = 0
+waits_left (rest.Show type_name next) = 0
 
 -- if it waits once more, then less often than before
 abbrev pub WaitsLess : Rest → Result Performed OutOfMemory → Type 0

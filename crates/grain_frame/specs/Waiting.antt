@@ -1,6 +1,6 @@
 -- Instructions that wait for a native, which asks for a call first.
 use Rattle.std.specs.Prelude.{◌≡◌, ◌<◌, ◌≤◌, ◌-◌, ℕ, List, [], ◌∷◌, Option, Some, None, Bool, false, true, Result, Ok, Err, IfSome, length, option_map, slice_get, slice_set}
-use Rattle.grain_value.specs.Cells.{content, idle, is_busy}
+use Rattle.grain_value.specs.Cells.{content, flat, idle, is_busy}
 use Rattle.grain_value.specs.declared.scopes.Entry.{Entry}
 use Rattle.grain_fault.specs.declared.places.Position.{Position}
 use Rattle.grain_host.specs.Law.{Law, Outcome}
@@ -22,9 +22,9 @@ use Rattle.grain_program.specs.View.{View}
 use Rattle.grain_stack.specs.declared.handlers.Handler.{Handler}
 use Rattle.grain_means.specs.Worlds as worlds
 use Rattle.grain_means.specs.Worlds.{Act, Answer, Callback, Frame, Go, Home, InCell, InHost, Place, Receiver, Setup, Then, World}
-use Rattle.grain_means.specs.Rules.{assigned_at, flattened, instr, leave_by_fault, native_over, no_memory, onward, op_assign_failed_at, pushed, raised, stepped, told, with_token}
+use Rattle.grain_means.specs.Rules.{answer_appended, assigned_at, flattened, instr, leave_by_fault, native_over, no_memory, onward, op_assign_failed_at, pushed, raised, showing_failed, stepped, told, with_token}
 use Rattle.grain_means.specs.Simulation.{Computation, LocalState, Simulates}
-use Rattle.grain_frame.specs.Abstraction.{ContinuesAt, KeepsFrame, Moment, abstraction, continuation, frame_in, is_out, this_of}
+use Rattle.grain_frame.specs.Abstraction.{CanBegin, ContinuesAt, KeepsFrame, Moment, abstraction, continuation, frame_in, is_out, this_of}
 use Rattle.grain_frame.specs.Targets.{CanBeWritten, HoldsAt, HoldsWritable, assigned_name, content_at, home_of, kept_operand, put_in, receiver_at, taken_out}
 use Rattle.grain_frame.specs.declared.activations.Activation.{Activation}
 use Rattle.grain_frame.specs.declared.assignments.Assignment.{Assignment}
@@ -83,6 +83,8 @@ value_rest (rest.Operate a) f m place v w =
     flattened m (read_write v) (assigned_name m.program a.variable) (f place) w
     (λ q. assigned_at m (home_of a.target place) (read_write q) (assigned_name m.program a.variable)
     a.next (f place) w)
+value_rest (rest.Show type_name next) f m place v w =
+    answer_appended m (flat w.cells v) type_name next (f place) w
 
 -- and with its fault, if it assigns to what held this when it began
 abbrev pub fault_rest : {H : Type 0} → Held → Rest → (Option Place → Frame) → Setup H →
@@ -92,6 +94,8 @@ fault_rest g (rest.Assign a) f m place x w =
     op_assign_failed_at m (home_of a.target place) (assigned_name m.program a.variable) a.operator
     g (kept_operand a.kept (f place).operands) a.next (f place) x w
 fault_rest g (rest.Operate a) f m place x w = raised m (f place) x w
+fault_rest g (rest.Show type_name next) f m place x w =
+    showing_failed m type_name next (f place) x w
 
 -- what follows in an instruction from how its native ends
 abbrev pub rest_of : {H : Type 0} → Held → Rest → (Option Place → Frame) → Setup H → Option Place →
@@ -153,6 +157,7 @@ abbrev pub IsBack : {H : Type 0} → Run H → Rest → Type 0
 IsBack s (rest.Push count next) = Unit {0}
 IsBack s (rest.Assign a) = IsNotLent s a.target
 IsBack s (rest.Operate a) = Unit {0}
+IsBack s (rest.Show type_name next) = Unit {0}
 
 -- what stands at a target that is no cell, and can be written
 abbrev pub IsKeptAt : {H : Type 0} → Run H → Target → Type 0
@@ -175,6 +180,7 @@ Lends (rest.Assign a) (have.Target t) = t ≡ a.target
 Lends (rest.Assign a) (have.Cell n h) = (a.target ≡ to.Cell n) × (h.read_only ≡ false)
 Lends (rest.Assign a) (have.Apart h) = ⊥
 Lends (rest.Operate a) l = l ≡ have.Nothing
+Lends (rest.Show type_name next) l = l ≡ have.Nothing
 
 -- an op-assignment can go on after a native: what it writes can be read, the operand is there, and the
 -- names are in their pool
@@ -198,6 +204,8 @@ LeadsTo p f s (rest.Assign a) takes gives targets =
     GoesOn p f s a × (takes ≡ 1) × (gives ≡ 0) × (targets ≡ a.next ∷ [])
 LeadsTo p f s (rest.Operate a) takes gives targets =
     GoesOn p f s a × (takes ≡ 1) × (gives ≡ 0) × (targets ≡ a.next ∷ [])
+LeadsTo p f s (rest.Show type_name next) takes gives targets =
+    CanBegin f s 2 1 next × (takes ≡ 2) × (gives ≡ 1) × (targets ≡ next ∷ [])
 
 -- where an instruction leads, or how it goes on once its native is over
 abbrev pub LandsOrWaits : {H : Type 0} → Setup H → Moment H → Moment H → List ℕ →

@@ -7,6 +7,8 @@ mod assignments;
 mod charges;
 mod contexts;
 mod handlers;
+mod interpolation;
+mod literals;
 mod locals;
 mod loops;
 mod native_assignments;

@@ -65,6 +65,9 @@ impl<H: Host> Run<H> {
                 }
                 Rest::Push { .. } => Ok(Performed::Leads(self.raise(steps, fault))),
                 Rest::Operate(_) => Ok(Performed::Leads(self.raise(steps, fault))),
+                Rest::Show { type_name, next } => Performed::of(self.showing_failed(
+                    context, steps, frame, type_name, fault, next,
+                )),
             },
         }
     }
@@ -101,6 +104,9 @@ impl<H: Host> Run<H> {
             }
             Rest::Operate(assignment) => {
                 self.assign_answer(context, steps, frame, &assignment, value)
+            }
+            Rest::Show { type_name, next } => {
+                self.append_answer(context, steps, frame, value, type_name, next)
             }
         }
     }

@@ -17,9 +17,10 @@ ghost use Rattle.grain_program.specs.declared.code.instruction_set.Op.TheVariant
 use crate::activations::Activation;
 use crate::contexts::Context;
 use crate::runs::{Progress, Run};
+use grain_fault::{EvalAltResult, Position};
 use grain_global::Steps;
 use grain_host::Host;
-use grain_value::{Array, Dynamic, FnPtr, Held, OutOfMemory};
+use grain_value::{Array, Dynamic, FnPtr, Held, OutOfMemory, ValueFault};
 use std::alloc::Global;
 use std::sync::ledger::Ledger;
 
@@ -98,6 +99,43 @@ impl<H: Host> Run<H> {
             None => unreachable!(),
         };
         self.mismatch(context, steps, address, "Fn", type_name)
+    }
+
+    // `make_fn_ptr`: a pointer to the functions of the name that the last operand is.
+    pub(crate) fn make_fn_ptr<L: Ledger>(
+        &mut self,
+        context: Context<'_>,
+        steps: &mut Steps<L>,
+        frame: &mut Activation,
+        next: usize,
+    ) -> Result<Progress, OutOfMemory>
+        requires ready { Ready frame.old self.old op.MakeFnPtr next }
+        ensures performs { (host : H) →
+            Performs (setup_of H.law context.entry) (moment frame.old self.old steps.old host)
+            op.MakeFnPtr next result (moment frame.new self.new steps.new host) }
+    {
+        let name = match self.stacks.top().value.flat(&self.cells) {
+            None => return self.data_race(context, steps, frame.address, ""),
+            Some(Dynamic::Text(name)) => name,
+            Some(other) => {
+                let type_name = other.own_type_name(self.alloc)?;
+                return self.mismatch(context, steps, frame.address, "string", type_name);
+            }
+        };
+        match FnPtr::new(self.alloc, name.as_str()) {
+            Ok(pointer) => {
+                let _name = self.stacks.pop();
+                Ok(self.push_on(steps, frame, Dynamic::Pointer(pointer), next))
+            }
+            Err(ValueFault::BadName) => {
+                let fault = EvalAltResult::ErrorFunctionNotFound(
+                    name.copy(self.alloc)?,
+                    Position::NONE,
+                );
+                Ok(self.raise_at(context, steps, frame.address, fault))
+            }
+            Err(_) => Err(OutOfMemory),
+        }
     }
 
     // `curry`: the last `count` operands go after the values of the pointer under them.

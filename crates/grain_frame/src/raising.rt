@@ -5,7 +5,7 @@ ghost use Rattle.std.specs.Prelude.{◌≡◌, ◌<◌, ◌++◌, length, Ok, If
 ghost use Rattle.grain_program.specs.View.{position_of, name_of};
 ghost use Rattle.grain_means.specs.Rules.{race_text, name_at};
 ghost use Rattle.grain_fault.specs.Positions.{at_position};
-ghost use Rattle.grain_fault.specs.Problems.{Problem, Plain, AssignmentToConstant, DataRace, Malformed, MismatchDataType, problem_of};
+ghost use Rattle.grain_fault.specs.Problems.{Problem, Plain, AssignmentToConstant, DataRace, DataTooLarge, Malformed, MismatchDataType, problem_of};
 ghost use Rattle.grain_ops.specs.Outcomes.{Outcome};
 ghost use Rattle.grain_ops.specs.Answers.{FailsSo};
 ghost use Rattle.grain_frame.specs.Abstraction.{Raises};
@@ -183,6 +183,43 @@ impl<H: Host> Run<H> {
     {
         let requested = Text::copy_of(self.alloc, requested)?;
         let fault = EvalAltResult::ErrorMismatchDataType(requested, type_name, Position::NONE);
+        Ok(self.raise_at(context, steps, address, fault))
+    }
+
+    // The fault that the program is wrong in this.
+    #[cold]
+    #[inline(never)]
+    pub(crate) fn malformed<L: Ledger>(
+        &mut self,
+        context: Context<'_>,
+        steps: &mut Steps<L>,
+        address: usize,
+        kind: MalformedKind,
+    ) -> Progress
+        ensures { Raises self.old steps.old
+            (Plain (Malformed kind) (position_of context.entry.program.now address)) (Ok result)
+            self.new steps.new }
+    {
+        let fault = EvalAltResult::Malformed(kind, Position::NONE);
+        self.raise_at(context, steps, address, fault)
+    }
+
+    // The fault that this is too large.
+    #[cold]
+    #[inline(never)]
+    pub(crate) fn data_too_large<L: Ledger>(
+        &mut self,
+        context: Context<'_>,
+        steps: &mut Steps<L>,
+        address: usize,
+        what: &str,
+    ) -> Result<Progress, OutOfMemory>
+        ensures { Raises self.old steps.old
+            (Plain (DataTooLarge what.now) (position_of context.entry.program.now address)) result
+            self.new steps.new }
+    {
+        let what = Text::copy_of(self.alloc, what)?;
+        let fault = EvalAltResult::ErrorDataTooLarge(what, Position::NONE);
         Ok(self.raise_at(context, steps, address, fault))
     }
 

@@ -76,11 +76,23 @@ impl<H: Host> Run<H> {
             Op::Call(_, _) => unreachable!(),
             Op::CallOp(_, _, _) => unreachable!(),
             Op::MakeClosure(name) => self.make_closure(context, steps, frame, name, next),
+            Op::MakeFnPtr => self.make_fn_ptr(context, steps, frame, next),
             Op::Curry(count) => self.curry(context, steps, frame, count, next),
             Op::CallFnPtr(_) => unreachable!(),
             Op::CallFnPtrMethod(_) => unreachable!(),
             Op::CallFnPtrOnLocal(_, _) => unreachable!(),
             Op::CallFnPtrOnThis(_) => unreachable!(),
+            Op::MakeArray(count) => self.make_array(context, steps, frame, count, next),
+            Op::MakeMap(count) => self.make_map(context, steps, frame, count, next),
+            Op::CheckArraySize(index) => {
+                self.check_size(context, steps, frame, (1, 0, 0), index, next)
+            }
+            Op::CheckMapSize(index) => {
+                self.check_size(context, steps, frame, (0, 1, 0), index, next)
+            }
+            Op::InterpolateStart => self.interpolate_start(steps, frame, next),
+            Op::InterpolateAppend => unreachable!(),
+            Op::InterpolateEnd => self.interpolate_end(context, steps, frame, next),
             Op::Chain(_) => unreachable!(),
             Op::UnwindTo(depth) => Ok(self.unwind_to(context, steps, frame, depth, next)),
             Op::Tick => self.tick(context, host, steps, frame, next),

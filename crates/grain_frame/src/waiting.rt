@@ -13,7 +13,7 @@ use crate::targets::Target;
 use grain_fault::{EvalAltResult, Position};
 use grain_global::Steps;
 use grain_host::{Args, Host, HostAnswer, HostFault};
-use grain_value::{Array, Dynamic, Held, OutOfMemory, Store};
+use grain_value::{Array, Dynamic, Held, OutOfMemory, Store, Text};
 use std::alloc::Global;
 use std::sync::ledger::Ledger;
 
@@ -26,6 +26,9 @@ pub enum Rest {
     Assign(Assignment),
     /// The value of the host's operator is assigned.
     Operate(Assignment),
+    /// The value is shown as a text behind a buffer, or the name of the segment's type is, and the frame
+    /// goes on at `next`.
+    Show { type_name: Text, next: usize },
 }
 
 /// What a native was lent that waits for a call.

@@ -2,6 +2,7 @@ pub mod Cursors
 pub mod Entries
 pub mod LentEntries
 pub mod Lending
+pub mod Totals
 pub mod Views
 pub mod Filled
 pub mod Floors

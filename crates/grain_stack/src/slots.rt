@@ -154,9 +154,9 @@ impl Slots {
         }
     }
 
-    // Takes the last `count` operands, the newest first. After want of memory the operands are as
-    // they were.
-    fn take_off(&mut self, alloc: Global, count: usize) -> Result<Vec<Held>, OutOfMemory>
+    /// Takes the last `count` operands, the newest first. After want of memory the operands are as
+    /// they were.
+    pub fn take_off(&mut self, alloc: Global, count: usize) -> Result<Vec<Held>, OutOfMemory>
         requires there { count ≤ length self.old.operands }
         ensures taken { IfOk result
             (λ taken. taken.items ≡ reverse (arguments count self.old.operands)) }

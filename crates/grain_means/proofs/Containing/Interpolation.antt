@@ -56,24 +56,24 @@ module _ {S : Type 0} {m : Setup S} (on : Grounds m) where
         (λ v. rules.put_behind m (text_of v) v s next f w)
         (λ v read plain. puts_behind (text_of v) v s next w at)
 
-    appends_type : (v : Dynamic) (next : ℕ) (w : World S) → Here on n low f names w →
-        Stays on n low f names (rules.type_appended m v next f w)
-    appends_type v next w at =
+    appends_type : (t : List ℕ) (next : ℕ) (w : World S) → Here on n low f names w →
+        Stays on n low f names (rules.type_appended m t next f w)
+    appends_type t next w at =
         marking on n low f names w
-        (λ w1. rules.appended m (type_name_of v) next f (record w1 { trace = [] })) at
-        (appends (type_name_of v) next (record w { passed = w.passed + 1; trace = [] }) at)
+        (λ w1. rules.appended m t next f (record w1 { trace = [] })) at
+        (appends t next (record w { passed = w.passed + 1; trace = [] }) at)
 
-    appends_answer : (o : Option Dynamic) (v : Dynamic) (next : ℕ) (w : World S) →
-        Here on n low f names w → Stays on n low f names (rules.answer_appended m o v next f w)
-    appends_answer None v next w at = appends_type v next w at
-    appends_answer (Some r) v next w at = appends (shown r) next w at
+    appends_answer : (o : Option Dynamic) (t : List ℕ) (next : ℕ) (w : World S) →
+        Here on n low f names w → Stays on n low f names (rules.answer_appended m o t next f w)
+    appends_answer None t next w at = appends_type t next w at
+    appends_answer (Some r) t next w at = appends (shown r) next w at
 
-    showing_fails : (v : Dynamic) (next : ℕ) (x : Problem) (w : World S) → Here on n low f names w →
-        ProblemNames clean n x → Stays on n low f names (rules.showing_failed m v next f x w)
-    showing_fails v next x w at bound =
-        by_test (Stays on n low f names) (catchable x) (rules.type_appended m v next f w)
+    showing_fails : (t : List ℕ) (next : ℕ) (x : Problem) (w : World S) → Here on n low f names w →
+        ProblemNames clean n x → Stays on n low f names (rules.showing_failed m t next f x w)
+    showing_fails t next x w at bound =
+        by_test (Stays on n low f names) (catchable x) (rules.type_appended m t next f w)
         (rules.raised m f x w)
-        (λ may. appends_type v next w at) (λ may. raising on n low f names x w at bound)
+        (λ may. appends_type t next w at) (λ may. raising on n low f names x w at bound)
 
     -- the text that ends
     by_buffer : (o : Option (List ℕ)) (v : Dynamic) (next : ℕ) (w : World S) →
@@ -97,12 +97,12 @@ module _ {S : Type 0} {m : Setup S} (on : Grounds m) where
     by_native None v h given next w at = appends n low f names (plain v) next w at
     by_native (Some q) v h given next w at =
         asking on n low f names None
-        (λ r w1. rules.answer_appended m (flat w1.cells r) v next f w1)
-        (rules.showing_failed m v next f)
+        (λ r w1. rules.answer_appended m (flat w1.cells r) (type_name_of v) next f w1)
+        (rules.showing_failed m (type_name_of v) next f)
         (λ k le r w1 there named. appends_answer k (omega (arith, low, le)) f
-        (frame_wider on n k f le names) (flat w1.cells r) v next w1 there)
+        (frame_wider on n k f le names) (flat w1.cells r) (type_name_of v) next w1 there)
         (λ k le x w1 there lends bound. showing_fails k (omega (arith, low, le)) f
-        (frame_wider on n k f le names) v next x w1 there bound)
+        (frame_wider on n k f le names) (type_name_of v) next x w1 there bound)
         to_string (h ∷ []) w at tt tt (given, tt)
 
     by_segment : (o : Option (List ℕ)) (v : Dynamic) (h : Held) → Stands clean n h → (next : ℕ)

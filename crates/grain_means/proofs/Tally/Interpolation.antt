@@ -128,7 +128,7 @@ module _ {S : Type 0} {m : Setup S} (walk : Walk m) where
           -- its fault is passed over, in a world after this number of instructions
           even_typed : (u : World S) (ran : ℕ) → Steady walk ran u → Unlent now.cells u.cells →
               IsPassedOver m question n (point walk op.InterpolateAppend) u →
-              Even walk ran (type_appended m v next f u)
+              Even walk ran (type_appended m (type_name_of v) next f u)
           even_typed u ran s same over =
               even_marked walk ran u s
               (λ w1. appended m (type_name_of v) next f (record w1 { trace = [] }))
@@ -139,7 +139,7 @@ module _ {S : Type 0} {m : Setup S} (walk : Walk m) where
               Unlent now.cells u.cells → IsCalled question n →
               Gave walk (start walk) to_string None (held ∷ []) n r u →
               (z : Option Dynamic) → flat u.cells r ≡ z →
-              Even walk ran (answer_appended m z v next f u)
+              Even walk ran (answer_appended m z (type_name_of v) next f u)
           even_given r u ran s t same called gave None lent =
               even_typed u ran s same (inl (called, inl (r, gave, lent)))
           even_given r u ran s t same called gave (Some z) read =
@@ -157,14 +157,15 @@ module _ {S : Type 0} {m : Setup S} (walk : Walk m) where
         even_shown (Some n) there =
             even_found walk op.InterpolateAppend width at (start walk) (now.ran + 1) (steady walk) trace
             to_string None (held ∷ []) asks f.operands
-            (λ r w1. answer_appended m (flat w1.cells r) v next f w1) (showing_failed m v next f)
+            (λ r w1. answer_appended m (flat w1.cells r) (type_name_of v) next f w1)
+            (showing_failed m (type_name_of v) next f)
             (λ i e called r l u how after empty. even_given i e r u l after.0 empty after.2 called how
             (flat u.cells r) refl)
             (λ none. absurd (none_some (sym none ∙ there)))
             (λ i e writes only. even_typed i e (start walk) (now.ran + 1) (steady walk)
             (unlent_same now.cells) (inr (writes, only, refl)))
             (λ i e called x l u how reason after. by_test (Even walk l) (catchable x)
-            (type_appended m v next f u) (raised m f x u)
+            (type_appended m (type_name_of v) next f u) (raised m f x u)
             (λ may. even_typed i e u l after.0 after.2 (inl (called, inr (x, how, may))))
             (λ passes. even_raised walk op.InterpolateAppend width at l x u after.0
             (reason (inr (inr ((v, shows, refl), passes))))))

@@ -142,26 +142,28 @@ module _ {S : Type 0} (m : Setup S) (t : Option Place) (old : List Held) (f : Fr
       (λ v. rules.put_behind m (text_of v) v s next f w)
       (λ v. puts_behind (text_of v) v s next w at)
 
-  appends_type : (v : Dynamic) (next : ℕ) (w : World S) → Here w →
-      Keeps (rules.type_appended m v next f w)
-  appends_type v next w at =
-      marks m t old f w (λ w1. rules.appended m (type_name_of v) next f (record w1 { trace = [] })) at
-      (appends (type_name_of v) next (record w { passed = w.passed + 1; trace = [] }) at)
+  appends_type : (s : List ℕ) (next : ℕ) (w : World S) → Here w →
+      Keeps (rules.type_appended m s next f w)
+  appends_type s next w at =
+      marks m t old f w (λ w1. rules.appended m s next f (record w1 { trace = [] })) at
+      (appends s next (record w { passed = w.passed + 1; trace = [] }) at)
 
-  appends_answer : (o : Option Dynamic) (v : Dynamic) (next : ℕ) (w : World S) → Here w →
-      Keeps (rules.answer_appended m o v next f w)
-  appends_answer None v next w at = appends_type v next w at
-  appends_answer (Some r) v next w at = appends (shown r) next w at
+  appends_answer : (o : Option Dynamic) (s : List ℕ) (next : ℕ) (w : World S) → Here w →
+      Keeps (rules.answer_appended m o s next f w)
+  appends_answer None s next w at = appends_type s next w at
+  appends_answer (Some r) s next w at = appends (shown r) next w at
 
   by_native : (o : Option Native) (v : Dynamic) (h : Held) (next : ℕ) (w : World S) → Here w →
       Keeps (rules.showing m o v h next f w)
   by_native None v h next w at = appends (plain v) next w at
   by_native (Some q) v h next w at =
-      asks m t old f is None tt (λ r w1. rules.answer_appended m (flat w1.cells r) v next f w1)
-      (rules.showing_failed m v next f)
-      (λ r w1 there. appends_answer (flat w1.cells r) v next w1 there)
-      (λ x w1 there. by_test Keeps (catchable x) (rules.type_appended m v next f w1)
-      (rules.raised m f x w1) (λ may. appends_type v next w1 there) (λ not. refuses x w1 there))
+      asks m t old f is None tt
+      (λ r w1. rules.answer_appended m (flat w1.cells r) (type_name_of v) next f w1)
+      (rules.showing_failed m (type_name_of v) next f)
+      (λ r w1 there. appends_answer (flat w1.cells r) (type_name_of v) next w1 there)
+      (λ x w1 there. by_test Keeps (catchable x) (rules.type_appended m (type_name_of v) next f w1)
+      (rules.raised m f x w1) (λ may. appends_type (type_name_of v) next w1 there)
+      (λ not. refuses x w1 there))
       to_string (h ∷ []) w at
 
   by_segment : (o : Option (List ℕ)) (v : Dynamic) (h : Held) (next : ℕ) (w : World S) → Here w →

@@ -52,27 +52,27 @@ module _ {S : Type 0} (m : Setup S) where
   appended s next f w =
       flattened m (operand_under 1 f.operands) [] f w (λ v. put_behind (text_of v) v s next f w)
 
-  -- A fault is raised, at a mark, and passed over: its trace is gone, and the name of the segment's type is
-  -- appended.
-  abbrev pub type_appended : Dynamic → ℕ → Frame → World S → Act S
-  type_appended v next f w =
-      marked m f w (λ w1. appended (type_name_of v) next f (record w1 { trace = [] }))
+  -- A fault is raised, at a mark, and passed over: its trace is gone, and this, the name of the segment's
+  -- type, is appended.
+  abbrev pub type_appended : List ℕ → ℕ → Frame → World S → Act S
+  type_appended t next f w = marked m f w (λ w1. appended t next f (record w1 { trace = [] }))
 
-  -- the fault of the native for a segment: one that a script may catch is passed over
-  abbrev pub showing_failed : Dynamic → ℕ → Frame → Problem → World S → Act S
-  showing_failed v next f x w = if catchable x then type_appended v next f w else raised m f x w
+  -- the fault of the native for a segment of this type: one that a script may catch is passed over
+  abbrev pub showing_failed : List ℕ → ℕ → Frame → Problem → World S → Act S
+  showing_failed t next f x w = if catchable x then type_appended t next f w else raised m f x w
 
-  -- what the native gave for a segment, as it is read; that it is a lent cell is such a fault
-  abbrev pub answer_appended : Option Dynamic → Dynamic → ℕ → Frame → World S → Act S
-  answer_appended None v next f w = type_appended v next f w
-  answer_appended (Some r) v next f w = appended (shown r) next f w
+  -- what the native gave, as it is read; that it is a lent cell is such a fault
+  abbrev pub answer_appended : Option Dynamic → List ℕ → ℕ → Frame → World S → Act S
+  answer_appended None t next f w = type_appended t next f w
+  answer_appended (Some r) t next f w = appended (shown r) next f w
 
   -- a segment that is no text: what the native gives for it, or its plain text if there is none
   abbrev pub showing : Option Native → Dynamic → Held → ℕ → Frame → World S → Act S
   showing None v h next f w = appended (plain v) next f w
   showing (Some n) v h next f w =
       native m to_string None (h ∷ []) f w
-      (λ r w1. answer_appended (flat w1.cells r) v next f w1) (showing_failed v next f)
+      (λ r w1. answer_appended (flat w1.cells r) (type_name_of v) next f w1)
+      (showing_failed (type_name_of v) next f)
 
   abbrev pub segment_read : Option (List ℕ) → Dynamic → Held → ℕ → Frame → World S → Act S
   segment_read (Some s) v h next f w = appended s next f w

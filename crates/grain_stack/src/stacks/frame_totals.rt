@@ -2,8 +2,9 @@
 
 ghost use Rattle.std.specs.Borrow.{sem};
 ghost use Rattle.std.specs.Prelude.{◌≡◌, ◌<◌, ◌≤◌, ◌-◌, drop, Some, ◌∷◌, length, is_ok, if◌then◌else◌};
+ghost use Rattle.std.specs.Option.{option_copied};
 ghost use Rattle.grain_stack.specs.Entries.{first_of};
-ghost use Rattle.grain_stack.specs.Lending.{LendsTotal};
+ghost use Rattle.grain_stack.specs.Lending.{LendsTotal, with_total};
 
 use super::Stacks;
 use crate::totals::Total;
@@ -39,6 +40,22 @@ impl Stacks {
     {
         let depth = self.outer.len();
         self.totals.count(depth)
+    }
+
+    /// The frame's innermost total, if it has one.
+    pub fn innermost_total(&self) -> Option<&Total>
+        ensures { option_copied result ≡ first_of self.now.totals }
+    {
+        let depth = self.outer.len();
+        self.totals.innermost(depth)
+    }
+
+    /// Puts another in the place of the frame's innermost total.
+    pub fn set_total(&mut self, total: Total)
+        requires there { 0 < length self.old.totals }
+        ensures { self.new ≡ with_total self.old total }
+    {
+        *self.total_mut() = total;
     }
 
     /// The frame's innermost total, to be changed.

@@ -1,6 +1,6 @@
 //! The operands of the innermost frame.
 
-ghost use Rattle.std.specs.Prelude.{◌≡◌, ◌<◌, ◌≤◌, ◌+◌, ◌++◌, ◌∷◌, [], length, take, is_ok, if◌then◌else◌, OnOk, OnErr, map};
+ghost use Rattle.std.specs.Prelude.{◌≡◌, ◌<◌, ◌≤◌, ◌+◌, ◌++◌, ◌∷◌, [], length, take, is_ok, if◌then◌else◌, OnOk, OnErr, IfOk, map, reverse};
 ghost use Rattle.grain_value.specs.Operands.{top, below, under, rotated, read_write, arguments};
 ghost use Rattle.grain_value.specs.declared.values.Dynamic.TheVariants as dynamic;
 
@@ -116,6 +116,19 @@ impl Stacks {
         let length = self.slots.len();
         prove!(self.bottom <= length && height <= length - self.bottom);
         self.slots.truncate(self.bottom + height);
+    }
+
+    /// Takes the last `count` operands, the newest first. After want of memory the stacks are as they
+    /// were.
+    pub fn take_off(&mut self, alloc: Global, count: usize) -> Result<Vec<Held>, OutOfMemory>
+        requires there { count ≤ length self.old.operands }
+        ensures taken { IfOk result
+            (λ taken. taken.items ≡ reverse (arguments count self.old.operands)) }
+        ensures left { self.new ≡ (if is_ok result
+            then record self.old { operands = under count self.old.operands }
+            else self.old) }
+    {
+        self.slots.take_off(alloc, count)
     }
 
     /// Puts values, which can be written, in the place of the operand that has `depth` others above
